@@ -1,0 +1,6 @@
+-- The items copied so far.
+use Rattle.std.proofs.Common.{◌≡◌, take}
+use Rattle.mc_text.proofs.lists.Lines.copy.Given as goal
+
+abbrev pub invariant-loop-item : goal.invariant-loop-item
+invariant-loop-item l = l.copies.items ≡ take l.item-index l.item-items

@@ -1,0 +1,6 @@
+-- The names copied so far.
+use Rattle.std.proofs.Common.{◌≡◌, take}
+use Rattle.mc_text.proofs.path.copy_names.Given as goal
+
+abbrev pub invariant-loop-name : goal.invariant-loop-name
+invariant-loop-name l = l.copies.items ≡ take l.name-index l.names

@@ -1,0 +1,16 @@
+//! Names, paths, and the small types that every crate of the file manager speaks of.
+#![tactic(auto)]
+
+mod error;
+mod kind;
+mod lists;
+mod name;
+mod path;
+mod text;
+
+pub use error::{NameError, NoMemory, PathError};
+pub use kind::Kind;
+pub use lists::{Bits, Lines, Names, Paths, Places, Rows, Texts};
+pub use name::Name;
+pub use path::Path;
+pub use text::{Bytes, Text};

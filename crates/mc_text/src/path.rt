@@ -1,0 +1,150 @@
+//! An absolute path: the names from the root on. Its text has at most 4,096 bytes.
+ghost use Rattle.std.specs.Prelude.{◌≡◌, ◌≢◌, ◌+◌, ◌<◌, ◌≤◌, [], ◌∷◌, length, None, reverse, option_map, option_copied, IfOk, IfErr};
+ghost use Rattle.mc_text.specs.Routes.{spelled, path_text, parent_of, last_of, same_path};
+
+use crate::error::{NoMemory, PathError};
+use crate::name::Name;
+use crate::text::Text;
+use std::alloc::Global;
+use std::marker::Model;
+
+/// The most bytes that a path's text may have.
+pub const PATH_BYTES: usize = 4096;
+
+/// An absolute path. Contracts see its names, the last one first, so that a thing in a folder is its name before the
+/// folder's path.
+#[derive(Debug, Drop)]
+pub struct Path {
+    /// From the root on.
+    names: Vec<Name>,
+    /// The bytes of the names, each with the slash before it.
+    spelled_bytes: usize,
+}
+
+impl Model for Path {
+    ghost use Rattle.std.specs.Prelude.{◌≡◌, ◌≤◌, List, ℕ, length, reverse};
+    ghost use Rattle.mc_text.specs.Routes.{spelled};
+
+    ghost Value = { List (List ℕ) };
+
+    ghost view = { λ p. reverse p.names.items };
+
+    ghost invariant = { λ p. (p.spelled_bytes ≡ length (spelled (reverse p.names.items))) × (p.spelled_bytes ≤ 4096) };
+}
+
+impl Path {
+    /// The root, which has no names. It takes no memory.
+    pub fn root(alloc: Global) -> Path
+        ensures { result ≡ [] }
+    {
+        Path {
+            names: Vec::new(alloc),
+            spelled_bytes: 0,
+        }
+    }
+
+    /// The names from the root on.
+    pub fn names(&self) -> &[Name]
+        ensures names { reverse result.now ≡ self.now }
+        ensures short { length (spelled self.now) ≤ PATH_BYTES }
+    {
+        self.names.as_slice()
+    }
+
+    /// The path of a thing in this folder. `TooLong` has the bytes that its text would have.
+    pub fn join(&self, alloc: Global, name: &Name) -> Result<Path, PathError>
+        ensures joined { IfOk result (λ path. path ≡ name.now ∷ self.now) }
+        ensures fits { IfOk result (λ _. length (spelled (name.now ∷ self.now)) ≤ PATH_BYTES) }
+        ensures too_long { IfErr result (λ e. e ≢ PathError.Memory
+            → (e ≡ PathError.TooLong (length (spelled (name.now ∷ self.now)))) × (PATH_BYTES < length (spelled (name.now ∷ self.now)))) }
+    {
+        let bytes = self.spelled_bytes + 1 + name.text().len();
+        if bytes > PATH_BYTES {
+            return Err(PathError::TooLong(bytes));
+        }
+        let mut names = copy_names(alloc, self.names.as_slice())?;
+        names.push(name.copy(alloc)?)?;
+        Ok(Path {
+            names,
+            spelled_bytes: bytes,
+        })
+    }
+
+    /// The folder that holds what stands at this path. The root has none.
+    pub fn parent(&self, alloc: Global) -> Result<Option<Path>, NoMemory>
+        ensures { IfOk result (λ folder. folder ≡ parent_of self.now) }
+    {
+        match self.names.as_slice() {
+            [] => Ok(None),
+            [front @ .., last] => Ok(Some(Path {
+                names: copy_names(alloc, front)?,
+                spelled_bytes: self.spelled_bytes - 1 - last.text().len(),
+            })),
+        }
+    }
+
+    /// The last name. The root has none.
+    pub fn last(&self) -> Option<&str>
+        ensures { option_map (λ name. name.now) result ≡ last_of self.now }
+    {
+        match self.names.as_slice() {
+            [] => None,
+            [.., last] => Some(last.text()),
+        }
+    }
+
+    /// Whether two paths are one.
+    pub fn same(&self, other: &Path) -> bool
+        ensures { result ≡ same_path self.now other.now }
+    {
+        same_names(self.names.as_slice(), other.names.as_slice())
+    }
+
+    /// The path as it is written.
+    pub fn text(&self, alloc: Global) -> Result<Text, NoMemory>
+        ensures { IfOk result (λ text. text ≡ path_text self.now) }
+    {
+        if self.names.is_empty() {
+            return Ok(Text::from_str(alloc, "/")?);
+        }
+        let mut text = String::new(alloc);
+        for name in &self.names {
+            text.push('/')?;
+            text.push_str(name.text())?;
+        }
+        Ok(Text(text))
+    }
+
+    /// The same path once more.
+    pub fn copy(&self, alloc: Global) -> Result<Path, NoMemory>
+        ensures { IfOk result (λ path. path ≡ self.now) }
+    {
+        Ok(Path {
+            names: copy_names(alloc, self.names.as_slice())?,
+            spelled_bytes: self.spelled_bytes,
+        })
+    }
+}
+
+/// The same names once more.
+fn copy_names(alloc: Global, names: &[Name]) -> Result<Vec<Name>, NoMemory>
+    ensures { IfOk result (λ copies. copies.items ≡ names.now) }
+{
+    let mut copies = Vec::new(alloc);
+    for name in names {
+        copies.push(name.copy(alloc)?)?;
+    }
+    Ok(copies)
+}
+
+/// Whether two paths, each from the root on, have the same names.
+fn same_names(mine: &[Name], theirs: &[Name]) -> bool
+    ensures { result ≡ same_path (reverse mine.now) (reverse theirs.now) }
+{
+    match (mine, theirs) {
+        ([], []) => true,
+        ([my_front @ .., my_last], [front @ .., last]) => my_last.same(last)
+            && same_names(my_front, front),
+        _ => false,
+    }
+}
