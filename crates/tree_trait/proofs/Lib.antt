@@ -1,0 +1,12 @@
+pub mod Settled
+pub mod Finding
+pub mod Walking
+pub mod Ending
+pub mod Real
+pub mod Causes
+pub mod Names
+pub mod Steady
+pub mod Synced
+pub mod Examples
+pub mod Choosing
+pub mod Kept
