@@ -31,6 +31,7 @@ tree_removed s g name j tree = record {
   in_folders = λ f m i a. tree.in_folders f m i (still _ _ i a);
   there = λ f m i a. tree.there f m i (still _ _ i a);
   root = tree.root;
+  mounts = tree.mounts;
 }
 
 -- a node more changes no node that was there
@@ -81,6 +82,7 @@ module _ (s : FileSystem) (g : ℕ) (name : List ℕ) (made : Node) (tree : IsTr
       | inr x ↦ let t = tree.there f m i x in omega (arith, t, length-append s.nodes (made ∷ []))
     ];
     root = folder_stays 0 tree.root;
+    mounts = λ i h. folder_stays i (tree.mounts i h);
   }
 
 -- A thing that is moved, and neither at its old name nor at its new one, is lost. A crash never leaves that: the

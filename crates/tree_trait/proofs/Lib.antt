@@ -10,3 +10,4 @@ pub mod Synced
 pub mod Examples
 pub mod Choosing
 pub mod Kept
+pub mod Visible

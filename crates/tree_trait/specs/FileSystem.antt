@@ -64,4 +64,4 @@ visible_tree s path = record { value = value_at s path; is_mount = option_map_or
 
 -- a view in which one path has another value; where mounts begin stays
 abbrev pub put : View → Route → Option Value → View
-put v path new p = if same_path path p then record (v p) { value = new } else v p
+put v path new p = if same_path p path then record (v p) { value = new } else v p

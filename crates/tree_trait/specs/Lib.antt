@@ -6,3 +6,4 @@ pub mod CrashImages
 pub mod Answers
 pub mod Devices
 pub mod Shape
+pub mod Views

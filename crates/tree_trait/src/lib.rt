@@ -14,6 +14,8 @@ pub use devices::{
     SpawnError, Spawner,
 };
 pub use file_system::{FileSystem, Mount, NameEdit, Node};
-pub use laws::{images_grow, names_after_a_crash, what_a_sync_settles, what_stays};
+pub use laws::{
+    images_grow, names_after_a_crash, what_a_removal_shows, what_a_sync_settles, what_stays,
+};
 pub use list::Seq;
 pub use tree::Tree;
