@@ -1,2 +1,4 @@
 pub mod Logs
 pub mod Panels
+pub mod Replay
+pub mod Work

@@ -46,10 +46,7 @@ pub enum Did {
     Barrier,
     Troubled(Trouble),
     /// The job ended; `part` is a part file that it could not remove.
-    Ended {
-        ending: Ending,
-        part: Option<Path>,
-    },
+    Ended { ending: Ending, part: Option<Path> },
 }
 
 /// A call that a key or a look wanted and that was refused.
@@ -82,13 +79,18 @@ pub enum Event {
         lost: bool,
     },
     /// The panel took up what a job did, and was drawn.
-    Look { refusals: Refusals },
+    Look {
+        refusals: Refusals,
+    },
     Began {
         job: u32,
         plan: Job,
         background: bool,
     },
-    Step { job: u32, did: Did },
+    Step {
+        job: u32,
+        did: Did,
+    },
     /// No more keys are taken, and each job that waits for an answer is aborted.
     Closed,
 }

@@ -1,0 +1,118 @@
+-- The deletion of one file, as a history tells it: the removal of its name, the sync of its folder, the end.
+use Rattle.std.specs.Prelude.{◌≡◌, ◌≢◌, ℕ, ◌≤◌, Bool, true, false, ⊤, List, [], ◌∷◌, Option, Some, None, option_and_then}
+use Rattle.std.specs.Option.{option_map}
+use Rattle.mc_text.specs.Routes.{Route}
+use Rattle.tree_trait.specs.Change.{CallLog}
+use Rattle.tree_trait.specs.Answers.{IfKnown, HasRisen}
+use Rattle.mc_desk.specs.Replay.{StepsTree}
+use Rattle.tree_trait.specs.declared.calls.TreeError.{TreeError}
+use Rattle.tree_trait.specs.declared.calls.TreeError.TheVariants as refused
+use Rattle.mc_desk.specs.declared.deletion.Stage.{Stage}
+use Rattle.mc_desk.specs.declared.deletion.Stage.TheVariants.{Remove, Sync, Finish}
+use Rattle.mc_desk.specs.declared.deletion.Course.{Course}
+use Rattle.mc_desk.specs.declared.deletion.Course.TheVariants.{GoesOn, InTrouble, Aborts}
+use Rattle.mc_desk.specs.declared.history.Cause.{Cause}
+use Rattle.mc_desk.specs.declared.history.Cause.TheVariants.{Tree, Memory}
+use Rattle.mc_desk.specs.declared.history.Trouble.{Trouble}
+use Rattle.mc_desk.specs.declared.history.Ending.{Ending}
+use Rattle.mc_desk.specs.declared.history.Ending.TheVariants.{Finished, Aborted, NoMemory}
+use Rattle.mc_desk.specs.declared.history.Did.{Did}
+use Rattle.mc_desk.specs.declared.history.Did.TheVariants.{Removed, Barrier, Troubled, Ended}
+use Rattle.mc_desk.specs.declared.history.Event.{Event}
+use Rattle.mc_desk.specs.declared.history.Event.TheVariants.{Key, Look, Began, Step, Closed}
+use Rattle.mc_desk.specs.declared.history.Job.TheVariants.{Delete}
+use Rattle.mc_desk.specs.declared.history.Entry.{Entry}
+
+-- a live job: its number, the file that it deletes, what it does next, and whether it goes on
+pub record LiveJob : Type 0 where
+  pub id : ℕ
+  pub path : Route
+  pub stage : Stage
+  pub course : Course
+
+-- the job just begun
+abbrev pub begun : ℕ → Route → LiveJob
+begun id path = record { id = id; path = path; stage = Remove; course = GoesOn }
+
+-- the job after a step
+abbrev pub after_step : Did → LiveJob → Option LiveJob
+after_step (Removed path) job = Some (record job { stage = Sync })
+after_step Barrier job = Some (record job { stage = Finish })
+after_step (Troubled trouble) job = Some (record job { course = InTrouble })
+after_step (Ended ending part) job = None
+
+-- a job that waits for an answer is aborted when the session closes
+abbrev pub closed_course : Course → Course
+closed_course GoesOn = GoesOn
+closed_course InTrouble = Aborts
+closed_course Aborts = Aborts
+
+abbrev pub closed_job : LiveJob → LiveJob
+closed_job job = record job { course = closed_course job.course }
+
+-- the live job after an event
+abbrev pub after_event : Event → Option LiveJob → Option LiveJob
+after_event (Began id (Delete []) background) job = job
+after_event (Began id (Delete (path ∷ more)) background) job = Some (begun id path)
+after_event (Step id did) job = option_and_then (after_step did) job
+after_event Closed job = option_map closed_job job
+after_event (Key key now refusals lost) job = job
+after_event (Look refusals) job = job
+
+-- the live job after these entries, the newest first
+abbrev pub live_job : List Entry → Option LiveJob
+live_job [] = None
+live_job (e ∷ older) = after_event e.what (live_job older)
+
+-- the cause of a trouble where a call was refused
+abbrev pub cause_of : TreeError → Cause
+cause_of refused.Memory = Memory
+cause_of e = Tree e
+
+-- the path that a trouble names; for want of memory it names none
+abbrev pub named_path : TreeError → Route → Option Route
+named_path refused.Memory path = None
+named_path e path = Some path
+
+-- trouble at a path: a call on it was refused, or there was no memory
+abbrev pub trouble_at : TreeError → Route → Bool → Trouble
+trouble_at e path barrier = record { cause = cause_of e; path = named_path e path; barrier = barrier }
+
+-- Trouble is at the path of the stage's call. That of the sync stands at a barrier.
+abbrev pub IsTroubleAt : Stage → Route → Trouble → Type 0
+IsTroubleAt Remove path t = (e : TreeError) × (t ≡ trouble_at e path false)
+IsTroubleAt Sync [] t = ⊥
+IsTroubleAt Sync (name ∷ folder) t = (e : TreeError) × (t ≡ trouble_at e folder true)
+IsTroubleAt Finish path t = ⊥
+
+-- What a step of a job may report. A job that goes on removes its file, syncs its folder and is finished, or is in
+-- trouble; one that is aborted tries the sync that is owed and ends. Either may end for want of memory.
+abbrev pub IsAllowedStep : LiveJob → Did → Type 0
+IsAllowedStep job (Removed path) = (job.course ≡ GoesOn) × (job.stage ≡ Remove) × (path ≡ job.path)
+IsAllowedStep job Barrier = (job.course ≢ InTrouble) × (job.stage ≡ Sync)
+IsAllowedStep job (Troubled trouble) = (job.course ≡ GoesOn) × IsTroubleAt job.stage job.path trouble
+IsAllowedStep job (Ended Finished part) = (job.course ≡ GoesOn) × (job.stage ≡ Finish) × (part ≡ None)
+IsAllowedStep job (Ended Aborted part) = (job.course ≡ Aborts) × (job.stage ≢ Sync) × (part ≡ None)
+IsAllowedStep job (Ended NoMemory part) = (job.course ≢ InTrouble) × (part ≡ None)
+
+-- the job is as the step left it, unless it ended
+abbrev pub IfLive : Option LiveJob → LiveJob → Type 0
+IfLive None new = ⊤
+IfLive (Some job) new = new ≡ job
+
+-- the report says that the device failed
+abbrev pub IsFault : Did → Type 0
+IsFault (Removed path) = ⊥
+IsFault Barrier = ⊥
+IsFault (Troubled trouble) = trouble.cause ≡ Tree refused.Fault
+IsFault (Ended ending part) = ⊥
+
+-- A step of a job: what it reports is allowed, the job and the tree are then as it says, and it reports a fault only where
+-- the tree's count has risen.
+pub record StepsOn (old new : LiveJob) (did : Did) (before after : Option CallLog) (faults faults_after : ℕ) : Type 0 where
+  pub allowed : IsAllowedStep old did
+  pub job : IfLive (after_step did old) new
+  pub tree : IfKnown before (λ log. StepsTree log did after)
+  pub unknown : before ≡ None → after ≡ None
+  pub later : faults ≤ faults_after
+  pub fault : IsFault did → HasRisen faults faults_after
