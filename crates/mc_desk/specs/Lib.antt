@@ -1,4 +1,2 @@
 pub mod Logs
 pub mod Panels
-pub mod Replay
-pub mod Work

@@ -1,7 +1,7 @@
 //! The history as it is written: entries are added in room that was made before, so that nothing is half written down.
 ghost use Rattle.std.specs.Prelude.{◌≡◌, ◌+◌, ◌≤◌, ◌<◌, [], ◌∷◌, IfOk, OnOk, OnErr, reverse};
 
-use crate::history::{Entries, Entry, History};
+use copy_move::{Entries, Entry, History};
 use mc_text::NoMemory;
 use std::alloc::Global;
 use std::marker::Model;

@@ -13,16 +13,16 @@ use Rattle.tree_trait.proofs.Walking.{removable}
 use Rattle.tree_trait.proofs.Kept.{tree_removed}
 use Rattle.tree_trait.proofs.Ending.{IsQuiet, Performs-err}
 use Rattle.tree_trait.proofs.Visible.{removal_shows}
-use Rattle.mc_desk.specs.declared.history.Did.{Did}
-use Rattle.mc_desk.specs.declared.history.Did.TheVariants.{Removed, Barrier, Troubled}
-use Rattle.mc_desk.specs.declared.history.Trouble.{Trouble}
-use Rattle.mc_desk.specs.declared.deletion.Stage.TheVariants.{Remove, Sync, Finish}
-use Rattle.mc_desk.specs.declared.deletion.Course.{Course}
-use Rattle.mc_desk.specs.declared.deletion.Course.TheVariants.{GoesOn, InTrouble, Aborts}
+use Rattle.copy_move.specs.declared.history.Did.{Did}
+use Rattle.copy_move.specs.declared.history.Did.TheVariants.{Removed, Barrier, Troubled}
+use Rattle.copy_move.specs.declared.history.Trouble.{Trouble}
+use Rattle.copy_move.specs.declared.deletion.Stage.TheVariants.{Remove, Sync, Finish}
+use Rattle.copy_move.specs.declared.deletion.Course.{Course}
+use Rattle.copy_move.specs.declared.deletion.Course.TheVariants.{GoesOn, InTrouble, Aborts}
 use Rattle.tree_trait.specs.Answers.{IfKnown, HasRisen, Performs}
-use Rattle.mc_desk.specs.declared.history.Cause.TheVariants.{Tree}
-use Rattle.mc_desk.specs.Replay.{replayed_step, StepsTree}
-use Rattle.mc_desk.specs.Work.{LiveJob, cause_of, trouble_at, IsTroubleAt, StepsOn}
+use Rattle.copy_move.specs.declared.history.Cause.TheVariants.{Tree}
+use Rattle.copy_move.specs.Replay.{replayed_step, StepsTree}
+use Rattle.copy_move.specs.Work.{LiveJob, cause_of, trouble_at, IsTroubleAt, StepsOn}
 
 -- the file system after one call more
 pub current-with : (log : CallLog) (c : Change) → current (with_change log c) ≡ after_change (current log) c

@@ -3,14 +3,14 @@ use Rattle.std.proofs.Common.{ap, sym, ◌∙◌, refl, arith, false, ◌≡◌}
 use Rattle.tree_trait.specs.declared.calls.TreeError.TheVariants as refused
 use Rattle.tree_trait.specs.Calls.{RemoveFile}
 use Rattle.tree_trait.proofs.Ending.{Performs-err}
-use Rattle.mc_desk.specs.declared.history.Did.{Did}
-use Rattle.mc_desk.specs.declared.history.Did.TheVariants.{Removed, Troubled}
-use Rattle.mc_desk.specs.declared.deletion.Stepped.{Stepped}
-use Rattle.mc_desk.specs.declared.deletion.Stage.TheVariants.{Remove, Sync}
-use Rattle.mc_desk.specs.declared.deletion.Course.TheVariants.{InTrouble}
-use Rattle.mc_desk.specs.Work.{LiveJob, trouble_at}
-use Rattle.mc_desk.proofs.Steps.{steps_removed, steps_troubled, remove_at, untouched, quiet, removed, fault-cause, err_is}
-use Rattle.mc_desk.proofs.deletion.Deletion.remove.Goals as goal
+use Rattle.copy_move.specs.declared.history.Did.{Did}
+use Rattle.copy_move.specs.declared.history.Did.TheVariants.{Removed, Troubled}
+use Rattle.copy_move.specs.declared.deletion.Stepped.{Stepped}
+use Rattle.copy_move.specs.declared.deletion.Stage.TheVariants.{Remove, Sync}
+use Rattle.copy_move.specs.declared.deletion.Course.TheVariants.{InTrouble}
+use Rattle.copy_move.specs.Work.{LiveJob, trouble_at}
+use Rattle.copy_move.proofs.Steps.{steps_removed, steps_troubled, remove_at, untouched, quiet, removed, fault-cause, err_is}
+use Rattle.copy_move.proofs.deletion.Deletion.remove.Goals as goal
 
 pub returns-in_default-clause-steps : goal.returns-in_default-clause-steps
 returns-in_default-clause-steps g c =

@@ -4,13 +4,13 @@ use Rattle.mc_text.specs.Routes.{parent_of}
 use Rattle.tree_trait.specs.declared.calls.TreeError.TheVariants as refused
 use Rattle.tree_trait.specs.Calls.{SyncFolder}
 use Rattle.tree_trait.proofs.Ending.{Performs-err}
-use Rattle.mc_desk.specs.declared.history.Did.TheVariants.{Barrier, Troubled}
-use Rattle.mc_desk.specs.declared.deletion.Stepped.{Stepped}
-use Rattle.mc_desk.specs.declared.deletion.Stage.TheVariants.{Finish}
-use Rattle.mc_desk.specs.declared.deletion.Course.TheVariants.{GoesOn, InTrouble}
-use Rattle.mc_desk.specs.Work.{LiveJob, trouble_at}
-use Rattle.mc_desk.proofs.Steps.{steps_synced, steps_troubled, sync_at, untouched, quiet, synced, fault-cause, err_is, goes_on}
-use Rattle.mc_desk.proofs.deletion.Deletion.sync.Goals as goal
+use Rattle.copy_move.specs.declared.history.Did.TheVariants.{Barrier, Troubled}
+use Rattle.copy_move.specs.declared.deletion.Stepped.{Stepped}
+use Rattle.copy_move.specs.declared.deletion.Stage.TheVariants.{Finish}
+use Rattle.copy_move.specs.declared.deletion.Course.TheVariants.{GoesOn, InTrouble}
+use Rattle.copy_move.specs.Work.{LiveJob, trouble_at}
+use Rattle.copy_move.proofs.Steps.{steps_synced, steps_troubled, sync_at, untouched, quiet, synced, fault-cause, err_is, goes_on}
+use Rattle.copy_move.proofs.deletion.Deletion.sync.Goals as goal
 
 pub returns-in_default-clause-steps : goal.returns-in_default-clause-steps
 returns-in_default-clause-steps g c =

@@ -1,5 +1,5 @@
 //! What a session writes down of itself: an entry for each key, each look, each job begun and each step of one.
-use crate::keys::Key;
+use key_screen::Key;
 use mc_text::{Path, Paths};
 use std::marker::Model;
 use tree_trait::TreeError;
@@ -61,7 +61,7 @@ pub struct Refusals(pub Vec<Refusal>);
 
 impl Model for Refusals {
     ghost use Rattle.std.specs.Prelude.{List};
-    ghost use Rattle.mc_desk.specs.declared.history.Refusal.{Refusal};
+    ghost use Rattle.copy_move.specs.declared.history.Refusal.{Refusal};
 
     ghost Value = { List Refusal };
 
@@ -112,7 +112,7 @@ pub struct Entries(pub Vec<Entry>);
 
 impl Model for Entries {
     ghost use Rattle.std.specs.Prelude.{List};
-    ghost use Rattle.mc_desk.specs.declared.history.Entry.{Entry};
+    ghost use Rattle.copy_move.specs.declared.history.Entry.{Entry};
 
     ghost Value = { List Entry };
 

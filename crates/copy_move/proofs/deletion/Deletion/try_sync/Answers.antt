@@ -1,9 +1,9 @@
 -- A sync that was tried changes nothing that can be seen.
 use Rattle.std.proofs.Common.{ap}
-use Rattle.mc_desk.specs.declared.deletion.Stage.TheVariants.{Finish}
-use Rattle.mc_desk.specs.Work.{LiveJob}
-use Rattle.mc_desk.proofs.Steps.{steps_synced, tried_sync, aborts}
-use Rattle.mc_desk.proofs.deletion.Deletion.try_sync.Goals as goal
+use Rattle.copy_move.specs.declared.deletion.Stage.TheVariants.{Finish}
+use Rattle.copy_move.specs.Work.{LiveJob}
+use Rattle.copy_move.proofs.Steps.{steps_synced, tried_sync, aborts}
+use Rattle.copy_move.proofs.deletion.Deletion.try_sync.Goals as goal
 
 pub returns-clause-steps : goal.returns-clause-steps
 returns-clause-steps g c =

@@ -2,7 +2,7 @@
 //! then is it finished, so that a finished deletion is on the disk.
 ghost use Rattle.std.specs.Prelude.{◌≡◌, ◌≢◌, ◌≤◌, None, Some};
 ghost use Rattle.mc_text.specs.Routes.{parent_of};
-ghost use Rattle.mc_desk.specs.Work.{begun, closed_course, trouble_at, StepsOn};
+ghost use Rattle.copy_move.specs.Work.{begun, closed_course, trouble_at, StepsOn};
 
 use crate::history::{Cause, Did, Ending, Trouble};
 use mc_text::Path;
@@ -44,7 +44,7 @@ pub struct Deletion {
 impl Model for Deletion {
     ghost use Rattle.std.specs.Prelude.{◌≡◌, Some};
     ghost use Rattle.mc_text.specs.Routes.{parent_of};
-    ghost use Rattle.mc_desk.specs.Work.{LiveJob};
+    ghost use Rattle.copy_move.specs.Work.{LiveJob};
 
     ghost Value = { LiveJob };
 

@@ -4,24 +4,24 @@ use Rattle.std.specs.Option.{option_map}
 use Rattle.mc_text.specs.Routes.{Route}
 use Rattle.tree_trait.specs.Change.{CallLog}
 use Rattle.tree_trait.specs.Answers.{IfKnown, HasRisen}
-use Rattle.mc_desk.specs.Replay.{StepsTree}
+use Rattle.copy_move.specs.Replay.{StepsTree}
 use Rattle.tree_trait.specs.declared.calls.TreeError.{TreeError}
 use Rattle.tree_trait.specs.declared.calls.TreeError.TheVariants as refused
-use Rattle.mc_desk.specs.declared.deletion.Stage.{Stage}
-use Rattle.mc_desk.specs.declared.deletion.Stage.TheVariants.{Remove, Sync, Finish}
-use Rattle.mc_desk.specs.declared.deletion.Course.{Course}
-use Rattle.mc_desk.specs.declared.deletion.Course.TheVariants.{GoesOn, InTrouble, Aborts}
-use Rattle.mc_desk.specs.declared.history.Cause.{Cause}
-use Rattle.mc_desk.specs.declared.history.Cause.TheVariants.{Tree, Memory}
-use Rattle.mc_desk.specs.declared.history.Trouble.{Trouble}
-use Rattle.mc_desk.specs.declared.history.Ending.{Ending}
-use Rattle.mc_desk.specs.declared.history.Ending.TheVariants.{Finished, Aborted, NoMemory}
-use Rattle.mc_desk.specs.declared.history.Did.{Did}
-use Rattle.mc_desk.specs.declared.history.Did.TheVariants.{Removed, Barrier, Troubled, Ended}
-use Rattle.mc_desk.specs.declared.history.Event.{Event}
-use Rattle.mc_desk.specs.declared.history.Event.TheVariants.{Key, Look, Began, Step, Closed}
-use Rattle.mc_desk.specs.declared.history.Job.TheVariants.{Delete}
-use Rattle.mc_desk.specs.declared.history.Entry.{Entry}
+use Rattle.copy_move.specs.declared.deletion.Stage.{Stage}
+use Rattle.copy_move.specs.declared.deletion.Stage.TheVariants.{Remove, Sync, Finish}
+use Rattle.copy_move.specs.declared.deletion.Course.{Course}
+use Rattle.copy_move.specs.declared.deletion.Course.TheVariants.{GoesOn, InTrouble, Aborts}
+use Rattle.copy_move.specs.declared.history.Cause.{Cause}
+use Rattle.copy_move.specs.declared.history.Cause.TheVariants.{Tree, Memory}
+use Rattle.copy_move.specs.declared.history.Trouble.{Trouble}
+use Rattle.copy_move.specs.declared.history.Ending.{Ending}
+use Rattle.copy_move.specs.declared.history.Ending.TheVariants.{Finished, Aborted, NoMemory}
+use Rattle.copy_move.specs.declared.history.Did.{Did}
+use Rattle.copy_move.specs.declared.history.Did.TheVariants.{Removed, Barrier, Troubled, Ended}
+use Rattle.copy_move.specs.declared.history.Event.{Event}
+use Rattle.copy_move.specs.declared.history.Event.TheVariants.{Key, Look, Began, Step, Closed}
+use Rattle.copy_move.specs.declared.history.Job.TheVariants.{Delete}
+use Rattle.copy_move.specs.declared.history.Entry.{Entry}
 
 -- a live job: its number, the file that it deletes, what it does next, and whether it goes on
 pub record LiveJob : Type 0 where

@@ -4,11 +4,11 @@ use Rattle.mc_text.specs.Routes.{Route}
 use Rattle.tree_trait.specs.FileSystem.{View, put, visible_tree}
 use Rattle.tree_trait.specs.Change.{CallLog, current}
 use Rattle.tree_trait.specs.Shape.{IsTree}
-use Rattle.mc_desk.specs.declared.history.Did.{Did}
-use Rattle.mc_desk.specs.declared.history.Did.TheVariants.{Removed, Barrier, Troubled, Ended}
-use Rattle.mc_desk.specs.declared.history.Event.{Event}
-use Rattle.mc_desk.specs.declared.history.Event.TheVariants.{Key, Look, Began, Step, Closed}
-use Rattle.mc_desk.specs.declared.history.Entry.{Entry}
+use Rattle.copy_move.specs.declared.history.Did.{Did}
+use Rattle.copy_move.specs.declared.history.Did.TheVariants.{Removed, Barrier, Troubled, Ended}
+use Rattle.copy_move.specs.declared.history.Event.{Event}
+use Rattle.copy_move.specs.declared.history.Event.TheVariants.{Key, Look, Began, Step, Closed}
+use Rattle.copy_move.specs.declared.history.Entry.{Entry}
 
 -- what a step makes of the tree: a removed path has nothing any more
 abbrev pub replayed_step : Did → View → View
