@@ -1,5 +1,5 @@
 -- The deletion of one file, as a history tells it: the removal of its name, the sync of its folder, the end.
-use Rattle.std.specs.Prelude.{◌≡◌, ◌≢◌, ℕ, ◌≤◌, Bool, true, false, ⊤, List, [], ◌∷◌, Option, Some, None, option_and_then}
+use Rattle.std.specs.Prelude.{◌≡◌, ◌≢◌, ℕ, ◌+◌, ◌≤◌, Bool, true, false, ◌||◌, ⊤, List, [], ◌∷◌, Option, Some, None, option_and_then}
 use Rattle.std.specs.Option.{option_map}
 use Rattle.mc_text.specs.Routes.{Route}
 use Rattle.tree_trait.specs.Change.{CallLog}
@@ -41,7 +41,7 @@ after_step Barrier job = Some (record job { stage = Finish })
 after_step (Troubled trouble) job = Some (record job { course = InTrouble })
 after_step (Ended ending part) job = None
 
--- a job that waits for an answer is aborted when the session closes
+-- a job that waits for an answer is aborted when the session closes, and one that would wait later too
 abbrev pub closed_course : Course → Course
 closed_course GoesOn = GoesOn
 closed_course InTrouble = Aborts
@@ -50,19 +50,47 @@ closed_course Aborts = Aborts
 abbrev pub closed_job : LiveJob → LiveJob
 closed_job job = record job { course = closed_course job.course }
 
+abbrev pub if_closed : Bool → Option LiveJob → Option LiveJob
+if_closed true job = option_map closed_job job
+if_closed false job = job
+
+abbrev pub closes : Event → Bool
+closes Closed = true
+closes (Key key now refusals lost) = false
+closes (Look refusals) = false
+closes (Began id plan background) = false
+closes (Step id did) = false
+
+-- the session is closed after these entries
+abbrev pub is_closed : List Entry → Bool
+is_closed [] = false
+is_closed (e ∷ older) = closes e.what || is_closed older
+
 -- the live job after an event
 abbrev pub after_event : Event → Option LiveJob → Option LiveJob
 after_event (Began id (Delete []) background) job = job
 after_event (Began id (Delete (path ∷ more)) background) job = Some (begun id path)
 after_event (Step id did) job = option_and_then (after_step did) job
-after_event Closed job = option_map closed_job job
+after_event Closed job = job
 after_event (Key key now refusals lost) job = job
 after_event (Look refusals) job = job
 
 -- the live job after these entries, the newest first
 abbrev pub live_job : List Entry → Option LiveJob
 live_job [] = None
-live_job (e ∷ older) = after_event e.what (live_job older)
+live_job (e ∷ older) = if_closed (is_closed (e ∷ older)) (after_event e.what (live_job older))
+
+-- how many jobs these entries began
+abbrev pub jobs_begun : List Entry → ℕ
+jobs_begun [] = 0
+jobs_begun (e ∷ older) = began e.what + jobs_begun older
+  where
+    began : Event → ℕ
+    began (Began id plan background) = 1
+    began (Key key now refusals lost) = 0
+    began (Look refusals) = 0
+    began (Step id did) = 0
+    began Closed = 0
 
 -- the cause of a trouble where a call was refused
 abbrev pub cause_of : TreeError → Cause

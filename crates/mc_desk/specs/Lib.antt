@@ -1,2 +1,4 @@
 pub mod Logs
 pub mod Panels
+pub mod Screens
+pub mod Sessions

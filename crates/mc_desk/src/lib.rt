@@ -3,6 +3,8 @@
 
 mod log;
 mod panel;
+mod ui;
 
 pub use log::Log;
 pub use panel::Panel;
+pub use ui::{Ask, Confirmed, KeyAct, Ui};

@@ -5,10 +5,10 @@ use Rattle.std.proofs.lemmas.Bool.{true≢false, false≢true}
 use Rattle.tree_trait.specs.declared.file_system.FileSystem.{FileSystem}
 use Rattle.tree_trait.specs.declared.calls.TreeError.{TreeError}
 use Rattle.tree_trait.specs.declared.calls.TreeError.TheVariants.{Missing, NotFolder, Denied, IsFolder}
-use Rattle.tree_trait.specs.Calls.{RemoveFile}
+use Rattle.tree_trait.specs.Calls.{Stat, ListFolder, RemoveFile}
 use Rattle.mc_text.specs.Routes.{Route}
 use Rattle.tree_trait.specs.FileSystem.{lookup, find, node}
-use Rattle.tree_trait.specs.Refusals.{is_folder, lacks, step, and_then, reached, Place, last_step, walk, first_of, folder_of, missing, a_folder, denied, refusal_of}
+use Rattle.tree_trait.specs.Refusals.{is_folder, lacks, step, and_then, reached, Place, last_step, walk, first_of, thing, folder_of, missing, a_folder, no_folder, denied, refusal_of}
 use Rattle.tree_trait.specs.Shape.{IsTree, IsRemovable}
 
 pub cond_some : {A : Type 0} (b : Bool) (x y : Option A) → cond b x y ≡ None → ((b ≡ true) × (x ≡ None)) ⊎ ((b ≡ false) × (y ≡ None))
@@ -86,3 +86,19 @@ walk-find s (name ∷ up) place h =
     let r = and_then-ok (last_step s name) (reached s up) place h in
     let q = ok_same ((check_passed (lacks 0o100 (node s r.0)) Denied _ place (check_passed (not (is_folder (node s r.0))) NotFolder _ place r.2).1).1) in
     ap (option_and_then (λ f. lookup s.names f name)) (reached-find s up r.0 r.1) ∙ ap (λ (p : Place). p.there) (sym q)
+
+found_place : (s : FileSystem) (path : Route) (o : Option ℕ) → find s path ≡ o → is_none o ≡ false → find s path ≡ Some (unwrap_or (find s path) 0)
+found_place s path None at h = absurd (true≢false h)
+found_place s path (Some i) at h = rw at refl
+
+-- what may be looked at is there
+pub stat-found : (s : FileSystem) (path : Route) → refusal_of s (Stat path) ≡ None → find s path ≡ Some (unwrap_or (find s path) 0)
+stat-found s path h =
+    let w = passed_walk (walk s path) (λ p. first_of (missing p ∷ [])) h in
+    found_place s path w.0.there (walk-find s path w.0 w.1) (check_passes (is_none w.0.there) Missing _ w.2).0
+
+-- what may be listed is there
+pub list-found : (s : FileSystem) (path : Route) → refusal_of s (ListFolder path) ≡ None → find s path ≡ Some (unwrap_or (find s path) 0)
+list-found s path h =
+    let w = passed_walk (walk s path) (λ p. first_of (missing p ∷ no_folder s p ∷ denied 0o400 (thing s p) ∷ [])) h in
+    found_place s path w.0.there (walk-find s path w.0 w.1) (check_passes (is_none w.0.there) Missing _ w.2).0
