@@ -12,6 +12,8 @@ use Rattle.key_screen.specs.declared.keys.Base.TheVariants.{F, Down, Enter, Unkn
 use Rattle.copy_move.specs.declared.history.Refusal.{Refusal}
 use Rattle.copy_move.specs.declared.history.Refusal.TheVariants.{Tree}
 use Rattle.copy_move.specs.Replay.{ShowsView}
+use Rattle.mc_desk.specs.declared.choice.Choice.{Choice}
+use Rattle.mc_desk.specs.declared.choice.Choice.TheVariants.{Nothing, Asks, Refused}
 use Rattle.mc_desk.specs.Panels.{Shown, current_path, moved_down, read_again, ListsFolder}
 
 -- the panel, the file of which the box asks, and a file whose deletion was confirmed and is to be begun
@@ -40,6 +42,13 @@ Chooses tree true current refusals before after = (refusals ≡ []) × (after �
 Chooses tree false None refusals before after = (refusals ≡ []) × (after ≡ before)
 Chooses tree false (Some path) [] before after = (asked : Option Route) × MayAsk tree path asked × (after ≡ record before { asked = asked })
 Chooses tree false (Some path) (refusal ∷ more) before after = (e : TreeError) × (refusal ∷ more ≡ Tree path e ∷ []) × (after ≡ before)
+
+-- what choosing the thing under the cursor comes to: nothing, or the box asks of it, or a look at it was refused
+abbrev pub IsChoice : Option View → Option Route → Choice → Type 0
+IsChoice tree None choice = choice ≡ Nothing
+IsChoice tree (Some path) Nothing = MayAsk tree path None
+IsChoice tree (Some path) (Asks chosen) = MayAsk tree path (Some path) × (chosen.path ≡ path)
+IsChoice tree (Some path) (Refused refused e) = refused ≡ path
 
 -- a key while the box asks: Enter confirms, F10 shuts the box, no other does anything
 abbrev pub in_box : Base → Route → Screen → Screen

@@ -1,5 +1,6 @@
 //! The panel: the names in one folder, and a cursor on one of its rows.
-ghost use Rattle.std.specs.Prelude.{◌≡◌, ◌<◌, IfOk, IfSome, Some, length, option_map};
+ghost use Rattle.std.specs.Prelude.{◌≡◌, ◌≢◌, ◌<◌, ◌≤◌, IfOk, IfErr, IfSome, Some, length, option_map};
+ghost use Rattle.mc_text.specs.Routes.{spelled};
 ghost use Rattle.mc_desk.specs.Panels.{Shown, rows_above, last_row, current_name, current_path, moved_down, place_of, read_again};
 
 use mc_text::{Name, Names, NoMemory, Path, PathError};
@@ -76,7 +77,9 @@ impl Panel {
 
     /// The path of the thing under the cursor, if it isn't `..`.
     pub fn current_path(&self, alloc: Global) -> Result<Option<Path>, PathError>
-        ensures { IfOk result (λ path. path ≡ current_path self.now) }
+        ensures path { IfOk result (λ path. path ≡ current_path self.now) }
+        ensures fits { IfOk result (λ path. IfSome path (λ p. length (spelled p) ≤ 4096)) }
+        ensures too_long { IfErr result (λ e. e ≢ PathError.Memory → IfSome (current_path self.now) (λ p. 4096 < length (spelled p))) }
     {
         match self.current_name() {
             None => Ok(None),

@@ -9,7 +9,7 @@ ghost use Rattle.mc_desk.specs.Screens.{Screen, Sees, KeyLeads, LookLeads, MayAs
 use crate::panel::Panel;
 use copy_move::{Refusal, Refusals};
 use key_screen::{Base, Key};
-use mc_text::{Kind, NoMemory, Path, PathError, Paths};
+use mc_text::{NoMemory, Path, Paths};
 use std::alloc::Global;
 use std::marker::Model;
 use tree_trait::{Children, Meta, Tree, TreeError};
