@@ -17,10 +17,11 @@ use Rattle.tree_trait.specs.CrashImages.{Among}
 use Rattle.tree_trait.specs.Answers.{IsMeta, IsListing, IsAscending, IfKnown, Reads}
 use Rattle.tree_trait.proofs.Walking.{stat-found, list-found}
 use Rattle.copy_move.specs.Replay.{ShowsView}
-use Rattle.mc_desk.specs.Panels.{ListsFolder}
+use Rattle.copy_move.specs.declared.history.Refusal.{Refusal}
+use Rattle.mc_desk.specs.Panels.{ListsFolder, read_again}
 use Rattle.mc_desk.specs.declared.choice.Chosen.{Chosen}
 use Rattle.mc_desk.specs.declared.choice.Choice.TheVariants.{Asks}
-use Rattle.mc_desk.specs.Screens.{Sees, is_file_spot, MayAsk, IsChoice}
+use Rattle.mc_desk.specs.Screens.{Sees, is_file_spot, MayAsk, IsChoice, Screen, LookLeads}
 
 -- what `stat` says of a path is what the view shows there
 spot_kind : (log : CallLog) (path : Route) (view : View) (meta : Meta) → ShowsView log view → refusal_of (current log) (Stat path) ≡ None → IsMeta (current log) path meta
@@ -95,3 +96,12 @@ asks_choice o current path chosen is may same = subst (λ q. IsChoice o q (Asks 
 pub near : (field : Option Route) (path : Route) → field ≡ Some path → IfSome field (λ p. length (spelled p) ≤ 4096) → length (spelled path) ≤ 4096
 near None path is h = absurd cc
 near (Some p) path is h = let e : p ≡ path = cc in subst (λ q. length (spelled q) ≤ 4096) e h
+
+-- after a job's end the panel has the names that are there now
+pub looks_again : (o : Option View) (contents : Option CallLog) (before after : Screen) (folder : Route) (children : Children) (refusals : List Refusal) (unseen : Bool)
+    → unseen ≡ true → refusals ≡ [] → folder ≡ before.panel.folder → Sees contents o → IsAscending children.names
+    → IfKnown contents (λ log. Reads log (ListFolder folder) (let r : Result Children TreeError = Ok children in r) (IsListing (current log) (found (current log) folder)))
+    → after ≡ record before { panel = read_again before.panel children.names } → LookLeads o unseen refusals before after
+looks_again o contents before after folder children refusals unseen on none same sees order reads is =
+    subst (λ u. LookLeads o u refusals before after) (sym on) (subst (λ r. LookLeads o true r before after) (sym none)
+    (children.names, subst (λ f. ListsFolder o f children.names) same (lists_folder o contents folder children sees order reads), is))

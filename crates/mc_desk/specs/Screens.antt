@@ -14,6 +14,9 @@ use Rattle.copy_move.specs.declared.history.Refusal.TheVariants.{Tree}
 use Rattle.copy_move.specs.Replay.{ShowsView}
 use Rattle.mc_desk.specs.declared.choice.Choice.{Choice}
 use Rattle.mc_desk.specs.declared.choice.Choice.TheVariants.{Nothing, Asks, Refused}
+use Rattle.mc_desk.specs.declared.asks.Ask.{Ask}
+use Rattle.mc_desk.specs.declared.asks.Ask.TheVariants as ask
+use Rattle.mc_desk.specs.declared.asks.Ask.TheVariants.{Delete, End}
 use Rattle.mc_desk.specs.Panels.{Shown, current_path, moved_down, read_again, ListsFolder}
 
 -- the panel, the file of which the box asks, and a file whose deletion was confirmed and is to be begun
@@ -86,3 +89,9 @@ pub record IsOpening (tree : Option View) (screen : Screen) : Type 0 where
   pub cursor : screen.panel.cursor ≡ 0
   pub asked : screen.asked ≡ None
   pub confirmed : screen.confirmed ≡ None
+
+-- the screen once what a key asked is noted: a deletion that was confirmed is to be begun
+abbrev pub with_ask : Ask → Screen → Screen
+with_ask (Delete confirmed) screen = record screen { confirmed = Some confirmed.path }
+with_ask ask.Nothing screen = screen
+with_ask End screen = screen
