@@ -1,5 +1,5 @@
 -- The deletion of one file, as a history tells it: the removal of its name, the sync of its folder, the end.
-use Rattle.std.specs.Prelude.{◌≡◌, ◌≢◌, ℕ, ◌+◌, ◌≤◌, Bool, true, false, ◌||◌, ⊤, List, [], ◌∷◌, Option, Some, None, option_and_then}
+use Rattle.std.specs.Prelude.{◌≡◌, ◌≢◌, ℕ, ◌≤◌, Bool, true, false, ◌||◌, ⊤, List, [], ◌∷◌, Option, Some, None, option_and_then}
 use Rattle.std.specs.Option.{option_map}
 use Rattle.mc_text.specs.Routes.{Route}
 use Rattle.tree_trait.specs.Change.{CallLog}
@@ -80,17 +80,17 @@ abbrev pub live_job : List Entry → Option LiveJob
 live_job [] = None
 live_job (e ∷ older) = if_closed (is_closed (e ∷ older)) (after_event e.what (live_job older))
 
--- how many jobs these entries began
-abbrev pub jobs_begun : List Entry → ℕ
-jobs_begun [] = 0
-jobs_begun (e ∷ older) = began e.what + jobs_begun older
-  where
-    began : Event → ℕ
-    began (Began id plan background) = 1
-    began (Key key now refusals lost) = 0
-    began (Look refusals) = 0
-    began (Step id did) = 0
-    began Closed = 0
+abbrev pub id_after : Event → ℕ → ℕ
+id_after (Began id plan background) before = id
+id_after (Key key now refusals lost) before = before
+id_after (Look refusals) before = before
+id_after (Step id did) before = before
+id_after Closed before = before
+
+-- the number of the job that these entries began last, or 0
+abbrev pub last_id : List Entry → ℕ
+last_id [] = 0
+last_id (e ∷ older) = id_after e.what (last_id older)
 
 -- the cause of a trouble where a call was refused
 abbrev pub cause_of : TreeError → Cause

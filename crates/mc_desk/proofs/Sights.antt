@@ -21,6 +21,8 @@ use Rattle.copy_move.specs.declared.history.Refusal.{Refusal}
 use Rattle.mc_desk.specs.Panels.{ListsFolder, read_again}
 use Rattle.mc_desk.specs.declared.choice.Chosen.{Chosen}
 use Rattle.mc_desk.specs.declared.choice.Choice.TheVariants.{Asks}
+use Rattle.mc_desk.specs.Logs.{Logged}
+use Rattle.mc_desk.specs.Starts.{IsOpened}
 use Rattle.mc_desk.specs.Screens.{Sees, is_file_spot, MayAsk, IsChoice, Screen, LookLeads}
 
 -- what `stat` says of a path is what the view shows there
@@ -105,3 +107,19 @@ pub looks_again : (o : Option View) (contents : Option CallLog) (before after : 
 looks_again o contents before after folder children refusals unseen on none same sees order reads is =
     subst (λ u. LookLeads o u refusals before after) (sym on) (subst (λ r. LookLeads o true r before after) (sym none)
     (children.names, subst (λ f. ListsFolder o f children.names) same (lists_folder o contents folder children sees order reads), is))
+
+-- a listing opens the screen
+pub opens : (contents : Option CallLog) (folder : Route) (children : Children) (screen : Screen) (log : Logged) → screen ≡ record { panel = record { folder = folder; names = children.names; cursor = 0 }; asked = None; confirmed = None }
+    → IsAscending children.names → IfKnown contents (λ log. Reads log (ListFolder folder) (let r : Result Children TreeError = Ok children in r) (IsListing (current log) (found (current log) folder)))
+    → log.newest ≡ [] → 1 ≤ log.spare → IsOpened contents folder screen log
+opens contents folder children screen log is order reads empty room = record {
+  opening = λ o sees. record {
+    lists = subst (λ (s : Screen). ListsFolder o s.panel.folder s.panel.names) (sym is) (lists_folder o contents folder children sees order reads);
+    cursor = ap (λ (s : Screen). s.panel.cursor) is;
+    asked = ap (λ (s : Screen). s.asked) is;
+    confirmed = ap (λ (s : Screen). s.confirmed) is;
+  };
+  folder_is = ap (λ (s : Screen). s.panel.folder) is;
+  empty = empty;
+  room = room;
+}

@@ -1,4 +1,6 @@
+pub mod Desks
 pub mod Logs
 pub mod Panels
 pub mod Screens
 pub mod Sessions
+pub mod Starts

@@ -3,14 +3,25 @@
 
 mod asks;
 mod choice;
+mod causes;
 mod choosing;
+mod desk;
+mod frame;
 mod log;
+mod opening;
 mod panel;
+mod starts;
+mod tag;
 mod ui;
 
 pub use asks::{Ask, Confirmed, KeyAct};
 pub use choice::{Choice, Chosen};
+pub use causes::cause_text;
 pub use choosing::choose;
+pub use desk::{Desk, DeskError, DeskReply, Ended, Refused, StepReply};
+pub use starts::{Start, StartError};
+pub use frame::draw;
 pub use log::Log;
 pub use panel::Panel;
+pub use tag::Tag;
 pub use ui::Ui;

@@ -1,5 +1,5 @@
 //! What stands on the screen: the panel, the box that asks whether to delete a file, and a line of news.
-ghost use Rattle.std.specs.Prelude.{◌≡◌, ◌∷◌, [], ◌≤◌, Option, None, IfOk, OnErr, IfSome};
+ghost use Rattle.std.specs.Prelude.{◌≡◌, ◌∷◌, [], ◌≤◌, Option, None, IfOk, OnErr, IfSome, option_map};
 ghost use Rattle.tree_trait.specs.FileSystem.{View};
 ghost use Rattle.mc_desk.specs.Panels.{current_path};
 ghost use Rattle.mc_desk.specs.Screens.{Sees, KeyLeads, InPanel, Chooses, LookLeads, in_box, with_ask};
@@ -44,6 +44,35 @@ impl Ui {
             asked: None,
             news: None,
         }
+    }
+
+    /// The panel.
+    pub fn panel(&self) -> &Panel
+        ensures { result.now ≡ self.now.panel }
+    {
+        &self.panel
+    }
+
+    /// The file of which the box asks, where it is open.
+    pub fn asked(&self) -> Option<&Path>
+        ensures { option_map (λ path. path.now) result ≡ self.now.asked }
+    {
+        match &self.asked {
+            None => None,
+            Some(chosen) => Some(&chosen.path),
+        }
+    }
+
+    /// Why the last look or key was refused, if one was.
+    pub fn news(&self) -> Option<TreeError> {
+        self.news
+    }
+
+    /// Shows why a job is in trouble.
+    pub fn tell(&mut self, news: TreeError)
+        ensures { self.new ≡ self.old }
+    {
+        self.news = Some(news);
     }
 
     /// Works a key. `busy` says that a job is live. Where a look was refused, the refusals say so.

@@ -1,0 +1,125 @@
+-- One entry more is a session still.
+use Rattle.std.proofs.Common.{◌≡◌, ℕ, ◌≤◌, Bool, true, false, ◌||◌, List, [], ◌∷◌, refl, sym, ◌∙◌, ap, subst, Option, Some, None, arith, cond}
+use Rattle.std.specs.Option.{option_map}
+use Rattle.mc_text.specs.Routes.{Route, same_path}
+use Rattle.tree_trait.specs.FileSystem.{View, Spot, put, visible_tree}
+use Rattle.tree_trait.specs.Change.{CallLog, current}
+use Rattle.tree_trait.specs.Shape.{IsTree}
+use Rattle.tree_trait.specs.Answers.{IfKnown}
+use Rattle.copy_move.specs.declared.history.Entry.{Entry}
+use Rattle.copy_move.specs.declared.history.Did.{Did}
+use Rattle.copy_move.specs.declared.history.Did.TheVariants.{Removed, Barrier, Troubled, Ended}
+use Rattle.copy_move.specs.declared.history.Event.{Event}
+use Rattle.copy_move.specs.declared.history.Event.TheVariants.{Key, Look, Began, Step, Closed}
+use Rattle.copy_move.specs.Work.{LiveJob, live_job, last_id, is_closed, closes, if_closed, after_event, id_after}
+use Rattle.copy_move.specs.Replay.{ShowsView, Replays, IsReplayed, StepsTree, replayed_step, replayed_event, replayed_tree}
+use Rattle.mc_desk.specs.Logs.{Logged}
+use Rattle.mc_desk.specs.Screens.{Screen, Sees, IsOpening}
+use Rattle.mc_desk.specs.Sessions.{IsSession, MayOpen, EventLeads, end_unseen, end_unseen_event}
+use Rattle.mc_desk.specs.Starts.{IsOpened}
+use Rattle.mc_desk.specs.Desks.{Seen, kept_room, IsWritten, IsDesk}
+
+-- what is known at the opening
+opening_seen : (opening contents : Option CallLog) (tree : Option View) → IfKnown contents (λ log. opening ≡ Some log) → MayOpen opening contents tree → Sees contents tree
+opening_seen opening contents None known may = tt
+opening_seen opening contents (Some view) known may =
+    let after = may.4.0 in
+    let same : may.0 ≡ after = let a = known after may.4.1 in let b = may.1 in cc in
+    (after, may.4.1, λ path. sym (ap (λ (v : View). v path) may.3 ∙ ap (λ (l : CallLog). visible_tree (current l) path) same))
+
+opening_replayed : (opening contents : Option CallLog) → IfKnown contents (λ log. opening ≡ Some log) → IsReplayed opening contents []
+opening_replayed opening None known = tt
+opening_replayed opening (Some log) known = (log, known log refl, record { opening = refl; tree = λ t. t; shows = λ t path. refl })
+
+pub kept_opening : (opening contents contents_after : Option CallLog) (folder : Route) (screen : Screen) (log : Logged) → contents_after ≡ contents → IfKnown contents (λ l. opening ≡ Some l)
+    → IsOpened contents folder screen log
+    → IsDesk opening contents_after (record { newest = log.newest; spare = log.spare; screen = screen; job = None; last = 0; unseen = false; closed = false })
+kept_opening opening contents contents_after folder screen log same known opened =
+    subst (λ o. IsDesk opening o (record { newest = log.newest; spare = log.spare; screen = screen; job = None; last = 0; unseen = false; closed = false })) (sym same) record {
+      written = record {
+        session = λ tree may. subst (λ es. IsSession tree es screen) (sym opened.empty) (opened.opening tree (opening_seen opening contents tree known may));
+        replayed = subst (λ es. IsReplayed opening contents es) (sym opened.empty) (opening_replayed opening contents known);
+        job = ap live_job (sym opened.empty);
+        last = ap last_id (sym opened.empty);
+        unseen = ap end_unseen (sym opened.empty);
+        closed = ap is_closed (sym opened.empty);
+      };
+      settled = (opened.opening None tt).confirmed;
+      room = let h = opened.room in omega (arith, h);
+    }
+
+-- the tree shows what the history makes of the opening's view
+pub seen_now : (opening contents : Option CallLog) (tree : Option View) (newest : List Entry) → MayOpen opening contents tree → IsReplayed opening contents newest
+    → Sees contents (option_map (λ view. replayed_tree view newest) tree)
+seen_now opening contents None newest may replayed = tt
+seen_now opening contents (Some view) newest may replayed =
+    let after = may.4.0 in
+    let r = subst (λ c. IsReplayed opening c newest) may.4.1 replayed in
+    let same : r.0 ≡ may.0 = let a = r.1 in let b = may.1 in cc in
+    let is : view ≡ visible_tree (current r.0) = may.3 ∙ ap (λ (l : CallLog). visible_tree (current l)) (sym same) in
+    (after, may.4.1, λ path. r.2.shows (subst (λ (l : CallLog). IsTree (current l)) (sym same) may.2) path ∙ ap (λ (v : View). replayed_tree v newest path) (sym is))
+
+-- what may have been the opening's view still may
+pub may_open : (opening contents contents_after : Option CallLog) (tree : Option View) → (contents ≡ None → contents_after ≡ None) → MayOpen opening contents_after tree → MayOpen opening contents tree
+may_open opening contents contents_after None unknown may = tt
+may_open opening None contents_after (Some view) unknown may = absurd (let a = unknown refl in let b = may.4.1 in cc)
+may_open opening (Some log) contents_after (Some view) unknown may = (may.0, may.1, may.2, may.3, (log, refl))
+
+-- one entry more
+pub written_more : (opening contents contents_after : Option CallLog) (old new : Seen) (e : Entry) → IsWritten opening contents old → new.newest ≡ e ∷ old.newest
+    → ((tree : Option View) → Sees contents tree → EventLeads tree old.job old.unseen old.last e.what old.screen new.screen)
+    → (contents ≡ None → contents_after ≡ None)
+    → (IsReplayed opening contents old.newest → IsReplayed opening contents_after (e ∷ old.newest))
+    → new.job ≡ if_closed (closes e.what || old.closed) (after_event e.what old.job)
+    → new.last ≡ id_after e.what old.last
+    → new.unseen ≡ end_unseen_event e.what old.unseen
+    → new.closed ≡ (closes e.what || old.closed)
+    → IsWritten opening contents_after new
+written_more opening contents contents_after old new e written more leads unknown replayed job last unseen closed = record {
+  session = λ tree may. subst (λ es. IsSession tree es new.screen) (sym more)
+      (old.screen, written.session tree (may_open opening contents contents_after tree unknown may),
+      rw (← written.job, ← written.unseen, ← written.last)
+      (leads _ (seen_now opening contents tree old.newest (may_open opening contents contents_after tree unknown may) written.replayed)));
+  replayed = subst (λ es. IsReplayed opening contents_after es) (sym more) (replayed written.replayed);
+  job = job ∙ (ap (λ b. if_closed (closes e.what || b) (after_event e.what old.job)) written.closed
+      ∙ (ap (λ j. if_closed (closes e.what || is_closed old.newest) (after_event e.what j)) written.job ∙ ap live_job (sym more)));
+  last = last ∙ (ap (id_after e.what) written.last ∙ ap last_id (sym more));
+  unseen = unseen ∙ (ap (end_unseen_event e.what) written.unseen ∙ ap end_unseen (sym more));
+  closed = closed ∙ (ap (λ b. closes e.what || b) written.closed ∙ ap is_closed (sym more));
+}
+
+-- an event that changes nothing that can be seen
+pub replayed_same : (opening contents contents_after : Option CallLog) (newest : List Entry) (e : Entry) → contents_after ≡ contents → ((v : View) → replayed_event e.what v ≡ v)
+    → IsReplayed opening contents newest → IsReplayed opening contents_after (e ∷ newest)
+replayed_same opening contents contents_after newest e same still replayed = subst (λ c. IsReplayed opening c (e ∷ newest)) (sym same) (go contents replayed)
+  where
+    go : (c : Option CallLog) → IsReplayed opening c newest → IsReplayed opening c (e ∷ newest)
+    go None h = tt
+    go (Some after) h = (h.0, h.1, record {
+      opening = h.2.opening;
+      tree = h.2.tree;
+      shows = λ tree path. h.2.shows tree path ∙ sym (ap (λ (v : View). v path) (still (replayed_tree (visible_tree (current h.0)) newest)));
+    })
+
+-- a step makes the same of views that are the same at each path
+step_same : (did : Did) (v w : View) → ((path : Route) → v path ≡ w path) → (path : Route) → replayed_step did v path ≡ replayed_step did w path
+step_same (Removed gone) v w h path = rw (h path) refl
+step_same Barrier v w h path = h path
+step_same (Troubled trouble) v w h path = h path
+step_same (Ended ending part) v w h path = h path
+
+-- a step of a job goes on from the tree as it was
+pub replayed_more : (opening contents contents_after : Option CallLog) (newest : List Entry) (e : Entry) (id : ℕ) (did : Did) → e.what ≡ Step id did
+    → IfKnown contents (λ log. StepsTree log did contents_after) → (contents ≡ None → contents_after ≡ None)
+    → IsReplayed opening contents newest → IsReplayed opening contents_after (e ∷ newest)
+replayed_more opening None contents_after newest e id did what steps unknown replayed = subst (λ c. IsReplayed opening c (e ∷ newest)) (sym (unknown refl)) tt
+replayed_more opening (Some log) contents_after newest e id did what steps unknown replayed =
+    let s = steps log refl in
+    let r = replayed.2 in
+    subst (λ c. IsReplayed opening c (e ∷ newest)) (sym s.is) (replayed.0, replayed.1, record {
+      opening = s.opening ∙ r.opening;
+      tree = λ tree. s.tree (r.tree tree);
+      shows = λ tree path. s.shows (r.tree tree) path
+          ∙ (step_same did (visible_tree (current log)) (replayed_tree (visible_tree (current replayed.0)) newest) (r.shows tree) path
+          ∙ ap (λ (what : Event). replayed_event what (replayed_tree (visible_tree (current replayed.0)) newest) path) (sym what));
+    })
