@@ -1,6 +1,8 @@
 -- One entry more is a session still.
-use Rattle.std.proofs.Common.{◌≡◌, ℕ, ◌≤◌, Bool, true, false, ◌||◌, List, [], ◌∷◌, refl, sym, ◌∙◌, ap, subst, Option, Some, None, arith, cond}
+use Rattle.std.proofs.Common.{◌≡◌, ℕ, ◌+◌, ◌-◌, ◌^◌, ◌≤◌, min, Bool, true, false, ◌||◌, List, [], ◌∷◌, refl, sym, ◌∙◌, ap, subst, Option, Some, None, arith, cond}
+use Rattle.std.specs.Prelude.{is_some, option_and_then}
 use Rattle.std.specs.Option.{option_map}
+use Rattle.key_screen.specs.declared.keys.Key.{Key as KeyType}
 use Rattle.mc_text.specs.Routes.{Route, same_path}
 use Rattle.tree_trait.specs.FileSystem.{View, Spot, put, visible_tree}
 use Rattle.tree_trait.specs.Change.{CallLog, current}
@@ -11,10 +13,12 @@ use Rattle.copy_move.specs.declared.history.Did.{Did}
 use Rattle.copy_move.specs.declared.history.Did.TheVariants.{Removed, Barrier, Troubled, Ended}
 use Rattle.copy_move.specs.declared.history.Event.{Event}
 use Rattle.copy_move.specs.declared.history.Event.TheVariants.{Key, Look, Began, Step, Closed}
-use Rattle.copy_move.specs.Work.{LiveJob, live_job, last_id, is_closed, closes, if_closed, after_event, id_after}
+use Rattle.copy_move.specs.declared.history.Job.TheVariants.{Delete}
+use Rattle.copy_move.specs.declared.history.Refusal.{Refusal}
+use Rattle.copy_move.specs.Work.{LiveJob, begun, live_job, last_id, is_closed, closes, if_closed, closed_job, after_event, after_step, id_after, IsAllowedStep}
 use Rattle.copy_move.specs.Replay.{ShowsView, Replays, IsReplayed, StepsTree, replayed_step, replayed_event, replayed_tree}
 use Rattle.mc_desk.specs.Logs.{Logged}
-use Rattle.mc_desk.specs.Screens.{Screen, Sees, IsOpening}
+use Rattle.mc_desk.specs.Screens.{Screen, Sees, IsOpening, KeyLeads, LookLeads}
 use Rattle.mc_desk.specs.Sessions.{IsSession, MayOpen, EventLeads, end_unseen, end_unseen_event}
 use Rattle.mc_desk.specs.Starts.{IsOpened}
 use Rattle.mc_desk.specs.Desks.{Seen, kept_room, IsWritten, IsDesk}
@@ -123,3 +127,65 @@ replayed_more opening (Some log) contents_after newest e id did what steps unkno
           ∙ (step_same did (visible_tree (current log)) (replayed_tree (visible_tree (current replayed.0)) newest) (r.shows tree) path
           ∙ ap (λ (what : Event). replayed_event what (replayed_tree (visible_tree (current replayed.0)) newest) path) (sym what));
     })
+
+abbrev pub entry : ℕ → ℕ → ℕ → ℕ → Event → Entry
+entry seat calls faults shown what = record { seat = seat; calls = calls; faults = faults; shown = shown; what = what }
+
+module _ (opening contents contents_after : Option CallLog) (old new : Seen) (seat calls faults shown : ℕ) where
+  -- a key that was worked
+  pub kept_key : (key : KeyType) (now : ℕ) (refusals : List Refusal) → IsWritten opening contents old → old.screen.confirmed ≡ None → old.closed ≡ false
+      → new.newest ≡ entry seat calls faults shown (Key key now refusals false) ∷ old.newest → contents_after ≡ contents
+      → ((tree : Option View) → Sees contents tree → KeyLeads tree (is_some old.job) key refusals old.screen new.screen)
+      → new.job ≡ old.job → new.last ≡ old.last → new.unseen ≡ old.unseen → new.closed ≡ false → IsWritten opening contents_after new
+  kept_key key now refusals written settled unclosed more same leads job last unseen closed =
+      written_more opening contents contents_after old new (entry seat calls faults shown (Key key now refusals false)) written more
+      (λ tree sees. (settled, leads tree sees)) (λ none. same ∙ none) (replayed_same opening contents contents_after old.newest _ same (λ v. refl))
+      (job ∙ sym (ap (λ b. if_closed b old.job) unclosed)) last unseen (closed ∙ sym unclosed)
+
+  -- a key that was lost
+  pub kept_lost : (key : KeyType) (now : ℕ) (refusals : List Refusal) → IsWritten opening contents old → old.screen.confirmed ≡ None → old.closed ≡ false
+      → new.newest ≡ entry seat calls faults shown (Key key now refusals true) ∷ old.newest → contents_after ≡ contents
+      → new.screen ≡ old.screen → new.job ≡ old.job → new.last ≡ old.last → new.unseen ≡ old.unseen → new.closed ≡ false → IsWritten opening contents_after new
+  kept_lost key now refusals written settled unclosed more same screen job last unseen closed =
+      written_more opening contents contents_after old new (entry seat calls faults shown (Key key now refusals true)) written more
+      (λ tree sees. (settled, screen)) (λ none. same ∙ none) (replayed_same opening contents contents_after old.newest _ same (λ v. refl))
+      (job ∙ sym (ap (λ b. if_closed b old.job) unclosed)) last unseen (closed ∙ sym unclosed)
+
+  -- a look
+  pub kept_look : (refusals : List Refusal) → IsWritten opening contents old → old.screen.confirmed ≡ None → old.closed ≡ false
+      → new.newest ≡ entry seat calls faults shown (Look refusals) ∷ old.newest → contents_after ≡ contents
+      → ((tree : Option View) → Sees contents tree → LookLeads tree old.unseen refusals old.screen new.screen)
+      → new.job ≡ old.job → new.last ≡ old.last → new.unseen ≡ false → new.closed ≡ false → IsWritten opening contents_after new
+  kept_look refusals written settled unclosed more same leads job last unseen closed =
+      written_more opening contents contents_after old new (entry seat calls faults shown (Look refusals)) written more
+      (λ tree sees. (settled, leads tree sees)) (λ none. same ∙ none) (replayed_same opening contents contents_after old.newest _ same (λ v. refl))
+      (job ∙ sym (ap (λ b. if_closed b old.job) unclosed)) last unseen (closed ∙ sym unclosed)
+
+  -- a job that was begun
+  pub kept_began : (id : ℕ) (path : Route) → IsWritten opening contents old → old.screen.confirmed ≡ Some path → old.closed ≡ false
+      → new.newest ≡ entry seat calls faults shown (Began id (Delete (path ∷ [])) false) ∷ old.newest → contents_after ≡ contents
+      → id ≡ min (old.last + 1) (2 ^ 32 - 1) → new.screen ≡ record old.screen { confirmed = None }
+      → new.job ≡ Some (begun id path) → new.last ≡ id → new.unseen ≡ old.unseen → new.closed ≡ false → IsWritten opening contents_after new
+  kept_began id path written confirmed unclosed more same id_is screen job last unseen closed =
+      written_more opening contents contents_after old new (entry seat calls faults shown (Began id (Delete (path ∷ [])) false)) written more
+      (λ tree sees. (path, confirmed, refl, refl, id_is, screen)) (λ none. same ∙ none) (replayed_same opening contents contents_after old.newest _ same (λ v. refl))
+      (job ∙ sym (ap (λ b. if_closed b (Some (begun id path))) unclosed)) last unseen (closed ∙ sym unclosed)
+
+  -- the end of keys
+  pub kept_closed : IsWritten opening contents old → old.screen.confirmed ≡ None → new.newest ≡ entry seat calls faults shown Closed ∷ old.newest → contents_after ≡ contents
+      → new.screen ≡ old.screen → new.job ≡ option_map closed_job old.job → new.last ≡ old.last → new.unseen ≡ old.unseen → new.closed ≡ true → IsWritten opening contents_after new
+  kept_closed written settled more same screen job last unseen closed =
+      written_more opening contents contents_after old new (entry seat calls faults shown Closed) written more
+      (λ tree sees. (settled, screen)) (λ none. same ∙ none) (replayed_same opening contents contents_after old.newest _ same (λ v. refl))
+      job last unseen closed
+
+  -- a step of a job
+  pub kept_step : (live : LiveJob) (did : Did) → IsWritten opening contents old → old.screen.confirmed ≡ None → old.job ≡ Some live → IsAllowedStep live did
+      → IfKnown contents (λ log. StepsTree log did contents_after) → (contents ≡ None → contents_after ≡ None)
+      → new.newest ≡ entry seat calls faults shown (Step live.id did) ∷ old.newest → new.screen ≡ old.screen
+      → new.job ≡ if_closed old.closed (after_step did live) → new.last ≡ old.last → new.unseen ≡ end_unseen_event (Step live.id did) old.unseen → new.closed ≡ old.closed
+      → IsWritten opening contents_after new
+  kept_step live did written settled is allowed steps unknown more screen job last unseen closed =
+      written_more opening contents contents_after old new (entry seat calls faults shown (Step live.id did)) written more
+      (λ tree sees. (settled, screen, (live, is, refl, allowed))) unknown (replayed_more opening contents contents_after old.newest _ live.id did refl steps unknown)
+      (job ∙ ap (λ j. if_closed old.closed (option_and_then (after_step did) j)) (sym is)) last unseen closed

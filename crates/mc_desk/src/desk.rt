@@ -6,6 +6,9 @@ ghost use Rattle.tree_trait.specs.Change.{current};
 ghost use Rattle.tree_trait.specs.Answers.{IfKnown, HasRisen};
 ghost use Rattle.mc_desk.specs.Starts.{IsStartCause};
 
+mod keys;
+mod steps;
+
 use crate::log::Log;
 use crate::opening::open;
 use crate::starts::{Start, StartError};

@@ -1,0 +1,1 @@
+//! Keys and looks: what a desk does for its user.
