@@ -144,3 +144,26 @@ pub record StepsOn (old new : LiveJob) (did : Did) (before after : Option CallLo
   pub unknown : before ≡ None → after ≡ None
   pub later : faults ≤ faults_after
   pub fault : IsFault did → HasRisen faults faults_after
+
+-- the report is that of an end
+abbrev pub ends : Did → Bool
+ends (Ended ending part) = true
+ends (Removed path) = false
+ends Barrier = false
+ends (Troubled trouble) = false
+
+-- at most how many steps a job makes before its end or its next trouble; one that waits is counted as it will be aborted
+abbrev pub left_at : Course → Stage → ℕ
+left_at GoesOn Remove = 5
+left_at GoesOn Sync = 4
+left_at GoesOn Finish = 1
+left_at InTrouble Remove = 1
+left_at InTrouble Sync = 2
+left_at InTrouble Finish = 1
+left_at Aborts Remove = 1
+left_at Aborts Sync = 2
+left_at Aborts Finish = 1
+
+abbrev pub steps_left : Option LiveJob → ℕ
+steps_left None = 0
+steps_left (Some job) = left_at job.course job.stage

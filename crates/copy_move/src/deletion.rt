@@ -1,6 +1,6 @@
 //! The deletion of one file, a call of the tree at each step: its name is removed, then its folder is synced, and only
 //! then is it finished, so that a finished deletion is on the disk.
-ghost use Rattle.std.specs.Prelude.{◌≡◌, ◌≢◌, ◌≤◌, None, Some};
+ghost use Rattle.std.specs.Prelude.{◌≡◌, ◌≢◌, ◌≤◌, ◌↔◌, IsTrue, None, Some};
 ghost use Rattle.mc_text.specs.Routes.{parent_of};
 ghost use Rattle.copy_move.specs.Work.{begun, closed_course, trouble_at, StepsOn};
 
@@ -82,11 +82,11 @@ impl Deletion {
         self.id
     }
 
-    /// Whether the job waits for nothing.
-    pub fn course(&self) -> Course
-        ensures { result ≡ self.now.course }
+    /// Whether the job is in trouble, and waits for an answer.
+    pub fn waits(&self) -> bool
+        ensures { IsTrue result ↔ (self.now.course ≡ Course.InTrouble) }
     {
-        self.course
+        matches!(self.course, Course::InTrouble)
     }
 
     /// The session closes: a job that waits for an answer is aborted.

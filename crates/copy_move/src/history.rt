@@ -49,6 +49,18 @@ pub enum Did {
     Ended { ending: Ending, part: Option<Path> },
 }
 
+impl Did {
+    ghost use Rattle.std.specs.Prelude.{◌≡◌};
+    ghost use Rattle.copy_move.specs.Work.{ends};
+
+    /// Whether the job ended.
+    pub fn is_end(&self) -> bool
+        ensures { result ≡ ends self.now }
+    {
+        matches!(self, Did::Ended { .. })
+    }
+}
+
 /// A call that a key or a look wanted and that was refused.
 #[derive(Debug, Drop)]
 pub enum Refusal {

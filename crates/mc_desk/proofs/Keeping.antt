@@ -1,6 +1,6 @@
 -- One entry more is a session still.
 use Rattle.std.proofs.Common.{◌≡◌, ℕ, ◌+◌, ◌-◌, ◌^◌, ◌≤◌, min, Bool, true, false, ◌||◌, List, [], ◌∷◌, refl, sym, ◌∙◌, ap, subst, Option, Some, None, arith, cond}
-use Rattle.std.specs.Prelude.{is_some, option_and_then}
+use Rattle.std.specs.Prelude.{is_some, option_and_then, if◌then◌else◌}
 use Rattle.std.specs.Option.{option_map}
 use Rattle.key_screen.specs.declared.keys.Key.{Key as KeyType}
 use Rattle.mc_text.specs.Routes.{Route, same_path}
@@ -15,7 +15,9 @@ use Rattle.copy_move.specs.declared.history.Event.{Event}
 use Rattle.copy_move.specs.declared.history.Event.TheVariants.{Key, Look, Began, Step, Closed}
 use Rattle.copy_move.specs.declared.history.Job.TheVariants.{Delete}
 use Rattle.copy_move.specs.declared.history.Refusal.{Refusal}
-use Rattle.copy_move.specs.Work.{LiveJob, begun, live_job, last_id, is_closed, closes, if_closed, closed_job, after_event, after_step, id_after, IsAllowedStep}
+use Rattle.copy_move.specs.Work.{LiveJob, begun, live_job, last_id, is_closed, closes, if_closed, closed_job, after_event, after_step, id_after, IsAllowedStep, ends, StepsOn}
+use Rattle.copy_move.specs.declared.deletion.Course.TheVariants.{InTrouble}
+use Rattle.copy_move.proofs.Left.{live_after, never_waits}
 use Rattle.copy_move.specs.Replay.{ShowsView, Replays, IsReplayed, StepsTree, replayed_step, replayed_event, replayed_tree}
 use Rattle.mc_desk.specs.Logs.{Logged}
 use Rattle.mc_desk.specs.Screens.{Screen, Sees, IsOpening, KeyLeads, LookLeads}
@@ -189,3 +191,37 @@ module _ (opening contents contents_after : Option CallLog) (old new : Seen) (se
       written_more opening contents contents_after old new (entry seat calls faults shown (Step live.id did)) written more
       (λ tree sees. (settled, screen, (live, is, refl, allowed))) unknown (replayed_more opening contents contents_after old.newest _ live.id did refl steps unknown)
       (job ∙ ap (λ j. if_closed old.closed (option_and_then (after_step did) j)) (sym is)) last unseen closed
+
+unseen_step : (id : ℕ) (did : Did) (b : Bool) → (ends did || b) ≡ end_unseen_event (Step id did) b
+unseen_step id (Removed path) b = refl
+unseen_step id Barrier b = refl
+unseen_step id (Troubled trouble) b = refl
+unseen_step id (Ended ending part) b = refl
+
+-- two entries are room enough
+pub room_two : (closed : Bool) (job : Option LiveJob) → kept_room closed job ≤ 2
+room_two true None = omega arith
+room_two true (Some job) = omega arith
+room_two false None = omega arith
+room_two false (Some job) = omega arith
+
+-- a step of the job, written down
+pub desk_stepped : (opening contents contents_after : Option CallLog) (old new : Seen) (seat calls faults shown count count_after : ℕ) (live stepped : LiveJob) (did : Did)
+    → IsDesk opening contents old → old.job ≡ Some live → StepsOn live stepped did contents contents_after count count_after
+    → new.newest ≡ entry seat calls faults shown (Step live.id did) ∷ old.newest → new.screen ≡ old.screen
+    → new.job ≡ if_closed old.closed (if ends did then None else Some stepped) → new.last ≡ old.last → new.unseen ≡ (ends did || old.unseen) → new.closed ≡ old.closed
+    → 2 ≤ new.spare → IsDesk opening contents_after new
+desk_stepped opening contents contents_after old new seat calls faults shown count count_after live stepped did desk is steps more screen job last unseen closed room = record {
+  written = kept_step opening contents contents_after old new seat calls faults shown live did desk.written desk.settled is steps.allowed steps.tree steps.unknown more screen
+      (job ∙ ap (if_closed old.closed) (live_after did live stepped steps.job)) last (unseen ∙ unseen_step live.id did old.unseen) closed;
+  settled = ap (λ (s : Screen). s.confirmed) screen ∙ desk.settled;
+  room = let two = room_two new.closed new.job in omega (arith, two, room);
+}
+
+-- a closed desk's job never waits
+pub closed_goes_on : (opening contents : Option CallLog) (old : Seen) (live : LiveJob) → IsDesk opening contents old → old.closed ≡ true → old.job ≡ Some live → live.course ≡ InTrouble → ⊥
+closed_goes_on opening contents old live desk closed is = waits old.newest (sym desk.written.closed ∙ closed) (sym desk.written.job ∙ is)
+  where
+    waits : (newest : List Entry) → is_closed newest ≡ true → live_job newest ≡ Some live → live.course ≡ InTrouble → ⊥
+    waits [] shut at = cc
+    waits (e ∷ older) shut at = never_waits (after_event e.what (live_job older)) live (ap (λ b. if_closed b (after_event e.what (live_job older))) (sym shut) ∙ at)

@@ -50,3 +50,7 @@ abbrev pub MayOpen : Option CallLog → Option CallLog → Option View → Type 
 MayOpen opening contents None = ⊤
 MayOpen opening contents (Some view) =
     (before : CallLog) × (opening ≡ Some before) × IsTree (current before) × (view ≡ visible_tree (current before)) × ((after : CallLog) × (contents ≡ Some after))
+
+-- these entries are a session in this folder, and nothing that was confirmed was left undone
+abbrev pub EndsSession : Option View → List Entry → Route → Type 0
+EndsSession tree newest folder = (screen : Screen) × (screen.panel.folder ≡ folder) × (screen.confirmed ≡ None) × IsSession tree newest screen

@@ -1,0 +1,30 @@
+-- A step is written down as it was made; a closed desk's job never waits.
+use Rattle.std.proofs.Common.{rules, ◌≡◌, ◌≤◌, ◌||◌, true, None, Some, refl, ap, sym, ◌∙◌, ◌∷◌, arith}
+use Rattle.std.specs.Prelude.{if◌then◌else◌}
+use Rattle.copy_move.specs.declared.deletion.Course.TheVariants.{InTrouble}
+use Rattle.copy_move.specs.declared.history.Entry.{Entry}
+use Rattle.copy_move.specs.declared.history.Event.TheVariants.{Step}
+use Rattle.copy_move.specs.Work.{LiveJob, ends, if_closed}
+use Rattle.mc_desk.specs.Desks.{Seen}
+use Rattle.mc_desk.proofs.Keeping.{desk_stepped, closed_goes_on, entry}
+use Rattle.mc_desk.proofs.desk.Desk.step.Goals as goal
+
+pub returns-then-waits-clause-nearer : goal.returns-then-waits-clause-nearer
+returns-then-waits-clause-nearer g c closed live =
+    let is : c.self.inside.job ≡ Some c.in-Some.job = sym c.take.ensures.value ∙ c.in-Some.is in
+    let waits : c.in-Some.job.course ≡ InTrouble = search rules in
+    absurd (closed_goes_on _ _ _ c.in-Some.job c.self.invariant (ap (λ (d : Seen). d.closed) c.self.view_is ∙ closed) is waits)
+
+pub invariant_of-self-2 : goal.invariant_of-self-2
+invariant_of-self-2 g c =
+    let is : c.self.inside.job ≡ Some c.in-Some.job = sym c.take.ensures.value ∙ c.in-Some.is in
+    let did = c.step-did.result.did in
+    let calls = c.saturating_add-self-inside.result in
+    let faults = c.faults-self-inside.result in
+    let more : c.note-2.new.self.newest ≡ entry c.args.seat calls faults 0 (Step c.in-Some.job.id did) ∷ c.self.inside.log.newest =
+    c.note-2.ensures.added ∙ (ap (λ n. entry c.args.seat calls faults 0 (Step n did) ∷ c.reserve.new.self.newest) c.id-id.ensures
+    ∙ ap (λ es. entry c.args.seat calls faults 0 (Step c.in-Some.job.id did) ∷ es) c.reserve.ensures.same) in
+    let room : 2 ≤ c.note-2.new.self.spare = search rules in
+    desk_stepped _ _ _ _ _ c.args.seat calls faults 0 _ _ c.in-Some.job c.step-did.new.self did c.self.invariant is c.step-did.ensures.steps
+    more refl (c.left.ensures ∙ ap (λ b. if_closed c.self.inside.closed (if b then None else Some c.step-did.new.self)) c.is_end-ended.ensures) refl
+    (c.either-self-inside.ensures ∙ ap (λ b. b || c.self.inside.unseen) c.is_end-ended.ensures) refl room
