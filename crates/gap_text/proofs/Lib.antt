@@ -1,0 +1,3 @@
+pub mod FirstPlaceLemmas
+pub mod GapLemmas
+pub mod PlaceLemmas

@@ -1,0 +1,8 @@
+-- The gap swallows the bytes after the point.
+use Rattle.std.proofs.Common.{◌+◌, arith, ap}
+use Rattle.gap_text.proofs.GapLemmas.{deleted-around}
+use Rattle.gap_text.proofs.gap.GapText.delete.Goals as goal
+
+pub returns : goal.returns
+returns c =
+    rw (← c.self.view_is) (deleted-around c.self.inside.room.items c.self.inside.gap_start c.self.inside.gap_end c.args.count (omega arith))
