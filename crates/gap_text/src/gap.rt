@@ -55,7 +55,8 @@ impl GapText {
 
     /// How many bytes there are.
     pub fn len(&self) -> usize
-        ensures { result ≡ length self.now.bytes }
+        ensures value { result ≡ length self.now.bytes }
+        ensures small { result < 2 ^ 63 }
     {
         self.room.len() - (self.gap_end - self.gap_start)
     }

@@ -98,10 +98,10 @@ impl Undo {
         ensures after { self.new ≡ undone self.old }
         ensures shown { slice_get self.old.past 0 ≡ (if result then slice_get self.new.future 0 else None) }
     {
-        let Some(change) = self.past.pop_front() else {
+        let Some(newest) = self.past.pop_front() else {
             return false;
         };
-        self.future.push_front(change);
+        self.future.push_front(newest);
         true
     }
 
@@ -109,10 +109,10 @@ impl Undo {
         ensures after { self.new ≡ redone self.old }
         ensures shown { slice_get self.old.future 0 ≡ (if result then slice_get self.new.past 0 else None) }
     {
-        let Some(change) = self.future.pop_front() else {
+        let Some(last_undone) = self.future.pop_front() else {
             return false;
         };
-        self.past.push_front(change);
+        self.past.push_front(last_undone);
         true
     }
 }
