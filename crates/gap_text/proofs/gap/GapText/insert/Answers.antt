@@ -14,6 +14,6 @@ returns-clause-done c =
     let same : text_around wide start end ≡ text_around c.self.inside.room.items start c.self.inside.gap_end =
     ap (λ l. l ++ drop end wide) c.in_ok-self-inside.ensures.front
     ∙ ap (λ l. take start c.self.inside.room.items ++ l) c.in_ok-self-inside.ensures.back in
-    inserted-around wide c.write_at.new.room.items c.args.bytes.now start end _ c.write_at.ensures refl long (omega arith)
+    inserted-around wide _ c.args.bytes.now start end _ c.write_at.ensures refl long (omega arith)
     ∙ ap (λ bytes. inserted (text_with bytes start) c.args.bytes.now) same
     ∙ ap (λ text. inserted text c.args.bytes.now) c.self.view_is
