@@ -10,6 +10,7 @@ use std::time::Instant;
 
 /// The text is this line, again and again. bench/gap_text/yardstick.c makes the same one.
 const LINE: &[u8] = b"The quick brown fox jumps over the lazy dog, and back.\n";
+
 const SIZE: usize = 10 << 20;
 
 const INSERTIONS: usize = 10_000;
@@ -60,7 +61,11 @@ fn print_moves(rt: &impl Runtime, gap: &str, text: &mut GapText) -> Result<()> {
     print_since(rt, format_args!("move_on_{gap}"), start)
 }
 
-fn print_since(rt: &impl Runtime, name: impl std::fmt::Display + Drop, start: Instant) -> Result<()> {
+fn print_since(
+    rt: &impl Runtime,
+    name: impl std::fmt::Display + Drop,
+    start: Instant,
+) -> Result<()> {
     let micros = start.elapsed(rt)?.as_micros();
     println!(rt; "{name} {micros}")?;
     Ok(())

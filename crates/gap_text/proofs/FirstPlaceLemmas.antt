@@ -1,17 +1,19 @@
 -- The first place is the least one where the bytes stand.
-use Rattle.std.proofs.Common.{◌≡◌, ℕ, zero, suc, ◌+◌, ◌-◌, ◌<◌, ◌≤◌, true, nat_eq, List, [], ◌∷◌, Option, Some, None, length, drop, refl, sym, ap, ◌∙◌, arith, length-drop, drop-drop}
+use Rattle.std.proofs.Common.{◌≡◌, ℕ, zero, suc, ◌+◌, ◌-◌, ◌<◌, true, nat_eq, List, [], ◌∷◌, Option, Some, None, length, drop, refl, sym, ap, ◌∙◌, arith, length-drop, drop-drop}
 use Rattle.std.specs.List.{starts_with}
 use Rattle.std.proofs.lemmas.Bool.{false_from_ne_true, cond-true, cond-false, ne_eqb, eq-eqb}
 use Rattle.gap_text.specs.Places.{stands_at, place_in, first_place, IsLeastPlace}
 
-place_in-none : (rest bytes : List ℕ) (at : ℕ) → ((k : ℕ) → k < length rest → ¬ (starts_with nat_eq (drop k rest) bytes ≡ true)) → place_in rest bytes at ≡ None
+place_in-none : (rest bytes : List ℕ) (at : ℕ)
+    → ((k : ℕ) → k < length rest → ¬ (starts_with nat_eq (drop k rest) bytes ≡ true)) → place_in rest bytes at ≡ None
 unfolding place_in
 place_in-none [] bytes at nowhere = refl
 place_in-none (x ∷ rest) bytes at nowhere =
     cond-false _ _ _ (false_from_ne_true _ (nowhere 0 (omega arith)))
     ∙ place_in-none rest bytes (at + 1) (λ k below. nowhere (suc k) (omega arith))
 
-place_in-some : (rest bytes : List ℕ) (at k : ℕ) → k < length rest → starts_with nat_eq (drop k rest) bytes ≡ true → ((j : ℕ) → j < k → ¬ (starts_with nat_eq (drop j rest) bytes ≡ true)) → place_in rest bytes at ≡ Some (at + k)
+place_in-some : (rest bytes : List ℕ) (at k : ℕ) → k < length rest → starts_with nat_eq (drop k rest) bytes ≡ true
+    → ((j : ℕ) → j < k → ¬ (starts_with nat_eq (drop j rest) bytes ≡ true)) → place_in rest bytes at ≡ Some (at + k)
 unfolding place_in
 place_in-some [] bytes at k within stands nowhere = absurd (omega arith)
 place_in-some (x ∷ rest) bytes at zero within stands nowhere =
@@ -28,7 +30,8 @@ pub first_place-empty : (text bytes : List ℕ) (from : ℕ) → length bytes �
 first_place-empty text bytes from empty = sym (cond-true _ _ _ (eq-eqb _ _ empty))
 
 -- the least place is the first one
-pub first_place-from_least : (text bytes : List ℕ) (from : ℕ) (place : Option ℕ) → 0 < length bytes → IsLeastPlace text bytes from place → place ≡ first_place text bytes from
+pub first_place-from_least : (text bytes : List ℕ) (from : ℕ) (place : Option ℕ) → 0 < length bytes
+    → IsLeastPlace text bytes from place → place ≡ first_place text bytes from
 first_place-from_least text bytes from None some least =
     sym (cond-false _ _ _ (ne_eqb _ _ (λ (none : length bytes ≡ 0). omega arith))
     ∙ place_in-none (drop from text) bytes from (λ k below stands.

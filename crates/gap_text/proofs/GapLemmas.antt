@@ -48,7 +48,8 @@ module _ (room : List ℕ) (start end : ℕ) (within : start ≤ length room) wh
   length-text_around = length-append (take start room) (drop end room) ∙ omega (arith, before_gap, length-drop end room)
 
   -- a longer gap takes out the bytes that it covers
-  pub deleted-around : (count : ℕ) → text_with (text_around room start (end + count)) start ≡ deleted (text_with (text_around room start end) start) count
+  pub deleted-around : (count : ℕ)
+      → text_with (text_around room start (end + count)) start ≡ deleted (text_with (text_around room start end) start) count
   deleted-around count =
       let around = text_around room start end in
       let rest = sym (drop-drop count start around) ∙ ap (drop count) drop-text_around ∙ drop-drop count end room in
@@ -56,13 +57,15 @@ module _ (room : List ℕ) (start end : ℕ) (within : start ≤ length room) wh
 
 -- the bytes between the new point `at` and the old one are moved up to the end of the gap
 module _ (room new : List ℕ) (start end at to count : ℕ) (pasted : new ≡ paste room to (drop at room) count) where
-  pub moved_back-around : at + count ≡ start → to + count ≡ end → start ≤ end → end ≤ length room → text_around new at to ≡ text_around room start end
+  pub moved_back-around : at + count ≡ start → to + count ≡ end → start ≤ end → end ≤ length room
+      → text_around new at to ≡ text_around room start end
   moved_back-around before after ordered within =
       let moved = take count (drop at room) in
       let kept : length (take to room) ≡ to = length-take-le to room (omega arith) in
       let whole = pasted ∙ append_assoc (take to room) moved (drop (to + count) room) in
       let rest = moved ++ drop (to + count) room in
-      let front = ap (take at) whole ∙ take-append-le at (take to room) rest (omega arith) ∙ take-take at to room (omega arith) in
+      let front = ap (take at) whole ∙ take-append-le at (take to room) rest (omega arith)
+      ∙ take-take at to room (omega arith) in
       let back = ap (drop to) whole ∙ drop_at (take to room) rest to kept in
       same_halves front back
       ∙ sym (append_assoc (take at room) moved (drop (to + count) room))
@@ -70,21 +73,26 @@ module _ (room new : List ℕ) (start end at to count : ℕ) (pasted : new ≡ p
 
 -- the bytes between the old point and the new one `at` are moved down to the start of the gap
 module _ (room new : List ℕ) (start end at to count : ℕ) (pasted : new ≡ paste room start (drop end room) count) where
-  pub moved_on-around : start + count ≡ at → end + count ≡ to → start ≤ end → to ≤ length room → text_around new at to ≡ text_around room start end
+  pub moved_on-around : start + count ≡ at → end + count ≡ to → start ≤ end → to ≤ length room
+      → text_around new at to ≡ text_around room start end
   moved_on-around before after ordered within =
       let moved = take count (drop end room) in
       let enough : count ≤ length (drop end room) = omega (arith, length-drop end room) in
-      let pasted_front = ap (take (start + count)) pasted ∙ take-paste room start (drop end room) count (omega arith) enough in
-      let pasted_back = ap (drop (start + count)) pasted ∙ drop-paste room start (drop end room) count (omega arith) enough in
+      let pasted_front = ap (take (start + count)) pasted
+      ∙ take-paste room start (drop end room) count (omega arith) enough in
+      let pasted_back = ap (drop (start + count)) pasted
+      ∙ drop-paste room start (drop end room) count (omega arith) enough in
       let front = ap (λ n. take n new) (sym before) ∙ pasted_front in
-      let back = drop_same new room (start + count) to (omega arith) pasted_back ∙ ap (λ n. drop n room) (sym after) ∙ sym (drop-drop count end room) in
+      let back = drop_same new room (start + count) to (omega arith) pasted_back ∙ ap (λ n. drop n room) (sym after)
+      ∙ sym (drop-drop count end room) in
       same_halves front back
       ∙ append_assoc (take start room) moved (drop count (drop end room))
       ∙ ap (λ l. take start room ++ l) (take-append-drop count (drop end room))
 
 -- bytes are written at the start of a gap that is long enough for them
 module _ (room new bytes : List ℕ) (start end to : ℕ) (written : new ≡ take start room ++ (bytes ++ drop to room)) where
-  pub inserted-around : start + length bytes ≡ to → to ≤ end → end ≤ length room → text_with (text_around new to end) to ≡ inserted (text_with (text_around room start end) start) bytes
+  pub inserted-around : start + length bytes ≡ to → to ≤ end → end ≤ length room
+      → text_with (text_around new to end) to ≡ inserted (text_with (text_around room start end) start) bytes
   inserted-around after long within =
       let kept : length (take start room) ≡ start = length-take-le start room (omega arith) in
       let front_length : length (take start room ++ bytes) ≡ to = omega (arith, length-append (take start room) bytes) in

@@ -1,5 +1,6 @@
 -- Where bytes stand in a text: the places that a search finds. Own; mcedit(1) says only that a search goes forward.
-use Rattle.std.specs.Prelude.{ℕ, ◌+◌, ◌<◌, ◌≤◌, ◌==◌, Bool, List, [], ◌∷◌, Option, Some, None, length, drop, nat_eq, IsTrue, MatchOption, if◌then◌else◌}
+use Rattle.std.specs.Prelude.{ℕ, ◌+◌, ◌<◌, ◌≤◌, ◌==◌, nat_eq, Bool, IsTrue, if◌then◌else◌}
+use Rattle.std.specs.Prelude.{List, [], ◌∷◌, length, drop, Option, Some, None, MatchOption}
 use Rattle.std.specs.List.{starts_with}
 
 -- whether the bytes stand in the text from this place on
@@ -11,7 +12,7 @@ unfoldable pub place_in : List ℕ → List ℕ → ℕ → Option ℕ
 place_in [] bytes at = None
 place_in (x ∷ rest) bytes at = if starts_with nat_eq (x ∷ rest) bytes then Some at else place_in rest bytes (at + 1)
 
--- the first place at or after `from` where the bytes stand; no bytes stand nowhere
+-- the first place at or after `from` where the bytes stand; an empty text stands nowhere
 abbrev pub first_place : List ℕ → List ℕ → ℕ → Option ℕ
 first_place text bytes from = if length bytes == 0 then None else place_in (drop from text) bytes from
 

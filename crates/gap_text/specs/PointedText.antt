@@ -1,5 +1,5 @@
 -- A text with a point, and what the edits make of it. Own; mcedit(1) speaks of the cursor where we say point.
-use Rattle.std.specs.Prelude.{ℕ, ◌+◌, List, [], ◌++◌, length, take, drop}
+use Rattle.std.specs.Prelude.{ℕ, ◌+◌, List, ◌++◌, length, take, drop}
 
 -- the bytes of a text, and how many of them stand before the point
 pub record PointedText : Type 0 where
@@ -17,7 +17,10 @@ moved_to text at = record { bytes = text.bytes; point = at }
 -- new bytes are put before the point
 abbrev pub inserted : PointedText → List ℕ → PointedText
 inserted text new =
-    record { bytes = take text.point text.bytes ++ (new ++ drop text.point text.bytes); point = text.point + length new }
+    record {
+      bytes = take text.point text.bytes ++ (new ++ drop text.point text.bytes);
+      point = text.point + length new;
+    }
 
 -- the next bytes after the point are taken out
 abbrev pub deleted : PointedText → ℕ → PointedText

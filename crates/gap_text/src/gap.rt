@@ -1,5 +1,6 @@
 //! A text with a point, kept in one block with a gap at the point.
-ghost use Rattle.std.specs.Prelude.{◌≡◌, ◌+◌, ◌^◌, ◌<◌, ◌≤◌, ◌++◌, length, take, drop, slice_index, vec_len, IfOk, OnOk, OnErr};
+ghost use Rattle.std.specs.Prelude.{◌≡◌, ◌+◌, ◌^◌, ◌<◌, ◌≤◌, ◌++◌, length, take, drop, slice_index, vec_len};
+ghost use Rattle.std.specs.Prelude.{IfOk, OnOk, OnErr};
 ghost use Rattle.gap_text.specs.Places.{first_place, IsLeastPlace};
 ghost use Rattle.gap_text.specs.PointedText.{opened, moved_to, inserted, deleted};
 
@@ -23,7 +24,10 @@ impl Model for GapText {
 
     ghost Value = { PointedText };
 
-    ghost view = { λ t. record { bytes = take t.gap_start t.room.items ++ drop t.gap_end t.room.items; point = t.gap_start } };
+    ghost view = { λ t. record {
+      bytes = take t.gap_start t.room.items ++ drop t.gap_end t.room.items;
+      point = t.gap_start;
+    } };
 
     ghost invariant = { λ t. (t.gap_start ≤ t.gap_end) × (t.gap_end ≤ length t.room.items) };
 }
@@ -94,8 +98,9 @@ impl GapText {
         }
     }
 
-    /// Puts bytes before the point. Takes time linear in them; where the gap is too short for them the block grows to at
-    /// least twice its size, so that many insertions take time linear in all their bytes.
+    /// Puts bytes before the point, which then stands after them. Takes time linear in the bytes. Where the gap is too
+    /// short for them, the block grows to at least twice its size, so many insertions at one place take time linear in
+    /// the text and all their bytes.
     pub fn insert(&mut self, bytes: &[u8]) -> Result<(), NoMemory>
         ensures done { OnOk result (self.new ≡ inserted self.old bytes.now) }
         ensures refused { OnErr result (self.new ≡ self.old) }
@@ -114,9 +119,9 @@ impl GapText {
         self.gap_end += count;
     }
 
-    /// The first place at or after `from` where the bytes stand. No bytes stand nowhere, and no bytes stand past the
-    /// end. Takes time linear in the text and the bytes, but for places where they would lie on both sides of the point:
-    /// there it compares at each place, up to the first difference.
+    /// The first place at or after `from` where the bytes stand: an empty text is never found, nor is any past the end.
+    /// Takes time linear in the text and the bytes, and at each of the `bytes.len() - 1` places from which they would
+    /// lie on both sides of the point the time to compare them up to the first difference.
     pub fn find(&self, from: usize, bytes: &[u8]) -> Option<usize>
         ensures found { result ≡ first_place self.now.bytes bytes.now from }
         ensures least { 0 < length bytes.now → IsLeastPlace self.now.bytes bytes.now from result }
@@ -171,7 +176,7 @@ impl GapText {
     }
 }
 
-/// Makes the gap from `start` to `end` at least `count` bytes long, and gives its new end. The bytes on both sides stay.
+/// Makes the gap from `start` to `end` at least `count` bytes long, and gives its new end. The bytes around it stay.
 fn with_gap_of(
     room: &mut Vec<u8>,
     start: usize,
@@ -201,7 +206,8 @@ fn with_gap_of(
 /// Writes bytes over those that stand from a place on.
 fn write_at(room: &mut Vec<u8>, at: usize, bytes: &[u8])
     requires { at + length bytes.now ≤ vec_len room.old }
-    ensures { room.new.items ≡ take at room.old.items ++ (bytes.now ++ drop (at + length bytes.now) room.old.items) }
+    ensures { let past = drop (at + length bytes.now) room.old.items in
+        room.new.items ≡ take at room.old.items ++ (bytes.now ++ past) }
 {
     room[at..at + bytes.len()].copy_from_slice(bytes);
 }

@@ -7,10 +7,7 @@ use std::test::Fail;
 /// The bytes before the point and those after it, as one text with a bar between them.
 fn shown(alloc: Global, text: &GapText) -> Result<Vec<u8>, Fail> {
     let mut bytes = text.to_bytes(alloc)?.0;
-    let point = text.point();
-    if point <= bytes.len() {
-        bytes.insert(point, b'|')?;
-    }
+    bytes.insert(text.point(), b'|')?;
     Ok(bytes)
 }
 
@@ -24,13 +21,8 @@ fn edits_at_the_point(rt: HostRuntime) -> Result<(), Fail> {
         (0, "a ", 0, "a |foofoo"),
         (8, "", 0, "a foofoo|"),
         (2, "bar", 6, "a bar|"),
-        (
-            5,
-            " and more than the gap has room for",
-            0,
-            "a bar and more than the gap has room for|",
-        ),
-        (0, "", 40, "|"),
+        (5, " is more than fits", 0, "a bar is more than fits|"),
+        (0, "", 23, "|"),
     ];
     for (at, inserted, deleted, want) in rows {
         assert!(rt; at <= text.len(), "at {want}");
@@ -66,22 +58,19 @@ fn finds_on_both_sides_of_the_point(rt: HostRuntime) -> Result<(), Fail> {
         (10, "c", None),
         (0, "bb", None),
     ];
+    assert_eq!(rt; text.len(), 9);
+    assert_eq!(rt; (text.byte_at(0), text.byte_at(8)), (b'a', b'c'));
     for point in 0..10 {
         assert!(rt; point <= text.len());
         text.move_to(point);
         for (from, bytes, want) in rows {
+            let found = text.find(from, bytes.as_bytes());
             assert_eq!(rt;
-                text.find(from, bytes.as_bytes()),
+                found,
                 want,
                 "{bytes:?} from {from} with the point at {point}"
             );
         }
-        let (first, last) = if text.len() == 9 {
-            (text.byte_at(0), text.byte_at(8))
-        } else {
-            (0, 0)
-        };
-        assert_eq!(rt; (first, last), (b'a', b'c'), "with the point at {point}");
     }
     Ok(())
 }

@@ -1,8 +1,7 @@
 -- A place in the rest from `from` on is a place in the half.
-use Rattle.std.proofs.Common.{◌≡◌, ℕ, ◌+◌, ◌-◌, ◌≤◌, List, length, take, drop, true, arith, subst, sym, ◌∙◌, length-drop}
+use Rattle.std.proofs.Common.{ℕ, ◌+◌, List, length, drop, arith, subst, sym, ◌∙◌, length-drop}
 use Rattle.std.proofs.lemmas.List.{take_rest}
 use Rattle.memchr.specs.Find.{OccursAt, Nowhere}
-use Rattle.gap_text.specs.Places.{stands_at}
 use Rattle.gap_text.proofs.PlaceLemmas.{StandNowhere-drop, stands_at-drop, stands_at-from_occurs, stands_at-fits}
 use Rattle.gap_text.proofs.places.place_in_half.Goals as goal
 

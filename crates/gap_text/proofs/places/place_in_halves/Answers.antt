@@ -1,5 +1,5 @@
 -- The bytes stand nowhere in the front, nor on the seam: so the first place in the back is the first of all.
-use Rattle.std.proofs.Common.{◌+◌, ◌++◌, length, arith, ◌∙◌, length-append}
+use Rattle.std.proofs.Common.{length, arith, ◌∙◌, length-append}
 use Rattle.gap_text.proofs.PlaceLemmas.{StandNowhere-halves, stands_at-append_right}
 use Rattle.gap_text.proofs.places.place_in_halves.Goals as goal
 

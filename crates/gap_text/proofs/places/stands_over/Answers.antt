@@ -15,4 +15,5 @@ returns-then-starts_with c =
 
 pub returns-else-starts_with : goal.returns-else-starts_with
 returns-else-starts_with c =
-    c.if-starts_with.false ∙ starts_over-else c.args.front.now c.args.back.now c.args.bytes.now c.requires (sym c.starts_with.ensures.value ∙ c.if-starts_with.false)
+    c.if-starts_with.false
+    ∙ starts_over-else c.args.front.now c.args.back.now c.args.bytes.now c.requires (sym c.starts_with.ensures.value ∙ c.if-starts_with.false)
