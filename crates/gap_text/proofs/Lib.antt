@@ -1,0 +1,4 @@
+pub mod FirstPlaceLemmas
+pub mod GapLemmas
+pub mod PlaceLemmas
+mod WorkedValues

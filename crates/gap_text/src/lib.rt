@@ -1,0 +1,13 @@
+//! A text that is edited at one point, and the history of its changes.
+#![tactic(auto)]
+
+mod change;
+mod gap;
+mod places;
+#[cfg(test)]
+mod tests;
+mod undo;
+
+pub use change::Change;
+pub use gap::GapText;
+pub use undo::Undo;
