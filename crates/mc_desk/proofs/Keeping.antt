@@ -13,14 +13,17 @@ use Rattle.copy_move.specs.declared.history.Did.{Did}
 use Rattle.copy_move.specs.declared.history.Did.TheVariants.{Removed, Barrier, Troubled, Ended}
 use Rattle.copy_move.specs.declared.history.Event.{Event}
 use Rattle.copy_move.specs.declared.history.Event.TheVariants.{Key, Look, Began, Step, Closed}
-use Rattle.copy_move.specs.declared.history.Job.TheVariants.{Delete}
+use Rattle.copy_move.specs.declared.history.Job.TheVariants.{Delete as DeleteJob}
 use Rattle.copy_move.specs.declared.history.Refusal.{Refusal}
 use Rattle.copy_move.specs.Work.{LiveJob, begun, live_job, last_id, is_closed, closes, if_closed, closed_job, after_event, after_step, id_after, IsAllowedStep, ends, StepsOn}
 use Rattle.copy_move.specs.declared.deletion.Course.TheVariants.{InTrouble}
 use Rattle.copy_move.proofs.Left.{live_after, never_waits}
 use Rattle.copy_move.specs.Replay.{ShowsView, Replays, IsReplayed, StepsTree, replayed_step, replayed_event, replayed_tree}
 use Rattle.mc_desk.specs.Logs.{Logged}
-use Rattle.mc_desk.specs.Screens.{Screen, Sees, IsOpening, KeyLeads, LookLeads}
+use Rattle.mc_desk.specs.Screens.{Screen, Sees, IsOpening, KeyLeads, LookLeads, with_ask}
+use Rattle.mc_desk.specs.declared.asks.Ask.{Ask}
+use Rattle.mc_desk.specs.declared.asks.Ask.TheVariants.{Delete}
+use Rattle.mc_desk.specs.declared.asks.Confirmed.{Confirmed}
 use Rattle.mc_desk.specs.Sessions.{IsSession, MayOpen, EventLeads, end_unseen, end_unseen_event}
 use Rattle.mc_desk.specs.Starts.{IsOpened}
 use Rattle.mc_desk.specs.Desks.{Seen, kept_room, IsWritten, IsDesk}
@@ -165,11 +168,11 @@ module _ (opening contents contents_after : Option CallLog) (old new : Seen) (se
 
   -- a job that was begun
   pub kept_began : (id : ℕ) (path : Route) → IsWritten opening contents old → old.screen.confirmed ≡ Some path → old.closed ≡ false
-      → new.newest ≡ entry seat calls faults shown (Began id (Delete (path ∷ [])) false) ∷ old.newest → contents_after ≡ contents
+      → new.newest ≡ entry seat calls faults shown (Began id (DeleteJob (path ∷ [])) false) ∷ old.newest → contents_after ≡ contents
       → id ≡ min (old.last + 1) (2 ^ 32 - 1) → new.screen ≡ record old.screen { confirmed = None }
       → new.job ≡ Some (begun id path) → new.last ≡ id → new.unseen ≡ old.unseen → new.closed ≡ false → IsWritten opening contents_after new
   kept_began id path written confirmed unclosed more same id_is screen job last unseen closed =
-      written_more opening contents contents_after old new (entry seat calls faults shown (Began id (Delete (path ∷ [])) false)) written more
+      written_more opening contents contents_after old new (entry seat calls faults shown (Began id (DeleteJob (path ∷ [])) false)) written more
       (λ tree sees. (path, confirmed, refl, refl, id_is, screen)) (λ none. same ∙ none) (replayed_same opening contents contents_after old.newest _ same (λ v. refl))
       (job ∙ sym (ap (λ b. if_closed b (Some (begun id path))) unclosed)) last unseen (closed ∙ sym unclosed)
 
@@ -225,3 +228,39 @@ closed_goes_on opening contents old live desk closed is = waits old.newest (sym 
     waits : (newest : List Entry) → is_closed newest ≡ true → live_job newest ≡ Some live → live.course ≡ InTrouble → ⊥
     waits [] shut at = cc
     waits (e ∷ older) shut at = never_waits (after_event e.what (live_job older)) live (ap (λ b. if_closed b (after_event e.what (live_job older))) (sym shut) ∙ at)
+
+-- a key, written down
+pub desk_keyed : (opening contents contents_after : Option CallLog) (old new : Seen) (seat calls faults shown : ℕ) (key : KeyType) (now : ℕ) (refusals : List Refusal) (busy : Bool) (ask : Ask)
+    → IsDesk opening contents old → old.closed ≡ false → busy ≡ is_some old.job → with_ask ask new.screen ≡ new.screen
+    → new.newest ≡ entry seat calls faults shown (Key key now refusals false) ∷ old.newest → contents_after ≡ contents
+    → ((tree : Option View) → Sees contents tree → KeyLeads tree busy key refusals old.screen (with_ask ask new.screen)) → new.screen.confirmed ≡ None
+    → new.job ≡ old.job → new.last ≡ old.last → new.unseen ≡ old.unseen → new.closed ≡ old.closed → 2 ≤ new.spare → IsDesk opening contents_after new
+desk_keyed opening contents contents_after old new seat calls faults shown key now refusals busy ask desk unclosed is_busy asks more same leads settled job last unseen closed room = record {
+  written = kept_key opening contents contents_after old new seat calls faults shown key now refusals desk.written desk.settled unclosed more same
+      (λ tree sees. subst (λ b. KeyLeads tree b key refusals old.screen new.screen) is_busy (subst (λ s. KeyLeads tree busy key refusals old.screen s) asks (leads tree sees)))
+      job last unseen (closed ∙ unclosed);
+  settled = settled;
+  room = let two = room_two new.closed new.job in omega (arith, two, room);
+}
+
+cleared : (s : Screen) → s.confirmed ≡ None → s ≡ (let c : Screen = record s { confirmed = None } in c)
+cleared s h = ap (λ o. let c : Screen = record s { confirmed = o } in c) h
+
+-- a key that confirmed a deletion, and the job that it begins
+pub desk_began : (opening contents contents_after : Option CallLog) (old new : Seen) (seat calls faults shown : ℕ) (key : KeyType) (now : ℕ) (refusals : List Refusal) (busy : Bool) (ask : Ask) (confirmed : Confirmed)
+    (plan : List Route) (id : ℕ) → IsDesk opening contents old → old.closed ≡ false → busy ≡ is_some old.job → ask ≡ Delete confirmed → plan ≡ confirmed.path ∷ []
+    → new.newest ≡ entry 0 calls faults 0 (Began id (DeleteJob plan) false) ∷ (entry seat calls faults shown (Key key now refusals false) ∷ old.newest) → contents_after ≡ contents
+    → ((tree : Option View) → Sees contents tree → KeyLeads tree busy key refusals old.screen (with_ask ask new.screen)) → new.screen.confirmed ≡ None
+    → id ≡ min (old.last + 1) (2 ^ 32 - 1) → new.job ≡ Some (begun id confirmed.path) → new.last ≡ id → new.unseen ≡ old.unseen → new.closed ≡ old.closed → 2 ≤ new.spare → IsDesk opening contents_after new
+desk_began opening contents contents_after old new seat calls faults shown key now refusals busy ask confirmed plan id desk unclosed is_busy asks plan_is more same leads settled id_is job last unseen closed room = record {
+  written = kept_began opening contents contents_after mid new 0 calls faults 0 id confirmed.path
+      (kept_key opening contents contents old mid seat calls faults shown key now refusals desk.written desk.settled unclosed refl refl
+      (λ tree sees. subst (λ b. KeyLeads tree b key refusals old.screen mid.screen) is_busy (subst (λ a. KeyLeads tree busy key refusals old.screen (with_ask a new.screen)) asks (leads tree sees)))
+      refl refl refl unclosed)
+      refl unclosed (more ∙ ap (λ p. entry 0 calls faults 0 (Began id (DeleteJob p) false) ∷ mid.newest) plan_is) same id_is (cleared new.screen settled) job last unseen (closed ∙ unclosed);
+  settled = settled;
+  room = let two = room_two new.closed new.job in omega (arith, two, room);
+}
+  where
+    mid : Seen
+    mid = record { newest = entry seat calls faults shown (Key key now refusals false) ∷ old.newest; spare = 0; screen = record new.screen { confirmed = Some confirmed.path }; job = old.job; last = old.last; unseen = old.unseen; closed = old.closed }

@@ -79,6 +79,8 @@ impl Ui {
     pub fn key<T: Tree>(&mut self, alloc: Global, tree: &mut T, busy: bool, key: Key) -> Result<KeyAct, NoMemory>
         ensures leads { IfOk result (λ act. (o : Option View) → Sees (T.contents tree.old) o
             → KeyLeads o busy key act.refusals self.old (with_ask act.ask self.new)) }
+        ensures folder { self.new.panel.folder ≡ self.old.panel.folder }
+        ensures settled { self.new.confirmed ≡ None }
         ensures lost { OnErr result (self.new ≡ self.old) }
         ensures same { T.contents tree.new ≡ T.contents tree.old }
         ensures later { T.fault_count tree.old ≤ T.fault_count tree.new }
@@ -92,10 +94,13 @@ impl Ui {
     }
 
     fn key_in_box(&mut self, alloc: Global, base: Base) -> Result<KeyAct, NoMemory>
+        ensures panel { self.new.panel ≡ self.old.panel }
+        ensures settled { self.new.confirmed ≡ None }
         ensures refusals { IfOk result (λ act. act.refusals ≡ []) }
         ensures leads { IfOk result (λ act. IfSome self.old.asked (λ path. with_ask act.ask self.new ≡ in_box base path self.old)) }
         ensures lost { OnErr result (self.new ≡ self.old) }
     {
+        let _news = &self.news;
         match base {
             Base::Enter => self.confirm(alloc),
             Base::F(10) => {
@@ -108,6 +113,8 @@ impl Ui {
 
     /// Enter in the box. The plan comes first: without memory for it the box stays open.
     fn confirm(&mut self, alloc: Global) -> Result<KeyAct, NoMemory>
+        ensures panel { self.new.panel ≡ self.old.panel }
+        ensures settled { self.new.confirmed ≡ None }
         ensures refusals { IfOk result (λ act. act.refusals ≡ []) }
         ensures leads { IfOk result (λ act. IfSome self.old.asked (λ path. with_ask act.ask self.new ≡ in_box Base.Enter path self.old)) }
         ensures lost { OnErr result (self.new ≡ self.old) }
@@ -131,10 +138,13 @@ impl Ui {
         requires no_box { self.old.asked ≡ None }
         ensures leads { IfOk result (λ act. (o : Option View) → Sees (T.contents tree.old) o
             → InPanel o busy base act.refusals self.old (with_ask act.ask self.new)) }
+        ensures folder { self.new.panel.folder ≡ self.old.panel.folder }
+        ensures settled { self.new.confirmed ≡ None }
         ensures lost { OnErr result (self.new ≡ self.old) }
         ensures same { T.contents tree.new ≡ T.contents tree.old }
         ensures later { T.fault_count tree.old ≤ T.fault_count tree.new }
     {
+        let _news = &self.news;
         match base {
             Base::Down => {
                 self.panel.move_down();
@@ -148,6 +158,8 @@ impl Ui {
 
     fn choose_current<T: Tree>(&mut self, alloc: Global, tree: &mut T, busy: bool) -> Result<KeyAct, NoMemory>
         requires no_box { self.old.asked ≡ None }
+        ensures panel { self.new.panel ≡ self.old.panel }
+        ensures settled { self.new.confirmed ≡ None }
         ensures asks { IfOk result (λ act. act.ask ≡ Ask.Nothing) }
         ensures leads { IfOk result (λ act. (o : Option View) → Sees (T.contents tree.old) o
             → Chooses o busy (current_path self.old.panel) act.refusals self.old self.new) }
@@ -155,6 +167,7 @@ impl Ui {
         ensures same { T.contents tree.new ≡ T.contents tree.old }
         ensures later { T.fault_count tree.old ≤ T.fault_count tree.new }
     {
+        let _news = &self.news;
         if busy {
             return Ok(nothing(alloc));
         }
@@ -179,10 +192,13 @@ impl Ui {
     pub fn look<T: Tree>(&mut self, alloc: Global, tree: &mut T, unseen: bool) -> Result<Refusals, NoMemory>
         ensures leads { IfOk result (λ refusals. (o : Option View) → Sees (T.contents tree.old) o
             → LookLeads o unseen refusals self.old self.new) }
+        ensures folder { self.new.panel.folder ≡ self.old.panel.folder }
+        ensures settled { self.new.confirmed ≡ None }
         ensures lost { OnErr result (self.new ≡ self.old) }
         ensures same { T.contents tree.new ≡ T.contents tree.old }
         ensures later { T.fault_count tree.old ≤ T.fault_count tree.new }
     {
+        let _news = &self.news;
         if !unseen {
             return Ok(Refusals(Vec::new(alloc)));
         }

@@ -1,1 +1,232 @@
 //! Keys and looks: what a desk does for its user.
+ghost use Rattle.std.specs.Prelude.{◌≡◌, ◌+◌, ◌≤◌, false, OnOk, Err};
+
+use super::{Desk, DeskError, DeskReply, Due};
+use crate::asks::{Ask, Confirmed, KeyAct};
+use crate::frame::draw;
+use crate::tag::Tag;
+use copy_move::{Deletion, Entry, Event, Job, Refusals};
+use key_screen::{Fed, Key};
+use std::alloc::Global;
+use tree_trait::{Sink, SinkError, Spawner, Tree};
+
+impl<N: Tag, T: Tree, S: Sink, P: Spawner> Desk<N, T, S, P> {
+    /// Takes a byte of the keyboard and works the keys that it completes; the reply is that of the last. Each is drawn.
+    /// Where it finds no memory before the byte is taken, nothing changes; each other error closes the desk. A closed desk
+    /// takes no byte and answers `Quit`.
+    pub fn byte(&mut self, alloc: Global, byte: u8, now: u64) -> Result<DeskReply, DeskError>
+        ensures folder { self.new.screen.panel.folder ≡ self.old.screen.panel.folder }
+    {
+        if self.closed {
+            return Ok(DeskReply::Quit);
+        }
+        if self.log.reserve(6).is_err() {
+            return Err(DeskError::Memory);
+        }
+        let Fed { first, second } = self.keys.feed(byte);
+        let Some(first) = first else {
+            return self.redraw(alloc);
+        };
+        let reply = self.work_key(alloc, first, now)?;
+        match second {
+            None => Ok(reply),
+            Some(second) => self.work_key(alloc, second, now),
+        }
+    }
+
+    /// Takes up what the job did, and draws. After the job's end the panel is read again. A closed desk stays as it is.
+    pub fn look(&mut self, alloc: Global) -> Result<(), DeskError>
+        ensures folder { self.new.screen.panel.folder ≡ self.old.screen.panel.folder }
+    {
+        if self.closed {
+            return Ok(());
+        }
+        if self.log.reserve(3).is_err() {
+            return Err(DeskError::Memory);
+        }
+        let Ok(refusals) = self.ui.look(alloc, &mut self.tree, self.unseen) else {
+            return Err(DeskError::Memory);
+        };
+        let drawn = draw(alloc, &mut self.screen, &self.ui);
+        self.shown = after_draw(self.shown, &drawn);
+        self.faults = self.tree.faults();
+        self.log.note(Entry {
+            seat: 0,
+            calls: self.calls,
+            faults: self.faults,
+            shown: self.shown,
+            what: Event::Look { refusals },
+        });
+        self.unseen = false;
+        self.due = after_look(self.due, waits_or_gone(&self.job));
+        match drawn {
+            Ok(_) => Ok(()),
+            Err(error) => Err(self.fail(error)),
+        }
+    }
+
+    /// What is to be looked at before the next byte: the job of this number, or 0 for the opening frame.
+    pub fn due(&self) -> Option<u32> {
+        if self.closed {
+            return None;
+        }
+        match self.due {
+            Due::Nothing => None,
+            Due::First => Some(0),
+            Due::Job(job) => Some(job),
+        }
+    }
+
+    /// Whether this job is live and can be stepped.
+    pub fn is_ready(&self, job: u32) -> bool {
+        match &self.job {
+            None => false,
+            Some(live) => live.id() == job && !live.waits(),
+        }
+    }
+
+    /// Works one key, writes it down, and begins the job that it asks for.
+    fn work_key(&mut self, alloc: Global, key: Key, now: u64) -> Result<DeskReply, DeskError>
+        requires unclosed { self.old.closed ≡ false }
+        requires room { 4 ≤ self.old.spare }
+        ensures folder { self.new.screen.panel.folder ≡ self.old.screen.panel.folder }
+        ensures unclosed { OnOk result (self.new.closed ≡ false) }
+        ensures room { OnOk result (self.old.spare ≤ self.new.spare + 2) }
+    {
+        let Ok(act) = self.ui.key(alloc, &mut self.tree, self.job.is_some(), key) else {
+            return self.lose_key(alloc, key, now);
+        };
+        let KeyAct { ask, refusals } = act;
+        let drawn = draw(alloc, &mut self.screen, &self.ui);
+        self.shown = after_draw(self.shown, &drawn);
+        self.faults = self.tree.faults();
+        self.log.note(Entry {
+            seat: 0,
+            calls: self.calls,
+            faults: self.faults,
+            shown: self.shown,
+            what: Event::Key {
+                key,
+                now,
+                refusals,
+                lost: false,
+            },
+        });
+        match ask {
+            Ask::Nothing => self.finish(drawn, DeskReply::Go),
+            Ask::End => {
+                self.quit = true;
+                self.finish(drawn, DeskReply::Quit)
+            }
+            Ask::Delete(confirmed) => {
+                let Confirmed { plan, path, folder } = confirmed;
+                let id = self.last_id.saturating_add(1);
+                self.log.note(Entry {
+                    seat: 0,
+                    calls: self.calls,
+                    faults: self.faults,
+                    shown: 0,
+                    what: Event::Began {
+                        job: id,
+                        plan: Job::Delete(plan),
+                        background: false,
+                    },
+                });
+                self.log.count_job();
+                self.job = Some(Deletion::new(id, path, folder));
+                self.last_id = id;
+                self.due = Due::Job(id);
+                self.finish(drawn, DeskReply::Wait(id))
+            }
+        }
+    }
+
+    /// Writes down that a key was lost for want of memory, and closes the desk.
+    fn lose_key(&mut self, alloc: Global, key: Key, now: u64) -> Result<DeskReply, DeskError>
+        requires unclosed { self.old.closed ≡ false }
+        requires room { 3 ≤ self.old.spare }
+        ensures screen { self.new.screen ≡ self.old.screen }
+        ensures error { result ≡ Err DeskError.Memory }
+    {
+        self.lost = true;
+        self.log.note(Entry {
+            seat: 0,
+            calls: self.calls,
+            faults: self.faults,
+            shown: self.shown,
+            what: Event::Key {
+                key,
+                now,
+                refusals: Refusals(Vec::new(alloc)),
+                lost: true,
+            },
+        });
+        self.close();
+        Err(DeskError::Memory)
+    }
+
+    /// Draws once for a byte that completes no key.
+    fn redraw(&mut self, alloc: Global) -> Result<DeskReply, DeskError>
+        ensures screen { self.new.screen ≡ self.old.screen }
+    {
+        let drawn = draw(alloc, &mut self.screen, &self.ui);
+        self.shown = after_draw(self.shown, &drawn);
+        self.finish(drawn, DeskReply::Go)
+    }
+
+    /// The reply, unless the draw failed.
+    fn finish(&mut self, drawn: Result<usize, SinkError>, reply: DeskReply) -> Result<DeskReply, DeskError>
+        ensures screen { self.new.screen ≡ self.old.screen }
+        ensures same { OnOk result (self.new ≡ self.old) }
+    {
+        match drawn {
+            Ok(_) => Ok(reply),
+            Err(error) => Err(self.fail(error)),
+        }
+    }
+
+    /// Closes the desk after a draw that failed.
+    fn fail(&mut self, error: SinkError) -> DeskError
+        ensures screen { self.new.screen ≡ self.old.screen }
+    {
+        self.close();
+        match error {
+            SinkError::Fault => {
+                self.failed = true;
+                DeskError::Screen
+            }
+            SinkError::Memory => DeskError::Memory,
+        }
+    }
+}
+
+/// How many bytes the draws that ended have put.
+fn after_draw(shown: u128, drawn: &Result<usize, SinkError>) -> u128 {
+    match drawn {
+        Ok(bytes) => shown.saturating_add(u128::from(u64::try_from(*bytes).unwrap_or(u64::MAX))),
+        Err(_) => shown,
+    }
+}
+
+/// What is due after a look: a job that is ready still is.
+fn after_look(due: Due, is_done: bool) -> Due {
+    match due {
+        Due::Nothing => Due::Nothing,
+        Due::First => Due::Nothing,
+        Due::Job(job) => {
+            if is_done {
+                Due::Nothing
+            } else {
+                Due::Job(job)
+            }
+        }
+    }
+}
+
+/// Whether the job has ended, or waits for an answer.
+fn waits_or_gone(job: &Option<Deletion>) -> bool {
+    match job {
+        None => true,
+        Some(job) => job.waits(),
+    }
+}
