@@ -1,0 +1,261 @@
+//! A tree in memory. It keeps its opening and a record of each changing call since.
+ghost use Rattle.std.specs.Prelude.{◌≡◌, ◌↔◌, ℕ, ◌+◌, ◌-◌, ◌^◌, ◌≤◌, ◌<◌, Err, min, length, take, [], Some, IfOk, OnOk, OnErr, IsErrOf, true};
+ghost use Rattle.tree_trait.specs.Calls.{RemoveFile, SyncFolder};
+ghost use Rattle.tree_trait.specs.Change.{CallLog, current};
+ghost use Rattle.tree_trait.specs.CrashImages.{IsCrashImage, chosen};
+ghost use Rattle.tree_trait.specs.Shape.{IsTree};
+ghost use Rattle.tree_trait.specs.Answers.{HasCause, IfKnown, Performs};
+ghost use Rattle.mem_tree.specs.Held.{Held, IsWhole, is_due, fresh, unused_tree, made_in, folder_node, file_node};
+
+use crate::children::read_children;
+use crate::image::image_of;
+use crate::make::{make_fresh, put_node};
+use crate::meta::read_meta;
+use crate::plan::{join, plan_remove_file, plan_sync_folder};
+use crate::record::Record;
+use mc_text::{Kind, NoMemory, Path};
+use std::alloc::Global;
+use std::marker::Model;
+use tree_trait::{Children, FileSystem, Meta, Node, Seq, Tree, TreeError};
+
+/// A tree in memory.
+#[derive(Drop)]
+pub struct MemTree {
+    opening: FileSystem,
+    records: Vec<Record>,
+    /// The time that it gives to the files that it makes.
+    time: i64,
+    /// The numbers of the calls that fail.
+    fails: Vec<u64>,
+    called: u64,
+    faults: u64,
+}
+
+impl Model for MemTree {
+    ghost use Rattle.std.specs.Prelude.{◌-◌, vec_len, vec_capacity};
+    ghost use Rattle.mem_tree.specs.Held.{Held, log_of, IsWhole};
+
+    ghost Value = { Held };
+
+    ghost view = { λ m. record { log = log_of m.opening m.records.items; time = m.time; fails = m.fails.items; called = m.called; faults = m.faults; spare = vec_capacity m.records - vec_len m.records } };
+
+    ghost invariant = { λ m. IsWhole m.opening };
+}
+
+/// Counts a call, and says whether it is due to fail.
+fn count(fails: &[u64], called: &mut u64) -> bool
+    ensures due { result ≡ is_due fails.now called.old }
+    ensures called { called.new ≡ min (called.old + 1) (2 ^ 64 - 1) }
+{
+    *called = called.saturating_add(1);
+    let number = *called;
+    fails.iter().any(|n| *n == number)
+}
+
+/// Counts the answer, if it is a fault.
+fn count_fault(answer: &Result<(), TreeError>, faults: &mut u64)
+    ensures { HasCause TreeError.Fault faults.old faults.new answer.now }
+{
+    if let Err(TreeError::Fault) = answer {
+        *faults = faults.saturating_add(1);
+    }
+}
+
+/// A tree with this opening that was not called yet.
+fn unused(alloc: Global, opening: FileSystem, time: i64) -> MemTree
+    requires { IsWhole opening }
+    ensures { result ≡ unused_tree opening time }
+{
+    MemTree {
+        opening,
+        records: Vec::new(alloc),
+        time,
+        fails: Vec::new(alloc),
+        called: 0,
+        faults: 0,
+    }
+}
+
+impl MemTree {
+    /// A root alone, of mode 0o755, on a mount of 2^64 - 1 bytes. `now` is the time that it gives to files.
+    pub fn new(alloc: Global, now: i64) -> Result<MemTree, NoMemory>
+        ensures { IfOk result (λ tree. tree ≡ unused_tree fresh now) }
+    {
+        Ok(unused(alloc, make_fresh(alloc)?, now))
+    }
+
+    /// Makes a folder that is on the disk.
+    pub fn put_folder(
+        &mut self,
+        alloc: Global,
+        path: &Path,
+        mode: u16,
+        unnamed: u64,
+    ) -> Result<(), TreeError>
+        requires unused { self.old.log.changes ≡ [] }
+        requires mode { mode ≤ 0o7777 }
+        ensures made { OnOk result (self.new ≡ record self.old { log = made_in self.old.log path.now (folder_node mode unnamed) }) }
+        ensures err { OnErr result (self.new ≡ self.old) }
+        ensures unused { self.new.log.changes ≡ [] }
+    {
+        let node = Node {
+            kind: Kind::Folder,
+            bytes: Seq::new(alloc),
+            mode,
+            mtime: 0,
+            unnamed,
+        };
+        put_node(alloc, &mut self.opening, path.names(), node)
+    }
+
+    /// Makes a file that is on the disk.
+    pub fn put_file(
+        &mut self,
+        alloc: Global,
+        path: &Path,
+        mode: u16,
+        mtime: i64,
+        bytes: &[u8],
+    ) -> Result<(), TreeError>
+        requires unused { self.old.log.changes ≡ [] }
+        requires mode { mode ≤ 0o7777 }
+        requires size { length bytes.now ≤ 2 ^ 63 }
+        ensures made { OnOk result (self.new ≡ record self.old { log = made_in self.old.log path.now (file_node mode mtime bytes.now) }) }
+        ensures err { OnErr result (self.new ≡ self.old) }
+        ensures unused { self.new.log.changes ≡ [] }
+    {
+        match Seq::from_slice(alloc, bytes) {
+            Err(_) => Err(TreeError::Memory),
+            Ok(copy) => {
+                let node = Node {
+                    kind: Kind::File,
+                    bytes: copy,
+                    mode,
+                    mtime,
+                    unnamed: 0,
+                };
+                put_node(alloc, &mut self.opening, path.names(), node)
+            }
+        }
+    }
+
+    /// Names the calls that fail where nothing else stands in their way, counted from 1.
+    pub fn fail_calls(&mut self, alloc: Global, numbers: &[u64]) -> Result<(), NoMemory>
+        ensures ok { OnOk result (self.new ≡ record self.old { fails = numbers.now }) }
+        ensures err { OnErr result (self.new ≡ self.old) }
+    {
+        self.fails = numbers.to_vec(alloc)?;
+        Ok(())
+    }
+
+    /// Makes room for so many changing calls.
+    pub fn reserve(&mut self, _alloc: Global, calls: usize) -> Result<(), NoMemory>
+        ensures ok { OnOk result (calls ≤ self.new.spare) }
+        ensures same { self.new ≡ record self.old { spare = self.new.spare } }
+    {
+        self.records.reserve(calls)?;
+        Ok(())
+    }
+
+    /// What it holds is a tree.
+    pub fn shape(&self)
+        ensures { IsTree (current self.now.log) }
+    {
+        let _ = &self.opening;
+    }
+
+    /// How many changing calls there were, done or refused. Those that found no memory don't count.
+    pub fn calls(&self) -> u64
+        ensures { result ≡ length self.now.log.changes }
+    {
+        self.records.len() as u64
+    }
+
+    /// What a crash after so many changing calls may leave: of the removals that are unsynced then, in order, those
+    /// stand for which there is a bit `true`.
+    pub fn image(&self, alloc: Global, at_call: u64, keep: &[bool]) -> Result<MemTree, NoMemory>
+        requires { at_call ≤ length self.now.log.changes }
+        ensures choice { IfOk result (λ tree. tree ≡ unused_tree (chosen self.now.log.opening (take at_call self.now.log.changes) keep.now) self.now.time) }
+        ensures member { IfOk result (λ tree. IsCrashImage self.now.log at_call tree.log.opening) }
+    {
+        let records = &self.records[..at_call as usize];
+        let image = image_of(alloc, &self.opening, records, keep)?;
+        Ok(unused(alloc, image, self.time))
+    }
+
+    fn remove(&mut self, path: &Path) -> Result<(), TreeError>
+        ensures answer { Performs self.old.log (RemoveFile path.now) result (Some self.new.log) }
+        ensures cause { HasCause TreeError.Fault self.old.faults self.new.faults result }
+        ensures named { self.new.called ≡ min (self.old.called + 1) (2 ^ 64 - 1) }
+        ensures room { 0 < self.old.spare → result ≡ Err TreeError.Memory → ⊥ }
+        ensures spare { self.old.spare ≤ self.new.spare + 1 }
+    {
+        let due = count(&self.fails, &mut self.called);
+        let plan = plan_remove_file(&self.opening, &self.records, path.names());
+        let answer = join(&mut self.records, due, plan);
+        count_fault(&answer, &mut self.faults);
+        answer
+    }
+
+    fn sync(&mut self, path: &Path) -> Result<(), TreeError>
+        ensures answer { Performs self.old.log (SyncFolder path.now) result (Some self.new.log) }
+        ensures cause { HasCause TreeError.Fault self.old.faults self.new.faults result }
+        ensures named { self.new.called ≡ min (self.old.called + 1) (2 ^ 64 - 1) }
+        ensures room { 0 < self.old.spare → result ≡ Err TreeError.Memory → ⊥ }
+        ensures spare { self.old.spare ≤ self.new.spare + 1 }
+    {
+        let due = count(&self.fails, &mut self.called);
+        let plan = plan_sync_folder(&self.opening, &self.records, path.names());
+        let answer = join(&mut self.records, due, plan);
+        count_fault(&answer, &mut self.faults);
+        answer
+    }
+}
+
+impl Tree for MemTree {
+    ghost contents = { λ m. Some m.log };
+
+    ghost fault_count = { λ m. m.faults };
+
+    fn stat(&mut self, _alloc: Global, path: &Path) -> Result<Meta, TreeError> {
+        let due = count(&self.fails, &mut self.called);
+        match read_meta(&self.opening, &self.records, path.names()) {
+            Err(e) => Err(e),
+            Ok(meta) => {
+                if due {
+                    self.faults = self.faults.saturating_add(1);
+                    Err(TreeError::Fault)
+                } else {
+                    Ok(meta)
+                }
+            }
+        }
+    }
+
+    fn list(&mut self, alloc: Global, path: &Path) -> Result<Children, TreeError> {
+        let due = count(&self.fails, &mut self.called);
+        match read_children(alloc, &self.opening, &self.records, path.names()) {
+            Err(e) => Err(e),
+            Ok(children) => {
+                if due {
+                    self.faults = self.faults.saturating_add(1);
+                    Err(TreeError::Fault)
+                } else {
+                    Ok(children)
+                }
+            }
+        }
+    }
+
+    fn remove_file(&mut self, _alloc: Global, path: &Path) -> Result<(), TreeError> {
+        self.remove(path)
+    }
+
+    fn sync_folder(&mut self, _alloc: Global, path: &Path) -> Result<(), TreeError> {
+        self.sync(path)
+    }
+
+    fn faults(&self) -> u64 {
+        self.faults
+    }
+}
