@@ -32,7 +32,7 @@ root_or_above : (b : Bool) (i above : ℕ) → (b ≡ true → i ≡ 0) → abov
 root_or_above true i above here up = here refl
 root_or_above false i above here up = up
 
-mount_is_root : (s : FileSystem) (path : Route) → s.mounts ≡ the_mount ∷ [] → mount_of s path ≡ 0
+pub mount_is_root : (s : FileSystem) (path : Route) → s.mounts ≡ the_mount ∷ [] → mount_of s path ≡ 0
 mount_is_root s [] one = refl
 mount_is_root s (name ∷ folder) one = go (find s (name ∷ folder)) (mount_is_root s folder one)
   where

@@ -6,17 +6,18 @@ ghost use Rattle.tree_trait.specs.CrashImages.{IsCrashImage, chosen};
 ghost use Rattle.tree_trait.specs.Shape.{IsTree};
 ghost use Rattle.tree_trait.specs.Answers.{HasCause, IfKnown, Performs};
 ghost use Rattle.mem_tree.specs.Held.{Held, IsWhole, is_due, fresh, unused_tree, made_in, folder_node, file_node};
+ghost use Rattle.mem_tree.specs.Puts.{put_refusal, put_file_refusal, IsRefusedBy};
 
 use crate::children::read_children;
 use crate::image::image_of;
-use crate::make::{make_fresh, put_node};
+use crate::make::{file_node, folder_node, has_room, make_fresh, put_node};
 use crate::meta::read_meta;
 use crate::plan::{join, plan_remove_file, plan_sync_folder};
 use crate::record::Record;
-use mc_text::{Kind, NoMemory, Path};
+use mc_text::{NoMemory, Path};
 use std::alloc::Global;
 use std::marker::Model;
-use tree_trait::{Children, FileSystem, Meta, Node, Seq, Tree, TreeError};
+use tree_trait::{Children, FileSystem, Meta, Tree, TreeError};
 
 /// A tree in memory.
 #[derive(Drop)]
@@ -95,16 +96,11 @@ impl MemTree {
         requires unused { self.old.log.changes ≡ [] }
         requires mode { mode ≤ 0o7777 }
         ensures made { OnOk result (self.new ≡ record self.old { log = made_in self.old.log path.now (folder_node mode unnamed) }) }
-        ensures err { OnErr result (self.new ≡ self.old) }
+        ensures same { OnErr result (self.new ≡ self.old) }
+        ensures refusal { IsRefusedBy (put_refusal self.old.log.opening path.now) result }
         ensures unused { self.new.log.changes ≡ [] }
     {
-        let node = Node {
-            kind: Kind::Folder,
-            bytes: Seq::new(alloc),
-            mode,
-            mtime: 0,
-            unnamed,
-        };
+        let node = folder_node(alloc, mode, unnamed);
         put_node(alloc, &mut self.opening, path.names(), node)
     }
 
@@ -121,21 +117,17 @@ impl MemTree {
         requires mode { mode ≤ 0o7777 }
         requires size { length bytes.now ≤ 2 ^ 63 }
         ensures made { OnOk result (self.new ≡ record self.old { log = made_in self.old.log path.now (file_node mode mtime bytes.now) }) }
-        ensures err { OnErr result (self.new ≡ self.old) }
+        ensures same { OnErr result (self.new ≡ self.old) }
+        ensures refusal { IsRefusedBy (put_file_refusal self.old.log.opening path.now (length bytes.now)) result }
         ensures unused { self.new.log.changes ≡ [] }
     {
-        match Seq::from_slice(alloc, bytes) {
+        // So many bytes are more than any memory has, so this is want of memory, and the mount is never full.
+        if !has_room(&self.opening, bytes.len()) {
+            return Err(TreeError::Memory);
+        }
+        match file_node(alloc, mode, mtime, bytes) {
             Err(_) => Err(TreeError::Memory),
-            Ok(copy) => {
-                let node = Node {
-                    kind: Kind::File,
-                    bytes: copy,
-                    mode,
-                    mtime,
-                    unnamed: 0,
-                };
-                put_node(alloc, &mut self.opening, path.names(), node)
-            }
+            Ok(node) => put_node(alloc, &mut self.opening, path.names(), node),
         }
     }
 
