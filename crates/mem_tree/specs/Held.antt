@@ -1,6 +1,5 @@
 -- What a tree in memory holds.
-use Rattle.std.specs.Prelude.{pos, ℤ, ◌≡◌, ℕ, ◌+◌, ◌-◌, ◌^◌, ◌==◌, Bool, true, List, [], ◌∷◌, min, length, ◌≤◌}
-use Rattle.std.specs.List.{list_any}
+use Rattle.std.specs.Prelude.{pos, ℤ, ◌≡◌, ℕ, ◌-◌, ◌^◌, true, List, [], ◌∷◌, length, ◌≤◌}
 use Rattle.mc_text.specs.declared.kind.Kind.TheVariants.{File, Folder}
 use Rattle.tree_trait.specs.declared.file_system.Node.{Node}
 use Rattle.tree_trait.specs.declared.file_system.Mount.{Mount}
@@ -36,10 +35,6 @@ pub record IsWhole (s : FileSystem) : Type 0 where
   pub root : is_folder (node s 0) ≡ true
   pub modes : (i : ℕ) → (node s i).mode ≤ 0o7777
   pub sizes : (i : ℕ) → length (node s i).bytes ≤ 2 ^ 63
-
--- the next call is named to fail
-abbrev pub is_due : List ℕ → ℕ → Bool
-is_due fails called = list_any (λ n. n == min (called + 1) (2 ^ 64 - 1)) fails
 
 -- a root alone
 abbrev pub fresh : FileSystem

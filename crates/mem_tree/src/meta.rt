@@ -1,10 +1,10 @@
 //! What `stat` tells.
-ghost use Rattle.std.specs.Prelude.{◌≡◌, ◌∷◌, [], ◌≤◌, ◌^◌, None, Some, reverse, MatchResult, IfOk};
+ghost use Rattle.std.specs.Prelude.{◌≡◌, ◌∷◌, [], ◌≤◌, ◌^◌, None, Some, Err, reverse, IfOk};
 ghost use Rattle.tree_trait.specs.Calls.{Stat};
 ghost use Rattle.tree_trait.specs.Refusals.{refusal_of};
-ghost use Rattle.tree_trait.specs.Answers.{IsMeta, IsInRange};
+ghost use Rattle.tree_trait.specs.Answers.{IsInRange, IsMeta, Reads};
 ghost use Rattle.mem_tree.specs.Records.{after};
-ghost use Rattle.mem_tree.specs.Held.{IsWhole, HasFacts};
+ghost use Rattle.mem_tree.specs.Held.{IsWhole, HasFacts, log_of};
 
 use crate::record::Record;
 use crate::walk::walk;
@@ -33,16 +33,17 @@ fn facts(opening: &FileSystem, i: usize) -> Meta
     }
 }
 
+/// The answer of `stat`.
 pub fn read_meta(
     opening: &FileSystem,
     records: &[Record],
     names: &[Name],
 ) -> Result<Meta, TreeError>
     requires { IsWhole opening.now }
-    ensures answer { MatchResult result
-        (λ meta. (refusal_of (after opening.now records.now) (Stat (reverse names.now)) ≡ None) × IsMeta (after opening.now records.now) (reverse names.now) meta)
-        (λ e. refusal_of (after opening.now records.now) (Stat (reverse names.now)) ≡ Some e) }
+    ensures answer { Reads (log_of opening.now records.now) (Stat (reverse names.now)) result
+        (IsMeta (after opening.now records.now) (reverse names.now)) }
     ensures in_range { IfOk result IsInRange }
+    ensures no_fault { result ≡ Err TreeError.Fault → ⊥ }
 {
     match walk(opening, records, names) {
         Err(e) => Err(e),

@@ -1,11 +1,12 @@
 //! A tree in memory. It keeps its opening and a record of each changing call since.
-ghost use Rattle.std.specs.Prelude.{◌≡◌, ◌↔◌, ℕ, ◌+◌, ◌-◌, ◌^◌, ◌≤◌, ◌<◌, Err, min, length, take, [], Some, IfOk, OnOk, OnErr, IsErrOf, true};
-ghost use Rattle.tree_trait.specs.Calls.{RemoveFile, SyncFolder};
-ghost use Rattle.tree_trait.specs.Change.{CallLog, current};
+ghost use Rattle.std.specs.Prelude.{◌≡◌, ◌≤◌, ◌^◌, length, take, [], Some, IfOk, OnOk, OnErr};
+ghost use Rattle.tree_trait.specs.Calls.{Stat, ListFolder, RemoveFile, SyncFolder};
+ghost use Rattle.tree_trait.specs.Change.{current, found};
 ghost use Rattle.tree_trait.specs.CrashImages.{IsCrashImage, chosen};
 ghost use Rattle.tree_trait.specs.Shape.{IsTree};
-ghost use Rattle.tree_trait.specs.Answers.{HasCause, IfKnown, Performs};
-ghost use Rattle.mem_tree.specs.Held.{Held, IsWhole, is_due, fresh, unused_tree, made_in, folder_node, file_node};
+ghost use Rattle.tree_trait.specs.Answers.{HasCause, Performs, Reads, IsMeta, IsListing, IsInRange, IsAscending};
+ghost use Rattle.mem_tree.specs.Held.{Held, IsWhole, fresh, unused_tree, made_in, folder_node, file_node};
+ghost use Rattle.mem_tree.specs.Counted.{one_more, is_due, faults_after, failed_if, IsCounted, TakesOnePlace};
 ghost use Rattle.mem_tree.specs.Puts.{put_refusal, put_file_refusal, IsRefusedBy};
 
 use crate::children::read_children;
@@ -43,19 +44,36 @@ impl Model for MemTree {
     ghost invariant = { λ m. IsWhole m.opening };
 }
 
-/// Counts a call, and says whether it is due to fail.
+/// Counts a call, and says whether it is named to fail.
 fn count(fails: &[u64], called: &mut u64) -> bool
     ensures due { result ≡ is_due fails.now called.old }
-    ensures called { called.new ≡ min (called.old + 1) (2 ^ 64 - 1) }
+    ensures called { called.new ≡ one_more called.old }
 {
     *called = called.saturating_add(1);
     let number = *called;
     fails.iter().any(|n| *n == number)
 }
 
+/// The answer of a reading call that may be named to fail.
+fn fail_if<A: Drop>(due: bool, answer: Result<A, TreeError>) -> Result<A, TreeError>
+    ensures { result ≡ failed_if due answer }
+{
+    match answer {
+        Ok(value) => {
+            if due {
+                Err(TreeError::Fault)
+            } else {
+                Ok(value)
+            }
+        }
+        Err(e) => Err(e),
+    }
+}
+
 /// Counts the answer, if it is a fault.
-fn count_fault(answer: &Result<(), TreeError>, faults: &mut u64)
-    ensures { HasCause TreeError.Fault faults.old faults.new answer.now }
+fn count_fault<A>(answer: &Result<A, TreeError>, faults: &mut u64)
+    ensures cause { HasCause TreeError.Fault faults.old faults.new answer.now }
+    ensures count { faults.new ≡ faults_after answer.now faults.old }
 {
     if let Err(TreeError::Fault) = answer {
         *faults = faults.saturating_add(1);
@@ -174,13 +192,47 @@ impl MemTree {
         let image = image_of(alloc, &self.opening, records, keep)?;
         Ok(unused(alloc, image, self.time))
     }
+}
 
-    fn remove(&mut self, path: &Path) -> Result<(), TreeError>
+impl Tree for MemTree {
+    ghost contents = { λ m. Some m.log };
+
+    ghost fault_count = { λ m. m.faults };
+
+    fn stat(&mut self, _alloc: Global, path: &Path) -> Result<Meta, TreeError>
+        ensures answer { Reads self.old.log (Stat path.now) result (IsMeta (current self.old.log) path.now) }
+        ensures same { self.new.log ≡ self.old.log }
+        ensures in_range { IfOk result IsInRange }
+        ensures cause { HasCause TreeError.Fault self.old.faults self.new.faults result }
+        ensures counted { IsCounted self.old self.new result }
+    {
+        let due = count(&self.fails, &mut self.called);
+        let answer = read_meta(&self.opening, &self.records, path.names());
+        let answer = fail_if(due, answer);
+        count_fault(&answer, &mut self.faults);
+        answer
+    }
+
+    fn list(&mut self, alloc: Global, path: &Path) -> Result<Children, TreeError>
+        ensures answer { Reads self.old.log (ListFolder path.now) result
+            (IsListing (current self.old.log) (found (current self.old.log) path.now)) }
+        ensures same { self.new.log ≡ self.old.log }
+        ensures ascending { IfOk result (λ children. IsAscending children.names) }
+        ensures cause { HasCause TreeError.Fault self.old.faults self.new.faults result }
+        ensures counted { IsCounted self.old self.new result }
+    {
+        let due = count(&self.fails, &mut self.called);
+        let answer = read_children(alloc, &self.opening, &self.records, path.names());
+        let answer = fail_if(due, answer);
+        count_fault(&answer, &mut self.faults);
+        answer
+    }
+
+    fn remove_file(&mut self, _alloc: Global, path: &Path) -> Result<(), TreeError>
         ensures answer { Performs self.old.log (RemoveFile path.now) result (Some self.new.log) }
         ensures cause { HasCause TreeError.Fault self.old.faults self.new.faults result }
-        ensures named { self.new.called ≡ min (self.old.called + 1) (2 ^ 64 - 1) }
-        ensures room { 0 < self.old.spare → result ≡ Err TreeError.Memory → ⊥ }
-        ensures spare { self.old.spare ≤ self.new.spare + 1 }
+        ensures counted { IsCounted self.old self.new result }
+        ensures place { TakesOnePlace self.old self.new result }
     {
         let due = count(&self.fails, &mut self.called);
         let plan = plan_remove_file(&self.opening, &self.records, path.names());
@@ -189,62 +241,17 @@ impl MemTree {
         answer
     }
 
-    fn sync(&mut self, path: &Path) -> Result<(), TreeError>
+    fn sync_folder(&mut self, _alloc: Global, path: &Path) -> Result<(), TreeError>
         ensures answer { Performs self.old.log (SyncFolder path.now) result (Some self.new.log) }
         ensures cause { HasCause TreeError.Fault self.old.faults self.new.faults result }
-        ensures named { self.new.called ≡ min (self.old.called + 1) (2 ^ 64 - 1) }
-        ensures room { 0 < self.old.spare → result ≡ Err TreeError.Memory → ⊥ }
-        ensures spare { self.old.spare ≤ self.new.spare + 1 }
+        ensures counted { IsCounted self.old self.new result }
+        ensures place { TakesOnePlace self.old self.new result }
     {
         let due = count(&self.fails, &mut self.called);
         let plan = plan_sync_folder(&self.opening, &self.records, path.names());
         let answer = join(&mut self.records, due, plan);
         count_fault(&answer, &mut self.faults);
         answer
-    }
-}
-
-impl Tree for MemTree {
-    ghost contents = { λ m. Some m.log };
-
-    ghost fault_count = { λ m. m.faults };
-
-    fn stat(&mut self, _alloc: Global, path: &Path) -> Result<Meta, TreeError> {
-        let due = count(&self.fails, &mut self.called);
-        match read_meta(&self.opening, &self.records, path.names()) {
-            Err(e) => Err(e),
-            Ok(meta) => {
-                if due {
-                    self.faults = self.faults.saturating_add(1);
-                    Err(TreeError::Fault)
-                } else {
-                    Ok(meta)
-                }
-            }
-        }
-    }
-
-    fn list(&mut self, alloc: Global, path: &Path) -> Result<Children, TreeError> {
-        let due = count(&self.fails, &mut self.called);
-        match read_children(alloc, &self.opening, &self.records, path.names()) {
-            Err(e) => Err(e),
-            Ok(children) => {
-                if due {
-                    self.faults = self.faults.saturating_add(1);
-                    Err(TreeError::Fault)
-                } else {
-                    Ok(children)
-                }
-            }
-        }
-    }
-
-    fn remove_file(&mut self, _alloc: Global, path: &Path) -> Result<(), TreeError> {
-        self.remove(path)
-    }
-
-    fn sync_folder(&mut self, _alloc: Global, path: &Path) -> Result<(), TreeError> {
-        self.sync(path)
     }
 
     fn faults(&self) -> u64 {

@@ -5,7 +5,7 @@ use Rattle.mem_tree.specs.declared.record.Record.{Record}
 use Rattle.mem_tree.specs.Plan.{Plans}
 use Rattle.mem_tree.specs.Held.{Held, log_of}
 use Rattle.mem_tree.proofs.Endings.{Performs-joined, plan_cause}
-use Rattle.mem_tree.proofs.tree.MemTree.sync.Goals as goal
+use Rattle.mem_tree.proofs.tree.MemTreeTree.sync_folder.Goals as goal
 
 pub join-answer-requires : goal.join-answer-requires
 join-answer-requires c =

@@ -5,7 +5,7 @@ use Rattle.mem_tree.specs.declared.record.Record.{Record}
 use Rattle.mem_tree.specs.Plan.{Plans}
 use Rattle.mem_tree.specs.Held.{Held, log_of}
 use Rattle.mem_tree.proofs.Endings.{Performs-joined, plan_cause, root_stays}
-use Rattle.mem_tree.proofs.tree.MemTree.remove.Goals as goal
+use Rattle.mem_tree.proofs.tree.MemTreeTree.remove_file.Goals as goal
 
 pub plan_remove_file-plan-requires : goal.plan_remove_file-plan-requires
 plan_remove_file-plan-requires c = root_stays c.self.inside.opening c.deref-2.result.now c.self.invariant
