@@ -2,6 +2,7 @@
 #![tactic(auto)]
 
 mod children;
+mod clock;
 mod image;
 mod make;
 mod meta;
@@ -9,9 +10,16 @@ mod mute;
 mod plan;
 mod read;
 mod record;
+mod sink;
+mod source;
+mod spawner;
 mod tree;
 mod walk;
 
+pub use clock::FixedClock;
 pub use mute::Mute;
 pub use record::Record;
+pub use sink::MemSink;
+pub use source::MemSource;
+pub use spawner::{FakeSpawner, Outcomes};
 pub use tree::MemTree;

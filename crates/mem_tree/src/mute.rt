@@ -3,7 +3,10 @@ ghost use Rattle.std.specs.Prelude.{◌≡◌, None};
 
 use mc_text::Path;
 use std::alloc::Global;
-use tree_trait::{Children, Meta, Tree, TreeError};
+use tree_trait::{
+    Children, Meta, RunOutcome, Sink, SinkError, Source, SourceFault, SpawnError, Spawner, Tree,
+    TreeError,
+};
 
 /// An object whose contents are hidden.
 #[derive(Drop)]
@@ -53,6 +56,53 @@ impl<T: Tree> Tree for Mute<T> {
 
     fn sync_folder(&mut self, alloc: Global, path: &Path) -> Result<(), TreeError> {
         self.inner.sync_folder(alloc, path)
+    }
+
+    fn faults(&self) -> u64 {
+        self.inner.faults()
+    }
+}
+
+impl<T: Source> Source for Mute<T> {
+    ghost left = { λ m. None };
+
+    ghost fault_count = { λ m. T.fault_count m.inner };
+
+    fn take(&mut self, into: &mut [u8]) -> Result<usize, SourceFault> {
+        self.inner.take(into)
+    }
+
+    fn faults(&self) -> u64 {
+        self.inner.faults()
+    }
+}
+
+impl<T: Sink> Sink for Mute<T> {
+    ghost given = { λ m. None };
+
+    ghost fault_count = { λ m. T.fault_count m.inner };
+
+    fn put(&mut self, alloc: Global, bytes: &[u8]) -> Result<(), SinkError> {
+        self.inner.put(alloc, bytes)
+    }
+
+    fn faults(&self) -> u64 {
+        self.inner.faults()
+    }
+}
+
+impl<T: Spawner> Spawner for Mute<T> {
+    ghost runs = { λ m. None };
+
+    ghost fault_count = { λ m. T.fault_count m.inner };
+
+    fn run(
+        &mut self,
+        alloc: Global,
+        folder: &Path,
+        command: &str,
+    ) -> Result<RunOutcome, SpawnError> {
+        self.inner.run(alloc, folder, command)
     }
 
     fn faults(&self) -> u64 {
