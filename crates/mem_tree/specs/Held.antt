@@ -1,5 +1,5 @@
 -- What a tree in memory holds.
-use Rattle.std.specs.Prelude.{pos, ℤ, ◌≡◌, ℕ, ◌-◌, ◌^◌, true, List, [], ◌∷◌, length, ◌≤◌}
+use Rattle.std.specs.Prelude.{pos, ℤ, ◌≡◌, ℕ, ◌-◌, ◌^◌, true, List, [], ◌∷◌, length, take, ◌≤◌}
 use Rattle.mc_text.specs.declared.kind.Kind.TheVariants.{File, Folder}
 use Rattle.tree_trait.specs.declared.file_system.Node.{Node}
 use Rattle.tree_trait.specs.declared.file_system.Mount.{Mount}
@@ -12,6 +12,9 @@ use Rattle.tree_trait.specs.Shape.{IsTree}
 use Rattle.tree_trait.specs.Change.{CallLog, Makes, after_change, of_name}
 use Rattle.mem_tree.specs.declared.record.Record.{Record}
 use Rattle.mem_tree.specs.Records.{changes_by}
+use Rattle.mem_tree.specs.declared.choice.Choice.{Choice}
+use Rattle.mem_tree.specs.Fills.{filled}
+use Rattle.tree_trait.specs.CrashImages.{chosen}
 
 -- `fails` names the calls that fail, `called` counts the calls, and for so many calls as `spare` there is room
 pub record Held : Type 0 where
@@ -65,3 +68,7 @@ made_in t path made = record { opening = after_change t.opening (of_name t.openi
 -- a tree that was not called yet
 abbrev pub unused_tree : FileSystem → ℤ → Held
 unused_tree s time = record { log = record { opening = s; changes = [] }; time = time; fails = []; called = 0; faults = 0; spare = 0 }
+
+-- the image of a choice, after so many calls
+abbrev pub image_chosen : CallLog → ℕ → Choice → FileSystem
+image_chosen log at_call choice = chosen (filled choice.fill) log.opening (take at_call log.changes) choice.keep

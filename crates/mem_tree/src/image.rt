@@ -2,6 +2,8 @@
 ghost use Rattle.std.specs.Prelude.{◌≡◌, ◌≤◌, ◌∷◌, [], length, take, Bool, List, IfOk, OnOk};
 ghost use Rattle.tree_trait.specs.CrashImages.{is_settled, chosen};
 ghost use Rattle.mem_tree.specs.Records.{changes_by, bare};
+ghost use Rattle.mem_tree.specs.Fills.{filled};
+ghost use Rattle.mem_tree.specs.declared.choice.Fill.TheVariants.{Written};
 
 use crate::record::Record;
 use mc_text::NoMemory;
@@ -77,7 +79,7 @@ fn choose(
     keep: &[bool],
     left: &mut Seq<NameEdit>,
 ) -> Result<(), NoMemory>
-    ensures { OnOk result (left.new ≡ (chosen (bare left.old) (changes_by names.now records.now) keep.now).names) }
+    ensures { OnOk result (left.new ≡ (chosen (filled Written) (bare left.old) (changes_by names.now records.now) keep.now).names) }
 {
     match records {
         [] => Ok(()),
@@ -118,7 +120,7 @@ pub fn image_of(
     records: &[Record],
     keep: &[bool],
 ) -> Result<FileSystem, NoMemory>
-    ensures { IfOk result (λ image. image ≡ chosen opening.now (changes_by opening.now.names records.now) keep.now) }
+    ensures { IfOk result (λ image. image ≡ chosen (filled Written) opening.now (changes_by opening.now.names records.now) keep.now) }
 {
     let mut left = copy_edits(alloc, opening.names.as_slice())?;
     choose(alloc, opening.names.as_slice(), records, keep, &mut left)?;

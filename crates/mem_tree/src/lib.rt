@@ -2,6 +2,7 @@
 #![tactic(auto)]
 
 mod children;
+mod choice;
 mod clock;
 mod image;
 mod make;
@@ -16,6 +17,7 @@ mod spawner;
 mod tree;
 mod walk;
 
+pub use choice::{Choice, Fill};
 pub use clock::FixedClock;
 pub use mute::Mute;
 pub use record::Record;

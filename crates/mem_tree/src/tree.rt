@@ -2,14 +2,15 @@
 ghost use Rattle.std.specs.Prelude.{◌≡◌, ◌≤◌, ◌^◌, length, take, [], Some, IfOk, OnOk, OnErr};
 ghost use Rattle.tree_trait.specs.Calls.{Stat, ListFolder, RemoveFile, SyncFolder};
 ghost use Rattle.tree_trait.specs.Change.{current, found};
-ghost use Rattle.tree_trait.specs.CrashImages.{IsCrashImage, chosen};
+ghost use Rattle.tree_trait.specs.CrashImages.{IsCrashImage};
 ghost use Rattle.tree_trait.specs.Shape.{IsTree};
 ghost use Rattle.tree_trait.specs.Answers.{HasCause, Performs, Reads, IsMeta, IsListing, IsInRange, IsAscending};
-ghost use Rattle.mem_tree.specs.Held.{Held, IsWhole, fresh, unused_tree, made_in, folder_node, file_node};
+ghost use Rattle.mem_tree.specs.Held.{Held, IsWhole, fresh, unused_tree, image_chosen, made_in, folder_node, file_node};
 ghost use Rattle.mem_tree.specs.Counted.{one_more, is_due, faults_after, failed_if, IsCounted, TakesOnePlace};
 ghost use Rattle.mem_tree.specs.Puts.{put_refusal, put_file_refusal, IsRefusedBy};
 
 use crate::children::read_children;
+use crate::choice::Choice;
 use crate::image::image_of;
 use crate::make::{file_node, folder_node, has_room, make_fresh, put_node};
 use crate::meta::read_meta;
@@ -181,15 +182,15 @@ impl MemTree {
         self.records.len() as u64
     }
 
-    /// What a crash after so many changing calls may leave: of the removals that are unsynced then, in order, those
-    /// stand for which there is a bit `true`.
-    pub fn image(&self, alloc: Global, at_call: u64, keep: &[bool]) -> Result<MemTree, NoMemory>
+    /// What a crash after so many changing calls may leave, as a tree that was not called yet: of the removals that are
+    /// unsynced then those stand that the choice keeps. No call writes, so its fill leaves nothing to say.
+    pub fn image(&self, alloc: Global, at_call: u64, choice: &Choice) -> Result<MemTree, NoMemory>
         requires { at_call ≤ length self.now.log.changes }
-        ensures choice { IfOk result (λ tree. tree ≡ unused_tree (chosen self.now.log.opening (take at_call self.now.log.changes) keep.now) self.now.time) }
+        ensures chosen { IfOk result (λ tree. tree ≡ unused_tree (image_chosen self.now.log at_call choice.now) self.now.time) }
         ensures member { IfOk result (λ tree. IsCrashImage self.now.log at_call tree.log.opening) }
     {
         let records = &self.records[..at_call as usize];
-        let image = image_of(alloc, &self.opening, records, keep)?;
+        let image = image_of(alloc, &self.opening, records, choice.bits())?;
         Ok(unused(alloc, image, self.time))
     }
 }
