@@ -14,6 +14,8 @@ mod record;
 mod sink;
 mod source;
 mod spawner;
+#[cfg(test)]
+mod tests;
 mod tree;
 mod walk;
 
