@@ -139,22 +139,27 @@ is_write (Sets i mode) = false
 is_write (Writes i bytes mtime) = true
 is_write (Syncs i) = false
 
--- the store without a change of names or of a mode
-abbrev pub without : FileSystem → Change → FileSystem
-without s Nothing = s
-without s (Makes f name made) = record s { nodes = s.nodes ++ made ∷ [] }
-without s (Moves f old g new i replaced) = s
-without s (Removes f name i) = s
-without s (Sets i mode) = s
-without s (Writes i bytes mtime) = with_bytes s i bytes mtime
-without s (Syncs i) = s
+-- the file system where a change is lost; `fill` says what is left of the bytes of a write
+abbrev pub without : (List ℕ → List ℕ) → FileSystem → Change → FileSystem
+without fill s Nothing = s
+without fill s (Makes f name made) = record s { nodes = s.nodes ++ made ∷ [] }
+without fill s (Moves f old g new i replaced) = s
+without fill s (Removes f name i) = s
+without fill s (Sets i mode) = s
+without fill s (Writes i bytes mtime) = with_bytes s i (fill bytes) mtime
+without fill s (Syncs i) = s
 
--- The image in which those pending changes of names and modes stand for which there is a bit `true`: the bits are in
--- the order of these changes, and one that is missing is `false`. Each file holds what was written.
-abbrev pub chosen : FileSystem → List Change → List Bool → FileSystem
-chosen s [] keep = s
-chosen s (c ∷ later) [] = chosen (if is_unsynced c later then without s c else after_change s c) later []
-chosen s (c ∷ later) (bit ∷ keep) =
+-- the file system after a change that is lost if it isn't synced
+abbrev pub unless_synced : (List ℕ → List ℕ) → FileSystem → Change → List Change → FileSystem
+unless_synced fill s c later = if is_unsynced c later then without fill s c else after_change s c
+
+-- The image in which those unsynced changes of names and modes stand for which there is a bit `true`: the bits are in
+-- the order of these changes, and one that is missing is `false`. A file with unsynced writes holds what `fill` makes of
+-- the bytes that were written.
+abbrev pub chosen : (List ℕ → List ℕ) → FileSystem → List Change → List Bool → FileSystem
+chosen fill s [] keep = s
+chosen fill s (c ∷ later) [] = chosen fill (unless_synced fill s c later) later []
+chosen fill s (c ∷ later) (bit ∷ keep) =
     if is_unsynced c later && not (is_write c)
-    then chosen (if bit then after_change s c else without s c) later keep
-    else chosen (after_change s c) later (bit ∷ keep)
+    then chosen fill (if bit then after_change s c else without fill s c) later keep
+    else chosen fill (unless_synced fill s c later) later (bit ∷ keep)

@@ -1,0 +1,11 @@
+-- What a file with unsynced writes holds after a crash.
+use Rattle.std.specs.Prelude.{ℕ, List, [], length, replicate}
+use Rattle.mem_tree.specs.declared.choice.Fill.{Fill}
+use Rattle.mem_tree.specs.declared.choice.Fill.TheVariants.{Written, Nothing, Zeros, Junk}
+
+-- what is left of the bytes that were written
+abbrev pub filled : Fill → List ℕ → List ℕ
+filled Written bytes = bytes
+filled Nothing bytes = []
+filled Zeros bytes = replicate (length bytes) 0
+filled (Junk byte) bytes = replicate (length bytes) byte

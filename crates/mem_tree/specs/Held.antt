@@ -1,0 +1,74 @@
+-- What a tree in memory holds.
+use Rattle.std.specs.Prelude.{pos, ℤ, ◌≡◌, ℕ, ◌-◌, ◌^◌, true, List, [], ◌∷◌, length, take, ◌≤◌}
+use Rattle.mc_text.specs.declared.kind.Kind.TheVariants.{File, Folder}
+use Rattle.tree_trait.specs.declared.file_system.Node.{Node}
+use Rattle.tree_trait.specs.declared.file_system.Mount.{Mount}
+use Rattle.tree_trait.specs.declared.calls.Meta.{Meta}
+use Rattle.tree_trait.specs.declared.file_system.FileSystem.{FileSystem}
+use Rattle.mc_text.specs.Routes.{Route}
+use Rattle.tree_trait.specs.FileSystem.{node}
+use Rattle.tree_trait.specs.Refusals.{is_folder}
+use Rattle.tree_trait.specs.Shape.{IsTree}
+use Rattle.tree_trait.specs.Change.{CallLog, Makes, after_change, of_name}
+use Rattle.mem_tree.specs.declared.record.Record.{Record}
+use Rattle.mem_tree.specs.Records.{changes_by}
+use Rattle.mem_tree.specs.declared.choice.Choice.{Choice}
+use Rattle.mem_tree.specs.Fills.{filled}
+use Rattle.tree_trait.specs.CrashImages.{chosen}
+
+-- `fails` names the calls that fail, `called` counts the calls, and for so many calls as `spare` there is room
+pub record Held : Type 0 where
+  pub log : CallLog
+  pub time : ℤ
+  pub fails : List ℕ
+  pub called : ℕ
+  pub faults : ℕ
+  pub spare : ℕ
+
+abbrev pub log_of : FileSystem → List Record → CallLog
+log_of s records = record { opening = s; changes = changes_by s.names records }
+
+abbrev pub the_mount : Mount
+the_mount = record { folder = 0; capacity = 2 ^ 64 - 1 }
+
+-- a tree with one mount, and modes and sizes in range
+pub record IsWhole (s : FileSystem) : Type 0 where
+  pub tree : IsTree s
+  pub mounts : s.mounts ≡ the_mount ∷ []
+  pub root : is_folder (node s 0) ≡ true
+  pub modes : (i : ℕ) → (node s i).mode ≤ 0o7777
+  pub sizes : (i : ℕ) → length (node s i).bytes ≤ 2 ^ 63
+
+-- a root alone
+abbrev pub fresh : FileSystem
+fresh = record {
+  nodes = record { kind = Folder; bytes = []; mode = 0o755; mtime = pos 0; unnamed = 0 } ∷ [];
+  names = [];
+  mounts = the_mount ∷ [];
+}
+
+-- a Meta has the facts of a node of the only mount
+pub record HasFacts (s : FileSystem) (i : ℕ) (meta : Meta) : Type 0 where
+  pub kind : meta.kind ≡ (node s i).kind
+  pub size : meta.size ≡ length (node s i).bytes
+  pub mode : meta.mode ≡ (node s i).mode
+  pub mtime : meta.mtime ≡ (node s i).mtime
+  pub mount : meta.mount ≡ 0
+
+abbrev pub folder_node : ℕ → ℕ → Node
+folder_node mode unnamed = record { kind = Folder; bytes = []; mode = mode; mtime = pos 0; unnamed = unnamed }
+
+abbrev pub file_node : ℕ → ℤ → List ℕ → Node
+file_node mode mtime bytes = record { kind = File; bytes = bytes; mode = mode; mtime = mtime; unnamed = 0 }
+
+-- the trace whose opening has a node more
+abbrev pub made_in : CallLog → Route → Node → CallLog
+made_in t path made = record { opening = after_change t.opening (of_name t.opening path (λ f name. Makes f name made)); changes = [] }
+
+-- a tree that was not called yet
+abbrev pub unused_tree : FileSystem → ℤ → Held
+unused_tree s time = record { log = record { opening = s; changes = [] }; time = time; fails = []; called = 0; faults = 0; spare = 0 }
+
+-- the image of a choice, after so many calls
+abbrev pub image_chosen : CallLog → ℕ → Choice → FileSystem
+image_chosen log at_call choice = chosen (filled choice.fill) log.opening (take at_call log.changes) choice.keep
