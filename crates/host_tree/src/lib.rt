@@ -1,0 +1,22 @@
+//! The real devices: the files, the keyboard, the screen, the shell and the clock of this machine. What the machine does
+//! is trusted; proved is that each device meets its trait, and counts a fault before it answers one.
+#![tactic(auto)]
+
+mod cause;
+mod faults;
+mod host_clock;
+mod listing;
+mod read;
+mod real_path;
+mod sh_spawner;
+mod stdin_source;
+mod stdout_sink;
+#[cfg(test)]
+mod tests;
+mod tree;
+
+pub use host_clock::HostClock;
+pub use sh_spawner::ShSpawner;
+pub use stdin_source::StdinSource;
+pub use stdout_sink::StdoutSink;
+pub use tree::HostTree;

@@ -1,0 +1,102 @@
+//! What a folder holds.
+ghost use Rattle.std.specs.Prelude.{◌≡◌, ◌<◌, ℕ, List, length, Contains, Some, None, IfOk, OnOk, OnErr, IsUtf8};
+ghost use Rattle.mc_text.specs.Names.{name_fault};
+ghost use Rattle.tree_trait.specs.Answers.{IsAscending};
+ghost use Rattle.host_tree.specs.Listing.{IsNamed, IsCounted};
+
+use crate::cause::cause_of;
+use crate::read::{TURNS, read_once};
+use crate::real_path::{Walked, real_text};
+use mc_text::{Name, NameError, Names, Path};
+use std::alloc::Global;
+use std::convert::AsStr;
+use std::io::Read;
+use std::rt::Files;
+use tree_trait::{Children, TreeError};
+
+/// The children of a folder. A name that is no `Name`, because it is not UTF-8 or is too long for one, is counted alone.
+pub fn children<R: Files>(
+    rt: &R,
+    alloc: Global,
+    walked: &mut Walked,
+    path: &Path,
+) -> Result<Children, TreeError>
+    ensures { IfOk result (λ children. IsAscending children.names) }
+{
+    let text = real_text(rt, alloc, walked, path)?;
+    // This opens no link, and nothing but a folder.
+    let mut folder = match rt.open_dir(text.as_str()) {
+        Ok(folder) => folder,
+        Err(error) => return Err(cause_of(&error)),
+    };
+    let Children { names, unnamed } = read_names(alloc, &mut folder)?;
+    let names = Names(in_order(names.0));
+    Ok(Children { names, unnamed })
+}
+
+/// Reads the names to their end. They come in no order, and in a folder that changes meanwhile one may come twice.
+fn read_names<D: Read>(alloc: Global, folder: &mut D) -> Result<Children, TreeError> {
+    let mut found = Children {
+        names: Names::new(alloc),
+        unnamed: 0,
+    };
+    let mut bytes = [0u8; 65536];
+    for _ in 0..TURNS {
+        match read_once(folder, &mut bytes) {
+            Ok(0) => return Ok(found),
+            Ok(count) => add_names(alloc, &bytes[..count], &mut found)?,
+            Err(error) => return Err(cause_of(&error)),
+        }
+    }
+    Err(TreeError::Fault)
+}
+
+/// Adds names, each of which is ended by a NUL.
+fn add_names(alloc: Global, bytes: &[u8], found: &mut Children) -> Result<(), TreeError> {
+    for name in bytes.split(|byte| *byte == 0) {
+        if !name.is_empty() {
+            add_name(alloc, name, found)?;
+        }
+    }
+    Ok(())
+}
+
+/// Adds a name, but for the two that each folder has: its own and that of the folder above it.
+fn add_name(alloc: Global, bytes: &[u8], found: &mut Children) -> Result<(), TreeError>
+    ensures named { OnOk result (IsUtf8 bytes.now → name_fault bytes.now ≡ None
+        → IsNamed bytes.now found.old found.new) }
+    ensures dots { OnOk result (IsUtf8 bytes.now → name_fault bytes.now ≡ Some NameError.Dots
+        → found.new ≡ found.old) }
+    ensures no_text { OnOk result (¬ IsUtf8 bytes.now → IsCounted found.old found.new) }
+    ensures too_long { OnOk result (IsUtf8 bytes.now → 255 < length bytes.now
+        → IsCounted found.old found.new) }
+    ensures refused { OnErr result (found.new ≡ found.old) }
+{
+    let Ok(text) = std::str::from_utf8(bytes) else {
+        found.unnamed = found.unnamed.saturating_add(1);
+        return Ok(());
+    };
+    match Name::new(alloc, text) {
+        Ok(name) => match found.names.push(name) {
+            Ok(()) => Ok(()),
+            Err(_) => Err(TreeError::Memory),
+        },
+        Err(NameError::Dots) => Ok(()),
+        Err(NameError::Memory) => Err(TreeError::Memory),
+        Err(_) => {
+            found.unnamed = found.unnamed.saturating_add(1);
+            Ok(())
+        }
+    }
+}
+
+/// The names in the order of their bytes, each once.
+fn in_order(mut names: Vec<Name>) -> Vec<Name>
+    ensures ascending { IsAscending result.items }
+    ensures keeps { (name : List ℕ) → Contains names.items name → Contains result.items name }
+    ensures adds_none { (name : List ℕ) → Contains result.items name → Contains names.items name }
+{
+    names.sort_unstable_by(|one, other| one.order(other));
+    names.dedup_by(|later, earlier| later.same(earlier));
+    names
+}

@@ -1,0 +1,99 @@
+//! A path as the system reads it, where no folder on the way is a link.
+ghost use Rattle.std.specs.Prelude.{◌≡◌, ◌==◌, ◌||◌, false, length, None, IfOk, OnErr};
+ghost use Rattle.std.specs.Option.{option_map_or};
+ghost use Rattle.std.specs.Str.{bytes_eq};
+ghost use Rattle.mc_text.specs.Routes.{path_text};
+
+use crate::cause::cause_of;
+use mc_text::{Path, Text};
+use std::alloc::Global;
+use std::convert::AsStr;
+use std::fs;
+use std::marker::Model;
+use std::rt::Files;
+use tree_trait::TreeError;
+
+/// The folder whose way was looked at last: it and all above it are folders. It is remembered, since a look at each
+/// folder on the way would make each call dearer by one look a folder.
+#[derive(Drop)]
+pub struct Walked {
+    folder: Option<String>,
+}
+
+impl Model for Walked {
+    ghost use Rattle.std.specs.Prelude.{List, ℕ, Option, string_bytes};
+    ghost use Rattle.std.specs.Option.{option_map};
+
+    ghost Value = { Option (List ℕ) };
+
+    ghost view = { λ w. option_map string_bytes w.folder };
+}
+
+impl Walked {
+    /// None yet.
+    pub fn new() -> Walked
+        ensures { result ≡ None }
+    {
+        Walked { folder: None }
+    }
+
+    /// The next call looks at its whole way anew.
+    pub fn forget(&mut self)
+        ensures { self.new ≡ None }
+    {
+        self.folder = None;
+    }
+
+    /// Whether a folder is known to be one. The root, whose text is empty here, always is.
+    fn knows(&self, folder: &str) -> bool
+        ensures { result ≡ ((length folder.now == 0) || option_map_or (bytes_eq folder.now) self.now false) }
+    {
+        match &self.folder {
+            Some(known) => folder.is_empty() || folder == known.as_str(),
+            None => folder.is_empty(),
+        }
+    }
+}
+
+/// The text of a path, whose folders before the last name are looked at first, since the system follows links there.
+pub fn real_text<R: Files>(
+    rt: &R,
+    alloc: Global,
+    walked: &mut Walked,
+    path: &Path,
+) -> Result<Text, TreeError>
+    ensures text { IfOk result (λ text. text ≡ path_text path.now) }
+    ensures refused { OnErr result (walked.new ≡ walked.old) }
+{
+    let Ok(text) = path.text(alloc) else {
+        return Err(TreeError::Memory);
+    };
+    if let Some((folder, _)) = text.as_str().rsplit_once('/') {
+        if !walked.knows(folder) {
+            let known = String::from_str(alloc, folder)?;
+            walk(rt, walked, folder)?;
+            walked.folder = Some(known);
+        }
+    }
+    Ok(text)
+}
+
+/// Looks at a folder and at those above it, the uppermost first.
+fn walk<R: Files>(rt: &R, walked: &Walked, folder: &str) -> Result<(), TreeError> {
+    if walked.knows(folder) {
+        return Ok(());
+    }
+    if let Some((above, _)) = folder.rsplit_once('/') {
+        walk(rt, walked, above)?;
+    }
+    require_folder(rt, folder)
+}
+
+/// Looks at what stands at a path, which has to be a folder itself and no link to one.
+pub fn require_folder<R: Files>(rt: &R, text: &str) -> Result<(), TreeError> {
+    match fs::symlink_metadata(rt, text) {
+        Ok(facts) if facts.is_dir() => Ok(()),
+        Ok(_) => Err(TreeError::NotFolder),
+        Err(error) => Err(cause_of(&error)),
+    }
+}
