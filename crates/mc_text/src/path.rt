@@ -1,6 +1,6 @@
 //! An absolute path: the names from the root on. Its text has at most 4,096 bytes.
 ghost use Rattle.std.specs.Prelude.{◌≡◌, ◌≢◌, ◌+◌, ◌<◌, ◌≤◌, [], ◌∷◌, length, None, reverse, option_map, option_copied, IfOk, IfErr};
-ghost use Rattle.mc_text.specs.Routes.{spelled, path_text, parent_of, last_of, same_path};
+ghost use Rattle.mc_text.specs.Routes.{spelled, path_text, parent_of, last_of, same_path, is_prefix};
 
 use crate::error::{NoMemory, PathError};
 use crate::name::Name;
@@ -98,6 +98,15 @@ impl Path {
         ensures { result ≡ same_path self.now other.now }
     {
         same_names(self.names.as_slice(), other.names.as_slice())
+    }
+
+    /// Whether this path is another one, or that of a folder above what stands there.
+    pub fn is_prefix_of(&self, other: &Path) -> bool
+        ensures { result ≡ is_prefix self.now other.now }
+    {
+        let front = self.names.as_slice();
+        let names = other.names.as_slice();
+        front.len() <= names.len() && same_names(front, &names[..front.len()])
     }
 
     /// The path as it is written.
