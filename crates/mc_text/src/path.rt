@@ -1,8 +1,9 @@
 //! An absolute path: the names from the root on. Its text has at most 4,096 bytes.
-ghost use Rattle.std.specs.Prelude.{◌≡◌, ◌≢◌, ◌+◌, ◌<◌, ◌≤◌, [], ◌∷◌, length, None, reverse, option_map, option_copied, IfOk, IfErr};
-ghost use Rattle.mc_text.specs.Routes.{spelled, path_text, parent_of, last_of, same_path, is_prefix};
+ghost use Rattle.std.specs.Prelude.{◌≡◌, ◌≢◌, ◌+◌, ◌<◌, ◌≤◌, [], ◌∷◌, length, None, Some, IsSome, reverse, option_map, option_copied, IfOk, IfErr};
+ghost use Rattle.mc_text.specs.Names.{name_fault};
+ghost use Rattle.mc_text.specs.Routes.{spelled, path_text, parent_of, last_of, same_path, is_prefix, path_fault, route_of};
 
-use crate::error::{NoMemory, PathError};
+use crate::error::{NameError, NoMemory, PathError};
 use crate::name::Name;
 use crate::text::Text;
 use std::alloc::Global;
@@ -41,6 +42,34 @@ impl Path {
             names: Vec::new(alloc),
             spelled_bytes: 0,
         }
+    }
+
+    /// Reads a path: the names between its slashes, where empty ones are skipped. It begins with a slash.
+    pub fn parse(alloc: Global, text: &str) -> Result<Path, PathError>
+        ensures read { IfOk result (λ path. path ≡ route_of text.now) }
+        ensures sound { IfOk result (λ _. path_fault text.now ≡ None) }
+        ensures refused { IfErr result (λ e. e ≢ PathError.Memory → path_fault text.now ≡ Some e) }
+    {
+        let Some(relative) = text.strip_prefix('/') else {
+            return Err(PathError::NotAbsolute);
+        };
+        if text.len() > PATH_BYTES {
+            return Err(PathError::TooLong(text.len()));
+        }
+        let mut names = Vec::new(alloc);
+        let mut spelled_bytes = 0;
+        let mut at = 1;
+        for component in relative.split('/') {
+            if !component.is_empty() {
+                names.push(name_at(alloc, at, component)?)?;
+                spelled_bytes += 1 + component.len();
+            }
+            at += component.len() + 1;
+        }
+        Ok(Path {
+            names,
+            spelled_bytes,
+        })
     }
 
     /// The names from the root on.
@@ -132,6 +161,19 @@ impl Path {
             names: copy_names(alloc, self.names.as_slice())?,
             spelled_bytes: self.spelled_bytes,
         })
+    }
+}
+
+/// Reads the name of a path whose first byte stands at `at` there.
+fn name_at(alloc: Global, at: usize, component: &str) -> Result<Name, PathError>
+    ensures read { IfOk result (λ name. name ≡ component.now) }
+    ensures sound { IfOk result (λ _. name_fault component.now ≡ None) }
+    ensures refused { IfErr result (λ e. e ≢ PathError.Memory → (e ≡ PathError.BadName at) × (IsSome (name_fault component.now))) }
+{
+    match Name::new(alloc, component) {
+        Ok(name) => Ok(name),
+        Err(NameError::Memory) => Err(PathError::Memory),
+        Err(_) => Err(PathError::BadName(at)),
     }
 }
 
