@@ -140,7 +140,11 @@ impl Path {
 
     /// The path as it is written.
     pub fn text(&self, alloc: Global) -> Result<Text, NoMemory>
-        ensures { IfOk result (λ text. text ≡ path_text self.now) }
+        ensures text { IfOk result (λ text. text ≡ path_text self.now) }
+
+        // Read again it is this path.
+        ensures sound { IfOk result (λ text. path_fault text ≡ None) }
+        ensures read_back { IfOk result (λ text. route_of text ≡ self.now) }
     {
         if self.names.is_empty() {
             return Ok(Text::from_str(alloc, "/")?);
