@@ -1,2 +1,3 @@
 pub mod Components
 pub mod Prefixes
+pub mod Runs

@@ -1,6 +1,7 @@
 //! Names, paths, and the small types that every crate of the file manager speaks of.
 #![tactic(auto)]
 
+mod columns;
 mod error;
 mod kind;
 mod lists;
@@ -8,6 +9,7 @@ mod name;
 mod path;
 mod text;
 
+pub use columns::{columns_of, fit};
 pub use error::{NameError, NoMemory, PathError};
 pub use kind::Kind;
 pub use lists::{Bits, Lines, Names, Paths, Places, Rows, Texts};
