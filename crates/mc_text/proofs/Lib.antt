@@ -1,3 +1,4 @@
+pub mod Civil
 pub mod Components
 pub mod Prefixes
 pub mod Runs

@@ -1,3 +1,5 @@
+pub mod Civil
 pub mod Fit
 pub mod Names
 pub mod Routes
+pub mod Times

@@ -8,6 +8,7 @@ mod lists;
 mod name;
 mod path;
 mod text;
+mod times;
 
 pub use columns::{columns_of, fit};
 pub use error::{NameError, NoMemory, PathError};
@@ -16,3 +17,4 @@ pub use lists::{Bits, Lines, Names, Paths, Places, Rows, Texts};
 pub use name::Name;
 pub use path::Path;
 pub use text::{Bytes, Text};
+pub use times::time_text;
