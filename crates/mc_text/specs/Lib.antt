@@ -1,5 +1,6 @@
 pub mod Civil
 pub mod Fit
 pub mod Names
+pub mod Permissions
 pub mod Routes
 pub mod Times

@@ -7,6 +7,7 @@ mod kind;
 mod lists;
 mod name;
 mod path;
+mod permissions;
 mod text;
 mod times;
 
@@ -16,5 +17,6 @@ pub use kind::Kind;
 pub use lists::{Bits, Lines, Names, Paths, Places, Rows, Texts};
 pub use name::Name;
 pub use path::Path;
+pub use permissions::perm_text;
 pub use text::{Bytes, Text};
 pub use times::time_text;
