@@ -2,3 +2,4 @@ pub mod Civil
 pub mod Components
 pub mod Prefixes
 pub mod Runs
+pub mod Units

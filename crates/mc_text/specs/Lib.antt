@@ -3,4 +3,5 @@ pub mod Fit
 pub mod Names
 pub mod Permissions
 pub mod Routes
+pub mod Sizes
 pub mod Times

@@ -8,6 +8,7 @@ mod lists;
 mod name;
 mod path;
 mod permissions;
+mod sizes;
 mod text;
 mod times;
 
@@ -18,5 +19,6 @@ pub use lists::{Bits, Lines, Names, Paths, Places, Rows, Texts};
 pub use name::Name;
 pub use path::Path;
 pub use permissions::perm_text;
+pub use sizes::size_text;
 pub use text::{Bytes, Text};
 pub use times::time_text;
