@@ -1,4 +1,5 @@
 pub mod Civil
+pub mod Drawn
 pub mod Fit
 pub mod Names
 pub mod Permissions

@@ -48,7 +48,7 @@ pub fn columns_of(text: &str) -> usize
 }
 
 /// The columns of one cluster.
-fn cluster_columns_of(cluster: &str) -> usize
+pub(crate) fn cluster_columns_of(cluster: &str) -> usize
     ensures value { result ≡ cluster_columns cluster.now }
     ensures bound { result ≤ 2 * length cluster.now }
 {

@@ -2,6 +2,7 @@
 #![tactic(auto)]
 
 mod columns;
+mod drawing;
 mod error;
 mod kind;
 mod lists;
@@ -13,6 +14,7 @@ mod text;
 mod times;
 
 pub use columns::{columns_of, fit};
+pub use drawing::drawn;
 pub use error::{NameError, NoMemory, PathError};
 pub use kind::Kind;
 pub use lists::{Bits, Lines, Names, Paths, Places, Rows, Texts};
