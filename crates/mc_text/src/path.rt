@@ -203,3 +203,69 @@ fn same_names(mine: &[Name], theirs: &[Name]) -> bool
         _ => false,
     }
 }
+
+#[cfg(test)]
+mod tests {
+    use super::*;
+    use std::convert::AsStr;
+    use std::test::Fail;
+
+    #[test]
+    fn reads_paths(rt: HostRuntime) -> Result<(), Fail> {
+        let alloc = rt.alloc();
+        for (text, want) in [("//a/b/", "/a/b"), ("/", "/"), ("///", "/"), ("/.x/...", "/.x/..."), ("/日", "/日")] {
+            assert_eq!(rt; Path::parse(alloc, text)?.text(alloc)?.as_str(), want, "{text}");
+        }
+        for (text, want) in [
+            ("a", PathError::NotAbsolute),
+            ("", PathError::NotAbsolute),
+            ("/a/..", PathError::BadName(3)),
+            ("//./b", PathError::BadName(2)),
+            ("/a/b\0/.", PathError::BadName(3)),
+        ] {
+            assert_eq!(rt; Path::parse(alloc, text).err(), Some(want), "{text}");
+        }
+        Ok(())
+    }
+
+    #[test]
+    fn knows_folders_above(rt: HostRuntime) -> Result<(), Fail> {
+        let alloc = rt.alloc();
+        for (front, path, want) in [
+            ("/", "/", true),
+            ("/", "/a/b", true),
+            ("/a", "/a/b", true),
+            ("/a/b", "/a/b", true),
+            ("/a/b", "/a", false),
+            ("/b", "/a/b", false),
+            ("/a", "/ab", false),
+        ] {
+            let above = Path::parse(alloc, front)?.is_prefix_of(&Path::parse(alloc, path)?);
+            assert_eq!(rt; above, want, "{front} of {path}");
+        }
+        let folder = Path::parse(alloc, "/a/b")?.parent(alloc)?;
+        assert_eq!(rt; folder.is_some(), true);
+        if let Some(folder) = folder {
+            assert_eq!(rt; folder.text(alloc)?.as_str(), "/a");
+            assert_eq!(rt; folder.last(), Some("a"));
+            let other = Name::new(alloc, "c")?;
+            assert_eq!(rt; folder.join(alloc, &other)?.text(alloc)?.as_str(), "/a/c");
+        }
+        assert_eq!(rt; Path::root(alloc).parent(alloc)?.is_none(), true);
+        assert_eq!(rt; Path::root(alloc).last(), None);
+        Ok(())
+    }
+
+    #[test]
+    fn limits_a_path(rt: HostRuntime) -> Result<(), Fail> {
+        let alloc = rt.alloc();
+        let mut text = String::new(alloc);
+        for _ in 0..2048 {
+            text.push_str("/a")?;
+        }
+        assert_eq!(rt; Path::parse(alloc, text.as_str())?.names().len(), 2048);
+        text.push('/')?;
+        assert_eq!(rt; Path::parse(alloc, text.as_str()).err(), Some(PathError::TooLong(4097)));
+        Ok(())
+    }
+}
