@@ -1,15 +1,13 @@
 -- The components of a text, and an iterator that yields them.
 use Rattle.std.proofs.Common.{◌≡◌, ◌≢◌, ◌==◌, ◌<◌, ◌≤◌, ℕ, ◌+◌, ◌&&◌, nat_lt, add-zero, Bool, true, false, not, cond, if◌then◌else◌, List, [], ◌∷◌, ◌++◌, length, drop, reverse, filter, sum_by, Option, Some, None, IsSome, is_some, refl, sym, ap, ◌∙◌, arith}
-use Rattle.std.proofs.lemmas.Grind.{common_steps}
 use Rattle.std.proofs.lemmas.Iterator.{YieldsList}
-use Rattle.std.specs.List.{slice_split, onto_first, All}
+use Rattle.std.specs.List.{onto_first, All}
 use Rattle.std.proofs.lemmas.List.Splits.{slice_split_none, length-slice_split}
 use Rattle.std.proofs.lemmas.List.Elements.{All-nil, All-cons, filter-append}
 use Rattle.mc_text.specs.Routes.{Route, spelled, route_of, begins_with_slash, components_of, is_empty, bad_component, path_fault}
 use Rattle.std.proofs.lemmas.List.{reverse-append, length-append}
 use Rattle.std.proofs.lemmas.Bool.Decides.{nat_tests}
 use Rattle.mc_text.specs.Names.{name_fault, first_bad_byte}
-use Rattle.mc_text.specs.declared.error.PathError.{PathError}
 use Rattle.mc_text.specs.declared.error.PathError.TheVariants.{NotAbsolute, BadName}
 use Rattle.mc_text.specs.declared.error.NameError.TheVariants.{Empty, TooLong, Slash, Nul}
 use Rattle.std.proofs.lemmas.List.Sums.{sum_by-cons}
@@ -49,8 +47,8 @@ bytes-components [] = refl
 bytes-components (byte ∷ text) =
     let ih = bytes-components text in
     elim (byte == 47) as (λ b. bytes_of (cond b ([] ∷ components_of text) (onto_first byte (components_of text))) ≡ length (byte ∷ text) + 1) [
-      true ↦ omega (arith, bytes-cons [] (components_of text))
-    | false ↦ bytes-onto_first byte (components_of text) (length text) ih ∙ omega arith
+      | true ↦ omega (arith, bytes-cons [] (components_of text))
+      | false ↦ bytes-onto_first byte (components_of text) (length text) ih ∙ omega arith
     ]
 
 -- what a component adds to the names and the faults of those behind it
@@ -110,9 +108,9 @@ components-slash (byte ∷ front) rest =
     let ih = components-slash front rest in
     rw ih
     (elim (byte == 47) as (λ b. cond b ([] ∷ (components_of front ++ components_of rest)) (onto_first byte (components_of front ++ components_of rest))
-        ≡ cond b ([] ∷ components_of front) (onto_first byte (components_of front)) ++ components_of rest) [
-      true ↦ refl
-    | false ↦ onto_first-append byte (components_of front) (components_of rest) some
+    ≡ cond b ([] ∷ components_of front) (onto_first byte (components_of front)) ++ components_of rest) [
+      | true ↦ refl
+      | false ↦ onto_first-append byte (components_of front) (components_of rest) some
     ])
 
 -- a chain of faults that comes to none has passed each test

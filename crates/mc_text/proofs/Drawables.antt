@@ -1,7 +1,7 @@
 -- A cluster that can't be drawn is replaced by one that can.
-use Rattle.std.proofs.Common.{◌≡◌, ℕ, Bool, true, false, All, List, [], ◌∷◌, map, refl, if◌then◌else◌}
+use Rattle.std.proofs.Common.{◌≡◌, ℕ, Bool, true, false, All, List, [], ◌∷◌, refl, if◌then◌else◌}
 use Rattle.std.specs.Str.{chars}
-use Rattle.std.proofs.lemmas.List.Elements.{All-nil, All-cons, All-map}
+use Rattle.std.proofs.lemmas.List.Elements.{All-map}
 use Rattle.unicode_segmentation.specs.Grapheme.{graphemes}
 use Rattle.unicode_width.specs.Width.{str_width, step, past_emoji}
 use Rattle.mc_text.specs.Fit.{cluster_columns}

@@ -106,7 +106,11 @@ mod tests {
             ("👩‍👩‍👧x", 2, "~ "),
             ("👩‍👩‍👧x", 3, "👩‍👩‍👧x"),
         ] {
-            assert_eq!(rt; fit(alloc, text, columns)?.as_str(), want, "{text} in {columns}");
+            assert_eq!(rt;
+                fit(alloc, text, columns)?.as_str(),
+                want,
+                "{text} in {columns}"
+            );
         }
         Ok(())
     }

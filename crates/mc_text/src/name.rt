@@ -135,7 +135,10 @@ mod tests {
         }
         assert_eq!(rt; Name::new(alloc, long.as_str())?.text(), long.as_str());
         long.push('a')?;
-        assert_eq!(rt; Name::new(alloc, long.as_str()).err(), Some(NameError::TooLong(256)));
+        assert_eq!(rt;
+            Name::new(alloc, long.as_str()).err(),
+            Some(NameError::TooLong(256))
+        );
         Ok(())
     }
 }

@@ -213,8 +213,18 @@ mod tests {
     #[test]
     fn reads_paths(rt: HostRuntime) -> Result<(), Fail> {
         let alloc = rt.alloc();
-        for (text, want) in [("//a/b/", "/a/b"), ("/", "/"), ("///", "/"), ("/.x/...", "/.x/..."), ("/日", "/日")] {
-            assert_eq!(rt; Path::parse(alloc, text)?.text(alloc)?.as_str(), want, "{text}");
+        for (text, want) in [
+            ("//a/b/", "/a/b"),
+            ("/", "/"),
+            ("///", "/"),
+            ("/.x/...", "/.x/..."),
+            ("/日", "/日"),
+        ] {
+            assert_eq!(rt;
+                Path::parse(alloc, text)?.text(alloc)?.as_str(),
+                want,
+                "{text}"
+            );
         }
         for (text, want) in [
             ("a", PathError::NotAbsolute),
@@ -265,7 +275,10 @@ mod tests {
         }
         assert_eq!(rt; Path::parse(alloc, text.as_str())?.names().len(), 2048);
         text.push('/')?;
-        assert_eq!(rt; Path::parse(alloc, text.as_str()).err(), Some(PathError::TooLong(4097)));
+        assert_eq!(rt;
+            Path::parse(alloc, text.as_str()).err(),
+            Some(PathError::TooLong(4097))
+        );
         Ok(())
     }
 }

@@ -17,12 +17,30 @@ struct Unit {
 
 /// From the smallest on, each 1024 of the one before.
 const UNITS: [Unit; 6] = [
-    Unit { bytes: 1 << 10, letter: 'K' },
-    Unit { bytes: 1 << 20, letter: 'M' },
-    Unit { bytes: 1 << 30, letter: 'G' },
-    Unit { bytes: 1 << 40, letter: 'T' },
-    Unit { bytes: 1 << 50, letter: 'P' },
-    Unit { bytes: 1 << 60, letter: 'E' },
+    Unit {
+        bytes: 1 << 10,
+        letter: 'K',
+    },
+    Unit {
+        bytes: 1 << 20,
+        letter: 'M',
+    },
+    Unit {
+        bytes: 1 << 30,
+        letter: 'G',
+    },
+    Unit {
+        bytes: 1 << 40,
+        letter: 'T',
+    },
+    Unit {
+        bytes: 1 << 50,
+        letter: 'P',
+    },
+    Unit {
+        bytes: 1 << 60,
+        letter: 'E',
+    },
 ];
 
 /// The size in bytes, or else in the smallest of the units K, M, G, T, P, E, rounded down, such that it fits the columns.
@@ -66,7 +84,11 @@ mod tests {
             (1_023_999, 4, "999K"),
             (1_024_000, 4, "0M"),
         ] {
-            assert_eq!(rt; size_text(alloc, size, columns)?.as_str(), want, "{size} in {columns}");
+            assert_eq!(rt;
+                size_text(alloc, size, columns)?.as_str(),
+                want,
+                "{size} in {columns}"
+            );
         }
         Ok(())
     }

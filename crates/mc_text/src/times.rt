@@ -194,7 +194,11 @@ mod tests {
             (32_503_680_000, 0, "????????????"),
             (-1, 0, "????????????"),
         ] {
-            assert_eq!(rt; time_text(alloc, secs, now)?.as_str(), want, "{secs} at {now}");
+            assert_eq!(rt;
+                time_text(alloc, secs, now)?.as_str(),
+                want,
+                "{secs} at {now}"
+            );
         }
         Ok(())
     }

@@ -1,6 +1,5 @@
 -- `any` goes over the characters.
-use Rattle.std.proofs.Common.{◌≡◌, rules, tests}
-use Rattle.std.specs.Str.{chars}
+use Rattle.std.proofs.Common.{rules, tests}
 use Rattle.std.specs.Char.{is_control}
 use Rattle.std.proofs.lemmas.Iterator.Search.{any_from_yields_List}
 use Rattle.std.proofs.lemmas.Iterator.{YieldsList-from_chars}

@@ -1,5 +1,5 @@
 -- None of the units so far fits.
-use Rattle.std.proofs.Common.{◌≡◌, ◌<◌, ◌≤◌, max, map, drop, length}
+use Rattle.std.proofs.Common.{◌≡◌, ◌<◌, max, map, drop, length}
 use Rattle.std.specs.Fmt.{decimal}
 use Rattle.mc_text.specs.Sizes.{unit_texts, first_within}
 use Rattle.mc_text.proofs.Units.{text_in}

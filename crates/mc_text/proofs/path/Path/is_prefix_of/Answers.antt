@@ -1,5 +1,5 @@
 -- The names of the one are compared with as many first names of the other.
-use Rattle.std.proofs.Common.{◌≤◌, ◌<◌, length, reverse, arith}
+use Rattle.std.proofs.Common.{arith}
 use Rattle.std.proofs.lemmas.Grind.{common_steps}
 use Rattle.mc_text.proofs.Prefixes.{begins-within, begins-longer}
 use Rattle.mc_text.proofs.path.Path.is_prefix_of.Goals as goal

@@ -41,33 +41,33 @@ loop-component-preserved c =
     ap (λ n. c.loop-component.at + n) (sym (ap bytes_of cut ∙ bytes-cons component (drop 1 left))) ∙ here.bytes in
     rw next
     (elim c.if-not-is_empty.branch [
-      then-not-is_empty+in_ok-name_at+in_ok-push w ↦
-        let some : length component ≢ 0 = grind (arith, common_steps) in
-        let name : c.if-not-is_empty.names.items ≡ c.loop-component.names.items ++ component ∷ [] = grind (arith, common_steps) in
-        record {
-          can_next = tt;
-          is_finite = tt;
-          comes = step.1;
-          names = rw name (append_assoc c.loop-component.names.items (component ∷ []) (names_of (drop 1 left))
-            ∙ ap (λ n. c.loop-component.names.items ++ n) (sym (ap names_of cut ∙ names-some component (drop 1 left) some)) ∙ here.names);
-          fault = sym (ap (bad_component c.loop-component.at) cut ∙ fault-name c.loop-component.at component (drop 1 left) some w.in_ok-name_at.ensures.sound) ∙ here.fault;
-          bytes = omega (arith, bytes);
-          spelled_bytes = rw name (w.spelled_bytes-is ∙ ap (λ n. n + (1 + length component)) here.spelled_bytes
-            ∙ sym (spelled-more c.loop-component.names.items component));
-          within = omega arith;
-        }
-    | else-not-is_empty w ↦
-        let none : length component ≡ 0 = grind (arith, common_steps) in
-        record {
-          can_next = tt;
-          is_finite = tt;
-          comes = step.1;
-          names = rw w.names-is (sym (ap (λ n. c.loop-component.names.items ++ n) (ap names_of cut ∙ names-empty component (drop 1 left) none)) ∙ here.names);
-          fault = sym (ap (bad_component c.loop-component.at) cut ∙ fault-empty c.loop-component.at component (drop 1 left) none) ∙ here.fault;
-          bytes = omega (arith, bytes);
-          spelled_bytes = rw w.names-is (w.spelled_bytes-is ∙ here.spelled_bytes);
-          within = omega arith;
-        }
+      | then-not-is_empty+in_ok-name_at+in_ok-push w ↦
+          let some : length component ≢ 0 = grind (arith, common_steps) in
+          let name : c.if-not-is_empty.names.items ≡ c.loop-component.names.items ++ component ∷ [] = grind (arith, common_steps) in
+          record {
+            can_next = tt;
+            is_finite = tt;
+            comes = step.1;
+            names = rw name (append_assoc c.loop-component.names.items (component ∷ []) (names_of (drop 1 left))
+                ∙ ap (λ n. c.loop-component.names.items ++ n) (sym (ap names_of cut ∙ names-some component (drop 1 left) some)) ∙ here.names);
+            fault = sym (ap (bad_component c.loop-component.at) cut ∙ fault-name c.loop-component.at component (drop 1 left) some w.in_ok-name_at.ensures.sound) ∙ here.fault;
+            bytes = omega (arith, bytes);
+            spelled_bytes = rw name (w.spelled_bytes-is ∙ ap (λ n. n + (1 + length component)) here.spelled_bytes
+                ∙ sym (spelled-more c.loop-component.names.items component));
+            within = omega arith;
+          }
+      | else-not-is_empty w ↦
+          let none : length component ≡ 0 = grind (arith, common_steps) in
+          record {
+            can_next = tt;
+            is_finite = tt;
+            comes = step.1;
+            names = rw w.names-is (sym (ap (λ n. c.loop-component.names.items ++ n) (ap names_of cut ∙ names-empty component (drop 1 left) none)) ∙ here.names);
+            fault = sym (ap (bad_component c.loop-component.at) cut ∙ fault-empty c.loop-component.at component (drop 1 left) none) ∙ here.fault;
+            bytes = omega (arith, bytes);
+            spelled_bytes = rw w.names-is (w.spelled_bytes-is ∙ here.spelled_bytes);
+            within = omega arith;
+          }
     ])
 
 pub returns-in_err-name_at-clause-refused : goal.returns-in_err-name_at-clause-refused

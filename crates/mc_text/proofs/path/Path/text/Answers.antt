@@ -1,9 +1,9 @@
 -- Each name is written behind a slash, and is read from there.
-use Rattle.std.proofs.Common.{◌≡◌, ◌≢◌, ◌+◌, ◌≤◌, [], ◌∷◌, ◌++◌, length, take, take_all, reverse, None, ap, ◌∙◌, arith}
+use Rattle.std.proofs.Common.{◌≡◌, ◌≢◌, ◌+◌, ◌≤◌, [], ◌∷◌, ◌++◌, length, take, take_all, reverse, ap, ◌∙◌, arith}
 use Rattle.std.specs.String.{string_bytes}
 use Rattle.std.proofs.lemmas.Grind.{common_steps}
 use Rattle.std.proofs.lemmas.List.{reverse-append, length-reverse}
-use Rattle.mc_text.specs.Routes.{spelled, route_of, path_fault, bad_component, components_of}
+use Rattle.mc_text.specs.Routes.{spelled}
 use Rattle.mc_text.proofs.Components.{route-name, fault-more, fault-spelled}
 use Rattle.mc_text.proofs.path.Path.text.Goals as goal
 
