@@ -96,6 +96,7 @@ spelled-more names name =
 
 -- ---- reading what was written
 
+-- a byte before the first of some parts
 onto_first-append : (byte : ℕ) (parts more : List (List ℕ)) → 0 < length parts → onto_first byte (parts ++ more) ≡ onto_first byte parts ++ more
 onto_first-append byte [] more h = absurd (omega arith)
 onto_first-append byte (part ∷ parts) more h = refl
@@ -131,6 +132,7 @@ no_slash at (byte ∷ bytes) h =
     let second = passed (byte == 0) (Nul at) _ first.1 in
     All-cons (λ b. (b == 47) ≡ false) byte bytes first.0 (no_slash (at + 1) bytes second.1)
 
+-- a name has bytes, and no bad one
 name-bytes : (name : List ℕ) → name_fault name ≡ None → (length name ≢ 0) × (first_bad_byte 0 name ≡ None)
 name-bytes name h =
     let some = passed (length name == 0) Empty _ h in
@@ -138,6 +140,7 @@ name-bytes name h =
     let some_bytes : length name ≢ 0 = let e = some.0 in grind (arith, nat_tests) in
     (some_bytes, passed_all (first_bad_byte 0 name) _ short.1)
 
+-- one more name is one more component
 components-name : (front name : List ℕ) → name_fault name ≡ None → components_of (front ++ 47 ∷ name) ≡ components_of front ++ name ∷ []
 components-name front name h =
     components-slash front name ∙ ap (λ parts. components_of front ++ parts) (slice_split_none (λ byte. byte == 47) name (no_slash 0 name (name-bytes name h).1))
@@ -148,6 +151,7 @@ route-name front name h =
     rw (components-name front name h, filter-append (λ component. not (is_empty component)) (components_of front) (name ∷ []))
     (rw (names-some name [] (name-bytes name h).0) (reverse-append (names_of (components_of front)) (name ∷ [])))
 
+-- behind sound components the next ones decide
 fault-append : (at : ℕ) (front more : List (List ℕ)) → bad_component at front ≡ None
     → bad_component at (front ++ more) ≡ bad_component (at + bytes_of front) more
 fault-append at [] more h = rw add-zero refl
@@ -157,6 +161,7 @@ fault-append at (component ∷ front) more h =
     let bytes : at + bytes_of (component ∷ front) ≡ at + (length component + 1) + bytes_of front = omega (arith, bytes-cons component front) in
     rw (first.0, bytes) rest
 
+-- one more name keeps a text sound
 pub fault-more : (front name : List ℕ) → bad_component 0 (components_of front) ≡ None → name_fault name ≡ None
     → bad_component 0 (components_of (front ++ 47 ∷ name)) ≡ None
 fault-more front name h is =
@@ -164,6 +169,7 @@ fault-more front name h is =
     (fault-append 0 (components_of front) (name ∷ []) h
     ∙ fault-name (0 + bytes_of (components_of front)) name [] (name-bytes name is).0 is)
 
+-- the text of a path with names begins with a slash
 begins-append : (front rest : List ℕ) → begins_with_slash front ≡ true → begins_with_slash (front ++ rest) ≡ true
 begins-append [] rest h = cc
 begins-append (byte ∷ front) rest h = h

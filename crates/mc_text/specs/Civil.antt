@@ -33,7 +33,13 @@ day_on count = count + 1 - day_count (pos (year_on count)) (month_on count) 1
 unfoldable pub civil_of : ℕ → CivilTime
 civil_of secs =
     let count = counted (secs / 86400) in
-    record { year = year_on count; month = month_on count; day = day_on count; hour = secs % 86400 / 3600; minute = secs % 3600 / 60 }
+    record {
+      year = year_on count;
+      month = month_on count;
+      day = day_on count;
+      hour = secs % 86400 / 3600;
+      minute = secs % 3600 / 60;
+    }
 
 -- what the dates of 1970 to 2999 have
 pub record IsShownTime (time : CivilTime) : Type 0 where

@@ -9,7 +9,8 @@ use Rattle.mc_text.specs.Fit.{cluster_columns}
 -- a cluster of one or two columns that holds no control character (Unicode 4.5, category Cc)
 unfoldable pub is_drawable : List ℕ → Bool
 is_drawable cluster =
-    nat_le 1 (cluster_columns cluster) && nat_le (cluster_columns cluster) 2 && not (list_any is_control (chars cluster))
+    nat_le 1 (cluster_columns cluster) && nat_le (cluster_columns cluster) 2
+    && not (list_any is_control (chars cluster))
 
 -- a cluster as it is drawn, `?` in place of one that can't be
 abbrev pub drawn_cluster : List ℕ → List ℕ

@@ -21,7 +21,8 @@ letter mode bit shown = if has mode bit then shown else 45
 
 -- `x` or `-`; where the special bit is set, its small letter with the right to execute and its large one without
 abbrev pub last_letter : ℕ → ℕ → ℕ → ℕ → ℕ → ℕ
-last_letter mode bit special small large = if has mode special then (if has mode bit then small else large) else letter mode bit 120
+last_letter mode bit special small large =
+    if has mode special then (if has mode bit then small else large) else letter mode bit 120
 
 -- the kind, and `r`, `w` and the last letter of the owner, of the group (each with `s` or `S`) and of others (`t` or `T`)
 abbrev pub perm_text : Kind → ℕ → List ℕ

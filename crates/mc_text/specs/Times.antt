@@ -25,7 +25,8 @@ four_digits n = two_digits (n / 100) ++ two_digits (n % 100)
 abbrev pub civil_text : CivilTime → Bool → List ℕ
 civil_text time is_recent =
     month_text time.month ++ 32 ∷ [] ++ two_places time.day
-    ++ (if is_recent then 32 ∷ [] ++ two_digits time.hour ++ 58 ∷ [] ++ two_digits time.minute else 32 ∷ 32 ∷ [] ++ four_digits time.year)
+    ++ (if is_recent then 32 ∷ [] ++ two_digits time.hour ++ 58 ∷ [] ++ two_digits time.minute
+    else 32 ∷ 32 ∷ [] ++ four_digits time.year)
 
 -- a second is of the last 180 days
 abbrev pub is_recent : ℕ → ℕ → Bool

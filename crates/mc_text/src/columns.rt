@@ -10,8 +10,8 @@ use std::alloc::{AllocError, Global};
 use unicode_segmentation::UnicodeSegmentation;
 use unicode_width::UnicodeWidthStr;
 
-/// The text in exactly so many columns: filled with blanks, or cut between clusters, with `~` where it is cut. In no
-/// columns it is empty.
+/// The text in exactly so many columns: filled with blanks, or cut between clusters and ended by `~`. With no columns
+/// it is empty.
 #[tactic(auto, using(crate::proofs::Runs::longest_run))]
 pub fn fit(alloc: Global, text: &str, columns: usize) -> Result<Text, NoMemory>
     ensures fitted { IfOk result (λ line. line ≡ fitted text.now columns) }
@@ -59,7 +59,8 @@ pub(crate) fn cluster_columns_of(cluster: &str) -> usize
 fn push_run(line: &mut String, text: &str, room: usize) -> Result<usize, AllocError>
     ensures line { IfOk result (λ _. string_bytes line.new
         ≡ string_bytes line.old ++ concat (run_within room (graphemes true text.now))) }
-    ensures value { IfOk result (λ n. n ≡ sum_by cluster_columns (run_within room (graphemes true text.now))) }
+    ensures value { IfOk result (λ n. n
+        ≡ sum_by cluster_columns (run_within room (graphemes true text.now))) }
     ensures bound { IfOk result (λ n. n ≤ room) }
 {
     let mut left = room;

@@ -44,7 +44,8 @@ impl Path {
         }
     }
 
-    /// Reads a path: the names between its slashes, where empty ones are skipped. It begins with a slash.
+    /// Reads a path: the names between its slashes, of which there may be several in a row. `NotAbsolute` where no slash
+    /// stands first, then `TooLong`, then `BadName` with the first byte of the first component that is no name.
     pub fn parse(alloc: Global, text: &str) -> Result<Path, PathError>
         ensures read { IfOk result (λ path. path ≡ route_of text.now) }
         ensures sound { IfOk result (λ _. path_fault text.now ≡ None) }
@@ -172,7 +173,8 @@ impl Path {
 fn name_at(alloc: Global, at: usize, component: &str) -> Result<Name, PathError>
     ensures read { IfOk result (λ name. name ≡ component.now) }
     ensures sound { IfOk result (λ _. name_fault component.now ≡ None) }
-    ensures refused { IfErr result (λ e. e ≢ PathError.Memory → (e ≡ PathError.BadName at) × (IsSome (name_fault component.now))) }
+    ensures refused { IfErr result (λ e. e ≢ PathError.Memory
+        → (e ≡ PathError.BadName at) × (IsSome (name_fault component.now))) }
 {
     match Name::new(alloc, component) {
         Ok(name) => Ok(name),

@@ -102,7 +102,8 @@ fn small_number(n: i8) -> u8
 
 fn push_civil(line: &mut String, time: CivilTime, is_recent: bool) -> Result<(), AllocError>
     requires { IsShownTime time }
-    ensures { IfOk result (λ _. string_bytes line.new ≡ string_bytes line.old ++ civil_text time is_recent) }
+    ensures { IfOk result (λ _. string_bytes line.new
+        ≡ string_bytes line.old ++ civil_text time is_recent) }
 {
     line.push_str(month_name(time.month))?;
     line.push(' ')?;
@@ -149,7 +150,8 @@ fn push_clock(line: &mut String, hour: u8, minute: u8) -> Result<(), AllocError>
 
 fn push_year(line: &mut String, year: u16) -> Result<(), AllocError>
     requires { year < 10000 }
-    ensures { IfOk result (λ _. string_bytes line.new ≡ string_bytes line.old ++ 32 ∷ 32 ∷ [] ++ four_digits year) }
+    ensures { IfOk result (λ _. string_bytes line.new
+        ≡ string_bytes line.old ++ 32 ∷ 32 ∷ [] ++ four_digits year) }
 {
     line.push_str("  ")?;
     push_two_digits(line, (year / 100) as u8)?;
