@@ -1,8 +1,9 @@
 //! An absolute path: the names from the root on. Its text has at most 4,096 bytes.
-ghost use Rattle.std.specs.Prelude.{◌≡◌, ◌≢◌, ◌+◌, ◌<◌, ◌≤◌, [], ◌∷◌, length, None, reverse, option_map, option_copied, IfOk, IfErr};
-ghost use Rattle.mc_text.specs.Routes.{spelled, path_text, parent_of, last_of, same_path};
+ghost use Rattle.std.specs.Prelude.{◌≡◌, ◌≢◌, ◌+◌, ◌<◌, ◌≤◌, [], ◌∷◌, length, None, Some, IsSome, reverse, option_map, option_copied, IfOk, IfErr};
+ghost use Rattle.mc_text.specs.Names.{name_fault};
+ghost use Rattle.mc_text.specs.Routes.{spelled, path_text, parent_of, last_of, same_path, is_prefix, path_fault, route_of};
 
-use crate::error::{NoMemory, PathError};
+use crate::error::{NameError, NoMemory, PathError};
 use crate::name::Name;
 use crate::text::Text;
 use std::alloc::Global;
@@ -41,6 +42,35 @@ impl Path {
             names: Vec::new(alloc),
             spelled_bytes: 0,
         }
+    }
+
+    /// Reads a path: the names between its slashes, of which there may be several in a row. `NotAbsolute` where no slash
+    /// stands first, then `TooLong`, then `BadName` with the first byte of the first component that is no name.
+    pub fn parse(alloc: Global, text: &str) -> Result<Path, PathError>
+        ensures read { IfOk result (λ path. path ≡ route_of text.now) }
+        ensures sound { IfOk result (λ _. path_fault text.now ≡ None) }
+        ensures refused { IfErr result (λ e. e ≢ PathError.Memory → path_fault text.now ≡ Some e) }
+    {
+        let Some(relative) = text.strip_prefix('/') else {
+            return Err(PathError::NotAbsolute);
+        };
+        if text.len() > PATH_BYTES {
+            return Err(PathError::TooLong(text.len()));
+        }
+        let mut names = Vec::new(alloc);
+        let mut spelled_bytes = 0;
+        let mut at = 1;
+        for component in relative.split('/') {
+            if !component.is_empty() {
+                names.push(name_at(alloc, at, component)?)?;
+                spelled_bytes += 1 + component.len();
+            }
+            at += component.len() + 1;
+        }
+        Ok(Path {
+            names,
+            spelled_bytes,
+        })
     }
 
     /// The names from the root on.
@@ -100,9 +130,22 @@ impl Path {
         same_names(self.names.as_slice(), other.names.as_slice())
     }
 
+    /// Whether this path is another one, or that of a folder above what stands there.
+    pub fn is_prefix_of(&self, other: &Path) -> bool
+        ensures { result ≡ is_prefix self.now other.now }
+    {
+        let front = self.names.as_slice();
+        let names = other.names.as_slice();
+        front.len() <= names.len() && same_names(front, &names[..front.len()])
+    }
+
     /// The path as it is written.
     pub fn text(&self, alloc: Global) -> Result<Text, NoMemory>
-        ensures { IfOk result (λ text. text ≡ path_text self.now) }
+        ensures text { IfOk result (λ text. text ≡ path_text self.now) }
+
+        // Read again it is this path.
+        ensures sound { IfOk result (λ text. path_fault text ≡ None) }
+        ensures read_back { IfOk result (λ text. route_of text ≡ self.now) }
     {
         if self.names.is_empty() {
             return Ok(Text::from_str(alloc, "/")?);
@@ -126,6 +169,20 @@ impl Path {
     }
 }
 
+/// Reads the name of a path whose first byte stands at `at` there.
+fn name_at(alloc: Global, at: usize, component: &str) -> Result<Name, PathError>
+    ensures read { IfOk result (λ name. name ≡ component.now) }
+    ensures sound { IfOk result (λ _. name_fault component.now ≡ None) }
+    ensures refused { IfErr result (λ e. e ≢ PathError.Memory
+        → (e ≡ PathError.BadName at) × (IsSome (name_fault component.now))) }
+{
+    match Name::new(alloc, component) {
+        Ok(name) => Ok(name),
+        Err(NameError::Memory) => Err(PathError::Memory),
+        Err(_) => Err(PathError::BadName(at)),
+    }
+}
+
 /// The same names once more.
 fn copy_names(alloc: Global, names: &[Name]) -> Result<Vec<Name>, NoMemory>
     ensures { IfOk result (λ copies. copies.items ≡ names.now) }
@@ -146,5 +203,84 @@ fn same_names(mine: &[Name], theirs: &[Name]) -> bool
         ([my_front @ .., my_last], [front @ .., last]) => my_last.same(last)
             && same_names(my_front, front),
         _ => false,
+    }
+}
+
+#[cfg(test)]
+mod tests {
+    use super::*;
+    use std::convert::AsStr;
+    use std::test::Fail;
+
+    #[test]
+    fn reads_paths(rt: HostRuntime) -> Result<(), Fail> {
+        let alloc = rt.alloc();
+        for (text, want) in [
+            ("//a/b/", "/a/b"),
+            ("/", "/"),
+            ("///", "/"),
+            ("/.x/...", "/.x/..."),
+            ("/日", "/日"),
+        ] {
+            assert_eq!(rt;
+                Path::parse(alloc, text)?.text(alloc)?.as_str(),
+                want,
+                "{text}"
+            );
+        }
+        for (text, want) in [
+            ("a", PathError::NotAbsolute),
+            ("", PathError::NotAbsolute),
+            ("/a/..", PathError::BadName(3)),
+            ("//./b", PathError::BadName(2)),
+            ("/a/b\0/.", PathError::BadName(3)),
+        ] {
+            assert_eq!(rt; Path::parse(alloc, text).err(), Some(want), "{text}");
+        }
+        Ok(())
+    }
+
+    #[test]
+    fn knows_folders_above(rt: HostRuntime) -> Result<(), Fail> {
+        let alloc = rt.alloc();
+        for (front, path, want) in [
+            ("/", "/", true),
+            ("/", "/a/b", true),
+            ("/a", "/a/b", true),
+            ("/a/b", "/a/b", true),
+            ("/a/b", "/a", false),
+            ("/b", "/a/b", false),
+            ("/a", "/ab", false),
+        ] {
+            let above = Path::parse(alloc, front)?.is_prefix_of(&Path::parse(alloc, path)?);
+            assert_eq!(rt; above, want, "{front} of {path}");
+        }
+        let folder = Path::parse(alloc, "/a/b")?.parent(alloc)?;
+        assert_eq!(rt; folder.is_some(), true);
+        if let Some(folder) = folder {
+            assert_eq!(rt; folder.text(alloc)?.as_str(), "/a");
+            assert_eq!(rt; folder.last(), Some("a"));
+            let other = Name::new(alloc, "c")?;
+            assert_eq!(rt; folder.join(alloc, &other)?.text(alloc)?.as_str(), "/a/c");
+        }
+        assert_eq!(rt; Path::root(alloc).parent(alloc)?.is_none(), true);
+        assert_eq!(rt; Path::root(alloc).last(), None);
+        Ok(())
+    }
+
+    #[test]
+    fn limits_a_path(rt: HostRuntime) -> Result<(), Fail> {
+        let alloc = rt.alloc();
+        let mut text = String::new(alloc);
+        for _ in 0..2048 {
+            text.push_str("/a")?;
+        }
+        assert_eq!(rt; Path::parse(alloc, text.as_str())?.names().len(), 2048);
+        text.push('/')?;
+        assert_eq!(rt;
+            Path::parse(alloc, text.as_str()).err(),
+            Some(PathError::TooLong(4097))
+        );
+        Ok(())
     }
 }
