@@ -54,3 +54,27 @@ never_waits (Some j) live is h = go j.course refl
     go GoesOn e = let same : closed_course j.course ≡ live.course = cc in let d = ap closed_course e in cc
     go InTrouble e = let same : closed_course j.course ≡ live.course = cc in let d = ap closed_course e in cc
     go Aborts e = let same : closed_course j.course ≡ live.course = cc in let d = ap closed_course e in cc
+
+-- the same while the session is open
+nearer_open : (job : LiveJob) (did : Did) → IsAllowedStep job did → steps_left (after_step did job) < steps_left (Some job)
+nearer_open job (Removed path) h = rw (h.0, h.1) (omega arith)
+nearer_open job Barrier h = rw h.1 (synced_open job.course h.0)
+  where
+    synced_open : (course : Course) → (course ≡ InTrouble → ⊥) → left_at course Finish < left_at course Sync
+    synced_open GoesOn h = omega arith
+    synced_open InTrouble h = absurd (h refl)
+    synced_open Aborts h = omega arith
+nearer_open job (Troubled trouble) h = rw h.0 (troubled_open job.stage job.path trouble h.1)
+  where
+    troubled_open : (stage : Stage) (path : Route) (t : Trouble) → IsTroubleAt stage path t → left_at InTrouble stage < left_at GoesOn stage
+    troubled_open Remove path t h = omega arith
+    troubled_open Sync path t h = omega arith
+    troubled_open Finish path t h = absurd h
+nearer_open job (Ended ending part) h = some_left job.course job.stage
+
+pub nearer_any : (closed : Bool) (job : LiveJob) (did : Did) → IsAllowedStep job did → steps_left (if_closed closed (after_step did job)) < steps_left (Some job)
+nearer_any true job did h = nearer job did h
+nearer_any false job did h = nearer_open job did h
+
+pub ended_left : (job : LiveJob) → steps_left None < steps_left (Some job)
+ended_left job = some_left job.course job.stage

@@ -167,3 +167,8 @@ left_at Aborts Finish = 1
 abbrev pub steps_left : Option LiveJob → ℕ
 steps_left None = 0
 steps_left (Some job) = left_at job.course job.stage
+
+-- a live job that waits for nothing
+abbrev pub IsReady : Option LiveJob → Type 0
+IsReady None = ⊥
+IsReady (Some job) = job.course ≢ InTrouble

@@ -1,5 +1,6 @@
 //! Keys and looks: what a desk does for its user.
-ghost use Rattle.std.specs.Prelude.{◌≡◌, ◌+◌, ◌≤◌, false, OnOk, Err};
+ghost use Rattle.std.specs.Prelude.{◌≡◌, ◌+◌, ◌≤◌, false, IsTrue, OnOk, Err};
+ghost use Rattle.copy_move.specs.Work.{IsReady};
 
 use super::{Desk, DeskError, DeskReply, Due};
 use crate::asks::{Ask, Confirmed, KeyAct};
@@ -78,7 +79,9 @@ impl<N: Tag, T: Tree, S: Sink, P: Spawner> Desk<N, T, S, P> {
     }
 
     /// Whether this job is live and can be stepped.
-    pub fn is_ready(&self, job: u32) -> bool {
+    pub fn is_ready(&self, job: u32) -> bool
+        ensures { IsTrue result → IsReady self.now.job }
+    {
         match &self.job {
             None => false,
             Some(live) => live.id() == job && !live.waits(),

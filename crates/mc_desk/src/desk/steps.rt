@@ -2,7 +2,7 @@
 ghost use Rattle.std.specs.Prelude.{◌≡◌, ◌<◌, Bool, true, Option, Some, None, IsSome, ◌||◌, reverse, if◌then◌else◌};
 ghost use Rattle.std.specs.Option.{option_map};
 ghost use Rattle.tree_trait.specs.FileSystem.{View};
-ghost use Rattle.copy_move.specs.Work.{closed_job, if_closed, steps_left, live_job};
+ghost use Rattle.copy_move.specs.Work.{closed_job, if_closed, steps_left, live_job, IsReady};
 ghost use Rattle.copy_move.specs.Replay.{IsReplayed};
 ghost use Rattle.mc_desk.specs.Sessions.{MayOpen, EndsSession};
 
@@ -39,6 +39,7 @@ impl<N: Tag, T: Tree, S: Sink, P: Spawner> Desk<N, T, S, P> {
         ensures screen { self.new.screen ≡ self.old.screen }
         ensures closed { self.new.closed ≡ self.old.closed }
         ensures nearer { self.old.closed ≡ true → IsSome self.old.job → steps_left self.new.job < steps_left self.old.job }
+        ensures worked { IsReady self.old.job → steps_left self.new.job < steps_left self.old.job }
     {
         let Some(mut job) = self.job.take() else {
             return idle(self.closed);

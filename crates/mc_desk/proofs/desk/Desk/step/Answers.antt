@@ -1,10 +1,11 @@
 -- A step is written down as it was made; a closed desk's job never waits.
-use Rattle.std.proofs.Common.{rules, ◌≡◌, ◌≤◌, ◌||◌, true, None, Some, refl, ap, sym, ◌∙◌, ◌∷◌, arith}
+use Rattle.std.proofs.Common.{rules, ◌≡◌, ◌≤◌, ◌||◌, true, None, Some, refl, ap, sym, ◌∙◌, ◌∷◌, ◌<◌, subst, arith}
 use Rattle.std.specs.Prelude.{if◌then◌else◌}
 use Rattle.copy_move.specs.declared.deletion.Course.TheVariants.{InTrouble}
 use Rattle.copy_move.specs.declared.history.Entry.{Entry}
 use Rattle.copy_move.specs.declared.history.Event.TheVariants.{Step}
-use Rattle.copy_move.specs.Work.{LiveJob, ends, if_closed}
+use Rattle.copy_move.specs.Work.{LiveJob, ends, if_closed, after_step, steps_left}
+use Rattle.copy_move.proofs.Left.{live_after, nearer_any}
 use Rattle.mc_desk.specs.Desks.{Seen}
 use Rattle.mc_desk.proofs.Keeping.{desk_stepped, closed_goes_on, entry}
 use Rattle.mc_desk.proofs.desk.Desk.step.Goals as goal
@@ -28,3 +29,13 @@ invariant_of-self-2 g c =
     desk_stepped _ _ _ _ _ c.args.seat calls faults 0 _ _ c.in-Some.job c.step-did.new.self did c.self.invariant is c.step-did.ensures.steps
     more refl (c.left.ensures ∙ ap (λ b. if_closed c.self.inside.closed (if b then None else Some c.step-did.new.self)) c.is_end-ended.ensures) refl
     (c.either-self-inside.ensures ∙ ap (λ b. b || c.self.inside.unseen) c.is_end-ended.ensures) refl room
+
+pub returns-clause-worked : goal.returns-clause-worked
+returns-clause-worked g c ready =
+    let job = c.in-Some.job in
+    let did = c.step-did.result.did in
+    let was : c.args.self.now.job ≡ Some job = sym (ap (λ (d : Seen). d.job) c.self.view_is) ∙ (sym c.take.ensures.value ∙ c.in-Some.is) in
+    let now : c.left.result ≡ if_closed c.self.inside.closed (after_step did job) =
+    c.left.ensures ∙ (ap (λ b. if_closed c.self.inside.closed (if b then None else Some c.step-did.new.self)) c.is_end-ended.ensures
+    ∙ ap (if_closed c.self.inside.closed) (live_after did job c.step-did.new.self c.step-did.ensures.steps.job)) in
+    rw was (subst (λ j. steps_left j < steps_left (Some job)) (sym now) (nearer_any c.self.inside.closed job did c.step-did.ensures.steps.allowed))

@@ -1,0 +1,150 @@
+//! How a run ends: after its session, or before one began.
+ghost use Rattle.std.specs.Prelude.{◌≡◌, ◌≢◌, [], Option, None, reverse};
+ghost use Rattle.tree_trait.specs.FileSystem.{View};
+ghost use Rattle.copy_move.specs.Work.{live_job};
+ghost use Rattle.copy_move.specs.Replay.{IsReplayed};
+ghost use Rattle.mc_desk.specs.Sessions.{MayOpen, EndsSession};
+ghost use Rattle.mc_main.specs.Headline.{IsStatusOr, BeginsNone};
+
+use crate::outcome::Outcome;
+use crate::session::{SessionEnd, run_session};
+use copy_move::{Entries, History};
+use mc_desk::{Desk, Ended, Refused, StartError, Tag, cause_text};
+use mc_text::{NoMemory, Text};
+use std::alloc::Global;
+use tree_trait::{Clock, Sink, SinkError, Source, Spawner, Tree, TreeError};
+
+/// Runs a session that was opened, and ends it.
+pub fn run_desk<N: Tag, T: Tree, K: Source, S: Sink, P: Spawner, C: Clock>(
+    alloc: Global,
+    desk: Desk<N, T, S, P>,
+    keys: &mut K,
+    clock: &C,
+) -> Outcome<T, S, P>
+    ensures session { (view : Option View) → MayOpen N.opening (T.contents result.tree) view
+        → EndsSession view (reverse result.history.entries) desk.screen.panel.folder }
+    ensures replayed { IsReplayed N.opening (T.contents result.tree) (reverse result.history.entries) }
+    ensures idle { live_job (reverse result.history.entries) ≡ None }
+    ensures not_usage { result.status ≢ 1 }
+    ensures not_start { result.status ≢ 2 }
+{
+    let mut desk = desk;
+    let end = run_session(alloc, &mut desk, keys, clock);
+    let Ended {
+        tree,
+        screen,
+        spawner,
+        history,
+        quit: _,
+        failed,
+        lost,
+    } = desk.end(alloc);
+    Outcome {
+        status: status_of(end, failed, lost),
+        tree,
+        screen,
+        spawner,
+        history,
+    }
+}
+
+/// The status of a session: the first cause that stands decides.
+fn status_of(end: SessionEnd, screen_failed: bool, key_lost: bool) -> u8
+    ensures not_usage { result ≢ 1 }
+    ensures not_start { result ≢ 2 }
+{
+    match end {
+        SessionEnd::KeysFailed => 3,
+        SessionEnd::ScreenFailed => 4,
+        SessionEnd::NoMemory => 5,
+        SessionEnd::Quit => quiet_status(screen_failed, key_lost),
+        SessionEnd::KeysEnded => quiet_status(screen_failed, key_lost),
+    }
+}
+
+fn quiet_status(screen_failed: bool, key_lost: bool) -> u8
+    ensures not_usage { result ≢ 1 }
+    ensures not_start { result ≢ 2 }
+{
+    if screen_failed {
+        4
+    } else if key_lost {
+        5
+    } else {
+        0
+    }
+}
+
+/// Ends a run in which no session began, after its line is printed.
+pub fn refuse<T, S: Sink, P>(
+    alloc: Global,
+    status: u8,
+    line: &str,
+    tree: T,
+    screen: S,
+    spawner: P,
+) -> Outcome<T, S, P>
+    ensures status { IsStatusOr status result.status }
+    ensures tree { result.tree ≡ tree }
+    ensures empty { result.history.entries ≡ [] }
+{
+    let mut screen = screen;
+    let status = match screen.put(alloc, line.as_bytes()) {
+        Ok(()) => status,
+        Err(SinkError::Fault) => 4,
+        Err(SinkError::Memory) => 5,
+    };
+    without_session(alloc, status, tree, screen, spawner)
+}
+
+/// Ends a run whose folder was refused: the line names it as it was typed, and the cause.
+pub fn refuse_start<T, S: Sink, P>(alloc: Global, words: &[Text], refused: Refused<T, S, P>) -> Outcome<T, S, P>
+    ensures status { IsStatusOr 2 result.status }
+    ensures cause { result.status ≡ 2 → refused.error ≢ StartError.Memory }
+    ensures tree { result.tree ≡ refused.tree }
+    ensures empty { result.history.entries ≡ [] }
+{
+    let Refused {
+        error,
+        tree,
+        screen,
+        spawner,
+    } = refused;
+    match error {
+        StartError::Memory => without_session(alloc, 5, tree, screen, spawner),
+        StartError::Tree(error) => match start_line(alloc, words, error) {
+            Ok(line) => refuse(alloc, 2, line.as_str(), tree, screen, spawner),
+            Err(NoMemory) => without_session(alloc, 5, tree, screen, spawner),
+        },
+    }
+}
+
+/// The line for a folder that was refused.
+fn start_line(alloc: Global, words: &[Text], error: TreeError) -> Result<String, NoMemory> {
+    let mut line = String::from_str(alloc, "mc: ")?;
+    for word in words {
+        line.push_str(word.0.as_str())?;
+        line.push_str(": ")?;
+    }
+    line.push_str(cause_text(error))?;
+    line.push('\n')?;
+    Ok(line)
+}
+
+/// A run in which no session began.
+pub fn without_session<T, S, P>(alloc: Global, status: u8, tree: T, screen: S, spawner: P) -> Outcome<T, S, P>
+    ensures status { result.status ≡ status }
+    ensures tree { result.tree ≡ tree }
+    ensures empty { result.history.entries ≡ [] }
+{
+    Outcome {
+        status,
+        tree,
+        screen,
+        spawner,
+        history: History {
+            started: 0,
+            entries: Entries(Vec::new(alloc)),
+        },
+    }
+}

@@ -1,0 +1,12 @@
+//! What a run leaves.
+use copy_move::History;
+
+/// What a run leaves: its status, the devices, and the history of its session.
+#[derive(Drop)]
+pub struct Outcome<T, S, P> {
+    pub status: u8,
+    pub tree: T,
+    pub screen: S,
+    pub spawner: P,
+    pub history: History,
+}

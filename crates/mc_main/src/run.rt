@@ -1,0 +1,74 @@
+//! One run of the file manager over its devices.
+ghost use Rattle.std.specs.Prelude.{◌≡◌, Option, Some, None, reverse};
+ghost use Rattle.tree_trait.specs.FileSystem.{View};
+ghost use Rattle.tree_trait.specs.Answers.{IfKnown};
+ghost use Rattle.copy_move.specs.Work.{live_job};
+ghost use Rattle.copy_move.specs.Replay.{IsReplayed};
+ghost use Rattle.mc_desk.specs.Sessions.{MayOpen};
+ghost use Rattle.mc_main.specs.Headline.{folder_in, IsStatusOr, MayRefuseStart, RefusesStart, IsRun};
+
+use crate::endings::{refuse, refuse_start, run_desk, without_session};
+use crate::outcome::Outcome;
+use crate::words::{USAGE, WordsError, read_words};
+use mc_desk::{Desk, Start, Tag};
+use mc_text::Text;
+use std::alloc::Global;
+use tree_trait::{Clock, Sink, Source, Spawner, Tree};
+
+/// The surroundings of a run: the folder in which it was started, the sizes of the terminal, the home folder, and how many
+/// workers are wanted, as the environment has them.
+#[derive(Debug, Drop)]
+pub struct Env {
+    pub folder: Text,
+    pub lines: Option<Text>,
+    pub columns: Option<Text>,
+    pub home: Option<Text>,
+    pub workers: Option<Text>,
+}
+
+/// A hook for tests, passed before each turn of a worker.
+pub trait Gate {
+    fn pass(&self, worker: u32, turn: u64);
+}
+
+/// Runs the file manager: reads the words, opens the session, works its keys and steps its jobs, and ends it.
+///
+/// The status is 0 at the quit key or the end of the keys, 1 where the words can't be read, 2 where the folder is refused, 3
+/// where the keyboard failed, 4 where the screen did, and 5 for want of memory. For 1 and 2 one line is printed.
+pub fn mc_run<N: Tag, T: Tree, K: Source, S: Sink, P: Spawner, C: Clock, G: Gate>(
+    alloc: Global,
+    words: &[Text],
+    _env: &Env,
+    tree: T,
+    screen: S,
+    keys: &mut K,
+    spawner: P,
+    clock: &C,
+    _gate: &G,
+) -> Outcome<T, S, P>
+    requires opening { IfKnown (T.contents tree) (λ log. N.opening ≡ Some log) }
+
+    // The tree is what the history makes of the opening, and the history is a session: a job is begun directly after each
+    // confirmed deletion, and deletes the file that was chosen.
+    ensures replayed { IsReplayed N.opening (T.contents result.tree) (reverse result.history.entries) }
+    ensures session { (view : Option View) → MayOpen N.opening (T.contents result.tree) view
+        → IsRun view (folder_in words.now) result.status (reverse result.history.entries) }
+    ensures idle { live_job (reverse result.history.entries) ≡ None }
+
+    // Statuses 1 and 2.
+    ensures usage { result.status ≡ 1 → folder_in words.now ≡ None }
+    ensures refuses_words { folder_in words.now ≡ None → IsStatusOr 1 result.status }
+    ensures start { result.status ≡ 2 → IfKnown (T.contents tree) (λ log.
+        MayRefuseStart log (folder_in words.now) (T.fault_count tree) (T.fault_count result.tree)) }
+    ensures refuses_start { IfKnown (T.contents tree) (λ log. RefusesStart log (folder_in words.now) result.status) }
+{
+    let folder = match read_words(alloc, words) {
+        Ok(folder) => folder,
+        Err(WordsError::Usage) => return refuse(alloc, 1, USAGE, tree, screen, spawner),
+        Err(WordsError::Memory) => return without_session(alloc, 5, tree, screen, spawner),
+    };
+    match Desk::<N, T, S, P>::begin(alloc, Start { folder }, tree, screen, spawner) {
+        Ok(desk) => run_desk(alloc, desk, keys, clock),
+        Err(refused) => refuse_start(alloc, words, refused),
+    }
+}
