@@ -1,0 +1,4 @@
+pub mod Brackets
+pub mod Globs
+pub mod GlobText
+pub mod Stretches
