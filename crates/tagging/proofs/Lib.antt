@@ -1,3 +1,4 @@
 pub mod WalkLemmas
 pub mod CutLemmas
 pub mod ParseLemmas
+pub mod FrontLemmas

@@ -1,91 +1,121 @@
 //! What the wildcards of a pattern take of a name.
-ghost use Rattle.std.specs.Prelude.{◌≡◌, chars, IfOk};
+ghost use Rattle.std.specs.Prelude.{◌≡◌, ◌≢◌, List, ◌∷◌, ◌++◌, [], chars, None, IfOk, IfSome, OnOk, MatchOption, if◌then◌else◌};
+ghost use Rattle.tagging.specs.Globs.{is_wild, cut_of, captures_of, AreCaptures};
+ghost use Rattle.tagging.specs.declared.glob.GlobPart.{GlobPart};
+ghost use Rattle.tagging.specs.declared.glob.GlobPart.TheVariants.{AnyText};
+ghost use Rattle.tagging.specs.Fronts.{IsFront, LeavesCut, LosesLast};
 
+use crate::first_char::first_char;
 use crate::glob::{GlobPart, ShellPattern};
+use crate::walk::matches_parts;
 use mc_text::{NoMemory, Text, Texts};
 use std::alloc::Global;
 
 impl ShellPattern {
     /// The texts that `*`, `?` and the brackets took, in their order, where the pattern matches the name. Where several
-    /// cuts fit, the first takes the longest text, then the second, and so on. It takes a time that grows as the number
-    /// of parts times the name's length, and memory as their sum.
-    pub fn captures(&self, alloc: Global, name: &str) -> Result<Option<Texts>, NoMemory> {
-        if !self.matches(name) {
-            return Ok(None);
-        }
-        let characters: Vec<char> = name.chars().collect(alloc)?;
-        let mut ends = shortest_ends(alloc, self.parts(), characters.as_slice())?;
+    /// cuts fit, the first takes the longest text, then the second, and so on. At worst the time grows as the number of
+    /// parts times the name's length, squared: each `*` tries each length, the longest first.
+    pub fn captures(&self, alloc: Global, name: &str) -> Result<Option<Texts>, NoMemory>
+        ensures longest { IfOk result (λ found. IfSome found (AreCaptures self.now (chars name.now))) }
+        ensures value { IfOk result (λ found. found ≡ captures_of self.now (chars name.now)) }
+    {
         let mut captured = Texts::new(alloc);
-        let mut rest = characters.as_slice();
-        for part in self.parts() {
-            let end = ends.pop().unwrap_or(0);
-            let taken = match part {
-                GlobPart::AnyText => rest.len() - end,
-                _ => 1,
+        let mut parts = self.parts();
+        let mut rest = name;
+        while let Some((part, behind)) = parts.split_first() {
+            let Some((front, more)) = front_of(part, behind, rest) else {
+                return Ok(None);
             };
-            let (text, more) = rest.split_at(taken);
-            if part.is_wild() {
-                captured.push(text_of(alloc, text)?)?;
-            }
+            capture(alloc, &mut captured, part, front)?;
+            parts = behind;
             rest = more;
         }
-        Ok(Some(captured))
+        match first_char(rest) {
+            None => Ok(Some(captured)),
+            Some(_) => Ok(None),
+        }
     }
 }
 
-/// For the parts behind each part, the last part's first: how long the shortest end of the name is that they match.
-fn shortest_ends(
+/// Keeps what a wildcard took.
+fn capture(
     alloc: Global,
-    parts: &[GlobPart],
-    name: &[char],
-) -> Result<Vec<usize>, NoMemory> {
-    let mut ends = Vec::new(alloc);
-    let mut matched = ends_of_nothing(alloc, name)?;
-    for part in parts.iter().rev() {
-        ends.push(matched.iter().position(|matches| *matches).unwrap_or(0))?;
-        matched = ends_from(alloc, part, matched.as_slice(), name)?;
-    }
-    Ok(ends)
-}
-
-/// Whether no parts match the end of the name with each number of characters, from 0 on.
-fn ends_of_nothing(alloc: Global, name: &[char]) -> Result<Vec<bool>, NoMemory> {
-    let mut matched = Vec::new(alloc);
-    matched.push(true)?;
-    for _ in name {
-        matched.push(false)?;
-    }
-    Ok(matched)
-}
-
-/// Whether a part and those behind it match the end of the name with each number of characters, from 0 on, where
-/// `behind` says the same of those behind it.
-fn ends_from(
-    alloc: Global,
+    captured: &mut Texts,
     part: &GlobPart,
-    behind: &[bool],
-    name: &[char],
-) -> Result<Vec<bool>, NoMemory> {
-    let mut matched = Vec::new(alloc);
-    let is_star = matches!(part, GlobPart::AnyText);
-    let mut before = is_star && behind[0];
-    matched.push(before)?;
-    for (length, character) in name.iter().rev().enumerate() {
-        before = if is_star {
-            before || behind[length + 1]
-        } else {
-            part.stands_for(*character) && behind[length]
-        };
-        matched.push(before)?;
+    text: &str,
+) -> Result<(), NoMemory>
+    ensures { OnOk result (captured.new ≡ captured.old ++ (if is_wild part.now then text.now ∷ [] else [])) }
+{
+    if part.is_wild() {
+        captured.push(Text::from_str(alloc, text)?)?;
     }
-    Ok(matched)
+    Ok(())
 }
 
-/// The text of these characters.
-fn text_of(alloc: Global, characters: &[char]) -> Result<Text, NoMemory> {
-    let mut text = String::new(alloc);
-    for character in characters {
-        text.push(*character)?;
+/// The text that the part takes at the front, as long as may be, and the text behind it, which the parts behind match.
+fn front_of<'a>(
+    part: &GlobPart,
+    behind: &[GlobPart],
+    text: &'a str,
+) -> Option<(&'a str, &'a str)>
+    ensures { MatchOption result (cut_of (part.now ∷ behind.now) (chars text.now) ≡ None)
+        (λ (front, more). IsFront part.now behind.now text.now front.now more.now) }
+{
+    let more = behind_part(part, behind, text)?;
+    let (front, _) = text.split_at(text.len() - more.len());
+    Some((front, more))
+}
+
+/// The text behind what the part takes at the front.
+fn behind_part<'a>(part: &GlobPart, behind: &[GlobPart], text: &'a str) -> Option<&'a str>
+    ensures { MatchOption result (cut_of (part.now ∷ behind.now) (chars text.now) ≡ None)
+        (λ more. LeavesCut part.now behind.now text.now more.now) }
+{
+    match part {
+        GlobPart::AnyText => shortest_end(behind, text),
+        one => behind_one(one, text),
     }
-    Ok(Text(text))
+}
+
+/// The shortest end of the text that the parts match: what a `*` leaves that takes as much as it can.
+fn shortest_end<'a>(parts: &[GlobPart], text: &'a str) -> Option<&'a str>
+    ensures { MatchOption result (cut_of (AnyText ∷ parts.now) (chars text.now) ≡ None)
+        (λ end. LeavesCut AnyText parts.now text.now end.now) }
+{
+    let mut front = text;
+    loop {
+        let (_, end) = text.split_at(front.len());
+        if matches_parts(parts, end) {
+            return Some(end);
+        }
+        let Some(shorter) = without_last(front) else {
+            return None;
+        };
+        front = shorter;
+    }
+}
+
+/// The text behind the one character that the part takes.
+fn behind_one<'a>(part: &GlobPart, text: &'a str) -> Option<&'a str>
+    requires { part.now ≢ AnyText }
+    ensures { MatchOption result ((behind : List GlobPart) → cut_of (part.now ∷ behind) (chars text.now) ≡ None)
+        (λ more. (behind : List GlobPart) → LeavesCut part.now behind text.now more.now) }
+{
+    let (character, more) = first_char(text)?;
+    if part.stands_for(character) {
+        Some(more)
+    } else {
+        None
+    }
+}
+
+/// The text without its last character.
+fn without_last(text: &str) -> Option<&str>
+    ensures { MatchOption result (text.now ≡ []) (λ front. LosesLast text.now front.now) }
+{
+    let mut characters = text.chars();
+    match characters.next_back() {
+        Some(_) => Some(characters.as_str()),
+        None => None,
+    }
 }
