@@ -151,8 +151,8 @@ pub front_is : (part : GlobPart) (behind : List GlobPart) (text more : List ℕ)
     → IsFront part behind text (take (length text - length more) text) more
 front_is part behind text more leaves =
     let is : take (length text - length more) text ≡ leaves.front =
-        ap (λ n. take n text) (front_length part behind text more leaves)
-        ∙ ap (take (length leaves.front)) (sym leaves.joins) ∙ take-append_seam leaves.front more in
+    ap (λ n. take n text) (front_length part behind text more leaves)
+    ∙ ap (take (length leaves.front)) (sym leaves.joins) ∙ take-append_seam leaves.front more in
     subst (λ front. IsFront part behind text front more) (sym is) (record { is_text = leaves.is_text; joins = leaves.joins; cut = leaves.cut })
 
 -- what a wildcard takes is captured

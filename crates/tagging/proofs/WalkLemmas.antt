@@ -152,21 +152,22 @@ pub walked_on : (all : List GlobPart) (name : List ℕ) (part : GlobPart) (parts
     → stands_for part c ≡ true → IsWalked all name (part ∷ parts) (c ∷ text) → IsWalked all name parts text
 walked_on all name part parts c text single takes walked = record {
   here = walked.here ∙ is_match-one part parts c text single ∙ ap (λ b. b && is_match parts text) takes;
-  behind_star = λ h. past_single part parts c text single (walked.behind_star h)
+  behind_star = λ h. past_single part parts c text single (walked.behind_star h);
 }
 
 pub walked_to_star : (all : List GlobPart) (name : List ℕ) (behind : List GlobPart) (text : List ℕ)
     → IsWalked all name (AnyText ∷ behind) text → AreMatchedAlike all name behind text
 walked_to_star all name behind text walked = record {
   here = walked.here;
-  behind_star = same_answers _ _ (λ h. star_star behind text (walked.behind_star h)) (λ h. star_here all name (walked.here ∙ h))
+  behind_star = same_answers _ _ (λ h. star_star behind text (walked.behind_star h)) (λ h. star_here all name (walked.here ∙ h));
 }
 
 pub walked_short : (all : List GlobPart) (name : List ℕ) (part : GlobPart) (parts : List GlobPart) → IsSingle part
     → IsWalked all name (part ∷ parts) [] → (is_match all name ≡ false) × (is_match (AnyText ∷ all) name ≡ false)
-walked_short all name part parts single walked =
-    (walked.here ∙ is_match-short part parts single,
-     never _ (λ h. true≢false (sym (walked.behind_star h) ∙ is_match-star_nil (part ∷ parts) ∙ is_match-short part parts single)))
+walked_short all name part parts single walked = (
+  walked.here ∙ is_match-short part parts single,
+  never _ (λ h. true≢false (sym (walked.behind_star h) ∙ is_match-star_nil (part ∷ parts) ∙ is_match-short part parts single)),
+)
 
 pub walked_apart : (all : List GlobPart) (name : List ℕ) (part : GlobPart) (parts : List GlobPart) (c : ℕ) (text : List ℕ) → IsSingle part
     → stands_for part c ≡ false → IsWalked all name (part ∷ parts) (c ∷ text) → is_match all name ≡ false

@@ -3,3 +3,7 @@ pub mod Globs
 pub mod GlobText
 pub mod Stretches
 pub mod Fronts
+pub mod Regexes
+pub mod Patterns
+pub mod TagSets
+pub mod Compared

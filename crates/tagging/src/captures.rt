@@ -38,12 +38,7 @@ impl ShellPattern {
 }
 
 /// Keeps what a wildcard took.
-fn capture(
-    alloc: Global,
-    captured: &mut Texts,
-    part: &GlobPart,
-    text: &str,
-) -> Result<(), NoMemory>
+fn capture(alloc: Global, captured: &mut Texts, part: &GlobPart, text: &str) -> Result<(), NoMemory>
     ensures { OnOk result (captured.new ≡ captured.old ++ (if is_wild part.now then text.now ∷ [] else [])) }
 {
     if part.is_wild() {
@@ -53,11 +48,7 @@ fn capture(
 }
 
 /// The text that the part takes at the front, as long as may be, and the text behind it, which the parts behind match.
-fn front_of<'a>(
-    part: &GlobPart,
-    behind: &[GlobPart],
-    text: &'a str,
-) -> Option<(&'a str, &'a str)>
+fn front_of<'a>(part: &GlobPart, behind: &[GlobPart], text: &'a str) -> Option<(&'a str, &'a str)>
     ensures { MatchOption result (cut_of (part.now ∷ behind.now) (chars text.now) ≡ None)
         (λ (front, more). IsFront part.now behind.now text.now front.now more.now) }
 {

@@ -69,10 +69,7 @@ fn read_part(
 }
 
 /// The bracket whose `[` stands before the text, and the text behind its `]`. Nothing where no `]` closes it.
-fn read_bracket(
-    alloc: Global,
-    text: &str,
-) -> Result<Option<(BracketSet, &str)>, PatternError>
+fn read_bracket(alloc: Global, text: &str) -> Result<Option<(BracketSet, &str)>, PatternError>
     ensures read { IfOk result (λ found. option_map (λ (bracket, more). (bracket, chars more.now)) found ≡ bracket_of (chars text.now)) }
     ensures refused { IfErr result (λ e. e ≡ PatternError.Memory) }
     ensures shrinks { IfOk result (λ found. IfSome found (λ (bracket, more). length more.now ≤ length text.now)) }

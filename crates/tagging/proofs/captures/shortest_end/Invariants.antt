@@ -7,7 +7,7 @@ use Rattle.tagging.proofs.captures.shortest_end.Given as goal
 abbrev pub invariant-loop-front : goal.invariant-loop-front
 invariant-loop-front l = record {
   text : shadow (Utf8 l.front);
-  tried : HasTried l.parts l.text l.front
+  tried : HasTried l.parts l.text l.front;
 }
 
 abbrev pub decreases-loop-front : goal.decreases-loop-front

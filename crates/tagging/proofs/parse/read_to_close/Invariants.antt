@@ -9,7 +9,7 @@ abbrev pub invariant-loop-character : goal.invariant-loop-character
 invariant-loop-character l = record {
   text : shadow (Utf8 l.rest);
   same : after_marks l.marks.items (marks_up_to_close false (chars l.rest)) ≡ after_marks l.initial.marks.items (marks_up_to_close false (chars l.text));
-  shorter : length l.rest ≤ length l.text
+  shorter : length l.rest ≤ length l.text;
 }
 
 abbrev pub decreases-loop-character : goal.decreases-loop-character

@@ -14,5 +14,5 @@ pub loop-behind-preserved : goal.loop-behind-preserved
 loop-behind-preserved c = record {
   text = search rules;
   same = star_takes c.loop-behind.parts.now c.in-Some.field-0-0 _ (rw c.in-Some.ensures.first at c.in-Differs.ensures.fits)
-      ∙ (rw c.in-Some.ensures.first at c.loop-behind.invariant.same)
+      ∙ (rw c.in-Some.ensures.first at c.loop-behind.invariant.same);
 }

@@ -9,7 +9,7 @@ use Rattle.tagging.proofs.walk.matches_behind_star.Given as goal
 abbrev pub invariant-loop-behind : goal.invariant-loop-behind
 invariant-loop-behind l = record {
   text : shadow (Utf8 l.text);
-  same : is_match (AnyText ∷ l.parts) (chars l.text) ≡ is_match (AnyText ∷ l.initial.parts) (chars l.initial.text)
+  same : is_match (AnyText ∷ l.parts) (chars l.text) ≡ is_match (AnyText ∷ l.initial.parts) (chars l.initial.text);
 }
 
 abbrev pub decreases-loop-behind : goal.decreases-loop-behind

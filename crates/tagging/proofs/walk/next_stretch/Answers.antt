@@ -11,7 +11,7 @@ returns-in-AnyText-clause-fits c =
 pub returns-in_default-first_char : goal.returns-in_default-first_char
 returns-in_default-first_char c =
     let short = walked_short c.args.parts.now _ c.in-Some.part.now c.in-Some.behind.now (AnyText-or_single _ c.in_default-part.not-AnyText)
-        (rw (c.in-Some.ensures.cases.0, c.in_default-first_char.ensures.first) at c.loop-part.invariant.walked) in
+    (rw (c.in-Some.ensures.cases.0, c.in_default-first_char.ensures.first) at c.loop-part.invariant.walked) in
     record { fits = short; shrinks = tt }
 
 pub returns-then-not-stands_for : goal.returns-then-not-stands_for

@@ -10,7 +10,7 @@ invariant-loop-part l = record {
   text : shadow (Utf8 l.text);
   walked : IsWalked l.initial.parts (chars l.initial.text) l.parts (chars l.text);
   fewer : length l.parts ≤ length l.initial.parts;
-  shorter : length l.text ≤ length l.initial.text
+  shorter : length l.text ≤ length l.initial.text;
 }
 
 abbrev pub decreases-loop-part : goal.decreases-loop-part

@@ -14,16 +14,16 @@ pub returns-in_err-part-clause-refused : goal.returns-in_err-part-clause-refused
 returns-in_err-part-clause-refused c =
     let p = err_from_is_err_and c.from_residual.result c.from_residual.ensures.1 in
     let bytes : length (encode_utf8_all (c.in-Some.first ∷ chars c.in-Some.behind.now)) ≡ length c.loop-first.rest.now =
-        ap (λ cs. length (encode_utf8_all cs)) (sym c.in-Some.ensures.first) ∙ ap length (encodes-chars c.loop-first.rest.now c.loop-first.invariant.text) in
+    ap (λ cs. length (encode_utf8_all cs)) (sym c.in-Some.ensures.first) ∙ ap length (encodes-chars c.loop-first.rest.now c.loop-first.invariant.text) in
     rw (p.1, p.2) (λ ne.
-        let refused = rw (← bytes) at (c.in_err-part.ensures.refused ne) in
-        let fault = parts_within-fault (length c.args.text.now) c.in-Some.first (chars c.in-Some.behind.now) c.in_err-part.field-0.0 refused in
-        sym (rw c.in-Some.ensures.first at c.loop-first.invariant.same) ∙ ap (after_parts c.loop-first.parts.items) fault)
+    let refused = rw (← bytes) at (c.in_err-part.ensures.refused ne) in
+    let fault = parts_within-fault (length c.args.text.now) c.in-Some.first (chars c.in-Some.behind.now) c.in_err-part.field-0.0 refused in
+    sym (rw c.in-Some.ensures.first at c.loop-first.invariant.same) ∙ ap (after_parts c.loop-first.parts.items) fault)
 
 pub loop-first-preserved : goal.loop-first-preserved
 loop-first-preserved c =
     let bytes : length (encode_utf8_all (c.in-Some.first ∷ chars c.in-Some.behind.now)) ≡ length c.loop-first.rest.now =
-        ap (λ cs. length (encode_utf8_all cs)) (sym c.in-Some.ensures.first) ∙ ap length (encodes-chars c.loop-first.rest.now c.loop-first.invariant.text) in
+    ap (λ cs. length (encode_utf8_all cs)) (sym c.in-Some.ensures.first) ∙ ap length (encodes-chars c.loop-first.rest.now c.loop-first.invariant.text) in
     let read = rw (← bytes) at c.in_ok-part.ensures.read in
     let first = parts_within-first (length c.args.text.now) c.in-Some.first (chars c.in-Some.behind.now) c.in_ok-part.part (chars c.in_ok-part.more.now) read in
     let left = parts_within (length (chars c.in_ok-part.more.now)) (length c.args.text.now) (chars c.in_ok-part.more.now) in

@@ -9,7 +9,7 @@ abbrev pub invariant-loop-first : goal.invariant-loop-first
 invariant-loop-first l = record {
   text : shadow (Utf8 l.rest);
   same : after_parts l.parts.items (parts_within (length (chars l.rest)) (length l.text) (chars l.rest)) ≡ pattern_of l.text;
-  shorter : length l.rest ≤ length l.text
+  shorter : length l.rest ≤ length l.text;
 }
 
 abbrev pub decreases-loop-first : goal.decreases-loop-first
