@@ -1,9 +1,8 @@
 -- The last file of a name decides.
-use Rattle.std.proofs.Common.{◌≡◌, ℕ, Bool, true, false, cond, if◌then◌else◌, List, [], ◌∷◌, ◌++◌, Option, Some, None, refl, sym, ap, ◌∙◌}
+use Rattle.std.proofs.Common.{◌≡◌, ℕ, Bool, true, false, cond, if◌then◌else◌, List, [], ◌∷◌, ◌++◌, Some, None, refl, ap, ◌∙◌}
 use Rattle.std.specs.Str.{bytes_eq}
 use Rattle.tagging.specs.Compared.{or_else, stamp_of}
 use Rattle.tagging.specs.declared.compare.FileFact.{FileFact}
-use Rattle.tagging.specs.declared.compare.Stamp.{Stamp}
 
 pub stamp_of-push : (facts : List FileFact) (fact : FileFact) (name : List ℕ)
     → stamp_of (facts ++ fact ∷ []) name ≡ (if bytes_eq fact.name name then Some (record { size = fact.size; mtime = fact.mtime }) else stamp_of facts name)

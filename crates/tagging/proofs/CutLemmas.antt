@@ -1,8 +1,8 @@
 -- The cut that is found part by part is a cut, and its first wildcard takes the longest text, then the second, and so on.
-use Rattle.std.proofs.Common.{◌≡◌, ℕ, suc, ◌+◌, ◌<◌, ◌≤◌, Bool, true, false, cond, IsTrue, ◌↔◌, List, [], ◌∷◌, ◌++◌, length, map, Option, Some, None, is_some, option_map, encode_utf8_all, refl, sym, subst, ap, ◌∙◌, ◌⊎◌, inl, inr, arith, append_assoc}
+use Rattle.std.proofs.Common.{◌≡◌, ℕ, suc, Bool, true, false, cond, List, [], ◌∷◌, ◌++◌, map, Option, Some, None, is_some, option_map, encode_utf8_all, refl, sym, subst, ap, ◌∙◌, inl, inr, arith}
 use mathlib.Core.Bool.{true≢false}
 use Rattle.std.specs.List.{concat}
-use Rattle.tagging.specs.Globs.{stands_for, is_wild, is_match, cut_of, captures_of, after_text, longer_or, longest_front, one_in_front, nothing_in_front, Takes, TakesOne, TakeAll, IsCut, MatchesGlob, wild_texts, AreLongerFirst, IsLongestCut, AreCaptures}
+use Rattle.tagging.specs.Globs.{stands_for, is_wild, is_match, cut_of, captures_of, after_text, longer_or, longest_front, one_in_front, nothing_in_front, Takes, TakesOne, TakeAll, IsCut, MatchesGlob, wild_texts, AreLongerFirst, AreCaptures}
 use Rattle.tagging.specs.declared.glob.GlobPart.{GlobPart}
 use Rattle.tagging.specs.declared.glob.GlobPart.TheVariants.{Plain, AnyOne, AnyText, OneOf}
 

@@ -1,5 +1,5 @@
 -- The longest front of a `*` is the first that is tried, from the whole text down, whose rest the parts behind match.
-use Rattle.std.proofs.Common.{◌≡◌, ◌≢◌, ℕ, ◌-◌, ◌≤◌, arith, length, take, drop, Bool, true, false, cond, if◌then◌else◌, ◌&&◌, List, [], ◌∷◌, ◌++◌, map, Option, Some, None, is_some, option_map, encode_utf8, encode_utf8_all, refl, sym, ap, subst, ◌∙◌, append_assoc}
+use Rattle.std.proofs.Common.{◌≡◌, ◌≢◌, ℕ, ◌-◌, ◌≤◌, arith, length, take, Bool, true, false, cond, if◌then◌else◌, ◌&&◌, List, [], ◌∷◌, ◌++◌, map, Option, Some, None, is_some, option_map, encode_utf8, encode_utf8_all, refl, sym, ap, subst, ◌∙◌, append_assoc}
 use mathlib.Core.Bool.{true≢false}
 use lib.Utf8.{scalars, scalar}
 use Rattle.std.specs.Str.{chars, IsUtf8, IsCharBoundary}
@@ -7,10 +7,10 @@ use Rattle.std.proofs.lemmas.Str.{chars_past_char, chars-append, chars-nil, IsUt
 use Rattle.std.proofs.lemmas.List.{append-nil, length-append}
 use Rattle.std.proofs.Math.Seq.{drop-append_seam, take-append_seam}
 use Rattle.tagging.proofs.WalkLemmas.{AnyText-or_single}
-use Rattle.tagging.specs.Globs.{stands_for, is_wild, is_match, cut_of, captures_of, after_text, longer_or, longest_front, one_in_front, nothing_in_front, wild_texts}
+use Rattle.tagging.specs.Globs.{stands_for, is_wild, is_match, cut_of, captures_of, after_text, longest_front, wild_texts}
 use Rattle.tagging.specs.Fronts.{LeavesCut, IsFront, LosesLast}
 use Rattle.tagging.specs.declared.glob.GlobPart.{GlobPart}
-use Rattle.tagging.specs.declared.glob.GlobPart.TheVariants.{Plain, AnyOne, AnyText, OneOf}
+use Rattle.tagging.specs.declared.glob.GlobPart.TheVariants.{AnyText}
 
 -- captures before others
 abbrev pub after_captures : List (List ℕ) → Option (List (List ℕ)) → Option (List (List ℕ))

@@ -1,10 +1,10 @@
 -- A part takes its characters from the front of the text, so a text has no more parts than characters.
-use Rattle.std.proofs.Common.{◌≡◌, ℕ, zero, suc, ◌-◌, ◌≤◌, Bool, true, false, cond, ◌==◌, List, [], ◌∷◌, ◌++◌, length, Option, Some, None, option_map, Result, Ok, Err, encode_utf8_all, refl, sym, subst, ap, ◌∙◌, arith, append_assoc}
+use Rattle.std.proofs.Common.{◌≡◌, ℕ, zero, suc, ◌-◌, ◌≤◌, Bool, true, false, cond, ◌==◌, List, [], ◌∷◌, ◌++◌, length, Option, Some, None, option_map, Result, Ok, Err, encode_utf8_all, refl, subst, ap, ◌∙◌, arith, append_assoc}
 use Rattle.tagging.specs.Brackets.{Bracket}
-use Rattle.tagging.specs.GlobText.{marks_up_to_close, marks_of, after_marks, listed, bracket_of, quoted_part, bracket_part, first_part, after_parts, and_then_parts, parts_within, pattern_of, spans_after}
+use Rattle.tagging.specs.GlobText.{marks_up_to_close, marks_of, after_marks, listed, bracket_of, quoted_part, bracket_part, first_part, after_parts, and_then_parts, parts_within, spans_after}
 use Rattle.tagging.specs.declared.error.PatternError.{PatternError}
 use Rattle.tagging.specs.declared.glob.GlobPart.{GlobPart}
-use Rattle.tagging.specs.declared.glob.GlobPart.TheVariants.{Plain, AnyOne, AnyText, OneOf}
+use Rattle.tagging.specs.declared.glob.GlobPart.TheVariants.{Plain, AnyOne, AnyText}
 use Rattle.tagging.specs.declared.parse.Mark.{Mark}
 
 -- no more text is left than there was

@@ -1,8 +1,8 @@
 -- From what `regex` says of a compiled pattern to what its text means.
-use Rattle.std.proofs.Common.{◌≡◌, ℕ, ◌<◌, ◌≤◌, inl, inr, true, false, List, length, Option, Some, None, IsSomeAnd, IfSome, is_some, option_map, refl, ap, ◌∙◌, arith, get_or, ◌≢◌}
+use Rattle.std.proofs.Common.{◌≡◌, ℕ, ◌<◌, ◌≤◌, inl, inr, true, List, length, Option, Some, None, IsSomeAnd, IfSome, is_some, refl, ap, ◌∙◌, arith, get_or, ◌≢◌}
 use Rattle.std.specs.Str.{chars}
 use Rattle.std.proofs.lemmas.Bool.Decides.{nat_tests}
-use Rattle.regex.specs.Patterns.{Re, Config, default_config, SameCaptures, Reads, Refuses, find_str}
+use Rattle.regex.specs.Patterns.{Re, default_config, SameCaptures, Reads, Refuses, find_str}
 use Rattle.regex.proofs.ForCallers.{is_match_alike}
 use Rattle.regex_hir.specs.Meaning.{meaning}
 use Rattle.regex_hir.specs.declared.hir.Hir.{Hir}

@@ -11,8 +11,8 @@ use Rattle.std.proofs.lemmas.Map.Text.{is_eq-slice_cmp}
 use Rattle.tagging.proofs.WalkLemmas.{same_answers}
 use Rattle.std.specs.BTreeSet.{BTreeSet, contains_text, keys}
 use Rattle.std.specs.String.{string_bytes}
-use Rattle.std.specs.FinSet.{FinSet, contains, insert, remove, union, difference, empty, from_list, same_set, from_list_push, contains-empty, contains-insert, contains-remove, contains-union, contains-difference, contains-from_list, contains_tied, slice_cmp-IsAntisymmetric, nat_cmp-IsAntisymmetric}
-use Rattle.tagging.specs.TagSets.{TagSet, names_in, tag_set, toggled, inverted}
+use Rattle.std.specs.FinSet.{contains, insert, remove, union, difference, same_set, from_list_push, contains-empty, contains-insert, contains-remove, contains-union, contains-difference, contains-from_list, contains_tied, slice_cmp-IsAntisymmetric, nat_cmp-IsAntisymmetric}
+use Rattle.tagging.specs.TagSets.{TagSet, names_in, tag_set, inverted}
 
 list_any-map : {A : Type 0} (f : A → List ℕ) (p : List ℕ → Bool) (xs : List A) → list_any p (map f xs) ≡ list_any (λ x. p (f x)) xs
 list_any-map f p [] = refl

@@ -1,5 +1,5 @@
 -- A `*` matches a text where the parts behind it match an end of it.
-use Rattle.std.proofs.Common.{◌≡◌, ℕ, Bool, true, false, cond, ◌||◌, ◌&&◌, List, [], ◌∷◌, Option, Some, None, is_some, option_map, refl, sym, ap, ◌∙◌, ◌⊎◌, inl, inr}
+use Rattle.std.proofs.Common.{◌≡◌, ℕ, Bool, true, false, cond, ◌||◌, ◌&&◌, List, [], ◌∷◌, Option, Some, None, is_some, refl, sym, ap, ◌∙◌, ◌⊎◌, inl, inr}
 use mathlib.Core.Bool.{true≢false}
 use Rattle.tagging.specs.Stretches.{AreMatchedAlike}
 use Rattle.tagging.specs.Globs.{stands_for, is_match, cut_of, after_text, longer_or, longest_front, one_in_front}

@@ -1,5 +1,5 @@
 -- The quick comparison of two folders (mc(1), "Compare directories": quick; that an older file isn't given is our own).
-use Rattle.std.specs.Prelude.{ℕ, ℤ, Bool, true, ◌||◌, ◌&&◌, not, nat_eq, int_lt, if◌then◌else◌, List, [], ◌∷◌, map, filter, Option, Some, None}
+use Rattle.std.specs.Prelude.{ℕ, Bool, true, ◌||◌, ◌&&◌, not, nat_eq, int_lt, if◌then◌else◌, List, [], ◌∷◌, map, filter, Option, Some, None}
 use Rattle.std.specs.Ordering.{int_eq}
 use Rattle.std.specs.Str.{bytes_eq}
 use Rattle.tagging.specs.declared.compare.FileFact.{FileFact}

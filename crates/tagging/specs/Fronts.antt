@@ -1,5 +1,5 @@
 -- What one part takes at the front of a text. Texts are UTF-8 here.
-use Rattle.std.specs.Prelude.{◌≡◌, ℕ, ◌<◌, length, List, [], ◌∷◌, ◌++◌, chars, None, encode_utf8}
+use Rattle.std.specs.Prelude.{◌≡◌, ℕ, ◌<◌, length, List, ◌∷◌, ◌++◌, chars, encode_utf8}
 use Rattle.std.specs.Str.{IsUtf8}
 use Rattle.tagging.specs.Globs.{cut_of, after_text}
 use Rattle.tagging.specs.declared.glob.GlobPart.{GlobPart}

@@ -1,8 +1,8 @@
 -- What a shell pattern matches, and what its wildcards take (POSIX.1-2017, XCU 2.13.1 and 2.13.2; the order of cuts is
 -- our own, after mc(1), "Copy, Rename, ..": masks). Texts are lists of characters here.
-use Rattle.std.specs.Prelude.{◌≡◌, ℕ, ◌<◌, Bool, true, false, ◌==◌, IsTrue, ◌⊎◌, if◌then◌else◌, List, [], ◌∷◌, length, map, Option, Some, None, is_some, option_map, encode_utf8_all}
+use Rattle.std.specs.Prelude.{◌≡◌, ℕ, ◌<◌, Bool, true, false, ◌==◌, ◌⊎◌, if◌then◌else◌, List, [], ◌∷◌, length, map, Option, Some, None, is_some, option_map, encode_utf8_all}
 use Rattle.std.specs.List.{concat}
-use Rattle.tagging.specs.Brackets.{Bracket, holds}
+use Rattle.tagging.specs.Brackets.{holds}
 use Rattle.tagging.specs.declared.glob.GlobPart.{GlobPart}
 use Rattle.tagging.specs.declared.glob.GlobPart.TheVariants.{Plain, AnyOne, AnyText, OneOf}
 

@@ -1,5 +1,5 @@
 use Rattle.std.proofs.Common.{sym}
-use Rattle.tagging.proofs.FrontLemmas.{one_taken, one_not_taken, one_at_end}
+use Rattle.tagging.proofs.FrontLemmas.{one_taken}
 use Rattle.tagging.proofs.captures.behind_one.Goals as goal
 
 pub returns-then-stands_for : goal.returns-then-stands_for

@@ -1,5 +1,4 @@
-use Rattle.std.proofs.Common.{◌∙◌, sym}
-use Rattle.tagging.proofs.FrontLemmas.{seam, fits, front_is}
+use Rattle.tagging.proofs.FrontLemmas.{seam}
 use Rattle.tagging.proofs.captures.front_of.Goals as goal
 
 pub split_at-requires : goal.split_at-requires

@@ -1,9 +1,8 @@
-use Rattle.std.proofs.Common.{ap, ◌∙◌, sym, subst, rules, arith, length, drop, ◌≤◌, ◌≡◌, ℕ, List, ◌++◌}
-use Rattle.std.specs.Str.{chars, IsUtf8}
+use Rattle.std.proofs.Common.{ap, ◌∙◌, sym, rules, length, drop, ◌≡◌, ℕ, List, ◌++◌}
+use Rattle.std.specs.Str.{IsUtf8}
 use Rattle.std.proofs.lemmas.Str.{IsCharBoundary-at_seam}
 use Rattle.std.proofs.Math.Seq.{drop-append_seam}
-use Rattle.tagging.specs.Globs.{is_match}
-use Rattle.tagging.proofs.FrontLemmas.{HasTried, tried_nothing, tried_more, tried_all, tried_last}
+use Rattle.tagging.proofs.FrontLemmas.{tried_nothing, tried_more, tried_all, tried_last}
 use Rattle.tagging.proofs.captures.shortest_end.Goals as goal
 
 pub loop-front-init : goal.loop-front-init

@@ -1,4 +1,4 @@
-use Rattle.std.proofs.Common.{◌≡◌, ap, ◌∙◌, sym, take, if◌then◌else◌, map, filter, [], ◌∷◌, ◌++◌, rules}
+use Rattle.std.proofs.Common.{◌≡◌, ap, ◌∙◌, sym, take, if◌then◌else◌, map, filter, [], ◌∷◌, ◌++◌}
 use Rattle.tagging.specs.Compared.{stamp_of, differs}
 use Rattle.tagging.proofs.KeepLemmas.{map-filter-take_more}
 use Rattle.tagging.proofs.compare.given.Goals as goal

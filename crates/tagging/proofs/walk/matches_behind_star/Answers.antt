@@ -1,4 +1,4 @@
-use Rattle.std.proofs.Common.{ap, ◌∙◌, sym, rules, arith, length, ◌≤◌}
+use Rattle.std.proofs.Common.{◌∙◌, sym, rules}
 use Rattle.tagging.proofs.WalkLemmas.{star_here, star_takes, star_at_end}
 use Rattle.tagging.proofs.walk.matches_behind_star.Goals as goal
 

@@ -1,6 +1,6 @@
-use Rattle.std.proofs.Common.{ap, ◌∙◌, sym, rules, arith, length, ◌≤◌}
+use Rattle.std.proofs.Common.{◌∙◌, sym, rules, arith}
 use Rattle.std.proofs.lemmas.List.{nil_from_length}
-use Rattle.tagging.proofs.WalkLemmas.{IsWalked, AnyText-or_single, walked_on, walked_to_star, walked_short, walked_apart, is_match-nil, is_match-past}
+use Rattle.tagging.proofs.WalkLemmas.{AnyText-or_single, walked_on, walked_to_star, walked_short, walked_apart, is_match-nil, is_match-past}
 use Rattle.tagging.proofs.walk.next_stretch.Goals as goal
 
 pub returns-in-AnyText-clause-fits : goal.returns-in-AnyText-clause-fits

@@ -1,4 +1,4 @@
-use Rattle.std.proofs.Common.{◌≡◌, ap, ◌∙◌, sym, rules, if◌then◌else◌, [], ◌∷◌, List, ℕ}
+use Rattle.std.proofs.Common.{ap, ◌∙◌, sym, rules, if◌then◌else◌, [], ◌∷◌, List, ℕ}
 use Rattle.std.specs.Str.{chars}
 use Rattle.std.proofs.lemmas.List.{nil_from_length}
 use Rattle.tagging.specs.Globs.{is_wild, captures_of}

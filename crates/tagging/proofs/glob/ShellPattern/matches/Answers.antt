@@ -1,4 +1,4 @@
-use Rattle.std.proofs.Common.{ap, ◌∙◌, sym, rules}
+use Rattle.std.proofs.Common.{◌∙◌, sym}
 use Rattle.tagging.proofs.CutLemmas.{MatchesGlob-from_is_match, is_match-from_MatchesGlob}
 use Rattle.tagging.proofs.glob.ShellPattern.matches.Goals as goal
 

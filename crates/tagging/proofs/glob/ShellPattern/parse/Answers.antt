@@ -1,4 +1,4 @@
-use Rattle.std.proofs.Common.{ap, ◌∙◌, sym, refl, rules, arith, length, ◌≤◌, ◌-◌, ◌≡◌, ◌++◌, ◌∷◌, [], encode_utf8_all}
+use Rattle.std.proofs.Common.{ap, ◌∙◌, sym, rules, arith, length, ◌≡◌, ◌∷◌, encode_utf8_all}
 use Rattle.std.specs.Str.{chars}
 use Rattle.std.proofs.lemmas.Str.{encodes-chars}
 use Rattle.std.proofs.lemmas.Result.{err_from_is_err_and}

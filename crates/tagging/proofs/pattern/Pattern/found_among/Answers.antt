@@ -1,4 +1,3 @@
-use Rattle.std.proofs.Common.{ap, ◌∙◌, sym, refl}
 use Rattle.tagging.proofs.pattern.Pattern.found_among.Goals as goal
 
 pub returns-in_ok-regex_of-in-Regex : goal.returns-in_ok-regex_of-in-Regex
