@@ -1,0 +1,9 @@
+pub mod Brackets
+pub mod Globs
+pub mod GlobText
+pub mod Stretches
+pub mod Fronts
+pub mod Regexes
+pub mod Patterns
+pub mod TagSets
+pub mod Compared
