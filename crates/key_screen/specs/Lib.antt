@@ -1,0 +1,2 @@
+pub mod KeySpelling
+pub mod DecodedKeys
