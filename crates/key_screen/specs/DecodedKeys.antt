@@ -11,6 +11,10 @@ pub record Decoded : Type 0 where
   pub keys : List Key
   pub rest : List ℕ
 
+-- no key, and the front of one
+abbrev pub no_key : List ℕ → Decoded
+no_key front = record { keys = []; rest = front }
+
 -- one more key in front
 abbrev pub with_key : Key → Decoded → Decoded
 with_key key decoded = record decoded { keys = key ∷ decoded.keys }
@@ -29,7 +33,7 @@ decoded_next Broken front byte after = with_key unknown (decoded_afresh (spellin
 
 -- the keys of bytes that come after the front of a key
 abbrev pub decoded_after : List ℕ → List ℕ → Decoded
-decoded_after front [] = record { keys = []; rest = front }
+decoded_after front [] = no_key front
 decoded_after front (byte ∷ bytes) =
     decoded_next (spelling_of (front ++ byte ∷ [])) front byte (λ next. decoded_after next bytes)
 
@@ -57,6 +61,4 @@ IsUnknownFirst f = f.first ≡ Some unknown
 -- a byte broke off the front of a key, and was read afresh
 abbrev pub IsFedAfresh : ℕ → Fed → List ℕ → Type 0
 IsFedAfresh byte f rest =
-    with_key unknown (decoded_afresh (spelling_of (byte ∷ [])) byte (decoded_after_all)) ≡ record { keys = keys_fed f; rest = rest } where
-      decoded_after_all : List ℕ → Decoded
-      decoded_after_all front = record { keys = []; rest = front }
+    with_key unknown (decoded_afresh (spelling_of (byte ∷ [])) byte no_key) ≡ record { keys = keys_fed f; rest = rest }

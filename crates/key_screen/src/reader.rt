@@ -65,6 +65,8 @@ impl KeyReader {
     /// Reads a byte that can't go on the bytes before it, which are then one unknown key.
     fn feed_afresh(&mut self, byte: u8) -> Fed
         ensures keys { IsFedAfresh byte result self.new }
+        ensures first_of_two { IsUnknownFirst result }
+        ensures bounded { length self.new ≤ 1 }
     {
         self.bytes[0] = byte;
         match spelled(&self.bytes[..1]) {
