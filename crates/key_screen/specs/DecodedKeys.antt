@@ -62,3 +62,12 @@ IsUnknownFirst f = f.first ≡ Some unknown
 abbrev pub IsFedAfresh : ℕ → Fed → List ℕ → Type 0
 IsFedAfresh byte f rest =
     with_key unknown (decoded_afresh (spelling_of (byte ∷ [])) byte no_key) ≡ record { keys = keys_fed f; rest = rest }
+
+-- what follows is decoded behind the rest of what came before
+abbrev pub followed_by : Decoded → (List ℕ → Decoded) → Decoded
+followed_by before after = record (after before.rest) { keys = before.keys ++ (after before.rest).keys }
+
+-- bytes that are fed one by one, behind the front of a key, each decoded with the rest of those before it
+abbrev pub decoded_singly : List ℕ → List ℕ → Decoded
+decoded_singly front [] = no_key front
+decoded_singly front (byte ∷ bytes) = followed_by (decoded_keys (front ++ byte ∷ [])) (λ rest. decoded_singly rest bytes)

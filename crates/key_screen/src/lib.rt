@@ -3,9 +3,13 @@
 
 mod characters;
 mod keys;
+mod laws;
 mod reader;
 mod sequences;
 mod spelling;
+#[cfg(test)]
+mod tests;
 
 pub use keys::{Base, Fed, Key};
+pub use laws::{keys_have_one_cut, keys_survive_any_pieces};
 pub use reader::KeyReader;
