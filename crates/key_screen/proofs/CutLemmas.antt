@@ -41,12 +41,12 @@ decoded_after-append : (front first second : List ℕ)
 decoded_after-append front [] second = refl
 decoded_after-append front (byte ∷ first) second =
     each_case (λ next. next (λ rest. decoded_after rest (first ++ second))
-        ≡ followed_by (next (λ rest. decoded_after rest first)) (λ rest. decoded_after rest second)) front byte
+    ≡ followed_by (next (λ rest. decoded_after rest first)) (λ rest. decoded_after rest second)) front byte
     (record {
       goes_on = λ _. decoded_after-append (front ++ byte ∷ []) first second;
       ends = λ key _. ap (with_key key) (decoded_after-append [] first second);
       begins = λ _ _. ap (with_key unknown) (decoded_after-append (byte ∷ []) first second);
-      alone = λ _ key _. ap (λ d. with_key unknown (with_key key d)) (decoded_after-append [] first second)
+      alone = λ _ key _. ap (λ d. with_key unknown (with_key key d)) (decoded_after-append [] first second);
     })
 
 -- the keys of the bytes behind a front are a cut of all of them
@@ -60,7 +60,7 @@ decoded_after-cut front (byte ∷ bytes) partial =
           (append_assoc front (byte ∷ []) bytes) (decoded_after-cut (front ++ byte ∷ []) bytes is);
       ends = λ key is. (front ++ byte ∷ [], bytes, sym (append_assoc front (byte ∷ []) bytes), inl is, decoded_after-cut [] bytes refl);
       begins = λ broken is. (front, byte ∷ bytes, refl, inr (partial, broken, refl), decoded_after-cut (byte ∷ []) bytes is);
-      alone = λ broken key is. (front, byte ∷ bytes, refl, inr (partial, broken, refl), (byte ∷ [], bytes, refl, inl is, decoded_after-cut [] bytes refl))
+      alone = λ broken key is. (front, byte ∷ bytes, refl, inr (partial, broken, refl), (byte ∷ [], bytes, refl, inl is, decoded_after-cut [] bytes refl));
     })
 
 -- the rest of a cut is the front of a key
@@ -89,7 +89,7 @@ decoded_singly-after front (byte ∷ bytes) partial =
       goes_on = λ is. decoded_singly-after (front ++ byte ∷ []) bytes is;
       ends = λ key is. ap (with_key key) (decoded_singly-after [] bytes refl);
       begins = λ broken is. ap (with_key unknown) (decoded_singly-after (byte ∷ []) bytes is);
-      alone = λ broken key is. ap (λ d. with_key unknown (with_key key d)) (decoded_singly-after [] bytes refl)
+      alone = λ broken key is. ap (λ d. with_key unknown (with_key key d)) (decoded_singly-after [] bytes refl);
     })
 
 pub decoded_singly-is : (bytes : List ℕ) → decoded_singly [] bytes ≡ decoded_keys bytes
@@ -102,7 +102,7 @@ decoded_after-whole front byte [] after key whole = ap (λ s. decoded_next s fro
 decoded_after-whole front byte (next ∷ piece) after key whole =
     let all : spelling_of ((front ++ byte ∷ []) ++ next ∷ piece) ≡ Whole key = rw append_assoc whole in
     let partial : spelling_of (front ++ byte ∷ []) ≡ Partial =
-        spelling_of-front (front ++ byte ∷ []) piece next (λ broken. let never : Whole key ≡ Broken = sym all ∙ broken in cc) in
+    spelling_of-front (front ++ byte ∷ []) piece next (λ broken. let never : Whole key ≡ Broken = sym all ∙ broken in cc) in
     ap (λ s. decoded_next s front byte (λ rest. decoded_after rest (next ∷ piece ++ after))) partial
     ∙ decoded_after-whole (front ++ byte ∷ []) next piece after key all
 
@@ -143,7 +143,7 @@ whole-short front byte [] key partial whole = let short = spelling_of-short fron
 whole-short front byte (next ∷ piece) key partial whole =
     let all : spelling_of ((front ++ byte ∷ []) ++ next ∷ piece) ≡ Whole key = rw append_assoc whole in
     let longer : spelling_of (front ++ byte ∷ []) ≡ Partial =
-        spelling_of-front (front ++ byte ∷ []) piece next (λ broken. let never : Whole key ≡ Broken = sym all ∙ broken in cc) in
+    spelling_of-front (front ++ byte ∷ []) piece next (λ broken. let never : Whole key ≡ Broken = sym all ∙ broken in cc) in
     rw append_assoc at (whole-short (front ++ byte ∷ []) next piece key longer all)
 
 -- no key has more than 19 bytes
