@@ -1,0 +1,3 @@
+pub mod KeySpelling
+pub mod DecodedKeys
+pub mod KeyCuts
