@@ -57,24 +57,26 @@ IsChoice tree (Some path) (Refused refused e) = refused ≡ path
 abbrev pub in_box : Base → Route → Screen → Screen
 in_box Enter path before = record before { asked = None; confirmed = Some path }
 in_box (F number) path before = if number == 10 then record before { asked = None } else before
-in_box Down path before = before
-in_box Unknown path before = before
+in_box other path before = before
 
 -- a key while no box asks: Down moves the cursor, F8 opens the box
 abbrev pub InPanel : Option View → Bool → Base → List Refusal → Screen → Screen → Type 0
 InPanel tree busy Down refusals before after = (refusals ≡ []) × (after ≡ record before { panel = moved_down before.panel })
 InPanel tree busy (F number) refusals before after =
     MatchBool (number == 8) (Chooses tree busy (current_path before.panel) refusals before after) ((refusals ≡ []) × (after ≡ before))
-InPanel tree busy Enter refusals before after = (refusals ≡ []) × (after ≡ before)
-InPanel tree busy Unknown refusals before after = (refusals ≡ []) × (after ≡ before)
+InPanel tree busy other refusals before after = (refusals ≡ []) × (after ≡ before)
 
--- what a key makes of the screen; `busy` says that a job is live
+-- what a key without meta makes of the screen; `busy` says that a job is live
 abbrev pub ByMode : Option Route → Option View → Bool → Base → List Refusal → Screen → Screen → Type 0
 ByMode None tree busy base refusals before after = InPanel tree busy base refusals before after
 ByMode (Some path) tree busy base refusals before after = (refusals ≡ []) × (after ≡ in_box base path before)
 
+-- what a key makes of the screen; one with meta is none of those that are known here
+abbrev pub plain_base : Key → Base
+plain_base key = if key.meta then Unknown else key.base
+
 abbrev pub KeyLeads : Option View → Bool → Key → List Refusal → Screen → Screen → Type 0
-KeyLeads tree busy key refusals before after = ByMode before.asked tree busy key.base refusals before after
+KeyLeads tree busy key refusals before after = ByMode before.asked tree busy (plain_base key) refusals before after
 
 -- What a look makes of the screen. After a job's end, not yet taken up, it reads the panel again.
 abbrev pub LookLeads : Option View → Bool → List Refusal → Screen → Screen → Type 0

@@ -2,7 +2,7 @@
 ghost use Rattle.std.specs.Prelude.{◌≡◌, ◌∷◌, [], ◌≤◌, Option, None, IfOk, OnErr, IfSome, option_map};
 ghost use Rattle.tree_trait.specs.FileSystem.{View};
 ghost use Rattle.mc_desk.specs.Panels.{current_path};
-ghost use Rattle.mc_desk.specs.Screens.{Sees, KeyLeads, InPanel, Chooses, LookLeads, in_box, with_ask};
+ghost use Rattle.mc_desk.specs.Screens.{Sees, KeyLeads, InPanel, Chooses, LookLeads, in_box, plain_base, with_ask};
 
 use crate::asks::{Ask, Confirmed, KeyAct};
 use crate::choice::{Choice, Chosen};
@@ -86,10 +86,11 @@ impl Ui {
         ensures later { T.fault_count tree.old ≤ T.fault_count tree.new }
     {
         self.news = None;
+        let base = plain_base(key);
         if self.asked.is_some() {
-            self.key_in_box(alloc, key.base)
+            self.key_in_box(alloc, base)
         } else {
-            self.key_in_panel(alloc, tree, busy, key.base)
+            self.key_in_panel(alloc, tree, busy, base)
         }
     }
 
@@ -107,7 +108,7 @@ impl Ui {
                 self.asked = None;
                 Ok(nothing(alloc))
             }
-            Base::F(_) | Base::Down | Base::Unknown => Ok(nothing(alloc)),
+            _ => Ok(nothing(alloc)),
         }
     }
 
@@ -152,7 +153,7 @@ impl Ui {
             }
             Base::F(8) => self.choose_current(alloc, tree, busy),
             Base::F(10) => Ok(asks(alloc, Ask::End)),
-            Base::F(_) | Base::Enter | Base::Unknown => Ok(nothing(alloc)),
+            _ => Ok(nothing(alloc)),
         }
     }
 
@@ -216,6 +217,13 @@ impl Ui {
             }
         }
     }
+}
+
+/// The key, or one that is unknown where it has meta.
+fn plain_base(key: Key) -> Base
+    ensures { result ≡ plain_base key }
+{
+    if key.meta { Base::Unknown } else { key.base }
 }
 
 fn nothing(alloc: Global) -> KeyAct
