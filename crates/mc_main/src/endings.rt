@@ -98,7 +98,11 @@ pub fn refuse<T, S: Sink, P>(
 }
 
 /// Ends a run whose folder was refused: the line names it as it was typed, and the cause.
-pub fn refuse_start<T, S: Sink, P>(alloc: Global, words: &[Text], refused: Refused<T, S, P>) -> Outcome<T, S, P>
+pub fn refuse_start<T, S: Sink, P>(
+    alloc: Global,
+    words: &[Text],
+    refused: Refused<T, S, P>,
+) -> Outcome<T, S, P>
     ensures status { IsStatusOr 2 result.status }
     ensures cause { result.status ≡ 2 → refused.error ≢ StartError.Memory }
     ensures tree { result.tree ≡ refused.tree }
@@ -132,7 +136,13 @@ fn start_line(alloc: Global, words: &[Text], error: TreeError) -> Result<String,
 }
 
 /// A run in which no session began.
-pub fn without_session<T, S, P>(alloc: Global, status: u8, tree: T, screen: S, spawner: P) -> Outcome<T, S, P>
+pub fn without_session<T, S, P>(
+    alloc: Global,
+    status: u8,
+    tree: T,
+    screen: S,
+    spawner: P,
+) -> Outcome<T, S, P>
     ensures status { result.status ≡ status }
     ensures tree { result.tree ≡ tree }
     ensures empty { result.history.entries ≡ [] }

@@ -6,6 +6,8 @@ mod outcome;
 mod run;
 mod session;
 mod terminal;
+#[cfg(test)]
+mod tests;
 mod words;
 
 use crate::run::{Env, Gate, mc_run};

@@ -7,7 +7,8 @@ use std::alloc::Global;
 use thiserror::Error;
 
 /// What is printed where the words can't be read.
-pub const USAGE: &str = "usage: mc [-b] [-V] [-h] [-P FILE] [-v FILE | -e FILE | --drill N | DIR1 [DIR2]]\n";
+pub const USAGE: &str =
+    "usage: mc [-b] [-V] [-h] [-P FILE] [-v FILE | -e FILE | --drill N | DIR1 [DIR2]]\n";
 
 /// Why the words aren't read.
 #[derive(Clone, Copy, Debug, Drop, Error, PartialEq, Eq)]
