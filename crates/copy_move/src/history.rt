@@ -59,6 +59,17 @@ impl Did {
     {
         matches!(self, Did::Ended { .. })
     }
+
+    /// What stands in the job's way, if it is in trouble.
+    pub fn trouble(&self) -> Option<TreeError> {
+        match self {
+            Did::Troubled(trouble) => match trouble.cause {
+                Cause::Tree(error) => Some(error),
+                Cause::Memory => Some(TreeError::Memory),
+            },
+            _ => None,
+        }
+    }
 }
 
 /// A call that a key or a look wanted and that was refused.

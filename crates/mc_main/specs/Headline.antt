@@ -1,5 +1,5 @@
 -- What a run of the file manager promises.
-use Rattle.std.specs.Prelude.{◌≡◌, ◌⊎◌, ℕ, is_none, ⊤, if◌then◌else◌, List, [], ◌∷◌, Option, Some, None, IsSome}
+use Rattle.std.specs.Prelude.{◌≡◌, ◌≢◌, ◌⊎◌, ℕ, is_none, ⊤, if◌then◌else◌, List, [], ◌∷◌, Option, Some, None, IsSome}
 use Rattle.mc_text.specs.Routes.{Route, path_fault, route_of}
 use Rattle.tree_trait.specs.FileSystem.{View}
 use Rattle.tree_trait.specs.Calls.{ListFolder}
@@ -36,4 +36,4 @@ BeginsNone status = (status ≡ 1) ⊎ (status ≡ 2) ⊎ (status ≡ 4) ⊎ (st
 -- what a run wrote down, the newest first: a session in the folder that the words name, or nothing where none began
 abbrev pub IsRun : Option View → Option Route → ℕ → List Entry → Type 0
 IsRun tree folder status newest =
-    ((start : Route) × (folder ≡ Some start) × EndsSession tree newest start) ⊎ ((newest ≡ []) × BeginsNone status)
+    ((start : Route) × (folder ≡ Some start) × EndsSession tree newest start × (status ≢ 1) × (status ≢ 2)) ⊎ ((newest ≡ []) × BeginsNone status)

@@ -11,7 +11,7 @@ mod tests;
 mod words;
 
 use crate::run::{Env, Gate, mc_run};
-use crate::terminal::{clear_screen, make_raw, make_sane, put_usage, words_of};
+use crate::terminal::{begin_line, clear_screen, make_raw, make_sane, put_usage, words_of};
 use host_tree::{HostClock, HostTree, ShSpawner, StdinSource, StdoutSink};
 use mc_text::Text;
 use std::io;
@@ -65,6 +65,8 @@ fn main(rt: HostRuntime) -> io::Result<ExitCode> {
     let status = outcome.status;
     if had_session(status) {
         clear_screen(&rt);
+    } else {
+        begin_line(&rt);
     }
     make_sane(&rt);
     Ok(ExitCode::from(status))

@@ -42,6 +42,11 @@ pub fn clear_screen(rt: &HostRuntime) {
     let _done = print!(rt; "\x1b[0m\x1b[2J\x1b[1;1H");
 }
 
+/// After a printed line: a raw terminal doesn't go back to the first column by itself.
+pub fn begin_line(rt: &HostRuntime) {
+    let _done = print!(rt; "\r");
+}
+
 fn stty(rt: &HostRuntime, words: &str) -> io::Result<()> {
     let _status = Command::new(rt.alloc(), "sh")?
         .arg("-c")?

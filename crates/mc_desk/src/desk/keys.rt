@@ -48,6 +48,9 @@ impl<N: Tag, T: Tree, S: Sink, P: Spawner> Desk<N, T, S, P> {
         let Ok(refusals) = self.ui.look(alloc, &mut self.tree, self.unseen) else {
             return Err(DeskError::Memory);
         };
+        if let Some(error) = self.trouble.take() {
+            self.ui.tell(error);
+        }
         let drawn = draw(alloc, &mut self.screen, &self.ui);
         self.shown = after_draw(self.shown, &drawn);
         self.faults = self.tree.faults();

@@ -67,6 +67,7 @@ impl<N: Tag, T: Tree, S: Sink, P: Spawner> Desk<N, T, S, P> {
         self.calls = self.calls.saturating_add(calls);
         self.faults = self.tree.faults();
         let ended = did.is_end();
+        self.trouble = did.trouble();
         self.log.note(Entry {
             seat,
             calls: self.calls,
@@ -104,6 +105,7 @@ impl<N: Tag, T: Tree, S: Sink, P: Spawner> Desk<N, T, S, P> {
             faults: _,
             shown: _,
             unseen: _,
+            trouble: _,
             due: _,
             closed: _,
             quit,
