@@ -47,4 +47,4 @@ plan_cause s old call (Ok r) h = tt
 plan_cause s old call (Err e) h = refusal_of-cause (after s old) call e h
 
 pub root_stays : (s : FileSystem) (rs : List Record) → IsWhole s → is_folder (node (after s rs) 0) ≡ true
-root_stays s rs whole = ap is_folder (node-after s rs 0) ∙ whole.root
+root_stays s rs whole = ap is_folder (node-after s rs 0) ∙ whole.tree.root

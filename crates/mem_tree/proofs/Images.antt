@@ -134,7 +134,6 @@ module _ (fill : List ℕ → List ℕ) where
       subst (λ (x : FileSystem). IsWhole x) (sym (chosen_names s names rs keep)) (record {
         tree = subst (λ (x : FileSystem). IsTree x) (chosen_names s names rs keep) (chosen_tree s (changes_by names rs) keep (all_plain names rs) whole.tree);
         mounts = whole.mounts;
-        root = whole.root;
         modes = whole.modes;
         sizes = whole.sizes;
       })

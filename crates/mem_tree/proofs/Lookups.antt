@@ -1,4 +1,4 @@
--- What the records leave of a store: the same nodes, and the names that none of them removes.
+-- What the records leave of a file system: the same nodes, and the names that none of them removes.
 use Rattle.std.proofs.Common.{◌≡◌, ℕ, Bool, true, false, ◌&&◌, ◌||◌, List, [], ◌∷◌, refl, ◌∙◌, ap, Some, None, cond}
 use Rattle.std.specs.Prelude.{◌==◌, slice_get, unwrap_or}
 use Rattle.std.specs.List.{list_any}

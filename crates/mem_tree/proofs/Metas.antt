@@ -1,6 +1,6 @@
 -- What `stat` tells, over one mount.
-use Rattle.std.proofs.Common.{◌≡◌, ℕ, ◌+◌, ◌^◌, ◌≤◌, zero, suc, Bool, true, false, ◌||◌, List, [], ◌∷◌, ◌++◌, length, refl, sym, ◌∙◌, ap, subst, Option, Some, None, cond, inl, inr, ◌⊎◌, arith}
-use Rattle.std.specs.Prelude.{◌==◌, unwrap_or, option_and_then, slice_get}
+use Rattle.std.proofs.Common.{◌≡◌, ℕ, ◌^◌, ◌≤◌, zero, suc, Bool, true, false, ◌||◌, List, [], ◌∷◌, ◌++◌, length, refl, sym, ◌∙◌, ap, subst, Option, Some, None, cond, inl, inr, ◌⊎◌, arith}
+use Rattle.std.specs.Prelude.{◌==◌, unwrap_or, slice_get}
 use Rattle.std.specs.List.{list_any}
 use Rattle.std.proofs.lemmas.Bool.{eqb-true, false≢true}
 use Rattle.tree_trait.specs.declared.file_system.Mount.{Mount}
@@ -55,22 +55,17 @@ meta_of s rs path i meta whole at facts =
           ∙ ap (mount_number (the_mount ∷ [])) (mount_is_root (after s rs) path one));
     }
 
--- a store that is whole stays so with a node more
+-- a file system that is whole stays so with a node more
 one_more : (xs : List Node) (n : Node) (i : ℕ) → (unwrap_or (slice_get (xs ++ n ∷ []) i) no_node ≡ unwrap_or (slice_get xs i) no_node) ⊎ (unwrap_or (slice_get (xs ++ n ∷ []) i) no_node ≡ n)
 one_more [] n zero = inr refl
 one_more [] n (suc i) = inl refl
 one_more (x ∷ xs) n zero = inl refl
 one_more (x ∷ xs) n (suc i) = one_more xs n i
 
-first_stays : (xs : List Node) (n : Node) → is_folder (unwrap_or (slice_get xs 0) no_node) ≡ true → is_folder (unwrap_or (slice_get (xs ++ n ∷ []) 0) no_node) ≡ true
-first_stays [] n h = absurd (false≢true h)
-first_stays (x ∷ xs) n h = h
-
 pub whole_made : (s : FileSystem) (f : ℕ) (name : List ℕ) (n : Node) → IsWhole s → is_folder (node s f) ≡ true → n.mode ≤ 0o7777 → length n.bytes ≤ 2 ^ 63 → IsWhole (after_change s (Makes f name n))
 whole_made s f name n whole folder mode size = record {
   tree = tree_made s f name n whole.tree folder;
   mounts = whole.mounts;
-  root = first_stays s.nodes n whole.root;
   modes = λ i. elim (one_more s.nodes n i) [ inl old ↦ subst (λ (x : Node). x.mode ≤ 0o7777) (sym old) (whole.modes i) | inr new ↦ subst (λ (x : Node). x.mode ≤ 0o7777) (sym new) mode ];
   sizes = λ i. elim (one_more s.nodes n i) [ inl old ↦ subst (λ (x : Node). length x.bytes ≤ 2 ^ 63) (sym old) (whole.sizes i) | inr new ↦ subst (λ (x : Node). length x.bytes ≤ 2 ^ 63) (sym new) size ];
 }
@@ -86,4 +81,4 @@ tree_fresh : IsTree fresh
 tree_fresh = record { one_name = λ f g m n i a b. absurd (no_lookup i a); no_name = λ f m a. no_lookup 0 a; in_folders = λ f m i a. absurd (no_lookup i a); there = λ f m i a. absurd (no_lookup i a); root = refl; mounts = λ i h. subst (λ n. is_folder (node fresh n) ≡ true) (sym (root_only (the_mount ∷ []) i refl h)) refl }
 
 pub whole_fresh : IsWhole fresh
-whole_fresh = record { tree = tree_fresh; mounts = refl; root = refl; modes = λ i. (in_fresh i).0; sizes = λ i. (in_fresh i).1 }
+whole_fresh = record { tree = tree_fresh; mounts = refl; modes = λ i. (in_fresh i).0; sizes = λ i. (in_fresh i).1 }

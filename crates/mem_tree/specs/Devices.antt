@@ -1,5 +1,5 @@
 -- What the other devices in memory hold, and which of their calls fail.
-use Rattle.std.specs.Prelude.{◌≡◌, ℕ, List, [], ◌∷◌, take, Option, Some, None, Result, Ok, Err}
+use Rattle.std.specs.Prelude.{ℕ, List, [], ◌∷◌, take, Option, Some, None, Result, Ok, Err}
 use Rattle.tree_trait.specs.declared.devices.Command.{Command}
 use Rattle.tree_trait.specs.declared.devices.RunOutcome.{RunOutcome}
 use Rattle.tree_trait.specs.declared.devices.SpawnError.{SpawnError}

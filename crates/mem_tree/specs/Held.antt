@@ -1,5 +1,5 @@
 -- What a tree in memory holds.
-use Rattle.std.specs.Prelude.{pos, ℤ, ◌≡◌, ℕ, ◌-◌, ◌^◌, true, List, [], ◌∷◌, length, take, ◌≤◌}
+use Rattle.std.specs.Prelude.{pos, ℤ, ◌≡◌, ℕ, ◌-◌, ◌^◌, List, [], ◌∷◌, length, take, ◌≤◌}
 use Rattle.mc_text.specs.declared.kind.Kind.TheVariants.{File, Folder}
 use Rattle.tree_trait.specs.declared.file_system.Node.{Node}
 use Rattle.tree_trait.specs.declared.file_system.Mount.{Mount}
@@ -7,7 +7,6 @@ use Rattle.tree_trait.specs.declared.calls.Meta.{Meta}
 use Rattle.tree_trait.specs.declared.file_system.FileSystem.{FileSystem}
 use Rattle.mc_text.specs.Routes.{Route}
 use Rattle.tree_trait.specs.FileSystem.{node}
-use Rattle.tree_trait.specs.Refusals.{is_folder}
 use Rattle.tree_trait.specs.Shape.{IsTree}
 use Rattle.tree_trait.specs.Change.{CallLog, Makes, after_change, of_name}
 use Rattle.mem_tree.specs.declared.record.Record.{Record}
@@ -25,17 +24,18 @@ pub record Held : Type 0 where
   pub faults : ℕ
   pub spare : ℕ
 
+-- the log of an opening and the records since
 abbrev pub log_of : FileSystem → List Record → CallLog
 log_of s records = record { opening = s; changes = changes_by s.names records }
 
+-- the root's mount
 abbrev pub the_mount : Mount
 the_mount = record { folder = 0; capacity = 2 ^ 64 - 1 }
 
--- a tree with one mount, and modes and sizes in range
+-- a tree with the root's mount alone, and modes and sizes in range
 pub record IsWhole (s : FileSystem) : Type 0 where
   pub tree : IsTree s
   pub mounts : s.mounts ≡ the_mount ∷ []
-  pub root : is_folder (node s 0) ≡ true
   pub modes : (i : ℕ) → (node s i).mode ≤ 0o7777
   pub sizes : (i : ℕ) → length (node s i).bytes ≤ 2 ^ 63
 
@@ -55,13 +55,15 @@ pub record HasFacts (s : FileSystem) (i : ℕ) (meta : Meta) : Type 0 where
   pub mtime : meta.mtime ≡ (node s i).mtime
   pub mount : meta.mount ≡ 0
 
+-- a folder, with how many names in it are not UTF-8
 abbrev pub folder_node : ℕ → ℕ → Node
 folder_node mode unnamed = record { kind = Folder; bytes = []; mode = mode; mtime = pos 0; unnamed = unnamed }
 
+-- a file
 abbrev pub file_node : ℕ → ℤ → List ℕ → Node
 file_node mode mtime bytes = record { kind = File; bytes = bytes; mode = mode; mtime = mtime; unnamed = 0 }
 
--- the trace whose opening has a node more
+-- the log whose opening has a node more, and which has no calls
 abbrev pub made_in : CallLog → Route → Node → CallLog
 made_in t path made = record { opening = after_change t.opening (of_name t.opening path (λ f name. Makes f name made)); changes = [] }
 

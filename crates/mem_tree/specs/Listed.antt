@@ -11,7 +11,7 @@ abbrev pub with_name : List ℕ → List (List ℕ) → List (List ℕ)
 with_name name [] = name ∷ []
 with_name name (first ∷ rest) = elim (name_cmp name first) [ Less ↦ name ∷ first ∷ rest | Equal ↦ first ∷ rest | Greater ↦ first ∷ with_name name rest ]
 
--- the names of these edits that lead to a node in a store
+-- the names of these edits that lead to a node in a file system
 abbrev pub gathered : FileSystem → ℕ → List NameEdit → List (List ℕ)
 gathered s folder [] = []
 gathered s folder (e ∷ edits) =

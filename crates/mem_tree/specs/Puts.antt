@@ -8,6 +8,7 @@ use Rattle.tree_trait.specs.declared.calls.TreeError.TheVariants.{Memory, NoSpac
 use Rattle.tree_trait.specs.Calls.{MakeFolder}
 use Rattle.tree_trait.specs.Refusals.{refusal_of, mount_of, capacity_of, used_by}
 
+-- a node whose mode permits all
 abbrev pub unlocked_node : Node → Node
 unlocked_node n = record n { mode = 0o777 }
 

@@ -16,7 +16,7 @@ change_by names (Flush node) = Syncs node
 abbrev pub changes_by : List NameEdit → List Record → List Change
 changes_by names records = map (change_by names) records
 
--- the store after the records
+-- the file system after the records
 abbrev pub after : FileSystem → List Record → FileSystem
 after s records = after_changes s (changes_by s.names records)
 

@@ -17,7 +17,7 @@ use std::alloc::Global;
 use std::cmp::Ordering;
 use tree_trait::{Children, FileSystem, NameEdit, TreeError};
 
-// Where a name goes in names in order, and whether it is there.
+/// Where a name goes in names in order, and whether it is there.
 fn place_of(names: &[Name], name: &Name) -> (usize, bool)
     ensures within { result.0 ≤ length names.now }
     ensures place { with_name name.now names.now ≡ (if result.1 then names.now else insert names.now result.0 name.now) }
@@ -69,6 +69,7 @@ pub fn gather(
     }
 }
 
+/// How many names of a folder are not UTF-8.
 fn unnamed_of(opening: &FileSystem, i: usize) -> u64
     ensures { result ≡ (node opening.now i).unnamed }
 {
@@ -99,6 +100,7 @@ pub fn read_children(
     }
 }
 
+/// The answer of `list` where the walk ended at a node.
 fn list_at(
     alloc: Global,
     opening: &FileSystem,

@@ -1,18 +1,27 @@
 //! A clock that stands still.
 ghost use Rattle.std.specs.Prelude.{◌≡◌};
 
+use std::marker::Model;
 use tree_trait::Clock;
 
 /// A clock that always tells the same second.
-#[derive(Clone, Copy, Debug)]
+#[derive(Debug, Drop)]
 pub struct FixedClock {
     second: u64,
+}
+
+impl Model for FixedClock {
+    ghost use Rattle.std.specs.Prelude.{ℕ};
+
+    ghost Value = { ℕ };
+
+    ghost view = { λ c. c.second };
 }
 
 impl FixedClock {
     /// A clock that tells this second.
     pub fn new(now: u64) -> FixedClock
-        ensures { result.second ≡ now }
+        ensures { result ≡ now }
     {
         FixedClock { second: now }
     }
@@ -20,7 +29,7 @@ impl FixedClock {
 
 impl Clock for FixedClock {
     fn now(&self) -> u64
-        ensures { result ≡ self.now.second }
+        ensures { result ≡ self.now }
     {
         self.second
     }

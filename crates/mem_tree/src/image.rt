@@ -10,6 +10,7 @@ use mc_text::NoMemory;
 use std::alloc::Global;
 use tree_trait::{FileSystem, NameEdit, Node, Seq};
 
+/// The same node once more.
 fn copy_node(alloc: Global, node: &Node) -> Result<Node, NoMemory>
     ensures { IfOk result (λ copy. copy ≡ node.now) }
 {
@@ -22,6 +23,7 @@ fn copy_node(alloc: Global, node: &Node) -> Result<Node, NoMemory>
     })
 }
 
+/// The same nodes once more.
 fn copy_nodes(alloc: Global, nodes: &[Node]) -> Result<Seq<Node>, NoMemory>
     ensures { IfOk result (λ copy. copy ≡ nodes.now) }
 {
@@ -32,6 +34,7 @@ fn copy_nodes(alloc: Global, nodes: &[Node]) -> Result<Seq<Node>, NoMemory>
     Ok(copy)
 }
 
+/// The same edit once more.
 fn copy_edit(alloc: Global, edit: &NameEdit) -> Result<NameEdit, NoMemory>
     ensures { IfOk result (λ copy. copy ≡ edit.now) }
 {
@@ -42,6 +45,7 @@ fn copy_edit(alloc: Global, edit: &NameEdit) -> Result<NameEdit, NoMemory>
     })
 }
 
+/// The same edits once more.
 fn copy_edits(alloc: Global, edits: &[NameEdit]) -> Result<Seq<NameEdit>, NoMemory>
     ensures { IfOk result (λ copy. copy ≡ edits.now) }
 {
@@ -71,7 +75,7 @@ fn is_settled(names: &[NameEdit], records: &[Record], i: usize) -> bool
     }
 }
 
-// Removes from `left` the names whose removal stands.
+/// Removes from `left` the names whose removal stands.
 fn choose(
     alloc: Global,
     names: &[NameEdit],

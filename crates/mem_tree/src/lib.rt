@@ -22,7 +22,6 @@ mod walk;
 pub use choice::{Choice, Fill};
 pub use clock::FixedClock;
 pub use mute::Mute;
-pub use record::Record;
 pub use sink::MemSink;
 pub use source::MemSource;
 pub use spawner::{FakeSpawner, Outcomes};

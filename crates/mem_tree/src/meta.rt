@@ -11,7 +11,7 @@ use crate::walk::walk;
 use mc_text::{Kind, Name};
 use tree_trait::{FileSystem, Meta, TreeError};
 
-// The facts of a node.
+/// The facts of a node.
 fn facts(opening: &FileSystem, i: usize) -> Meta
     ensures { HasFacts opening.now i result }
 {

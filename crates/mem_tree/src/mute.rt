@@ -1,11 +1,15 @@
 //! A device that passes each call on and tells nothing.
-ghost use Rattle.std.specs.Prelude.{◌≡◌, None};
+ghost use Rattle.std.specs.Prelude.{◌≡◌, ◌≤◌, length, None, IfOk};
+ghost use Rattle.tree_trait.specs.Calls.{Stat, ListFolder, RemoveFile, SyncFolder};
+ghost use Rattle.tree_trait.specs.Change.{current, found};
+ghost use Rattle.tree_trait.specs.Answers.{HasCause, IfKnown, Reads, Performs, IsMeta, IsListing, IsInRange, IsAscending};
+ghost use Rattle.tree_trait.specs.Devices.{HasTaken, HasPut, HasRun};
 
 use mc_text::Path;
 use std::alloc::Global;
 use tree_trait::{
-    Children, Meta, RunOutcome, Sink, SinkError, Source, SourceFault, SpawnError, Spawner, Tree,
-    TreeError,
+    Children, Meta, OUTPUT_BYTES, RunOutcome, Sink, SinkError, Source, SourceFault, SpawnError,
+    Spawner, Tree, TreeError,
 };
 
 /// An object whose contents are hidden.
@@ -42,19 +46,38 @@ impl<T: Tree> Tree for Mute<T> {
 
     ghost fault_count = { λ m. T.fault_count m.inner };
 
-    fn stat(&mut self, alloc: Global, path: &Path) -> Result<Meta, TreeError> {
+    fn stat(&mut self, alloc: Global, path: &Path) -> Result<Meta, TreeError>
+        ensures passed_on { IfKnown (T.contents self.old.inner) (λ log. Reads log (Stat path.now) result (IsMeta (current log) path.now)) }
+        ensures same { T.contents self.new.inner ≡ T.contents self.old.inner }
+        ensures in_range { IfOk result IsInRange }
+        ensures cause { HasCause TreeError.Fault (T.fault_count self.old.inner) (T.fault_count self.new.inner) result }
+    {
         self.inner.stat(alloc, path)
     }
 
-    fn list(&mut self, alloc: Global, path: &Path) -> Result<Children, TreeError> {
+    fn list(&mut self, alloc: Global, path: &Path) -> Result<Children, TreeError>
+        ensures passed_on { IfKnown (T.contents self.old.inner) (λ log.
+            Reads log (ListFolder path.now) result (IsListing (current log) (found (current log) path.now))) }
+        ensures same { T.contents self.new.inner ≡ T.contents self.old.inner }
+        ensures ascending { IfOk result (λ children. IsAscending children.names) }
+        ensures cause { HasCause TreeError.Fault (T.fault_count self.old.inner) (T.fault_count self.new.inner) result }
+    {
         self.inner.list(alloc, path)
     }
 
-    fn remove_file(&mut self, alloc: Global, path: &Path) -> Result<(), TreeError> {
+    fn remove_file(&mut self, alloc: Global, path: &Path) -> Result<(), TreeError>
+        ensures passed_on { IfKnown (T.contents self.old.inner) (λ log.
+            Performs log (RemoveFile path.now) result (T.contents self.new.inner)) }
+        ensures cause { HasCause TreeError.Fault (T.fault_count self.old.inner) (T.fault_count self.new.inner) result }
+    {
         self.inner.remove_file(alloc, path)
     }
 
-    fn sync_folder(&mut self, alloc: Global, path: &Path) -> Result<(), TreeError> {
+    fn sync_folder(&mut self, alloc: Global, path: &Path) -> Result<(), TreeError>
+        ensures passed_on { IfKnown (T.contents self.old.inner) (λ log.
+            Performs log (SyncFolder path.now) result (T.contents self.new.inner)) }
+        ensures cause { HasCause TreeError.Fault (T.fault_count self.old.inner) (T.fault_count self.new.inner) result }
+    {
         self.inner.sync_folder(alloc, path)
     }
 
@@ -68,7 +91,11 @@ impl<T: Source> Source for Mute<T> {
 
     ghost fault_count = { λ m. T.fault_count m.inner };
 
-    fn take(&mut self, into: &mut [u8]) -> Result<usize, SourceFault> {
+    fn take(&mut self, into: &mut [u8]) -> Result<usize, SourceFault>
+        ensures passed_on { IfKnown (T.left self.old.inner) (λ bytes. HasTaken bytes into.new result (T.left self.new.inner)) }
+        ensures in_room { IfOk result (λ count. count ≤ length into.old) }
+        ensures cause { HasCause (record {}) (T.fault_count self.old.inner) (T.fault_count self.new.inner) result }
+    {
         self.inner.take(into)
     }
 
@@ -82,7 +109,10 @@ impl<T: Sink> Sink for Mute<T> {
 
     ghost fault_count = { λ m. T.fault_count m.inner };
 
-    fn put(&mut self, alloc: Global, bytes: &[u8]) -> Result<(), SinkError> {
+    fn put(&mut self, alloc: Global, bytes: &[u8]) -> Result<(), SinkError>
+        ensures passed_on { IfKnown (T.given self.old.inner) (λ before. HasPut before bytes.now result (T.given self.new.inner)) }
+        ensures cause { HasCause SinkError.Fault (T.fault_count self.old.inner) (T.fault_count self.new.inner) result }
+    {
         self.inner.put(alloc, bytes)
     }
 
@@ -96,12 +126,12 @@ impl<T: Spawner> Spawner for Mute<T> {
 
     ghost fault_count = { λ m. T.fault_count m.inner };
 
-    fn run(
-        &mut self,
-        alloc: Global,
-        folder: &Path,
-        command: &str,
-    ) -> Result<RunOutcome, SpawnError> {
+    fn run(&mut self, alloc: Global, folder: &Path, command: &str) -> Result<RunOutcome, SpawnError>
+        ensures passed_on { IfKnown (T.runs self.old.inner) (λ before.
+            HasRun before (record { folder = folder.now; command = command.now }) result (T.runs self.new.inner)) }
+        ensures kept { IfOk result (λ outcome. length outcome.output ≤ OUTPUT_BYTES) }
+        ensures cause { HasCause SpawnError.Fault (T.fault_count self.old.inner) (T.fault_count self.new.inner) result }
+    {
         self.inner.run(alloc, folder, command)
     }
 

@@ -13,6 +13,7 @@ use crate::walk::{reach, walk};
 use mc_text::Name;
 use tree_trait::{FileSystem, TreeError};
 
+/// A plan for `remove_file`.
 pub fn plan_remove_file(
     opening: &FileSystem,
     records: &[Record],
@@ -30,7 +31,7 @@ pub fn plan_remove_file(
     }
 }
 
-// The last step of the walk, and the checks.
+/// The last step of the walk, and the checks.
 fn plan_unlink(
     opening: &FileSystem,
     records: &[Record],
@@ -61,6 +62,7 @@ fn plan_unlink(
     }
 }
 
+/// A plan for `sync_folder`.
 pub fn plan_sync_folder(
     opening: &FileSystem,
     records: &[Record],
@@ -83,7 +85,8 @@ pub fn plan_sync_folder(
     }
 }
 
-/// Carries a plan out, or fails.
+/// Carries a plan out, unless the call is due to fail. Either way it is one record more, and only room for that may be
+/// missing.
 pub fn join(
     records: &mut Vec<Record>,
     due: bool,

@@ -11,6 +11,7 @@ use crate::record::Record;
 use mc_text::{Kind, Name};
 use tree_trait::{FileSystem, NameEdit};
 
+/// A record removes this name.
 fn removes(names: &[NameEdit], folder: usize, name: &Name, done: &Record) -> bool
     ensures { result ≡ removes_name names.now folder name.now done.now }
 {
@@ -27,6 +28,7 @@ fn removes(names: &[NameEdit], folder: usize, name: &Name, done: &Record) -> boo
     }
 }
 
+/// One of the records removes this name.
 fn is_removed(names: &[NameEdit], records: &[Record], folder: usize, name: &Name) -> bool
     ensures { result ≡ list_any (removes_name names.now folder name.now) records.now }
 {
@@ -66,6 +68,7 @@ pub fn leads(
     }
 }
 
+/// The kind of a node.
 fn kind_of(opening: &FileSystem, i: usize) -> Kind
     ensures { result ≡ (node opening.now i).kind }
 {
@@ -75,6 +78,7 @@ fn kind_of(opening: &FileSystem, i: usize) -> Kind
     }
 }
 
+/// The mode of a node.
 fn mode_of(opening: &FileSystem, i: usize) -> u16
     ensures { result ≡ (node opening.now i).mode }
 {

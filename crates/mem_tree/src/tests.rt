@@ -117,16 +117,34 @@ const CALLS: [(Step, &str, &str); 19] = [
     (Step::Sync, "/locked", "done"),
 ];
 
-#[test]
-fn calls_answer_as_the_table_says(rt: HostRuntime) -> Result<(), Fail> {
-    let alloc = rt.alloc();
+/// The number of the first row that a call answers otherwise, if there is one.
+fn first_wrong<T: Tree>(
+    alloc: Global,
+    tree: &mut T,
+    rows: &[(Step, &str, &str)],
+) -> Result<Option<usize>, Fail> {
+    for (number, (step, path, want)) in rows.iter().enumerate() {
+        let got = answer(alloc, tree, *step, path)?;
+        if got.as_str() != *want {
+            return Ok(Some(number));
+        }
+    }
+    Ok(None)
+}
+
+/// The small tree, whose second, fourth and fifth call are named to fail.
+fn failing_tree(alloc: Global) -> Result<MemTree, Fail> {
     let mut tree = small_tree(alloc)?;
     tree.fail_calls(alloc, &[2, 4, 5])?;
     tree.reserve(alloc, 8)?;
-    for (step, path, want) in CALLS {
-        let got = answer(alloc, &mut tree, step, path)?;
-        assert_eq!(rt; got.as_str(), want, "at {path}");
-    }
+    Ok(tree)
+}
+
+#[test]
+fn calls_answer_as_the_table_says(rt: HostRuntime) -> Result<(), Fail> {
+    let alloc = rt.alloc();
+    let mut tree = failing_tree(alloc)?;
+    assert_eq!(rt; first_wrong(alloc, &mut tree, &CALLS)?, None);
     assert_eq!(rt; tree.calls(), 7);
     assert_eq!(rt; tree.faults(), 2);
     tree.shape();
@@ -191,14 +209,12 @@ fn survives(alloc: Global, tree: &MemTree, at_call: u64, keep: &[bool]) -> Resul
 fn a_removal_may_be_lost_until_its_folder_is_synced(rt: HostRuntime) -> Result<(), Fail> {
     let alloc = rt.alloc();
     let mut tree = small_tree(alloc)?;
-    for (step, path) in [
-        (Step::Remove, "/dir/b"),
-        (Step::Sync, "/locked"),
-        (Step::Sync, "/dir"),
-    ] {
-        let done = answer(alloc, &mut tree, step, path)?;
-        assert_eq!(rt; done.as_str(), "done");
-    }
+    let calls = [
+        (Step::Remove, "/dir/b", "done"),
+        (Step::Sync, "/locked", "done"),
+        (Step::Sync, "/dir", "done"),
+    ];
+    assert_eq!(rt; first_wrong(alloc, &mut tree, &calls)?, None);
     let rows = [
         (0, [].as_slice(), true),
         (0, [true].as_slice(), true),
@@ -259,9 +275,11 @@ fn a_shell_gives_its_outcomes(rt: HostRuntime) -> Result<(), Fail> {
     assert_eq!(rt; outcome.output.0.as_slice(), b"out".as_slice());
     assert!(rt; shell.run(alloc, &folder, "cat").is_err());
     assert!(rt; shell.run(alloc, &folder, "cat").is_err());
-    let ran = shell.runs().0.as_slice();
-    assert_eq!(rt; ran.len(), 3);
-    assert_eq!(rt; ran[2].command.0.as_str(), "cat");
+    let runs = shell.runs();
+    assert_eq!(rt; runs.0.len(), 3);
+    let last = &runs.0[2];
+    let command = &last.command;
+    assert_eq!(rt; command.0.as_str(), "cat");
     assert_eq!(rt; Mute::new(shell).faults(), 2);
     Ok(())
 }

@@ -1,4 +1,4 @@
-use Rattle.std.proofs.Common.{◌≡◌, ◌∙◌, ap, List, arith}
+use Rattle.std.proofs.Common.{◌∙◌, ap, List, arith}
 use Rattle.std.proofs.lemmas.Bool.{leb-true}
 use Rattle.tree_trait.specs.declared.file_system.Node.{Node}
 use Rattle.mem_tree.specs.Puts.{total_bytes}

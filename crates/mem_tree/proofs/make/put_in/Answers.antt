@@ -1,6 +1,5 @@
 use Rattle.std.proofs.Common.{◌≡◌, ℕ, List, sym, ◌∙◌, ap, subst, reverse}
-use Rattle.std.specs.Prelude.{unwrap_or, is_some, false, None, Option}
-use Rattle.std.specs.Option.{option_map}
+use Rattle.std.specs.Prelude.{unwrap_or}
 use Rattle.tree_trait.specs.declared.file_system.FileSystem.{FileSystem}
 use Rattle.tree_trait.specs.Change.{Makes, after_change, found}
 use Rattle.tree_trait.proofs.Walking.{reached-find}
