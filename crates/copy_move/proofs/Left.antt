@@ -1,5 +1,5 @@
 -- A closed session's job comes nearer to its end with each step.
-use Rattle.std.proofs.Common.{◌≡◌, ℕ, ◌<◌, Bool, true, false, sym, ◌∙◌, ap, subst, Option, Some, None, arith, cond, refl}
+use Rattle.std.proofs.Common.{◌≡◌, ◌<◌, Bool, true, false, ap, Option, Some, None, arith, refl}
 use Rattle.std.specs.Prelude.{if◌then◌else◌}
 use Rattle.mc_text.specs.Routes.{Route}
 use Rattle.copy_move.specs.declared.deletion.Stage.{Stage}

@@ -14,7 +14,6 @@ use Rattle.copy_move.specs.declared.deletion.Course.TheVariants.{GoesOn, InTroub
 use Rattle.copy_move.specs.declared.history.Cause.{Cause}
 use Rattle.copy_move.specs.declared.history.Cause.TheVariants.{Tree, Memory}
 use Rattle.copy_move.specs.declared.history.Trouble.{Trouble}
-use Rattle.copy_move.specs.declared.history.Ending.{Ending}
 use Rattle.copy_move.specs.declared.history.Ending.TheVariants.{Finished, Aborted, NoMemory}
 use Rattle.copy_move.specs.declared.history.Did.{Did}
 use Rattle.copy_move.specs.declared.history.Did.TheVariants.{Removed, Barrier, Troubled, Ended}

@@ -1,10 +1,10 @@
 -- One entry more is a session still.
-use Rattle.std.proofs.Common.{◌≡◌, ℕ, ◌+◌, ◌-◌, ◌^◌, ◌≤◌, min, Bool, true, false, ◌||◌, List, [], ◌∷◌, refl, sym, ◌∙◌, ap, subst, Option, Some, None, arith, cond}
+use Rattle.std.proofs.Common.{◌≡◌, ℕ, ◌+◌, ◌-◌, ◌^◌, ◌≤◌, min, Bool, true, false, ◌||◌, List, [], ◌∷◌, refl, sym, ◌∙◌, ap, subst, Option, Some, None, arith}
 use Rattle.std.specs.Prelude.{is_some, option_and_then, if◌then◌else◌}
 use Rattle.std.specs.Option.{option_map}
 use Rattle.key_screen.specs.declared.keys.Key.{Key as KeyType}
-use Rattle.mc_text.specs.Routes.{Route, same_path}
-use Rattle.tree_trait.specs.FileSystem.{View, Spot, put, visible_tree}
+use Rattle.mc_text.specs.Routes.{Route}
+use Rattle.tree_trait.specs.FileSystem.{View, visible_tree}
 use Rattle.tree_trait.specs.Change.{CallLog, current}
 use Rattle.tree_trait.specs.Shape.{IsTree}
 use Rattle.tree_trait.specs.Answers.{IfKnown}
@@ -18,9 +18,9 @@ use Rattle.copy_move.specs.declared.history.Refusal.{Refusal}
 use Rattle.copy_move.specs.Work.{LiveJob, begun, live_job, last_id, is_closed, closes, if_closed, closed_job, after_event, after_step, id_after, IsAllowedStep, ends, StepsOn}
 use Rattle.copy_move.specs.declared.deletion.Course.TheVariants.{InTrouble}
 use Rattle.copy_move.proofs.Left.{live_after, never_waits}
-use Rattle.copy_move.specs.Replay.{ShowsView, Replays, IsReplayed, StepsTree, replayed_step, replayed_event, replayed_tree}
+use Rattle.copy_move.specs.Replay.{IsReplayed, StepsTree, replayed_step, replayed_event, replayed_tree}
 use Rattle.mc_desk.specs.Logs.{Logged}
-use Rattle.mc_desk.specs.Screens.{Screen, Sees, IsOpening, KeyLeads, LookLeads, with_ask}
+use Rattle.mc_desk.specs.Screens.{Screen, Sees, KeyLeads, LookLeads, with_ask}
 use Rattle.mc_desk.specs.declared.asks.Ask.{Ask}
 use Rattle.mc_desk.specs.declared.asks.Ask.TheVariants.{Delete}
 use Rattle.mc_desk.specs.declared.asks.Confirmed.{Confirmed}
@@ -85,10 +85,12 @@ pub written_more : (opening contents contents_after : Option CallLog) (old new :
     → new.closed ≡ (closes e.what || old.closed)
     → IsWritten opening contents_after new
 written_more opening contents contents_after old new e written more leads unknown replayed job last unseen closed = record {
-  session = λ tree may. subst (λ es. IsSession tree es new.screen) (sym more)
-      (old.screen, written.session tree (may_open opening contents contents_after tree unknown may),
-      rw (← written.job, ← written.unseen, ← written.last)
-      (leads _ (seen_now opening contents tree old.newest (may_open opening contents contents_after tree unknown may) written.replayed)));
+  session = λ tree may. subst (λ es. IsSession tree es new.screen) (sym more) (
+    old.screen,
+    written.session tree (may_open opening contents contents_after tree unknown may),
+    rw (← written.job, ← written.unseen, ← written.last)
+        (leads _ (seen_now opening contents tree old.newest (may_open opening contents contents_after tree unknown may) written.replayed)),
+  );
   replayed = subst (λ es. IsReplayed opening contents_after es) (sym more) (replayed written.replayed);
   job = job ∙ (ap (λ b. if_closed (closes e.what || b) (after_event e.what old.job)) written.closed
       ∙ (ap (λ j. if_closed (closes e.what || is_closed old.newest) (after_event e.what j)) written.job ∙ ap live_job (sym more)));
@@ -104,11 +106,15 @@ replayed_same opening contents contents_after newest e same still replayed = sub
   where
     go : (c : Option CallLog) → IsReplayed opening c newest → IsReplayed opening c (e ∷ newest)
     go None h = tt
-    go (Some after) h = (h.0, h.1, record {
-      opening = h.2.opening;
-      tree = h.2.tree;
-      shows = λ tree path. h.2.shows tree path ∙ sym (ap (λ (v : View). v path) (still (replayed_tree (visible_tree (current h.0)) newest)));
-    })
+    go (Some after) h = (
+      h.0,
+      h.1,
+      record {
+        opening = h.2.opening;
+        tree = h.2.tree;
+        shows = λ tree path. h.2.shows tree path ∙ sym (ap (λ (v : View). v path) (still (replayed_tree (visible_tree (current h.0)) newest)));
+      },
+    )
 
 -- a step makes the same of views that are the same at each path
 step_same : (did : Did) (v w : View) → ((path : Route) → v path ≡ w path) → (path : Route) → replayed_step did v path ≡ replayed_step did w path
@@ -125,13 +131,17 @@ replayed_more opening None contents_after newest e id did what steps unknown rep
 replayed_more opening (Some log) contents_after newest e id did what steps unknown replayed =
     let s = steps log refl in
     let r = replayed.2 in
-    subst (λ c. IsReplayed opening c (e ∷ newest)) (sym s.is) (replayed.0, replayed.1, record {
-      opening = s.opening ∙ r.opening;
-      tree = λ tree. s.tree (r.tree tree);
-      shows = λ tree path. s.shows (r.tree tree) path
-          ∙ (step_same did (visible_tree (current log)) (replayed_tree (visible_tree (current replayed.0)) newest) (r.shows tree) path
-          ∙ ap (λ (what : Event). replayed_event what (replayed_tree (visible_tree (current replayed.0)) newest) path) (sym what));
-    })
+    subst (λ c. IsReplayed opening c (e ∷ newest)) (sym s.is) (
+      replayed.0,
+      replayed.1,
+      record {
+        opening = s.opening ∙ r.opening;
+        tree = λ tree. s.tree (r.tree tree);
+        shows = λ tree path. s.shows (r.tree tree) path
+            ∙ (step_same did (visible_tree (current log)) (replayed_tree (visible_tree (current replayed.0)) newest) (r.shows tree) path
+            ∙ ap (λ (what : Event). replayed_event what (replayed_tree (visible_tree (current replayed.0)) newest) path) (sym what));
+      },
+    )
 
 abbrev pub entry : ℕ → ℕ → ℕ → ℕ → Event → Entry
 entry seat calls faults shown what = record { seat = seat; calls = calls; faults = faults; shown = shown; what = what }

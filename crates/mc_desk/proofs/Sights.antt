@@ -1,16 +1,14 @@
 -- What a look at a tree says of the view that it shows.
-use Rattle.std.proofs.Common.{◌≡◌, ◌↔◌, ℕ, ◌<◌, ◌≤◌, Bool, true, false, ◌&&◌, List, [], ◌∷◌, length, refl, sym, ◌∙◌, ap, subst, inl, inr, ◌⊎◌, Option, Some, None, IsSome, IfSome, Result, Ok, Err, arith, cond}
-use Rattle.std.specs.Prelude.{nat_le, unwrap_or, option_and_then, if◌then◌else◌}
+use Rattle.std.proofs.Common.{◌≡◌, ◌↔◌, ℕ, ◌<◌, ◌≤◌, Bool, true, false, ◌&&◌, List, [], ◌∷◌, length, refl, sym, ◌∙◌, ap, subst, inl, inr, Option, Some, None, IsSome, IfSome, Result, Ok, arith}
+use Rattle.std.specs.Prelude.{nat_le, option_and_then, if◌then◌else◌}
 use Rattle.std.specs.Option.{option_map, option_map_or}
-use Rattle.std.proofs.lemmas.Bool.{true≢false, false≢true}
 use Rattle.mc_text.specs.Routes.{Route, spelled}
 use Rattle.tree_trait.specs.declared.file_system.FileSystem.{FileSystem}
 use Rattle.tree_trait.specs.declared.calls.TreeError.{TreeError}
 use Rattle.tree_trait.specs.declared.calls.Meta.{Meta}
 use Rattle.tree_trait.specs.declared.calls.Children.{Children}
-use Rattle.mc_text.specs.declared.kind.Kind.{Kind}
 use Rattle.tree_trait.specs.Calls.{Stat, ListFolder}
-use Rattle.tree_trait.specs.FileSystem.{lookup, find, node, value, value_at, View, Spot, visible_tree}
+use Rattle.tree_trait.specs.FileSystem.{lookup, node, value, value_at, View, Spot}
 use Rattle.tree_trait.specs.Refusals.{file_kind, refusal_of}
 use Rattle.tree_trait.specs.Change.{CallLog, current, found}
 use Rattle.tree_trait.specs.CrashImages.{Among}

@@ -1,6 +1,5 @@
 -- What a desk keeps: its history is a session over its tree, and the rest of it is what the history says.
 use Rattle.std.specs.Prelude.{◌≡◌, ℕ, ◌+◌, ◌≤◌, Bool, is_some, if◌then◌else◌, List, Option, None}
-use Rattle.mc_text.specs.Routes.{Route}
 use Rattle.tree_trait.specs.FileSystem.{View}
 use Rattle.tree_trait.specs.Change.{CallLog}
 use Rattle.copy_move.specs.declared.history.Entry.{Entry}

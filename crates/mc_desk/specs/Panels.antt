@@ -1,5 +1,5 @@
 -- What a panel shows: a folder, the names in it, and the place of the cursor.
-use Rattle.std.specs.Prelude.{◌≡◌, ◌↔◌, ℕ, ◌+◌, ◌-◌, Bool, false, nat_lt, if◌then◌else◌, min, ⊤, List, [], ◌∷◌, length, IsSome, Option, Some, None, slice_get}
+use Rattle.std.specs.Prelude.{◌≡◌, ◌↔◌, ℕ, ◌+◌, ◌-◌, nat_lt, if◌then◌else◌, min, List, [], ◌∷◌, length, IsSome, Option, Some, None, slice_get}
 use Rattle.std.specs.List.{position}
 use Rattle.std.specs.Option.{option_map, option_map_or}
 use Rattle.std.specs.Str.{bytes_eq}

@@ -5,8 +5,7 @@ use Rattle.mc_text.specs.Routes.{Route}
 use Rattle.tree_trait.specs.FileSystem.{View, visible_tree}
 use Rattle.tree_trait.specs.Change.{CallLog, current}
 use Rattle.tree_trait.specs.Shape.{IsTree}
-use Rattle.copy_move.specs.declared.history.Did.{Did}
-use Rattle.copy_move.specs.declared.history.Did.TheVariants.{Removed, Barrier, Troubled, Ended}
+use Rattle.copy_move.specs.declared.history.Did.TheVariants.{Ended}
 use Rattle.copy_move.specs.declared.history.Event.{Event}
 use Rattle.copy_move.specs.declared.history.Event.TheVariants.{Key, Look, Began, Step, Closed}
 use Rattle.copy_move.specs.declared.history.Job.TheVariants.{Delete}

@@ -1,8 +1,7 @@
 -- What the start of a session comes to: it opens where the folder can be listed, and else says why not.
-use Rattle.std.specs.Prelude.{◌≡◌, ℕ, ◌≤◌, ⊤, List, [], Option, Some, None, Result, Ok, Err}
+use Rattle.std.specs.Prelude.{◌≡◌, ◌≤◌, ⊤, [], Option, Some, None, Result, Ok, Err}
 use Rattle.mc_text.specs.Routes.{Route}
 use Rattle.tree_trait.specs.declared.file_system.FileSystem.{FileSystem}
-use Rattle.tree_trait.specs.declared.calls.TreeError.{TreeError}
 use Rattle.tree_trait.specs.declared.calls.TreeError.TheVariants.{Fault}
 use Rattle.tree_trait.specs.Calls.{ListFolder}
 use Rattle.tree_trait.specs.FileSystem.{View}

@@ -107,18 +107,36 @@ impl<N: Tag, T: Tree, S: Sink, P: Spawner> Model for Desk<N, T, S, P> {
     ghost Value = { Seen };
 
     ghost view = { λ d. record {
-        newest = d.log.newest; spare = d.log.spare; screen = d.ui; job = d.job; last = d.last_id; unseen = d.unseen; closed = d.closed
+      newest = d.log.newest;
+      spare = d.log.spare;
+      screen = d.ui;
+      job = d.job;
+      last = d.last_id;
+      unseen = d.unseen;
+      closed = d.closed;
     } };
 
     ghost invariant = { λ d. IsDesk N.opening (T.contents d.tree) (record {
-        newest = d.log.newest; spare = d.log.spare; screen = d.ui; job = d.job; last = d.last_id; unseen = d.unseen; closed = d.closed
+      newest = d.log.newest;
+      spare = d.log.spare;
+      screen = d.ui;
+      job = d.job;
+      last = d.last_id;
+      unseen = d.unseen;
+      closed = d.closed;
     }) };
 }
 
 impl<N: Tag, T: Tree, S: Sink, P: Spawner> Desk<N, T, S, P> {
     /// Opens a session in a folder. It is refused as `list` of that folder is, or for want of memory; the tree is as it
     /// was then.
-    pub fn begin(alloc: Global, start: Start, tree: T, screen: S, spawner: P) -> Result<Desk<N, T, S, P>, Refused<T, S, P>>
+    pub fn begin(
+        alloc: Global,
+        start: Start,
+        tree: T,
+        screen: S,
+        spawner: P,
+    ) -> Result<Desk<N, T, S, P>, Refused<T, S, P>>
         requires opening { IfKnown (T.contents tree) (λ log. N.opening ≡ Some log) }
         ensures opened { IfOk result (λ desk. (desk.newest ≡ []) × (desk.screen.panel.folder ≡ start.folder)) }
         ensures permitted { IfKnown (T.contents tree) (λ log.
@@ -162,4 +180,3 @@ impl<N: Tag, T: Tree, S: Sink, P: Spawner> Desk<N, T, S, P> {
         }
     }
 }
-

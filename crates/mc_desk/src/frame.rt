@@ -51,13 +51,22 @@ fn frame_of(alloc: Global, ui: &Ui) -> Result<String, NoMemory> {
 }
 
 /// Places a row, counted from 0, and writes it; a control character shows as `?`.
-fn write_row(frame: &mut String, line: usize, text: &str, is_current: bool) -> Result<(), NoMemory> {
+fn write_row(
+    frame: &mut String,
+    line: usize,
+    text: &str,
+    is_current: bool,
+) -> Result<(), NoMemory> {
     write!(frame, "\x1b[{};1H", line.saturating_add(1))?;
     if is_current {
         frame.push_str("\x1b[7m")?;
     }
     for character in text.chars() {
-        frame.push(if character.is_control() { '?' } else { character })?;
+        frame.push(if character.is_control() {
+            '?'
+        } else {
+            character
+        })?;
     }
     if is_current {
         frame.push_str("\x1b[0m")?;

@@ -2,8 +2,8 @@
 #![tactic(auto)]
 
 mod asks;
-mod choice;
 mod causes;
+mod choice;
 mod choosing;
 mod desk;
 mod frame;
@@ -15,13 +15,13 @@ mod tag;
 mod ui;
 
 pub use asks::{Ask, Confirmed, KeyAct};
-pub use choice::{Choice, Chosen};
 pub use causes::cause_text;
+pub use choice::{Choice, Chosen};
 pub use choosing::choose;
 pub use desk::{Desk, DeskError, DeskReply, Ended, Refused, StepReply};
-pub use starts::{Start, StartError};
 pub use frame::draw;
 pub use log::Log;
 pub use panel::Panel;
+pub use starts::{Start, StartError};
 pub use tag::Tag;
 pub use ui::Ui;

@@ -21,8 +21,11 @@ pub trait Tag {
 
     /// How often each device has failed.
     ghost tree_faults: { ℕ };
+
     ghost source_faults: { ℕ };
+
     ghost sink_faults: { ℕ };
+
     ghost spawner_faults: { ℕ };
 }
 

@@ -76,7 +76,13 @@ impl Ui {
     }
 
     /// Works a key. `busy` says that a job is live. Where a look was refused, the refusals say so.
-    pub fn key<T: Tree>(&mut self, alloc: Global, tree: &mut T, busy: bool, key: Key) -> Result<KeyAct, NoMemory>
+    pub fn key<T: Tree>(
+        &mut self,
+        alloc: Global,
+        tree: &mut T,
+        busy: bool,
+        key: Key,
+    ) -> Result<KeyAct, NoMemory>
         ensures leads { IfOk result (λ act. (o : Option View) → Sees (T.contents tree.old) o
             → KeyLeads o busy key act.refusals self.old (with_ask act.ask self.new)) }
         ensures folder { self.new.panel.folder ≡ self.old.panel.folder }
@@ -135,7 +141,13 @@ impl Ui {
         }
     }
 
-    fn key_in_panel<T: Tree>(&mut self, alloc: Global, tree: &mut T, busy: bool, base: Base) -> Result<KeyAct, NoMemory>
+    fn key_in_panel<T: Tree>(
+        &mut self,
+        alloc: Global,
+        tree: &mut T,
+        busy: bool,
+        base: Base,
+    ) -> Result<KeyAct, NoMemory>
         requires no_box { self.old.asked ≡ None }
         ensures leads { IfOk result (λ act. (o : Option View) → Sees (T.contents tree.old) o
             → InPanel o busy base act.refusals self.old (with_ask act.ask self.new)) }
@@ -157,7 +169,12 @@ impl Ui {
         }
     }
 
-    fn choose_current<T: Tree>(&mut self, alloc: Global, tree: &mut T, busy: bool) -> Result<KeyAct, NoMemory>
+    fn choose_current<T: Tree>(
+        &mut self,
+        alloc: Global,
+        tree: &mut T,
+        busy: bool,
+    ) -> Result<KeyAct, NoMemory>
         requires no_box { self.old.asked ≡ None }
         ensures panel { self.new.panel ≡ self.old.panel }
         ensures settled { self.new.confirmed ≡ None }
@@ -190,7 +207,12 @@ impl Ui {
     }
 
     /// Takes up what a job did. After a job's end, which `unseen` says, the panel is read again.
-    pub fn look<T: Tree>(&mut self, alloc: Global, tree: &mut T, unseen: bool) -> Result<Refusals, NoMemory>
+    pub fn look<T: Tree>(
+        &mut self,
+        alloc: Global,
+        tree: &mut T,
+        unseen: bool,
+    ) -> Result<Refusals, NoMemory>
         ensures leads { IfOk result (λ refusals. (o : Option View) → Sees (T.contents tree.old) o
             → LookLeads o unseen refusals self.old self.new) }
         ensures folder { self.new.panel.folder ≡ self.old.panel.folder }

@@ -1,5 +1,5 @@
 -- What a removal makes of the tree that can be seen: one path has nothing any more.
-use Rattle.std.proofs.Common.{◌≡◌, ℕ, zero, suc, ◌<◌, Bool, true, false, List, [], ◌∷◌, length, refl, sym, ◌∙◌, ap, subst, inl, inr, Option, Some, None, cond, arith}
+use Rattle.std.proofs.Common.{◌≡◌, ℕ, ◌<◌, Bool, true, false, List, [], ◌∷◌, length, refl, sym, ◌∙◌, ap, subst, inl, inr, Option, Some, None, cond, arith}
 use Rattle.std.specs.Prelude.{option_and_then, if◌then◌else◌, ℤ}
 use Rattle.std.specs.Option.{option_map, option_map_or}
 use Rattle.std.proofs.lemmas.Bool.{cases_Bool, cases_eq, false≢true, both_ways, false_from_ne_true}
@@ -7,7 +7,7 @@ use Rattle.std.proofs.lemmas.Slice.Eq.{bytes_eq-Decides, slice_eq-Decides}
 use Rattle.mc_text.specs.Routes.{Route, same_path}
 use Rattle.tree_trait.specs.declared.file_system.Node.{Node}
 use Rattle.tree_trait.specs.declared.file_system.FileSystem.{FileSystem}
-use Rattle.tree_trait.specs.Calls.{RemoveFile, ListFolder, Stat}
+use Rattle.tree_trait.specs.Calls.{RemoveFile}
 use Rattle.tree_trait.specs.FileSystem.{lookup, find, no_node, node, value, Spot, put, starts_mount, visible_tree}
 use Rattle.tree_trait.specs.Refusals.{is_folder, refusal_of}
 use Rattle.tree_trait.specs.Change.{Removes, after_change, change_of, found}

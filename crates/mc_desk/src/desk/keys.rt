@@ -181,7 +181,11 @@ impl<N: Tag, T: Tree, S: Sink, P: Spawner> Desk<N, T, S, P> {
     }
 
     /// The reply, unless the draw failed.
-    fn finish(&mut self, drawn: Result<usize, SinkError>, reply: DeskReply) -> Result<DeskReply, DeskError>
+    fn finish(
+        &mut self,
+        drawn: Result<usize, SinkError>,
+        reply: DeskReply,
+    ) -> Result<DeskReply, DeskError>
         ensures screen { self.new.screen ≡ self.old.screen }
         ensures same { OnOk result (self.new ≡ self.old) }
     {
@@ -219,13 +223,7 @@ fn after_look(due: Due, is_done: bool) -> Due {
     match due {
         Due::Nothing => Due::Nothing,
         Due::First => Due::Nothing,
-        Due::Job(job) => {
-            if is_done {
-                Due::Nothing
-            } else {
-                Due::Job(job)
-            }
-        }
+        Due::Job(job) => { if is_done { Due::Nothing } else { Due::Job(job) } }
     }
 }
 

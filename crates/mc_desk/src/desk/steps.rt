@@ -168,5 +168,9 @@ fn left(job: Deletion, ended: bool, is_closed: bool) -> Option<Deletion>
     if ended {
         return None;
     }
-    if is_closed { closed(Some(job)) } else { Some(job) }
+    if is_closed {
+        closed(Some(job))
+    } else {
+        Some(job)
+    }
 }

@@ -1,5 +1,5 @@
 -- The type names what the tree tells at the call.
-use Rattle.std.proofs.Common.{[], None, Some}
+use Rattle.std.proofs.Common.{[], Some}
 use Rattle.mc_main.proofs.tests.run_told.Given as goal
 
 abbrev pub ghosts-mc_run : goal.ghosts-mc_run

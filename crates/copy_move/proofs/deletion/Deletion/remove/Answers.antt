@@ -1,12 +1,11 @@
 -- Without memory no call was made; a removal that was done took the path out; a refused one changed nothing.
-use Rattle.std.proofs.Common.{ap, sym, ◌∙◌, refl, arith, false, ◌≡◌}
+use Rattle.std.proofs.Common.{ap, ◌∙◌, refl, arith, false, ◌≡◌}
 use Rattle.tree_trait.specs.declared.calls.TreeError.TheVariants as refused
 use Rattle.tree_trait.specs.Calls.{RemoveFile}
 use Rattle.tree_trait.proofs.Ending.{Performs-err}
-use Rattle.copy_move.specs.declared.history.Did.{Did}
 use Rattle.copy_move.specs.declared.history.Did.TheVariants.{Removed, Troubled}
 use Rattle.copy_move.specs.declared.deletion.Stepped.{Stepped}
-use Rattle.copy_move.specs.declared.deletion.Stage.TheVariants.{Remove, Sync}
+use Rattle.copy_move.specs.declared.deletion.Stage.TheVariants.{Sync}
 use Rattle.copy_move.specs.declared.deletion.Course.TheVariants.{InTrouble}
 use Rattle.copy_move.specs.Work.{LiveJob, trouble_at}
 use Rattle.copy_move.proofs.Steps.{steps_removed, steps_troubled, remove_at, untouched, quiet, removed, fault-cause, err_is}

@@ -7,7 +7,7 @@ use Rattle.tree_trait.proofs.Ending.{Performs-err}
 use Rattle.copy_move.specs.declared.history.Did.TheVariants.{Barrier, Troubled}
 use Rattle.copy_move.specs.declared.deletion.Stepped.{Stepped}
 use Rattle.copy_move.specs.declared.deletion.Stage.TheVariants.{Finish}
-use Rattle.copy_move.specs.declared.deletion.Course.TheVariants.{GoesOn, InTrouble}
+use Rattle.copy_move.specs.declared.deletion.Course.TheVariants.{InTrouble}
 use Rattle.copy_move.specs.Work.{LiveJob, trouble_at}
 use Rattle.copy_move.proofs.Steps.{steps_synced, steps_troubled, sync_at, untouched, quiet, synced, fault-cause, err_is, goes_on}
 use Rattle.copy_move.proofs.deletion.Deletion.sync.Goals as goal

@@ -1,10 +1,9 @@
 -- A step is written down as it was made; a closed desk's job never waits.
-use Rattle.std.proofs.Common.{rules, ◌≡◌, ◌≤◌, ◌||◌, true, None, Some, refl, ap, sym, ◌∙◌, ◌∷◌, ◌<◌, subst, arith}
+use Rattle.std.proofs.Common.{rules, ◌≡◌, ◌≤◌, ◌||◌, None, Some, refl, ap, sym, ◌∙◌, ◌∷◌, ◌<◌, subst}
 use Rattle.std.specs.Prelude.{if◌then◌else◌}
 use Rattle.copy_move.specs.declared.deletion.Course.TheVariants.{InTrouble}
-use Rattle.copy_move.specs.declared.history.Entry.{Entry}
 use Rattle.copy_move.specs.declared.history.Event.TheVariants.{Step}
-use Rattle.copy_move.specs.Work.{LiveJob, ends, if_closed, after_step, steps_left}
+use Rattle.copy_move.specs.Work.{if_closed, after_step, steps_left}
 use Rattle.copy_move.proofs.Left.{live_after, nearer_any}
 use Rattle.mc_desk.specs.Desks.{Seen}
 use Rattle.mc_desk.proofs.Keeping.{desk_stepped, closed_goes_on, entry}

@@ -1,6 +1,6 @@
 -- A key is written down as it was worked, and the job that it confirmed directly after it.
 use Rattle.std.proofs.Common.{rules, ◌≡◌, ◌≤◌, ◌∷◌, false, Some, refl, ap, ◌∙◌}
-use Rattle.copy_move.specs.declared.history.Event.TheVariants.{Key, Began}
+use Rattle.copy_move.specs.declared.history.Event.TheVariants.{Began}
 use Rattle.copy_move.specs.declared.history.Job.TheVariants.{Delete as DeleteJob}
 use Rattle.mc_desk.specs.declared.asks.Ask.{Ask}
 use Rattle.mc_desk.specs.Logs.{Logged}

@@ -1,6 +1,6 @@
 -- The names that the tree lists are those that can be seen in the panel's folder.
-use Rattle.std.proofs.Common.{rules, refl, ap, ◌∙◌, ◌≡◌, true}
-use Rattle.mc_desk.specs.Panels.{Shown, read_again}
+use Rattle.std.proofs.Common.{rules, ap, ◌∙◌, ◌≡◌, true}
+use Rattle.mc_desk.specs.Panels.{read_again}
 use Rattle.mc_desk.specs.Screens.{Screen}
 use Rattle.mc_desk.proofs.Sights.{looks_again}
 use Rattle.mc_desk.proofs.ui.Ui.look.Goals as goal
