@@ -1,7 +1,10 @@
 -- What a desk keeps: its history is a session over its tree, and the rest of it is what the history says.
-use Rattle.std.specs.Prelude.{◌≡◌, ℕ, ◌+◌, ◌≤◌, Bool, is_some, if◌then◌else◌, List, Option, None}
+use Rattle.std.specs.Prelude.{◌≡◌, ℕ, ◌+◌, ◌≤◌, Bool, true, false, is_some, if◌then◌else◌, List, Option, None, Result, Ok, Err}
 use Rattle.tree_trait.specs.FileSystem.{View}
 use Rattle.tree_trait.specs.Change.{CallLog}
+use Rattle.tree_trait.specs.Answers.{HasRisen}
+use Rattle.tree_trait.specs.declared.devices.SinkError.{SinkError}
+use Rattle.tree_trait.specs.declared.devices.SinkError.TheVariants.{Fault, Memory}
 use Rattle.copy_move.specs.declared.history.Entry.{Entry}
 use Rattle.copy_move.specs.Work.{LiveJob, live_job, last_id, is_closed}
 use Rattle.copy_move.specs.Replay.{IsReplayed}
@@ -38,3 +41,19 @@ pub record IsDesk (opening contents : Option CallLog) (desk : Seen) : Type 0 whe
   pub written : IsWritten opening contents desk
   pub settled : desk.screen.confirmed ≡ None
   pub room : kept_room desk.closed desk.job ≤ desk.spare
+
+-- whether a draw has failed by now: earlier, or this one
+abbrev pub failed_by : Bool → Result ℕ SinkError → Bool
+failed_by before (Err Fault) = true
+failed_by before (Err Memory) = before
+failed_by before (Ok bytes) = before
+
+-- A screen that failed has counted it since the opening; the count doesn't fall.
+abbrev pub Blames : Bool → ℕ → ℕ → Type 0
+Blames false opening now = opening ≤ now
+Blames true opening now = HasRisen opening now
+
+-- what a desk keeps of its devices: its tree and its screen
+pub record KeepsDesk (opening contents : Option CallLog) (seen : Seen) (failed : Bool) (sink_opening sink_now : ℕ) : Type 0 where
+  pub desk : IsDesk opening contents seen
+  pub screen : Blames failed sink_opening sink_now

@@ -1,5 +1,5 @@
 //! The desk: the devices of a session, its screen, its job and its history. Every call leaves it whole.
-ghost use Rattle.std.specs.Prelude.{◌≡◌, [], IfOk, IfErr, OnOk, Some, None};
+ghost use Rattle.std.specs.Prelude.{◌≡◌, ◌≤◌, [], IfOk, IfErr, OnOk, Some, None};
 ghost use Rattle.tree_trait.specs.Calls.{ListFolder};
 ghost use Rattle.tree_trait.specs.Refusals.{refusal_of};
 ghost use Rattle.tree_trait.specs.Change.{current};
@@ -102,7 +102,7 @@ pub struct Desk<N: Tag, T: Tree, S: Sink, P: Spawner> {
 }
 
 impl<N: Tag, T: Tree, S: Sink, P: Spawner> Model for Desk<N, T, S, P> {
-    ghost use Rattle.mc_desk.specs.Desks.{Seen, IsDesk};
+    ghost use Rattle.mc_desk.specs.Desks.{Seen, KeepsDesk};
 
     ghost Value = { Seen };
 
@@ -116,7 +116,7 @@ impl<N: Tag, T: Tree, S: Sink, P: Spawner> Model for Desk<N, T, S, P> {
       closed = d.closed;
     } };
 
-    ghost invariant = { λ d. IsDesk N.opening (T.contents d.tree) (record {
+    ghost invariant = { λ d. KeepsDesk N.opening (T.contents d.tree) (record {
       newest = d.log.newest;
       spare = d.log.spare;
       screen = d.ui;
@@ -124,7 +124,7 @@ impl<N: Tag, T: Tree, S: Sink, P: Spawner> Model for Desk<N, T, S, P> {
       last = d.last_id;
       unseen = d.unseen;
       closed = d.closed;
-    }) };
+    }) d.failed N.sink_faults (S.fault_count d.screen) };
 }
 
 impl<N: Tag, T: Tree, S: Sink, P: Spawner> Desk<N, T, S, P> {
@@ -138,12 +138,14 @@ impl<N: Tag, T: Tree, S: Sink, P: Spawner> Desk<N, T, S, P> {
         spawner: P,
     ) -> Result<Desk<N, T, S, P>, Refused<T, S, P>>
         requires opening { IfKnown (T.contents tree) (λ log. N.opening ≡ Some log) }
+        requires sink { N.sink_faults ≤ S.fault_count screen }
         ensures opened { IfOk result (λ desk. (desk.newest ≡ []) × (desk.screen.panel.folder ≡ start.folder)) }
         ensures permitted { IfKnown (T.contents tree) (λ log.
             OnOk result (refusal_of (current log) (ListFolder start.folder) ≡ None)) }
         ensures cause { IfKnown (T.contents tree) (λ log. IfErr result (λ r. IsStartCause (current log) start.folder r.error)) }
         ensures fault { IfErr result (λ r. r.error ≡ StartError.Tree TreeError.Fault → HasRisen (T.fault_count tree) (T.fault_count r.tree)) }
         ensures same { IfErr result (λ r. T.contents r.tree ≡ T.contents tree) }
+        ensures same_screen { IfErr result (λ r. r.screen ≡ screen) }
     {
         let mut tree = tree;
         match open(alloc, &mut tree, start.folder) {

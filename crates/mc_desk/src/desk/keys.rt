@@ -1,6 +1,7 @@
 //! Keys and looks: what a desk does for its user.
 ghost use Rattle.std.specs.Prelude.{◌≡◌, ◌+◌, ◌≤◌, false, IsTrue, OnOk, Err};
 ghost use Rattle.copy_move.specs.Work.{IsReady};
+ghost use Rattle.mc_desk.specs.Desks.{failed_by};
 
 use super::{Desk, DeskError, DeskReply, Due};
 use crate::asks::{Ask, Confirmed, KeyAct};
@@ -53,6 +54,7 @@ impl<N: Tag, T: Tree, S: Sink, P: Spawner> Desk<N, T, S, P> {
         }
         let drawn = draw(alloc, &mut self.screen, &self.ui);
         self.shown = after_draw(self.shown, &drawn);
+        self.failed = failed_by(self.failed, &drawn);
         self.faults = self.tree.faults();
         self.log.note(Entry {
             seat: 0,
@@ -105,6 +107,7 @@ impl<N: Tag, T: Tree, S: Sink, P: Spawner> Desk<N, T, S, P> {
         let KeyAct { ask, refusals } = act;
         let drawn = draw(alloc, &mut self.screen, &self.ui);
         self.shown = after_draw(self.shown, &drawn);
+        self.failed = failed_by(self.failed, &drawn);
         self.faults = self.tree.faults();
         self.log.note(Entry {
             seat: 0,
@@ -177,6 +180,7 @@ impl<N: Tag, T: Tree, S: Sink, P: Spawner> Desk<N, T, S, P> {
     {
         let drawn = draw(alloc, &mut self.screen, &self.ui);
         self.shown = after_draw(self.shown, &drawn);
+        self.failed = failed_by(self.failed, &drawn);
         self.finish(drawn, DeskReply::Go)
     }
 
@@ -201,10 +205,7 @@ impl<N: Tag, T: Tree, S: Sink, P: Spawner> Desk<N, T, S, P> {
     {
         self.close();
         match error {
-            SinkError::Fault => {
-                self.failed = true;
-                DeskError::Screen
-            }
+            SinkError::Fault => DeskError::Screen,
             SinkError::Memory => DeskError::Memory,
         }
     }
@@ -232,5 +233,16 @@ fn waits_or_gone(job: &Option<Deletion>) -> bool {
     match job {
         None => true,
         Some(job) => job.waits(),
+    }
+}
+
+/// Whether a draw has failed by now.
+fn failed_by(before: bool, drawn: &Result<usize, SinkError>) -> bool
+    ensures { result ≡ failed_by before drawn.now }
+{
+    match drawn {
+        Err(SinkError::Fault) => true,
+        Err(SinkError::Memory) => before,
+        Ok(_) => before,
     }
 }

@@ -5,6 +5,7 @@ ghost use Rattle.tree_trait.specs.FileSystem.{View};
 ghost use Rattle.copy_move.specs.Work.{closed_job, if_closed, steps_left, live_job, IsReady};
 ghost use Rattle.copy_move.specs.Replay.{IsReplayed};
 ghost use Rattle.mc_desk.specs.Sessions.{MayOpen, EndsSession};
+ghost use Rattle.mc_desk.specs.Desks.{Blames};
 
 use super::{Desk, Ended, StepReply};
 use crate::tag::Tag;
@@ -86,6 +87,7 @@ impl<N: Tag, T: Tree, S: Sink, P: Spawner> Desk<N, T, S, P> {
             → EndsSession tree (reverse result.history.entries) self.screen.panel.folder }
         ensures replayed { IsReplayed N.opening (T.contents result.tree) (reverse result.history.entries) }
         ensures idle { live_job (reverse result.history.entries) ≡ None }
+        ensures screen { Blames result.failed N.sink_faults (S.fault_count result.screen) }
     {
         let mut desk = self;
         desk.close();

@@ -13,7 +13,7 @@ pub returns-then-waits-clause-nearer : goal.returns-then-waits-clause-nearer
 returns-then-waits-clause-nearer g c closed live =
     let is : c.self.inside.job ≡ Some c.in-Some.job = sym c.take.ensures.value ∙ c.in-Some.is in
     let waits : c.in-Some.job.course ≡ InTrouble = search rules in
-    absurd (closed_goes_on _ _ _ c.in-Some.job c.self.invariant (ap (λ (d : Seen). d.closed) c.self.view_is ∙ closed) is waits)
+    absurd (closed_goes_on _ _ _ c.in-Some.job c.self.invariant.desk (ap (λ (d : Seen). d.closed) c.self.view_is ∙ closed) is waits)
 
 pub invariant_of-self-2 : goal.invariant_of-self-2
 invariant_of-self-2 g c =
@@ -25,9 +25,12 @@ invariant_of-self-2 g c =
     c.note-2.ensures.added ∙ (ap (λ n. entry c.args.seat calls faults 0 (Step n did) ∷ c.reserve.new.self.newest) c.id-id.ensures
     ∙ ap (λ es. entry c.args.seat calls faults 0 (Step c.in-Some.job.id did) ∷ es) c.reserve.ensures.same) in
     let room : 2 ≤ c.note-2.new.self.spare = search rules in
-    desk_stepped _ _ _ _ _ c.args.seat calls faults 0 _ _ c.in-Some.job c.step-did.new.self did c.self.invariant is c.step-did.ensures.steps
-    more refl (c.left.ensures ∙ ap (λ b. if_closed c.self.inside.closed (if b then None else Some c.step-did.new.self)) c.is_end-ended.ensures) refl
-    (c.either-self-inside.ensures ∙ ap (λ b. b || c.self.inside.unseen) c.is_end-ended.ensures) refl room
+    record {
+      desk = desk_stepped _ _ _ _ _ c.args.seat calls faults 0 _ _ c.in-Some.job c.step-did.new.self did c.self.invariant.desk is c.step-did.ensures.steps
+          more refl (c.left.ensures ∙ ap (λ b. if_closed c.self.inside.closed (if b then None else Some c.step-did.new.self)) c.is_end-ended.ensures) refl
+          (c.either-self-inside.ensures ∙ ap (λ b. b || c.self.inside.unseen) c.is_end-ended.ensures) refl room;
+      screen = c.self.invariant.screen;
+    }
 
 pub returns-clause-worked : goal.returns-clause-worked
 returns-clause-worked g c ready =
