@@ -1,5 +1,6 @@
 //! How a run ends: after its session, or before one began.
-ghost use Rattle.std.specs.Prelude.{◌≡◌, ◌≢◌, [], Option, None, reverse};
+ghost use Rattle.std.specs.Prelude.{◌≡◌, ◌≢◌, [], IsTrue, Option, None, reverse};
+ghost use Rattle.tree_trait.specs.Answers.{HasRisen};
 ghost use Rattle.tree_trait.specs.FileSystem.{View};
 ghost use Rattle.copy_move.specs.Work.{live_job};
 ghost use Rattle.copy_move.specs.Replay.{IsReplayed};
@@ -27,6 +28,8 @@ pub fn run_desk<N: Tag, T: Tree, K: Source, S: Sink, P: Spawner, C: Clock>(
     ensures idle { live_job (reverse result.history.entries) ≡ None }
     ensures not_usage { result.status ≢ 1 }
     ensures not_start { result.status ≢ 2 }
+    ensures keyboard { result.status ≡ 3 → HasRisen (K.fault_count keys.old) (K.fault_count keys.new) }
+    ensures screen { result.status ≡ 4 → HasRisen N.sink_faults (S.fault_count result.screen) }
 {
     let mut desk = desk;
     let end = run_session(alloc, &mut desk, keys, clock);
@@ -52,11 +55,13 @@ pub fn run_desk<N: Tag, T: Tree, K: Source, S: Sink, P: Spawner, C: Clock>(
 fn status_of(end: SessionEnd, screen_failed: bool, key_lost: bool) -> u8
     ensures not_usage { result ≢ 1 }
     ensures not_start { result ≢ 2 }
+    ensures keyboard { result ≡ 3 → end ≡ SessionEnd.KeysFailed }
+    ensures screen { result ≡ 4 → IsTrue screen_failed }
 {
     match end {
         SessionEnd::KeysFailed => 3,
-        SessionEnd::ScreenFailed => 4,
-        SessionEnd::NoMemory => 5,
+        SessionEnd::ScreenFailed => quiet_status(screen_failed, true),
+        SessionEnd::NoMemory => quiet_status(screen_failed, true),
         SessionEnd::Quit => quiet_status(screen_failed, key_lost),
         SessionEnd::KeysEnded => quiet_status(screen_failed, key_lost),
     }
@@ -65,6 +70,8 @@ fn status_of(end: SessionEnd, screen_failed: bool, key_lost: bool) -> u8
 fn quiet_status(screen_failed: bool, key_lost: bool) -> u8
     ensures not_usage { result ≢ 1 }
     ensures not_start { result ≢ 2 }
+    ensures not_keyboard { result ≢ 3 }
+    ensures screen { result ≡ 4 → IsTrue screen_failed }
 {
     if screen_failed {
         4
@@ -85,6 +92,7 @@ pub fn refuse<T, S: Sink, P>(
     spawner: P,
 ) -> Outcome<T, S, P>
     ensures status { IsStatusOr status result.status }
+    ensures screen { status ≢ 4 → result.status ≡ 4 → HasRisen (S.fault_count screen) (S.fault_count result.screen) }
     ensures tree { result.tree ≡ tree }
     ensures empty { result.history.entries ≡ [] }
 {
@@ -105,6 +113,7 @@ pub fn refuse_start<T, S: Sink, P>(
 ) -> Outcome<T, S, P>
     ensures status { IsStatusOr 2 result.status }
     ensures cause { result.status ≡ 2 → refused.error ≢ StartError.Memory }
+    ensures screen { result.status ≡ 4 → HasRisen (S.fault_count refused.screen) (S.fault_count result.screen) }
     ensures tree { result.tree ≡ refused.tree }
     ensures empty { result.history.entries ≡ [] }
 {
@@ -145,6 +154,7 @@ pub fn without_session<T, S, P>(
 ) -> Outcome<T, S, P>
     ensures status { result.status ≡ status }
     ensures tree { result.tree ≡ tree }
+    ensures screen { result.screen ≡ screen }
     ensures empty { result.history.entries ≡ [] }
 {
     Outcome {

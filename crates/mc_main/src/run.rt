@@ -1,7 +1,7 @@
 //! One run of the file manager over its devices.
 ghost use Rattle.std.specs.Prelude.{◌≡◌, Option, Some, None, reverse};
 ghost use Rattle.tree_trait.specs.FileSystem.{View};
-ghost use Rattle.tree_trait.specs.Answers.{IfKnown};
+ghost use Rattle.tree_trait.specs.Answers.{IfKnown, HasRisen};
 ghost use Rattle.copy_move.specs.Work.{live_job};
 ghost use Rattle.copy_move.specs.Replay.{IsReplayed};
 ghost use Rattle.mc_desk.specs.Sessions.{MayOpen};
@@ -47,6 +47,7 @@ pub fn mc_run<N: Tag, T: Tree, K: Source, S: Sink, P: Spawner, C: Clock, G: Gate
     _gate: &G,
 ) -> Outcome<T, S, P>
     requires opening { IfKnown (T.contents tree) (λ log. N.opening ≡ Some log) }
+    requires sink { N.sink_faults ≡ S.fault_count screen }
 
     // The tree is what the history makes of the opening, and the history is a session: a job is begun directly after each
     // confirmed deletion, and deletes the file that was chosen.
@@ -61,6 +62,10 @@ pub fn mc_run<N: Tag, T: Tree, K: Source, S: Sink, P: Spawner, C: Clock, G: Gate
     ensures start { result.status ≡ 2 → IfKnown (T.contents tree) (λ log.
         MayRefuseStart log (folder_in words.now) (T.fault_count tree) (T.fault_count result.tree)) }
     ensures refuses_start { IfKnown (T.contents tree) (λ log. RefusesStart log (folder_in words.now) result.status) }
+
+    // Statuses 3 and 4: only where the device's count of faults has risen.
+    ensures keyboard { result.status ≡ 3 → HasRisen (K.fault_count keys.old) (K.fault_count keys.new) }
+    ensures screen { result.status ≡ 4 → HasRisen N.sink_faults (S.fault_count result.screen) }
 {
     let folder = match read_words(alloc, words) {
         Ok(folder) => folder,

@@ -1,5 +1,6 @@
 //! A session: keys are taken one byte at a time, and after each the job that it began is worked.
-ghost use Rattle.std.specs.Prelude.{◌≡◌};
+ghost use Rattle.std.specs.Prelude.{◌≡◌, ◌≢◌, []};
+ghost use Rattle.tree_trait.specs.Answers.{HasRisen, IfKnown};
 
 use mc_desk::{Desk, DeskError, DeskReply, Tag};
 use std::alloc::Global;
@@ -25,6 +26,8 @@ pub fn run_session<N: Tag, T: Tree, K: Source, S: Sink, P: Spawner, C: Clock>(
     clock: &C,
 ) -> SessionEnd
     ensures folder { desk.new.screen.panel.folder ≡ desk.old.screen.panel.folder }
+    ensures keys_failed { result ≡ SessionEnd.KeysFailed → HasRisen (K.fault_count keys.old) (K.fault_count keys.new) }
+    ensures keys_ended { result ≡ SessionEnd.KeysEnded → IfKnown (K.left keys.new) (λ bytes. bytes ≡ []) }
 {
     for _ in 0..u64::MAX {
         if let Err(error) = work_due(alloc, desk) {
@@ -43,7 +46,8 @@ pub fn run_session<N: Tag, T: Tree, K: Source, S: Sink, P: Spawner, C: Clock>(
             Ok(DeskReply::Wait(_)) => {}
         }
     }
-    SessionEnd::KeysEnded
+    // No history has room for so many keys.
+    SessionEnd::NoMemory
 }
 
 /// Works what is due before the next key: the job is stepped until it isn't ready, and looked at.
@@ -64,7 +68,10 @@ fn work_due<N: Tag, T: Tree, S: Sink, P: Spawner>(
     }
 }
 
-fn failed(error: DeskError) -> SessionEnd {
+fn failed(error: DeskError) -> SessionEnd
+    ensures not_failed { result ≢ SessionEnd.KeysFailed }
+    ensures not_ended { result ≢ SessionEnd.KeysEnded }
+{
     match error {
         DeskError::Screen => SessionEnd::ScreenFailed,
         DeskError::Memory => SessionEnd::NoMemory,
