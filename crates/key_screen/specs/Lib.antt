@@ -1,3 +1,5 @@
 pub mod KeySpelling
 pub mod DecodedKeys
 pub mod KeyCuts
+pub mod Cells
+pub mod DrawnText
