@@ -1,3 +1,4 @@
 pub mod FrontLemmas
 pub mod DecodedLemmas
 pub mod CutLemmas
+pub mod DrawnLemmas
