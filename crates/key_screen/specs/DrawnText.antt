@@ -1,5 +1,5 @@
 -- How text is drawn. Clusters are the extended grapheme clusters of UAX #29, and their columns those of unicode_width.
-use Rattle.std.specs.Prelude.{ℕ, ◌+◌, ◌-◌, Bool, true, false, not, ◌&&◌, ◌||◌, ◌==◌, nat_le, if◌then◌else◌, List, [], ◌∷◌, length, map, string_bytes}
+use Rattle.std.specs.Prelude.{ℕ, ◌+◌, ◌-◌, Bool, true, false, not, ◌&&◌, ◌||◌, ◌==◌, nat_le, nat_lt, if◌then◌else◌, List, [], ◌∷◌, length, map, string_bytes}
 use Rattle.std.specs.List.{list_any}
 use Rattle.std.specs.Str.{chars}
 use Rattle.std.specs.Char.{is_control}
@@ -50,10 +50,14 @@ abbrev pub put_glyph : List Cell → ℕ → Glyph → Attr → List Cell
 put_glyph cells at glyph attr =
     if glyph_columns glyph == 2 then put_wide cells at glyph attr else put_narrow cells at glyph attr
 
--- glyphs are put from a place on, up to the first for which the room in its row is too short
+-- a glyph has room in its row
+abbrev pub has_room : Glyph → ℕ → Bool
+has_room glyph room = nat_lt 0 (glyph_columns glyph) && nat_le (glyph_columns glyph) room
+
+-- glyphs are put from a place on, up to the first that has no room in its row
 abbrev pub put_glyphs : List Cell → ℕ → ℕ → List Glyph → Attr → List Cell
 put_glyphs cells at room [] attr = cells
 put_glyphs cells at room (glyph ∷ glyphs) attr =
-    if nat_le (glyph_columns glyph) room
+    if has_room glyph room
     then put_glyphs (put_glyph cells at glyph attr) (at + glyph_columns glyph) (room - glyph_columns glyph) glyphs attr
     else cells

@@ -3,3 +3,4 @@ pub mod DecodedKeys
 pub mod KeyCuts
 pub mod Cells
 pub mod DrawnText
+pub mod Grids

@@ -4,6 +4,7 @@
 mod cells;
 mod characters;
 mod drawn;
+mod grid;
 mod keys;
 mod laws;
 mod reader;
@@ -13,6 +14,7 @@ mod spelling;
 mod tests;
 
 pub use cells::Attr;
+pub use grid::Grid;
 pub use keys::{Base, Fed, Key};
 pub use laws::{keys_have_one_cut, keys_survive_any_pieces};
 pub use reader::KeyReader;
