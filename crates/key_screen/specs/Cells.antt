@@ -50,4 +50,4 @@ put_narrow cells at glyph attr = slice_set (freed cells at) at (record { glyph =
 abbrev pub put_wide : List Cell → ℕ → Glyph → Attr → List Cell
 put_wide cells at glyph attr =
     slice_set (slice_set (freed (freed cells at) (at + 1)) at (record { glyph = glyph; attr = attr })) (at + 1)
-        (record { glyph = RightHalf; attr = attr })
+    (record { glyph = RightHalf; attr = attr })

@@ -34,5 +34,7 @@ room_from grid column = grid.columns - (column - 1)
 -- a text is written from a cell on; what passes the last column is dropped
 abbrev pub written : CellGrid → ℕ → ℕ → List ℕ → Attr → CellGrid
 written grid row column text attr =
-    record grid { cells = put_glyphs grid.cells (place_of grid row column) (room_from grid column)
-        (map drawn_glyph (graphemes true text)) attr }
+    record grid {
+      cells = put_glyphs grid.cells (place_of grid row column) (room_from grid column)
+          (map drawn_glyph (graphemes true text)) attr;
+    }

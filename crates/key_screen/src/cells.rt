@@ -1,8 +1,9 @@
 //! What a cell of the screen shows.
-ghost use Rattle.std.specs.Prelude.{◌≡◌, ◌<◌, ◌≤◌, ◌+◌, ◌-◌, ◌*◌, length, slice_set, true};
+ghost use Rattle.std.specs.Prelude.{◌≡◌, ◌<◌, ◌≤◌, ◌+◌, ◌-◌, ◌*◌, length, slice_set, true, ◌↔◌, IsTrue};
 ghost use Rattle.key_screen.specs.Cells.{freed, left_freed, right_freed, right_half_at, with_blank, put_narrow, put_wide};
 
 use mc_text::Text;
+use std::convert::AsStr;
 
 /// How a cell looks.
 #[derive(Clone, Copy, Debug, PartialEq, Eq)]
@@ -98,4 +99,37 @@ pub fn put_two(cells: &mut [Cell], at: usize, glyph: Glyph, attr: Attr)
         glyph: Glyph::RightHalf,
         attr,
     };
+}
+
+/// Whether two lists have the same cells.
+pub fn are_same(cells: &[Cell], others: &[Cell]) -> bool
+    ensures { IsTrue result ↔ (cells.now ≡ others.now) }
+{
+    if cells.len() != others.len() {
+        return false;
+    }
+    for i in 0..cells.len() {
+        if !is_same(&cells[i], &others[i]) {
+            return false;
+        }
+    }
+    true
+}
+
+/// Whether two cells hold the same and look the same.
+pub fn is_same(cell: &Cell, other: &Cell) -> bool
+    ensures { IsTrue result ↔ (cell.now ≡ other.now) }
+{
+    cell.attr == other.attr && holds_same(&cell.glyph, &other.glyph)
+}
+
+/// Whether two cells hold the same.
+fn holds_same(glyph: &Glyph, other: &Glyph) -> bool
+    ensures { IsTrue result ↔ (glyph.now ≡ other.now) }
+{
+    match (glyph, other) {
+        (Glyph::Blank, Glyph::Blank) | (Glyph::RightHalf, Glyph::RightHalf) => true,
+        (Glyph::Cluster(text), Glyph::Cluster(other)) => text.as_str() == other.as_str(),
+        _ => false,
+    }
 }

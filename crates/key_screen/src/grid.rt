@@ -1,10 +1,11 @@
 //! A screen of cells.
-ghost use Rattle.std.specs.Prelude.{◌≡◌, ◌↔◌, ◌<◌, ◌≤◌, ◌+◌, ◌-◌, ◌*◌, length, replicate, IsTrue, IfOk, OnOk, OnErr};
+ghost use Rattle.std.specs.Prelude.{◌≡◌, ◌↔◌, ◌<◌, ◌≤◌, ◌+◌, ◌-◌, ◌*◌, length, map, replicate, true, IsTrue, IfOk, OnOk, OnErr};
+ghost use Rattle.unicode_segmentation.specs.Grapheme.{graphemes};
 ghost use Rattle.key_screen.specs.Cells.{blank_cell};
-ghost use Rattle.key_screen.specs.DrawnText.{glyph_columns, put_glyph, put_glyphs};
+ghost use Rattle.key_screen.specs.DrawnText.{drawn_glyph, glyph_columns, put_glyph, put_glyphs};
 ghost use Rattle.key_screen.specs.Grids.{blank_grid, written, IsOnGrid};
 
-use crate::cells::{Attr, Cell, Glyph, put_one, put_two};
+use crate::cells::{Attr, Cell, Glyph, are_same, put_one, put_two};
 use crate::drawn::{columns_of_glyph, drawn};
 use mc_text::NoMemory;
 use std::alloc::{AllocError, Global};
@@ -57,9 +58,16 @@ impl Grid {
     {
         let room = usize::from(self.columns) - usize::from(column - 1);
         let at = usize::from(row - 1) * usize::from(self.columns) + usize::from(column - 1);
-        let glyphs = drawn(alloc, text, room)?;
-        put_all(&mut self.cells, at, room, glyphs, attr);
-        Ok(())
+        write_cells(&mut self.cells, alloc, at, room, text, attr)
+    }
+
+    /// Whether another screen has the same size and the same cells.
+    pub fn same(&self, other: &Grid) -> bool
+        ensures { IsTrue result ↔ (self.now ≡ other.now) }
+    {
+        self.lines == other.lines
+            && self.columns == other.columns
+            && are_same(self.cells.as_slice(), other.cells.as_slice())
     }
 }
 
@@ -75,6 +83,25 @@ fn blank_cells(alloc: Global, count: usize) -> Result<Vec<Cell>, AllocError>
         })?;
     }
     Ok(cells)
+}
+
+/// Writes a text from a place on, as far as the row has room.
+fn write_cells(
+    cells: &mut [Cell],
+    alloc: Global,
+    at: usize,
+    room: usize,
+    text: &str,
+    attr: Attr,
+) -> Result<(), NoMemory>
+    requires { at + room ≤ length cells.old }
+    ensures done { OnOk result
+        (cells.new ≡ put_glyphs cells.old at room (map drawn_glyph (graphemes true text.now)) attr) }
+    ensures refused { OnErr result (cells.new ≡ cells.old) }
+{
+    let glyphs = drawn(alloc, text, room)?;
+    put_all(cells, at, room, glyphs, attr);
+    Ok(())
 }
 
 /// Puts glyphs from a place on, as far as the row has room.

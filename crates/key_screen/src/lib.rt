@@ -1,17 +1,19 @@
-//! Keys: the bytes of a terminal, cut into keys.
+//! The terminal: its bytes cut into keys, and the cells of its screen.
 #![tactic(auto)]
 
 mod cells;
 mod characters;
 mod drawn;
 mod grid;
+#[cfg(test)]
+mod grid_tests;
+#[cfg(test)]
+mod key_tests;
 mod keys;
 mod laws;
 mod reader;
 mod sequences;
 mod spelling;
-#[cfg(test)]
-mod tests;
 
 pub use cells::Attr;
 pub use grid::Grid;
