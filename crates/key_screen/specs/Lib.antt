@@ -4,3 +4,4 @@ pub mod KeyCuts
 pub mod Cells
 pub mod DrawnText
 pub mod Grids
+pub mod Controls

@@ -3,6 +3,7 @@
 
 mod cells;
 mod characters;
+mod control;
 mod drawn;
 mod grid;
 #[cfg(test)]
@@ -16,6 +17,7 @@ mod sequences;
 mod spelling;
 
 pub use cells::Attr;
+pub use control::control_of;
 pub use grid::Grid;
 pub use keys::{Base, Fed, Key};
 pub use laws::{keys_have_one_cut, keys_survive_any_pieces};
