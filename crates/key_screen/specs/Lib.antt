@@ -5,3 +5,4 @@ pub mod Cells
 pub mod DrawnText
 pub mod Grids
 pub mod Controls
+pub mod Terminal

@@ -10,6 +10,17 @@ use crate::drawn::{columns_of_glyph, drawn};
 use mc_text::NoMemory;
 use std::alloc::{AllocError, Global};
 use std::marker::Model;
+use thiserror::Error;
+
+/// Why bytes give no grid.
+#[derive(Clone, Copy, Debug, Drop, Error, PartialEq, Eq)]
+pub enum GridError {
+    /// The position of the first byte that a terminal doesn't read.
+    #[error("byte {0} isn't read")]
+    BadByte(usize),
+    #[error("out of memory")]
+    Memory,
+}
 
 /// A screen of cells. Contracts see it as the list of its cells, row by row.
 #[derive(Debug, Drop)]
@@ -123,7 +134,7 @@ fn put_all(cells: &mut [Cell], at: usize, room: usize, glyphs: Vec<Glyph>, attr:
 }
 
 /// Puts a glyph into its cell or its two cells.
-fn put(cells: &mut [Cell], at: usize, glyph: Glyph, attr: Attr)
+pub fn put(cells: &mut [Cell], at: usize, glyph: Glyph, attr: Attr)
     requires first { at < length cells.old }
     requires last { at + glyph_columns glyph ≤ length cells.old }
     ensures { cells.new ≡ put_glyph cells.old at glyph attr }

@@ -15,10 +15,12 @@ mod laws;
 mod reader;
 mod sequences;
 mod spelling;
+mod terminal;
 
 pub use cells::Attr;
 pub use control::control_of;
-pub use grid::Grid;
+pub use grid::{Grid, GridError};
+pub use terminal::Terminal;
 pub use keys::{Base, Fed, Key};
 pub use laws::{keys_have_one_cut, keys_survive_any_pieces};
 pub use reader::KeyReader;

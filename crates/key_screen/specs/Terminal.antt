@@ -1,0 +1,72 @@
+-- What a terminal shows after bytes: text, and the sequences of specs/Controls. As xterm does, but for what isn't read,
+-- which is our own, and so is that bold and reverse never add up.
+use Rattle.std.specs.Prelude.{◌≡◌, ⊤, ℕ, ◌+◌, ◌-◌, ◌*◌, Bool, true, false, ◌&&◌, ◌==◌, nat_le, if◌then◌else◌, List, [], ◌∷◌, length, take, drop, replicate, Option, Some, None, Result, Ok, Err}
+use Rattle.std.specs.Str.{is_utf8}
+use Rattle.std.specs.Str.Lossy.{utf8_valid_len}
+use Rattle.unicode_segmentation.specs.Grapheme.{graphemes}
+use Rattle.key_screen.specs.declared.cells.Attr.{Attr}
+use Rattle.key_screen.specs.declared.cells.Attr.TheVariants.{Plain, Bold, Reverse}
+use Rattle.key_screen.specs.declared.cells.Cell.{Cell}
+use Rattle.key_screen.specs.declared.control.Control.{Control}
+use Rattle.key_screen.specs.declared.control.Control.TheVariants.{Clear, Look, Place}
+use Rattle.key_screen.specs.declared.control.Sequence.{Sequence}
+use Rattle.key_screen.specs.declared.grid.GridError.{GridError}
+use Rattle.key_screen.specs.declared.grid.GridError.TheVariants.{BadByte, Memory}
+use Rattle.key_screen.specs.Cells.{blank_cell}
+use Rattle.key_screen.specs.Controls.{control_of}
+use Rattle.key_screen.specs.DrawnText.{cluster_columns, drawn_glyph, is_drawable, put_glyph}
+use Rattle.key_screen.specs.KeySpelling.{is_within}
+
+-- the cells of a terminal, the place of the next cluster in them, the columns left in its row, and how it will look
+pub record TerminalState : Type 0 where
+  pub lines : ℕ
+  pub columns : ℕ
+  pub cells : List Cell
+  pub at : ℕ
+  pub room : ℕ
+  pub mode : Attr
+
+-- a terminal before any byte
+abbrev pub blank_terminal : ℕ → ℕ → TerminalState
+blank_terminal lines columns =
+    record { lines = lines; columns = columns; cells = replicate (lines * columns) blank_cell; at = 0; room = columns; mode = Plain }
+
+-- a terminal shows a cluster that can be drawn, and for which its row has room
+abbrev pub can_show : TerminalState → List ℕ → Bool
+can_show t cluster = is_drawable cluster && nat_le (cluster_columns cluster) t.room
+
+-- a cluster was shown, and the next goes behind it
+abbrev pub with_cluster : TerminalState → List ℕ → TerminalState
+with_cluster t cluster =
+    record t {
+      cells = put_glyph t.cells t.at (drawn_glyph cluster) t.mode;
+      at = t.at + cluster_columns cluster;
+      room = t.room - cluster_columns cluster
+    }
+
+-- a cluster at a position of the bytes is read
+abbrev pub cluster_read : TerminalState → ℕ → List ℕ → Result TerminalState ℕ
+cluster_read t position cluster = if can_show t cluster then Ok (with_cluster t cluster) else Err position
+
+-- clusters are read up to one that isn't shown, whose position is told; the first stands at this position
+abbrev pub clusters_read : TerminalState → ℕ → List (List ℕ) → Result TerminalState ℕ
+clusters_read t position [] = Ok t
+clusters_read t position (cluster ∷ clusters) =
+    if can_show t cluster then clusters_read (with_cluster t cluster) (position + length cluster) clusters else Err position
+
+-- behind what is read stands a byte that isn't, at this position
+abbrev pub up_to_fault : Result TerminalState ℕ → ℕ → Result TerminalState ℕ
+up_to_fault (Ok t) position = Err position
+up_to_fault (Err earlier) position = Err earlier
+
+-- text is read as its clusters, up to what is no UTF-8
+abbrev pub text_read : TerminalState → ℕ → List ℕ → Result TerminalState ℕ
+text_read t position bytes =
+    if is_utf8 bytes then clusters_read t position (graphemes true bytes)
+    else up_to_fault (clusters_read t position (graphemes true (take (utf8_valid_len bytes) bytes))) (position + utf8_valid_len bytes)
+
+-- what an answer tells of what was to be read: all of it, or the first byte that isn't read
+abbrev pub Reads : {T : Type 0} → Result TerminalState ℕ → Result T GridError → TerminalState → Type 0
+Reads told (Ok x) new = told ≡ Ok new
+Reads told (Err (BadByte position)) new = told ≡ Err position
+Reads told (Err Memory) new = ⊤
