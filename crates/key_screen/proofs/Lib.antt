@@ -2,3 +2,4 @@ pub mod FrontLemmas
 pub mod DecodedLemmas
 pub mod CutLemmas
 pub mod DrawnLemmas
+pub mod TerminalLemmas

@@ -70,3 +70,36 @@ abbrev pub Reads : {T : Type 0} → Result TerminalState ℕ → Result T GridEr
 Reads told (Ok x) new = told ≡ Ok new
 Reads told (Err (BadByte position)) new = told ≡ Err position
 Reads told (Err Memory) new = ⊤
+
+-- bold or reverse is read only while the mode is plain
+abbrev pub looking : TerminalState → Attr → Attr → Option TerminalState
+looking t Plain attr = Some (record t { mode = attr })
+looking t other attr = None
+
+-- what a control makes of a terminal, if it is read there
+abbrev pub controlled : TerminalState → Control → Option TerminalState
+controlled t Clear = Some (record t { cells = replicate (length t.cells) blank_cell })
+controlled t (Look Plain) = Some (record t { mode = Plain })
+controlled t (Look attr) = looking t t.mode attr
+controlled t (Place row column) =
+    if is_within 1 t.lines row && is_within 1 t.columns column
+    then Some (record t { at = (row - 1) * t.columns + (column - 1); room = t.columns - (column - 1) })
+    else None
+
+-- the text behind a control, if that is read; its escape stands at this position
+abbrev pub behind_control : ℕ → List ℕ → Sequence → Option TerminalState → Result TerminalState ℕ
+behind_control position bytes sequence None = Err position
+behind_control position bytes sequence (Some t) = text_read t (position + 1 + sequence.bytes) (drop sequence.bytes bytes)
+
+abbrev pub behind_sequence : TerminalState → ℕ → List ℕ → Option Sequence → Result TerminalState ℕ
+behind_sequence t position bytes None = Err position
+behind_sequence t position bytes (Some sequence) = behind_control position bytes sequence (controlled t sequence.control)
+
+-- the bytes after an escape at this position, up to the next one, are read
+abbrev pub sequence_read : TerminalState → ℕ → List ℕ → Result TerminalState ℕ
+sequence_read t position bytes = behind_sequence t position bytes (control_of bytes)
+
+-- a control was read, or it was not and nothing has changed
+abbrev pub Obeys : Option TerminalState → Bool → TerminalState → Type 0
+Obeys told true new = told ≡ Some new
+Obeys told false new = told ≡ None

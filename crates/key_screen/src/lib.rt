@@ -18,7 +18,6 @@ mod spelling;
 mod terminal;
 
 pub use cells::Attr;
-pub use control::control_of;
 pub use grid::{Grid, GridError};
 pub use terminal::Terminal;
 pub use keys::{Base, Fed, Key};

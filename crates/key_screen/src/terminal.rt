@@ -1,9 +1,12 @@
 //! A terminal that reads bytes, as `specs/Terminal.antt` says.
-ghost use Rattle.std.specs.Prelude.{◌≡◌, ◌<◌, ◌≤◌, ◌+◌, ◌^◌, true, length};
+ghost use Rattle.std.specs.Prelude.{◌≡◌, ◌<◌, ◌≤◌, ◌+◌, ◌^◌, true, length, take, replicate};
+ghost use Rattle.key_screen.specs.Cells.{blank_cell};
+ghost use Rattle.std.specs.Str.{IsUtf8};
 ghost use Rattle.unicode_segmentation.specs.Grapheme.{graphemes};
-ghost use Rattle.key_screen.specs.Terminal.{cluster_read, clusters_read, text_read, Reads};
+ghost use Rattle.key_screen.specs.Terminal.{cluster_read, clusters_read, text_read, up_to_fault, sequence_read, controlled, looking, Reads, Obeys};
 
-use crate::cells::{Attr, Cell};
+use crate::cells::{Attr, Cell, Glyph};
+use crate::control::{Control, control_of};
 use crate::drawn::{can_be_drawn, columns_of, glyph_of};
 use crate::grid::{GridError, put};
 use std::alloc::Global;
@@ -48,5 +51,119 @@ impl Terminal {
         self.at += columns;
         self.room -= columns;
         Ok(())
+    }
+
+    /// Reads the clusters of a text that stands at this position of the bytes.
+    fn read_clusters(&mut self, alloc: Global, text: &str, position: usize) -> Result<(), GridError>
+        requires { position + length text.now < 2 ^ 63 }
+        ensures { Reads (clusters_read self.old position (graphemes true text.now)) result self.new }
+    {
+        let mut at = position;
+        for cluster in text.graphemes(true) {
+            self.show(alloc, cluster, at)?;
+            at += cluster.len();
+        }
+        Ok(())
+    }
+
+    /// Reads the text that stands at this position of the bytes.
+    fn read_text(&mut self, alloc: Global, bytes: &[u8], position: usize) -> Result<(), GridError>
+        requires { position + length bytes.now < 2 ^ 63 }
+        ensures { Reads (text_read self.old position bytes.now) result self.new }
+    {
+        match str::from_utf8(bytes) {
+            Ok(text) => self.read_clusters(alloc, text, position),
+            Err(fault) => self.read_front(alloc, bytes, fault.valid_up_to(), position),
+        }
+    }
+
+    /// Reads the front of bytes that are text up to there, and tells the byte behind it.
+    fn read_front(&mut self, alloc: Global, bytes: &[u8], count: usize, position: usize) -> Result<(), GridError>
+        requires bounded { position + length bytes.now < 2 ^ 63 }
+        requires within { count ≤ length bytes.now }
+        requires front { IsUtf8 (take count bytes.now) }
+        ensures { Reads (up_to_fault (clusters_read self.old position (graphemes true (take count bytes.now))) (position + count)) result self.new }
+    {
+        match str::from_utf8(&bytes[..count]) {
+            Ok(text) => {
+                self.read_clusters(alloc, text, position)?;
+                Err(GridError::BadByte(position + count))
+            }
+            Err(_) => unreachable!(),
+        }
+    }
+
+    /// Reads what follows an escape at this position of the bytes, up to the next one.
+    fn read_sequence(
+        &mut self,
+        alloc: Global,
+        bytes: &[u8],
+        position: usize,
+    ) -> Result<(), GridError>
+        requires { position + 1 + length bytes.now < 2 ^ 63 }
+        ensures { Reads (sequence_read self.old position bytes.now) result self.new }
+    {
+        let Some(sequence) = control_of(bytes) else {
+            return Err(GridError::BadByte(position));
+        };
+        if !self.obey(sequence.control) {
+            return Err(GridError::BadByte(position));
+        }
+        self.read_text(alloc, &bytes[sequence.bytes..], position + 1 + sequence.bytes)
+    }
+
+    /// Does what a control says, and tells whether it is read.
+    fn obey(&mut self, control: Control) -> bool
+        ensures { Obeys (controlled self.old control) result self.new }
+    {
+        match control {
+            Control::Clear => {
+                clear(&mut self.cells);
+                true
+            }
+            Control::Look(Attr::Plain) => {
+                self.mode = Attr::Plain;
+                true
+            }
+            Control::Look(attr) => self.look(attr),
+            Control::Place(row, column) => self.place(row, column),
+        }
+    }
+
+    /// Shows text in bold or reverse from here on, if it is plain now.
+    fn look(&mut self, attr: Attr) -> bool
+        ensures { Obeys (looking self.old self.old.mode attr) result self.new }
+    {
+        if self.mode != Attr::Plain {
+            return false;
+        }
+        self.mode = attr;
+        true
+    }
+
+    /// Places the next cluster, if the row and column lie on the grid.
+    fn place(&mut self, row: u32, column: u32) -> bool
+        ensures { Obeys (controlled self.old (Control.Place row column)) result self.new }
+    {
+        if row == 0 || row > u32::from(self.lines) || column == 0 || column > u32::from(self.columns) {
+            return false;
+        }
+        let columns = usize::from(self.columns);
+        let before = column as usize - 1;
+        self.at = (row as usize - 1) * columns + before;
+        self.room = columns - before;
+        true
+    }
+}
+
+/// Makes all cells blank and plain.
+fn clear(cells: &mut [Cell])
+    ensures { cells.new ≡ replicate (length cells.old) blank_cell }
+{
+    for cell in cells.iter_mut() {
+        *cell = Cell {
+            glyph: Glyph::Blank,
+            attr: Attr::Plain,
+        };
     }
 }
