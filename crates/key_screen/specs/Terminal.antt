@@ -1,6 +1,6 @@
 -- What a terminal shows after bytes: text, and the sequences of specs/Controls. As xterm does, but for what isn't read,
 -- which is our own, and so is that bold and reverse never add up.
-use Rattle.std.specs.Prelude.{◌≡◌, ⊤, ℕ, ◌+◌, ◌-◌, ◌*◌, Bool, true, false, ◌&&◌, ◌==◌, nat_le, if◌then◌else◌, List, [], ◌∷◌, length, take, drop, replicate, Option, Some, None, Result, Ok, Err}
+use Rattle.std.specs.Prelude.{◌≡◌, ⊤, ℕ, ◌+◌, ◌-◌, ◌*◌, min, Bool, true, false, ◌&&◌, ◌==◌, nat_le, if◌then◌else◌, List, [], ◌∷◌, length, take, drop, replicate, Option, Some, None, Result, Ok, Err}
 use Rattle.std.specs.Str.{is_utf8}
 use Rattle.std.specs.Str.Lossy.{utf8_valid_len}
 use Rattle.unicode_segmentation.specs.Grapheme.{graphemes}
@@ -15,6 +15,7 @@ use Rattle.key_screen.specs.declared.grid.GridError.TheVariants.{BadByte, Memory
 use Rattle.key_screen.specs.Cells.{blank_cell}
 use Rattle.key_screen.specs.Controls.{control_of}
 use Rattle.key_screen.specs.DrawnText.{cluster_columns, drawn_glyph, is_drawable, put_glyph}
+use Rattle.key_screen.specs.Grids.{CellGrid}
 use Rattle.key_screen.specs.KeySpelling.{is_within}
 
 -- the cells of a terminal, the place of the next cluster in them, the columns left in its row, and how it will look
@@ -26,10 +27,10 @@ pub record TerminalState : Type 0 where
   pub room : ℕ
   pub mode : Attr
 
--- a terminal before any byte
+-- a terminal before any byte; one of no lines has no room
 abbrev pub blank_terminal : ℕ → ℕ → TerminalState
 blank_terminal lines columns =
-    record { lines = lines; columns = columns; cells = replicate (lines * columns) blank_cell; at = 0; room = columns; mode = Plain }
+    record { lines = lines; columns = columns; cells = replicate (lines * columns) blank_cell; at = 0; room = min columns (lines * columns); mode = Plain }
 
 -- a terminal shows a cluster that can be drawn, and for which its row has room
 abbrev pub can_show : TerminalState → List ℕ → Bool
@@ -103,3 +104,38 @@ sequence_read t position bytes = behind_sequence t position bytes (control_of by
 abbrev pub Obeys : Option TerminalState → Bool → TerminalState → Type 0
 Obeys told true new = told ≡ Some new
 Obeys told false new = told ≡ None
+
+-- bytes are cut at each escape: what stands before the first, and what follows each of them
+abbrev pub in_front : ℕ → List (List ℕ) → List (List ℕ)
+in_front byte [] = (byte ∷ []) ∷ []
+in_front byte (segment ∷ segments) = (byte ∷ segment) ∷ segments
+
+abbrev pub segments : List ℕ → List (List ℕ)
+segments [] = [] ∷ []
+segments (byte ∷ bytes) = if byte == 27 then [] ∷ segments bytes else in_front byte (segments bytes)
+
+-- what follows each escape is read, behind what was read before; the first escape stands at this position
+abbrev pub sequences_read : Result TerminalState ℕ → ℕ → List (List ℕ) → Result TerminalState ℕ
+sequences_read told position [] = told
+sequences_read (Ok t) position (bytes ∷ more) = sequences_read (sequence_read t position bytes) (position + 1 + length bytes) more
+sequences_read (Err earlier) position (bytes ∷ more) = Err earlier
+
+-- all bytes, cut at their escapes, are read
+abbrev pub all_read : TerminalState → List (List ℕ) → Result TerminalState ℕ
+all_read t [] = Ok t
+all_read t (text ∷ sequences) = sequences_read (text_read t 0 text) (length text) sequences
+
+-- what a terminal shows
+abbrev pub shown_grid : Result TerminalState ℕ → Result CellGrid ℕ
+shown_grid (Ok t) = Ok (record { lines = t.lines; columns = t.columns; cells = t.cells })
+shown_grid (Err position) = Err position
+
+-- what a blank terminal of this size shows after these bytes, or the position of the first byte that it doesn't read
+abbrev pub screen_after : ℕ → ℕ → List ℕ → Result CellGrid ℕ
+screen_after lines columns bytes = shown_grid (all_read (blank_terminal lines columns) (segments bytes))
+
+-- what an answer tells of a screen
+abbrev pub TellsScreen : Result CellGrid ℕ → Result CellGrid GridError → Type 0
+TellsScreen told (Ok grid) = told ≡ Ok grid
+TellsScreen told (Err (BadByte position)) = told ≡ Err position
+TellsScreen told (Err Memory) = ⊤

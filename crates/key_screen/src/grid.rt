@@ -54,6 +54,18 @@ impl Grid {
         })
     }
 
+    /// A screen of these cells, row by row.
+    pub(crate) fn of_cells(lines: u16, columns: u16, cells: Vec<Cell>) -> Grid
+        requires { length cells.items ≡ lines * columns }
+        ensures { result ≡ record { lines = lines; columns = columns; cells = cells.items } }
+    {
+        Grid {
+            lines,
+            columns,
+            cells,
+        }
+    }
+
     /// Writes a text from a cell on, counted from 1, in one row. What passes the last column is dropped.
     pub fn write(
         &mut self,
@@ -83,7 +95,7 @@ impl Grid {
 }
 
 /// Blank and plain cells.
-fn blank_cells(alloc: Global, count: usize) -> Result<Vec<Cell>, AllocError>
+pub fn blank_cells(alloc: Global, count: usize) -> Result<Vec<Cell>, AllocError>
     ensures { IfOk result (λ cells. cells.items ≡ replicate count blank_cell) }
 {
     let mut cells = Vec::new(alloc);

@@ -1,14 +1,14 @@
 //! A terminal that reads bytes, as `specs/Terminal.antt` says.
-ghost use Rattle.std.specs.Prelude.{◌≡◌, ◌<◌, ◌≤◌, ◌+◌, ◌^◌, true, length, take, replicate};
+ghost use Rattle.std.specs.Prelude.{◌≡◌, ◌<◌, ◌≤◌, ◌+◌, ◌^◌, ◌≢◌, ℕ, true, length, take, replicate, slice_index, IfOk, IfErr};
 ghost use Rattle.key_screen.specs.Cells.{blank_cell};
 ghost use Rattle.std.specs.Str.{IsUtf8};
 ghost use Rattle.unicode_segmentation.specs.Grapheme.{graphemes};
-ghost use Rattle.key_screen.specs.Terminal.{cluster_read, clusters_read, text_read, up_to_fault, sequence_read, controlled, looking, Reads, Obeys};
+ghost use Rattle.key_screen.specs.Terminal.{cluster_read, clusters_read, text_read, up_to_fault, sequence_read, controlled, looking, all_read, segments, shown_grid, screen_after, blank_terminal, Reads, Obeys, TellsScreen};
 
 use crate::cells::{Attr, Cell, Glyph};
 use crate::control::{Control, control_of};
 use crate::drawn::{can_be_drawn, columns_of, glyph_of};
-use crate::grid::{GridError, put};
+use crate::grid::{Grid, GridError, blank_cells, put};
 use std::alloc::Global;
 use std::marker::Model;
 use unicode_segmentation::UnicodeSegmentation;
@@ -36,6 +36,47 @@ impl Model for Terminal {
 }
 
 impl Terminal {
+    /// A terminal before any byte.
+    pub fn blank(alloc: Global, lines: u16, columns: u16) -> Result<Terminal, GridError>
+        ensures blank { IfOk result (λ terminal. terminal ≡ blank_terminal lines columns) }
+        ensures memory { IfErr result (λ error. error ≡ GridError.Memory) }
+    {
+        let count = usize::from(lines) * usize::from(columns);
+        match blank_cells(alloc, count) {
+            Ok(cells) => Ok(Terminal {
+                lines,
+                columns,
+                cells,
+                at: 0,
+                room: usize::from(columns).min(count),
+                mode: Attr::Plain,
+            }),
+            Err(_) => Err(GridError::Memory),
+        }
+    }
+
+    /// What it shows.
+    pub fn into_grid(self) -> Grid
+        ensures { shown_grid (Ok self) ≡ Ok result }
+    {
+        Grid::of_cells(self.lines, self.columns, self.cells)
+    }
+
+    /// Reads all bytes.
+    pub fn read_all(&mut self, alloc: Global, bytes: &[u8]) -> Result<(), GridError>
+        ensures { Reads (all_read self.old (segments bytes.now)) result self.new }
+    {
+        let mut at = escape_in(bytes);
+        self.read_text(alloc, &bytes[..at], 0)?;
+        while at < bytes.len() {
+            let (_, rest) = bytes.split_at(at + 1);
+            let count = escape_in(rest);
+            self.read_sequence(alloc, &rest[..count], at)?;
+            at += 1 + count;
+        }
+        Ok(())
+    }
+
     /// Shows a cluster that stands at this position of the bytes.
     fn show(&mut self, alloc: Global, cluster: &str, position: usize) -> Result<(), GridError>
         ensures { Reads (cluster_read self.old position cluster.now) result self.new }
@@ -166,4 +207,32 @@ fn clear(cells: &mut [Cell])
             attr: Attr::Plain,
         };
     }
+}
+
+/// Where the first escape stands in the bytes, or their end.
+fn escape_in(bytes: &[u8]) -> usize
+    ensures within { result ≤ length bytes.now }
+    ensures before { (k : ℕ) → k < result → slice_index bytes.now k ≢ 27 }
+    ensures found { result < length bytes.now → slice_index bytes.now result ≡ 27 }
+{
+    for (at, byte) in bytes.iter().enumerate() {
+        if *byte == 0x1b {
+            return at;
+        }
+    }
+    bytes.len()
+}
+
+/// What a blank screen of this size shows after these bytes.
+pub fn read_grid(
+    alloc: Global,
+    lines: u16,
+    columns: u16,
+    bytes: &[u8],
+) -> Result<Grid, GridError>
+    ensures { TellsScreen (screen_after lines columns bytes.now) result }
+{
+    let mut terminal = Terminal::blank(alloc, lines, columns)?;
+    terminal.read_all(alloc, bytes)?;
+    Ok(terminal.into_grid())
 }
