@@ -45,7 +45,7 @@ segments-first (byte ∷ bytes) zero within before found =
     choice-true (byte == 27) ([] ∷ segments bytes) (in_front byte (segments bytes)) (let is : byte ≡ 27 = found (omega arith) in grind (arith, nat_tests))
 segments-first (byte ∷ bytes) (suc at) within before found =
     choice-false (byte == 27) ([] ∷ segments bytes) (in_front byte (segments bytes))
-        (λ is. before 0 (omega arith) (grind (arith, nat_tests)))
+    (λ is. before 0 (omega arith) (grind (arith, nat_tests)))
     ∙ ap (in_front byte) (segments-first bytes at (omega arith) (λ k below. before (suc k) (omega arith)) (λ less. found (omega arith)))
 
 -- what follows a byte that isn't read changes nothing
@@ -77,7 +77,7 @@ sequences_read-next t bytes rest at count room same within before found =
     let escape : behind_escape (drop at bytes) ≡ segments rest = ap behind_escape (drop_more bytes at 0 room) ∙ ap segments (sym same) in
     let place : at + 1 + length (take count rest) ≡ at + (1 + count) = omega (arith, length-take-le count rest within) in
     let left : drop count rest ≡ drop (at + (1 + count)) bytes =
-        ap (drop count) same ∙ drop-drop count (at + 1) bytes ∙ ap (λ n. drop n bytes) (let sum : at + 1 + count ≡ at + (1 + count) = omega arith in sum) in
+    ap (drop count) same ∙ drop-drop count (at + 1) bytes ∙ ap (λ n. drop n bytes) (let sum : at + 1 + count ≡ at + (1 + count) = omega arith in sum) in
     ap (sequences_read (Ok t) at) (escape ∙ segments-first rest count within before found)
     ∙ ap (λ n. sequences_read (sequence_read t at (take count rest)) n (behind_escape (drop count rest))) place
     ∙ ap (λ more. sequences_read (sequence_read t at (take count rest)) (at + (1 + count)) (behind_escape more)) left

@@ -1,10 +1,10 @@
 -- The cells of a screen, row by row in one list, and what is put into them. Own: xterm leaves open what becomes of a wide
 -- cluster that is half written over; here the other half is a blank.
-use Rattle.std.specs.Prelude.{ℕ, ◌+◌, ◌-◌, Bool, true, false, ◌&&◌, nat_lt, nat_le, if◌then◌else◌, List, [], ◌∷◌, Option, Some, None, slice_get, slice_set, ◌==◌}
+use Rattle.std.specs.Prelude.{ℕ, ◌+◌, ◌-◌, Bool, true, false, if◌then◌else◌, List, Option, Some, None, slice_get, slice_set}
 use Rattle.key_screen.specs.declared.cells.Attr.{Attr}
-use Rattle.key_screen.specs.declared.cells.Attr.TheVariants.{Plain, Bold, Reverse}
+use Rattle.key_screen.specs.declared.cells.Attr.TheVariants.{Plain}
 use Rattle.key_screen.specs.declared.cells.Glyph.{Glyph}
-use Rattle.key_screen.specs.declared.cells.Glyph.TheVariants.{Blank, Cluster, RightHalf}
+use Rattle.key_screen.specs.declared.cells.Glyph.TheVariants.{Blank, RightHalf}
 use Rattle.key_screen.specs.declared.cells.Cell.{Cell}
 
 -- a blank and plain cell

@@ -1,5 +1,5 @@
 -- How text is drawn. Clusters are the extended grapheme clusters of UAX #29, and their columns those of unicode_width.
-use Rattle.std.specs.Prelude.{ℕ, ◌+◌, ◌-◌, Bool, true, false, not, ◌&&◌, ◌||◌, ◌==◌, nat_le, nat_lt, if◌then◌else◌, List, [], ◌∷◌, length, map, string_bytes}
+use Rattle.std.specs.Prelude.{ℕ, ◌+◌, ◌-◌, Bool, true, false, not, ◌&&◌, ◌||◌, ◌==◌, nat_le, nat_lt, if◌then◌else◌, List, [], ◌∷◌, length}
 use Rattle.std.specs.List.{list_any}
 use Rattle.std.specs.Str.{chars}
 use Rattle.std.specs.Char.{is_control}
@@ -7,7 +7,7 @@ use Rattle.unicode_width.specs.Width.{str_width}
 use Rattle.unicode_segmentation.specs.Grapheme.{graphemes}
 use Rattle.key_screen.specs.declared.cells.Attr.{Attr}
 use Rattle.key_screen.specs.declared.cells.Glyph.{Glyph}
-use Rattle.key_screen.specs.declared.cells.Glyph.TheVariants.{Blank, Cluster, RightHalf}
+use Rattle.key_screen.specs.declared.cells.Glyph.TheVariants.{Blank, Cluster}
 use Rattle.key_screen.specs.declared.cells.Cell.{Cell}
 use Rattle.key_screen.specs.Cells.{put_narrow, put_wide}
 

@@ -5,7 +5,7 @@ use Rattle.std.specs.Str.{is_utf8}
 use Rattle.std.specs.Str.Lossy.{utf8_valid_len}
 use Rattle.unicode_segmentation.specs.Grapheme.{graphemes}
 use Rattle.key_screen.specs.declared.cells.Attr.{Attr}
-use Rattle.key_screen.specs.declared.cells.Attr.TheVariants.{Plain, Bold, Reverse}
+use Rattle.key_screen.specs.declared.cells.Attr.TheVariants.{Plain}
 use Rattle.key_screen.specs.declared.cells.Cell.{Cell}
 use Rattle.key_screen.specs.declared.control.Control.{Control}
 use Rattle.key_screen.specs.declared.control.Control.TheVariants.{Clear, Look, Place}
@@ -42,7 +42,7 @@ with_cluster t cluster =
     record t {
       cells = put_glyph t.cells t.at (drawn_glyph cluster) t.mode;
       at = t.at + cluster_columns cluster;
-      room = t.room - cluster_columns cluster
+      room = t.room - cluster_columns cluster;
     }
 
 -- a cluster at a position of the bytes is read

@@ -1,5 +1,5 @@
 //! What is written on a screen, beside the same written cell by cell in ASCII.
-use crate::{Attr, Grid};
+use crate::{Attr, Grid, GridError, read_grid};
 use mc_text::NoMemory;
 use std::alloc::Global;
 use std::test::Fail;
@@ -77,5 +77,58 @@ fn writes_rows(rt: HostRuntime) -> Result<(), Fail> {
     let other_size = Grid::blank(rt.alloc(), 10, 3)?;
     assert!(rt; !grid.same(&bold));
     assert!(rt; !other_size.same(&Grid::blank(rt.alloc(), 3, 10)?));
+    Ok(())
+}
+
+/// Bytes that a terminal reads, and what the second row of its screen shows then.
+fn shown() -> [(&'static [u8], &'static [Written]); 8] {
+    [
+        (b"", &[]),
+        (b"\x1b[2;1Hhi", &[(1, "hi", Attr::Plain)]),
+        (
+            b"\x1b[2;3H\x1b[7mhi\x1b[0m\x1b[1m!",
+            &[(3, "hi", Attr::Reverse), (5, "!", Attr::Bold)],
+        ),
+        (b"\x1b[2;1Hab\x1b[2;2Hc", &[(1, "ac", Attr::Plain)]),
+        (b"\x1b[2;1Hab\x1b[2J", &[]),
+        (b"\x1b[2;10Hx", &[(10, "x", Attr::Plain)]),
+        (b"\x1b[2;1H\xe6\x97\xa5\x1b[2;2Hx", &[(2, "x", Attr::Plain)]),
+        (b"\x1b[0m\x1b[0m\x1b[02;010Hx", &[(10, "x", Attr::Plain)]),
+    ]
+}
+
+/// Bytes that a terminal of 3 lines and 10 columns doesn't read to their end, and the first that it doesn't.
+fn unread() -> [(&'static [u8], usize); 12] {
+    [
+        (b"\x07", 0),
+        (b"ab\tc", 2),
+        (b"0123456789a", 10),
+        (b"\x1b[1;10H\xe6\x97\xa5", 7),
+        (b"\x1b[4;1Hx", 0),
+        (b"a\x1b[1;11Hx", 1),
+        (b"\x1b[0;1Hx", 0),
+        (b"\x1b[1m\x1b[7mx", 4),
+        (b"a\x1b[3mb", 1),
+        (b"a\x1b", 1),
+        (b"ab\xff", 2),
+        (b"a\xe2\x80\x8b", 1),
+    ]
+}
+
+#[test]
+fn reads_screens(rt: HostRuntime) -> Result<(), Fail> {
+    for (bytes, wanted) in shown() {
+        let grid = read_grid(rt.alloc(), 3, 10, bytes)?;
+        assert!(rt;
+            grid.same(&row_of(rt.alloc(), wanted)?),
+            "{bytes:?} is {grid:?}"
+        );
+    }
+    for (bytes, position) in unread() {
+        match read_grid(rt.alloc(), 3, 10, bytes) {
+            Ok(grid) => assert!(rt; false, "{bytes:?} is {grid:?}"),
+            Err(error) => assert_eq!(rt; error, GridError::BadByte(position), "{bytes:?}"),
+        }
+    }
     Ok(())
 }

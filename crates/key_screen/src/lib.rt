@@ -19,7 +19,7 @@ mod terminal;
 
 pub use cells::Attr;
 pub use grid::{Grid, GridError};
-pub use terminal::read_grid;
 pub use keys::{Base, Fed, Key};
 pub use laws::{keys_have_one_cut, keys_survive_any_pieces};
 pub use reader::KeyReader;
+pub use terminal::read_grid;

@@ -119,7 +119,13 @@ impl Terminal {
     }
 
     /// Reads the front of bytes that are text up to there, and tells the byte behind it.
-    fn read_front(&mut self, alloc: Global, bytes: &[u8], count: usize, position: usize) -> Result<(), GridError>
+    fn read_front(
+        &mut self,
+        alloc: Global,
+        bytes: &[u8],
+        count: usize,
+        position: usize,
+    ) -> Result<(), GridError>
         requires bounded { position + length bytes.now < 2 ^ 63 }
         requires within { count ≤ length bytes.now }
         requires front { IsUtf8 (take count bytes.now) }
@@ -150,7 +156,11 @@ impl Terminal {
         if !self.obey(sequence.control) {
             return Err(GridError::BadByte(position));
         }
-        self.read_text(alloc, &bytes[sequence.bytes..], position + 1 + sequence.bytes)
+        self.read_text(
+            alloc,
+            &bytes[sequence.bytes..],
+            position + 1 + sequence.bytes,
+        )
     }
 
     /// Does what a control says, and tells whether it is read.
@@ -186,7 +196,11 @@ impl Terminal {
     fn place(&mut self, row: u32, column: u32) -> bool
         ensures { Obeys (controlled self.old (Control.Place row column)) result self.new }
     {
-        if row == 0 || row > u32::from(self.lines) || column == 0 || column > u32::from(self.columns) {
+        if row == 0
+            || row > u32::from(self.lines)
+            || column == 0
+            || column > u32::from(self.columns)
+        {
             return false;
         }
         let columns = usize::from(self.columns);
@@ -224,12 +238,7 @@ fn escape_in(bytes: &[u8]) -> usize
 }
 
 /// What a blank screen of this size shows after these bytes.
-pub fn read_grid(
-    alloc: Global,
-    lines: u16,
-    columns: u16,
-    bytes: &[u8],
-) -> Result<Grid, GridError>
+pub fn read_grid(alloc: Global, lines: u16, columns: u16, bytes: &[u8]) -> Result<Grid, GridError>
     ensures { TellsScreen (screen_after lines columns bytes.now) result }
 {
     let mut terminal = Terminal::blank(alloc, lines, columns)?;

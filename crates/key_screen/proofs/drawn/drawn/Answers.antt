@@ -1,5 +1,4 @@
-use Rattle.std.proofs.Common.{◌≡◌, arith, ◌<◌, ◌+◌, ◌≤◌, vec_len, ◌∷◌}
-use Rattle.unicode_segmentation.specs.Iter.{graphemes_left}
+use Rattle.std.proofs.Common.{◌≡◌, arith, ◌<◌, ◌+◌, vec_len}
 use Rattle.key_screen.proofs.DrawnLemmas.{drawn-step}
 use Rattle.key_screen.proofs.drawn.drawn.Goals as goal
 

@@ -1,4 +1,4 @@
-use Rattle.std.proofs.Common.{length, ap, ◌∙◌, ◌==◌, eq-eqb, sym}
+use Rattle.std.proofs.Common.{length, ap, ◌∙◌, ◌==◌}
 use Rattle.std.proofs.lemmas.Iterator.Consumers.{count_from_yields_List}
 use Rattle.unicode_segmentation.proofs.SegmentsLemmas.{YieldsList-from_gives}
 use Rattle.key_screen.specs.DrawnText.{stands_alone}

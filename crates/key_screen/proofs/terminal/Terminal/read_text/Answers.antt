@@ -1,5 +1,5 @@
-use Rattle.std.proofs.Common.{◌≡◌, ◌∙◌, sym, subst, Result, ℕ}
-use Rattle.key_screen.specs.Terminal.{TerminalState, Reads}
+use Rattle.std.proofs.Common.{◌∙◌, sym, subst}
+use Rattle.key_screen.specs.Terminal.{Reads}
 use Rattle.key_screen.proofs.TerminalLemmas.{text_read-text, text_read-front}
 use Rattle.key_screen.proofs.terminal.Terminal.read_text.Goals as goal
 
