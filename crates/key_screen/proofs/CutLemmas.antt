@@ -1,8 +1,8 @@
 -- each byte goes on a front, ends a key, or breaks one off: these four cases give all that holds of the decoded keys
-use Rattle.std.proofs.Common.{◌≡◌, ◌≢◌, ◌⊎◌, ◌↔◌, inl, inr, ℕ, ◌<◌, ◌≤◌, ◌+◌, List, [], ◌∷◌, ◌++◌, length, refl, sym, ◌∙◌, ap, subst, arith, append_assoc, append-nil, length-append}
+use Rattle.std.proofs.Common.{◌≡◌, ◌↔◌, inl, inr, ℕ, ◌≤◌, List, [], ◌∷◌, ◌++◌, length, refl, sym, ◌∙◌, ap, subst, arith, append_assoc, append-nil, length-append}
 use Rattle.key_screen.specs.KeySpelling.{spelling_of, unknown}
 use Rattle.key_screen.specs.DecodedKeys.{Decoded, decoded_after, decoded_afresh, decoded_keys, decoded_next, decoded_singly, followed_by, no_key, with_key}
-use Rattle.key_screen.specs.KeyCuts.{IsCut, IsKeyBefore, BreaksOff}
+use Rattle.key_screen.specs.KeyCuts.{IsCut, IsKeyBefore}
 use Rattle.key_screen.specs.declared.keys.Key.{Key}
 use Rattle.key_screen.specs.declared.spelling.Spelling.{Spelling}
 use Rattle.key_screen.specs.declared.spelling.Spelling.TheVariants.{Partial, Whole, Broken}

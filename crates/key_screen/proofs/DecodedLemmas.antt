@@ -6,7 +6,7 @@ use Rattle.key_screen.specs.KeySpelling.{spelling_of}
 use Rattle.key_screen.specs.DecodedKeys.{Decoded, decoded_after, decoded_keys, decoded_next, no_key, keys_fed}
 use Rattle.key_screen.specs.declared.keys.Fed.{Fed}
 use Rattle.key_screen.specs.declared.spelling.Spelling.{Spelling}
-use Rattle.key_screen.specs.declared.spelling.Spelling.TheVariants.{Partial, Whole, Broken}
+use Rattle.key_screen.specs.declared.spelling.Spelling.TheVariants.{Partial, Broken}
 use Rattle.key_screen.proofs.FrontLemmas.{spelling_of-front, spelling_of-short}
 
 -- the keys that a reader told, and the bytes that it holds

@@ -1,10 +1,10 @@
 -- what begins the front of a key is the front of a key, and no front has more than 18 bytes
 use Rattle.std.proofs.Common.{◌≡◌, ◌≢◌, ℕ, ◌≤◌, ◌+◌, ◌-◌, Bool, true, false, ◌&&◌, ◌==◌, if◌then◌else◌, nat_lt, List, [], ◌∷◌, ◌++◌, length, refl, arith, length-append}
 use Rattle.std.proofs.lemmas.Bool.Decides.{nat_tests}
-use Rattle.key_screen.specs.KeySpelling.{spelling_of, escaped, character, sequence, letter, last_tail, two_tails, second_of_three, second_of_four, ends, key, is_tail, is_second, is_within, joined}
+use Rattle.key_screen.specs.KeySpelling.{spelling_of, escaped, character, sequence, letter, last_tail, two_tails, second_of_three, second_of_four, ends, is_tail, is_second, is_within, joined}
 use Rattle.key_screen.specs.declared.keys.Key.{Key}
 use Rattle.key_screen.specs.declared.spelling.Spelling.{Spelling}
-use Rattle.key_screen.specs.declared.spelling.Spelling.TheVariants.{Partial, Whole, Broken}
+use Rattle.key_screen.specs.declared.spelling.Spelling.TheVariants.{Partial, Broken}
 
 -- what a choice of two spellings is, one of them is
 chosen : {P : Type 0} (test : Bool) (x y s : Spelling) → (if test then x else y) ≡ s → (x ≡ s → P) → (y ≡ s → P) → P

@@ -1,3 +1,5 @@
 pub mod FrontLemmas
 pub mod DecodedLemmas
 pub mod CutLemmas
+pub mod DrawnLemmas
+pub mod TerminalLemmas

@@ -1,15 +1,25 @@
-//! Keys: the bytes of a terminal, cut into keys.
+//! The terminal: its bytes cut into keys, and the cells of its screen.
 #![tactic(auto)]
 
+mod cells;
 mod characters;
+mod control;
+mod drawn;
+mod grid;
+#[cfg(test)]
+mod grid_tests;
+#[cfg(test)]
+mod key_tests;
 mod keys;
 mod laws;
 mod reader;
 mod sequences;
 mod spelling;
-#[cfg(test)]
-mod tests;
+mod terminal;
 
+pub use cells::Attr;
+pub use grid::{Grid, GridError};
 pub use keys::{Base, Fed, Key};
 pub use laws::{keys_have_one_cut, keys_survive_any_pieces};
 pub use reader::KeyReader;
+pub use terminal::read_grid;

@@ -1,7 +1,7 @@
 -- the bytes held, and the new one behind them, decide by what they spell
-use Rattle.std.proofs.Common.{◌≡◌, ℕ, ◌<◌, ◌≤◌, ◌+◌, [], ◌∷◌, ◌++◌, List, length, arith, sym, ◌∙◌, ap, take, set, refl}
+use Rattle.std.proofs.Common.{◌≡◌, ◌+◌, [], ◌∷◌, ◌++◌, arith, sym, ◌∙◌, ap, take, set, refl}
 use Rattle.std.proofs.lemmas.List.{take_more_set}
-use Rattle.key_screen.specs.KeySpelling.{spelling_of, unknown}
+use Rattle.key_screen.specs.KeySpelling.{spelling_of}
 use Rattle.key_screen.specs.declared.spelling.Spelling.TheVariants.{Partial, Whole, Broken}
 use Rattle.key_screen.proofs.FrontLemmas.{spelling_of-short}
 use Rattle.key_screen.proofs.DecodedLemmas.{decoded_keys-one_more, spelling_of-held, told, held-short}

@@ -1,10 +1,9 @@
 -- a byte alone is the front of a key, or a key
-use Rattle.std.proofs.Common.{◌≡◌, ℕ, [], ◌∷◌, List, length, arith, sym, ◌∙◌, ap, refl}
+use Rattle.std.proofs.Common.{[], ◌∷◌, arith, sym, ◌∙◌, ap, refl}
 use Rattle.std.proofs.lemmas.List.{take_more_set}
-use Rattle.key_screen.specs.KeySpelling.{spelling_of, unknown}
+use Rattle.key_screen.specs.KeySpelling.{unknown}
 use Rattle.key_screen.specs.DecodedKeys.{with_key, decoded_afresh, no_key}
 use Rattle.key_screen.specs.declared.spelling.Spelling.TheVariants.{Partial, Whole}
-use Rattle.key_screen.proofs.FrontLemmas.{spelling_of-one}
 use Rattle.key_screen.proofs.DecodedLemmas.{spelling_of-first, told}
 use Rattle.key_screen.proofs.reader.KeyReader.feed_afresh.Goals as goal
 

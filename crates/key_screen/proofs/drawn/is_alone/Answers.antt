@@ -1,0 +1,10 @@
+use Rattle.std.proofs.Common.{length, ap, ◌∙◌, ◌==◌}
+use Rattle.std.proofs.lemmas.Iterator.Consumers.{count_from_yields_List}
+use Rattle.unicode_segmentation.proofs.SegmentsLemmas.{YieldsList-from_gives}
+use Rattle.key_screen.specs.DrawnText.{stands_alone}
+use Rattle.key_screen.proofs.drawn.is_alone.Goals as goal
+
+pub returns : goal.returns
+unfolding stands_alone
+returns c =
+    ap (λ n. n == 1) (count_from_yields_List _ _ c.count.ensures.ran (YieldsList-from_gives _ _ c.graphemes.result) ∙ ap length c.graphemes.ensures.left)
