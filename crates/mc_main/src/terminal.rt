@@ -1,4 +1,4 @@
-//! The terminal that the program runs in, asked through `stty`, whose failures are ignored; and the program's words.
+//! The terminal that the program runs in, asked through the shell, whose failures are ignored; and the program's words.
 use crate::words::USAGE;
 use mc_text::Text;
 use std::alloc::{AllocError, Global};
@@ -29,12 +29,12 @@ pub fn put_usage(rt: &HostRuntime) -> io::Result<()> {
 
 /// Lets each byte of the keyboard come at once, and not be shown.
 pub fn make_raw(rt: &HostRuntime) {
-    let _done = stty(rt, "stty raw -echo");
+    let _done = shell(rt, "stty raw -echo");
 }
 
 /// The terminal as a shell wants it.
 pub fn make_sane(rt: &HostRuntime) {
-    let _done = stty(rt, "stty sane");
+    let _done = shell(rt, "stty sane");
 }
 
 /// Takes the last frame off the screen.
@@ -42,12 +42,12 @@ pub fn clear_screen(rt: &HostRuntime) {
     let _done = print!(rt; "\x1b[0m\x1b[2J\x1b[1;1H");
 }
 
-/// After a printed line: a raw terminal doesn't go back to the first column by itself.
+/// After a printed line: a raw terminal doesn't go back to the first column by itself. What isn't a terminal gets nothing.
 pub fn begin_line(rt: &HostRuntime) {
-    let _done = print!(rt; "\r");
+    let _done = shell(rt, "printf '\\r' >/dev/tty");
 }
 
-fn stty(rt: &HostRuntime, words: &str) -> io::Result<()> {
+fn shell(rt: &HostRuntime, words: &str) -> io::Result<()> {
     let _status = Command::new(rt.alloc(), "sh")?
         .arg("-c")?
         .arg(words)?
