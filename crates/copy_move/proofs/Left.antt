@@ -9,7 +9,8 @@ use Rattle.copy_move.specs.declared.deletion.Course.TheVariants.{GoesOn, InTroub
 use Rattle.copy_move.specs.declared.history.Trouble.{Trouble}
 use Rattle.copy_move.specs.declared.history.Did.{Did}
 use Rattle.copy_move.specs.declared.history.Did.TheVariants.{Removed, Barrier, Troubled, Ended}
-use Rattle.copy_move.specs.Work.{LiveJob, after_step, closed_course, if_closed, IsAllowedStep, IsTroubleAt, IfLive, ends, left_at, steps_left}
+use Rattle.copy_move.specs.Work.{LiveJob, after_step, closed_course, if_closed, IsAllowedStep, IsTroubleAt, ends, left_at, steps_left}
+use Rattle.copy_move.specs.Steps.{IfLive}
 
 some_left : (course : Course) (stage : Stage) → 0 < left_at course stage
 some_left GoesOn Remove = omega arith

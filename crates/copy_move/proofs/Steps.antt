@@ -1,85 +1,37 @@
--- What one call of a deletion does to the tree that can be seen.
-use Rattle.std.proofs.Common.{◌≡◌, ℕ, ℤ, ◌≤◌, true, false, [], ◌∷◌, refl, sym, ◌∙◌, ap, subst, inl, inr, Option, Some, None, Result, Ok, Err}
+-- A step of a deletion is one call of the tree, with its answer.
+use Rattle.std.proofs.Common.{◌≡◌, ℕ, ◌≤◌, true, false, [], ◌∷◌, length, length-append, refl, sym, ◌∙◌, ap, subst, Option, Some, None, Result, Ok, Err, arith}
 use Rattle.mc_text.specs.Routes.{Route, parent_of}
 use Rattle.tree_trait.specs.declared.calls.TreeError.{TreeError}
 use Rattle.tree_trait.specs.declared.calls.TreeError.TheVariants as refused
-use Rattle.tree_trait.specs.Calls.{RemoveFile, SyncFolder}
-use Rattle.tree_trait.specs.FileSystem.{View, visible_tree}
-use Rattle.tree_trait.specs.Refusals.{refusal_of}
-use Rattle.tree_trait.specs.Shape.{IsTree}
-use Rattle.tree_trait.specs.Change.{Change, Nothing, CallLog, current, with_change, after_change, change_of, found}
-use Rattle.tree_trait.proofs.Settled.{after_changes-append}
-use Rattle.tree_trait.proofs.Walking.{removable}
-use Rattle.tree_trait.proofs.Kept.{tree_removed}
-use Rattle.tree_trait.proofs.Ending.{IsQuiet, Performs-err}
-use Rattle.tree_trait.proofs.Visible.{removal_shows}
+use Rattle.tree_trait.specs.Calls.{Call, RemoveFile, SyncFolder}
+use Rattle.tree_trait.specs.Change.{Change, CallLog, with_change}
+use Rattle.tree_trait.specs.Answers.{IfKnown, HasRisen, Performs}
 use Rattle.copy_move.specs.declared.history.Did.{Did}
 use Rattle.copy_move.specs.declared.history.Did.TheVariants.{Removed, Barrier, Troubled}
 use Rattle.copy_move.specs.declared.history.Trouble.{Trouble}
+use Rattle.copy_move.specs.declared.history.Cause.TheVariants.{Tree}
 use Rattle.copy_move.specs.declared.deletion.Stage.TheVariants.{Remove, Sync, Finish}
 use Rattle.copy_move.specs.declared.deletion.Course.{Course}
 use Rattle.copy_move.specs.declared.deletion.Course.TheVariants.{GoesOn, InTrouble, Aborts}
-use Rattle.tree_trait.specs.Answers.{IfKnown, HasRisen, Performs}
-use Rattle.copy_move.specs.declared.history.Cause.TheVariants.{Tree}
-use Rattle.copy_move.specs.Replay.{replayed_step, StepsTree}
-use Rattle.copy_move.specs.Work.{LiveJob, cause_of, trouble_at, IsTroubleAt, StepsOn}
+use Rattle.copy_move.specs.Work.{LiveJob, cause_of, trouble_at, IsTroubleAt}
+use Rattle.copy_move.specs.Traces.{call_of, error_of, Answers, SyncCalls}
+use Rattle.copy_move.specs.Steps.{StepsOn, HasMore, calls_for}
 
--- the file system after one call more
-pub current-with : (log : CallLog) (c : Change) → current (with_change log c) ≡ after_change (current log) c
-current-with log c = after_changes-append log.opening log.changes (c ∷ [])
-
--- a call that leaves the file system as it was
-same_files : (log after : CallLog) (did : Did) (contents : Option CallLog) → contents ≡ Some after → after.opening ≡ log.opening → current after ≡ current log
-    → ((v : View) → replayed_step did v ≡ v) → StepsTree log did contents
-same_files log after did contents is opening same still = record {
-  after = after;
-  is = is;
-  opening = opening;
-  tree = λ tree. subst IsTree (sym same) tree;
-  shows = λ tree path. ap (λ s. visible_tree s path) same ∙ sym (ap (λ (v : View). v path) (still (visible_tree (current log))));
-}
-
--- a call that was refused
-pub quiet : (log : CallLog) (did : Did) (contents : Option CallLog) → IsQuiet log contents → ((v : View) → replayed_step did v ≡ v) → StepsTree log did contents
-quiet log did contents q still =
-    elim q.how [
-      | inl e ↦ same_files log q.after did contents q.tells (ap (λ (l : CallLog). l.opening) e) (ap current e) still
-      | inr e ↦ same_files log q.after did contents q.tells (ap (λ (l : CallLog). l.opening) e) (ap current e ∙ current-with log Nothing) still
-    ]
-
--- a sync
-pub synced : (log : CallLog) (folder : Route) (time : ℤ) (did : Did) (contents : Option CallLog)
-    → contents ≡ Some (with_change log (change_of (current log) (SyncFolder folder) time)) → ((v : View) → replayed_step did v ≡ v) → StepsTree log did contents
-synced log folder time did contents is still =
-    same_files log (with_change log (change_of (current log) (SyncFolder folder) time)) did contents is refl (current-with log _) still
-
--- a removal
-pub removed : (log : CallLog) (path : Route) (time : ℤ) (contents : Option CallLog) → refusal_of (current log) (RemoveFile path) ≡ None
-    → contents ≡ Some (with_change log (change_of (current log) (RemoveFile path) time)) → StepsTree log (Removed path) contents
-removed log path time contents permits is = record {
-  after = with_change log (change_of (current log) (RemoveFile path) time);
-  is = is;
-  opening = refl;
-  tree = λ tree. subst IsTree (sym files) (stays tree);
-  shows = λ tree p. ap (λ s. visible_tree s p) files ∙ removal_shows (current log) path time tree permits p;
-}
-  where
-    files : current (with_change log (change_of (current log) (RemoveFile path) time)) ≡ after_change (current log) (change_of (current log) (RemoveFile path) time)
-    files = current-with log _
-
-    stays : IsTree (current log) → IsTree (after_change (current log) (change_of (current log) (RemoveFile path) time))
-    stays tree =
-        let r = removable (current log) path tree permits in
-        subst (λ q. IsTree (after_change (current log) (change_of (current log) (RemoveFile q) time))) (sym r.path_is)
-        (tree_removed (current log) (found (current log) r.up) r.name (found (current log) (r.name ∷ r.up)) tree)
+-- the error that was answered is the one that the trouble tells
+error_told : (e : TreeError) → error_of (cause_of e) ≡ e
+error_told refused.Memory = refl
+error_told e = refl
 
 -- only a fault is called one
 pub fault-cause : (e : TreeError) → cause_of e ≡ Tree refused.Fault → e ≡ refused.Fault
 fault-cause refused.Memory h = cc
 fault-cause e h = cc
 
+pub err_is : {T : Type 0} (e : TreeError) → e ≡ refused.Fault → (let r : Result T TreeError = Err e in r) ≡ Err refused.Fault
+err_is e h = ap Err h
+
 -- the sync's trouble names the folder of the path
-pub sync_trouble : (path folder : Route) → parent_of path ≡ Some folder → (e : TreeError) → IsTroubleAt Sync path (trouble_at e folder true)
+sync_trouble : (path folder : Route) → parent_of path ≡ Some folder → (e : TreeError) → IsTroubleAt Sync path (trouble_at e folder true)
 sync_trouble [] folder h e = absurd cc
 sync_trouble (name ∷ up) folder h e = (e, ap (λ q. trouble_at e q true) (let same : up ≡ folder = cc in sym same))
 
@@ -96,57 +48,114 @@ goes_on course is h = cc
 pub aborts : (course : Course) → course ≡ Aborts → course ≡ InTrouble → ⊥
 aborts course is h = cc
 
+-- the folder of the job's file is the one that is synced
+pub sync_call : (path folder : Route) → parent_of path ≡ Some folder → call_of Sync path ≡ Some (SyncFolder folder)
+sync_call [] folder h = absurd cc
+sync_call (name ∷ up) folder h = let same : up ≡ folder = cc in ap (λ q. Some (SyncFolder q)) same
+
+-- one change more, or none where there was no memory
+one_more : (log : CallLog) (c : Change) (now : CallLog) → (let o : Option CallLog = Some (with_change log c) in o) ≡ Some now → HasMore log 1 now
+one_more log c now h =
+    let is : with_change log c ≡ now = cc in
+    ap (λ (l : CallLog). length l.changes) (sym is) ∙ length-append log.changes (c ∷ [])
+
+no_more : (log now : CallLog) → (let o : Option CallLog = Some log in o) ≡ Some now → HasMore log 0 now
+no_more log now h = let is : log ≡ now = cc in let same = ap (λ (l : CallLog). length l.changes) (sym is) in omega (arith, same)
+
+pub counts_call : (log now : CallLog) (call : Call) (answer : Result (Unit {0}) TreeError) (after : Option CallLog) → Performs {A = Unit {0}} log call answer after → after ≡ Some now
+    → HasMore log (calls_for answer) now
+counts_call log now call (Ok done) after h is = one_more log _ now (sym h.1.1 ∙ is)
+counts_call log now call (Err refused.Memory) after h is = no_more log now (sym h ∙ is)
+counts_call log now call (Err refused.Fault) after h is = one_more log _ now (sym h.1.1 ∙ is)
+counts_call log now call (Err e) after h is = one_more log _ now (sym h.1 ∙ is)
+
 module _ (old new : LiveJob) (before after : Option CallLog) (faults faults_after : ℕ) where
+  -- the call that a job makes, where its tree is known
+  abbrev Called : Call → Result (Unit {0}) TreeError → Type 0
+  Called call answer = IfKnown before (λ log. Performs {A = Unit {0}} log call answer after)
+
+  counted : (call : Call) (answer : Result (Unit {0}) TreeError) (calls : ℕ) → calls ≡ calls_for answer → Called call answer → IfKnown before (λ log. IfKnown after (HasMore log calls))
+  counted call answer calls count called log known now is = subst (λ n. HasMore log n now) (sym count) (counts_call log now call answer after (called log known) is)
+
+  -- no call was made
+  none_counted : (calls : ℕ) → calls ≡ 0 → after ≡ before → IfKnown before (λ log. IfKnown after (HasMore log calls))
+  none_counted calls count same log known now is = subst (λ n. HasMore log n now) (sym count) (no_more log now (sym known ∙ (sym same ∙ is)))
+
   -- the file is gone
-  pub steps_removed : (did : Did) → did ≡ Removed old.path → old.course ≡ GoesOn → old.stage ≡ Remove → new ≡ record old { stage = Sync }
-      → IfKnown before (λ log. StepsTree log (Removed old.path) after) → (before ≡ None → after ≡ None) → faults ≤ faults_after
-      → StepsOn old new did before after faults faults_after
-  steps_removed did is course stage job tree unknown later =
-      subst (λ d. StepsOn old new d before after faults faults_after) (sym is) record {
+  pub steps_removed : (did : Did) (calls : ℕ) → did ≡ Removed old.path → calls ≡ 1 → old.course ≡ GoesOn → old.stage ≡ Remove → new ≡ record old { stage = Sync }
+      → Called (RemoveFile old.path) (Ok tt) → (before ≡ None → after ≡ None) → faults ≤ faults_after
+      → StepsOn old new did calls before after faults faults_after
+  steps_removed did calls is count course stage job called unknown later =
+      subst (λ d. StepsOn old new d calls before after faults faults_after) (sym is) record {
         allowed = (course, stage, refl);
         job = job;
-        tree = tree;
+        called = called;
+        counted = counted (RemoveFile old.path) (Ok tt) calls count called;
         unknown = unknown;
         later = later;
         fault = λ h. absurd h;
       }
 
-  -- the folder is on the disk, or its sync was tried
-  pub steps_synced : (did : Did) → did ≡ Barrier → (old.course ≡ InTrouble → ⊥) → old.stage ≡ Sync → new ≡ record old { stage = Finish }
-      → IfKnown before (λ log. StepsTree log Barrier after) → (before ≡ None → after ≡ None) → faults ≤ faults_after
-      → StepsOn old new did before after faults faults_after
-  steps_synced did is course stage job tree unknown later =
-      subst (λ d. StepsOn old new d before after faults faults_after) (sym is) record {
-        allowed = (course, stage);
+  -- the folder is on the disk
+  pub steps_synced : (did : Did) (calls : ℕ) (folder : Route) → did ≡ Barrier → calls ≡ 1 → old.course ≡ GoesOn → old.stage ≡ Sync → parent_of old.path ≡ Some folder
+      → new ≡ record old { stage = Finish } → Called (SyncFolder folder) (Ok tt) → (before ≡ None → after ≡ None) → faults ≤ faults_after
+      → StepsOn old new did calls before after faults faults_after
+  steps_synced did calls folder is count course stage within job called unknown later =
+      subst (λ d. StepsOn old new d calls before after faults faults_after) (sym is) record {
+        allowed = (goes_on old.course course, stage);
         job = job;
-        tree = tree;
+        called = λ log known.
+        subst (λ c. SyncCalls c (call_of Sync old.path) log after) (sym course)
+        (subst (λ call. Answers log call (Ok tt) after) (sym (sync_call old.path folder within)) (called log known));
+        counted = counted (SyncFolder folder) (Ok tt) calls count called;
         unknown = unknown;
         later = later;
         fault = λ h. absurd h;
       }
 
-  -- trouble
-  pub steps_troubled : (did : Did) (t : Trouble) → did ≡ Troubled t → old.course ≡ GoesOn → IsTroubleAt old.stage old.path t → new ≡ record old { course = InTrouble }
-      → IfKnown before (λ log. StepsTree log (Troubled t) after) → (before ≡ None → after ≡ None) → faults ≤ faults_after
-      → (t.cause ≡ Tree refused.Fault → HasRisen faults faults_after) → StepsOn old new did before after faults faults_after
-  steps_troubled did t is course at job tree unknown later fault =
-      subst (λ d. StepsOn old new d before after faults faults_after) (sym is) record {
-        allowed = (course, at);
+  -- the last sync was tried
+  pub steps_tried : (did : Did) (calls : ℕ) (folder : Route) (answer : Result (Unit {0}) TreeError) → did ≡ Barrier → calls ≡ calls_for answer → old.course ≡ Aborts → old.stage ≡ Sync
+      → parent_of old.path ≡ Some folder → new ≡ record old { stage = Finish } → Called (SyncFolder folder) answer → (before ≡ None → after ≡ None) → faults ≤ faults_after
+      → StepsOn old new did calls before after faults faults_after
+  steps_tried did calls folder answer is count course stage within job called unknown later =
+      subst (λ d. StepsOn old new d calls before after faults faults_after) (sym is) record {
+        allowed = (aborts old.course course, stage);
         job = job;
-        tree = tree;
+        called = λ log known.
+        subst (λ c. SyncCalls c (call_of Sync old.path) log after) (sym course)
+        (answer, subst (λ call. Answers log call answer after) (sym (sync_call old.path folder within)) (called log known));
+        counted = counted (SyncFolder folder) answer calls count called;
         unknown = unknown;
         later = later;
-        fault = fault;
+        fault = λ h. absurd h;
       }
 
--- where no call was made the tree is as it was
-pub untouched : (did : Did) (contents : Option CallLog) → ((v : View) → replayed_step did v ≡ v) → IfKnown contents (λ log. StepsTree log did contents)
-untouched did contents still log known = same_files log log did contents known refl refl still
+  module _ (did : Did) (calls : ℕ) (t : Trouble) (is : did ≡ Troubled t) (course : old.course ≡ GoesOn) (at : IsTroubleAt old.stage old.path t) (job : new ≡ record old { course = InTrouble })
+      (unknown : before ≡ None → after ≡ None) (later : faults ≤ faults_after) (fault : t.cause ≡ Tree refused.Fault → HasRisen faults faults_after) where
+    troubled : IfKnown before (λ log. Answers log (call_of old.stage old.path) (Err (error_of t.cause)) after) → IfKnown before (λ log. IfKnown after (HasMore log calls))
+        → StepsOn old new did calls before after faults faults_after
+    troubled called more =
+        subst (λ d. StepsOn old new d calls before after faults faults_after) (sym is) record {
+          allowed = (course, at);
+          job = job;
+          called = called;
+          counted = more;
+          unknown = unknown;
+          later = later;
+          fault = fault;
+        }
 
-pub err_is : {T : Type 0} (e : TreeError) → e ≡ refused.Fault → (let r : Result T TreeError = Err e in r) ≡ Err refused.Fault
-err_is e h = ap Err h
+    -- the job's call was refused
+    pub steps_refused : (call : Call) (e : TreeError) → calls ≡ calls_for (Err e) → call_of old.stage old.path ≡ Some call → t.cause ≡ cause_of e → Called call (Err e)
+        → StepsOn old new did calls before after faults faults_after
+    steps_refused call e count next cause called =
+        troubled (λ log known. rw (next, cause, error_told e) (called log known)) (counted call (Err e) calls count called)
 
--- a sync that was tried changes nothing that can be seen
-pub tried_sync : (log : CallLog) (folder : Route) (r : Result (Unit {0}) TreeError) (contents : Option CallLog) → Performs {A = Unit {0}} log (SyncFolder folder) r contents → StepsTree log Barrier contents
-tried_sync log folder (Ok x) contents h = synced log folder h.1.0 Barrier contents h.1.1 (λ v. refl)
-tried_sync log folder (Err e) contents h = quiet log Barrier contents (Performs-err (Unit {0}) log (SyncFolder folder) contents (λ s left. refl) e h) (λ v. refl)
+    -- there was no memory, and no call was made
+    pub steps_unmade : calls ≡ 0 → t.cause ≡ cause_of refused.Memory → after ≡ before → StepsOn old new did calls before after faults faults_after
+    steps_unmade count cause same =
+        troubled (λ log known. rw cause (unmade (call_of old.stage old.path) log (same ∙ known))) (none_counted calls count same)
+      where
+        unmade : (call : Option Call) (log : CallLog) → after ≡ Some log → Answers log call (Err refused.Memory) after
+        unmade None log h = h
+        unmade (Some call) log h = h

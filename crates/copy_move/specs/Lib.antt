@@ -1,2 +1,5 @@
+pub mod Crashes
 pub mod Replay
+pub mod Steps
+pub mod Traces
 pub mod Work

@@ -44,11 +44,3 @@ pub record Replays (before after : CallLog) (newest : List Entry) : Type 0 where
 abbrev pub IsReplayed : Option CallLog → Option CallLog → List Entry → Type 0
 IsReplayed opening None newest = ⊤
 IsReplayed opening (Some after) newest = (before : CallLog) × (opening ≡ Some before) × Replays before after newest
-
--- What a step does to a tree whose log is known: the log goes on, a tree stays one, and it shows the step's change.
-pub record StepsTree (before : CallLog) (did : Did) (contents : Option CallLog) : Type 0 where
-  pub after : CallLog
-  pub is : contents ≡ Some after
-  pub opening : after.opening ≡ before.opening
-  pub tree : IsTree (current before) → IsTree (current after)
-  pub shows : IsTree (current before) → ShowsView after (replayed_step did (visible_tree (current before)))

@@ -1,10 +1,7 @@
 -- The deletion of one file, as a history tells it: the removal of its name, the sync of its folder, the end.
-use Rattle.std.specs.Prelude.{◌≡◌, ◌≢◌, ℕ, ◌≤◌, Bool, true, false, ◌||◌, ⊤, List, [], ◌∷◌, Option, Some, None, option_and_then}
+use Rattle.std.specs.Prelude.{◌≡◌, ◌≢◌, ℕ, Bool, true, false, ◌||◌, List, [], ◌∷◌, Option, Some, None, option_and_then}
 use Rattle.std.specs.Option.{option_map}
 use Rattle.mc_text.specs.Routes.{Route}
-use Rattle.tree_trait.specs.Change.{CallLog}
-use Rattle.tree_trait.specs.Answers.{IfKnown, HasRisen}
-use Rattle.copy_move.specs.Replay.{StepsTree}
 use Rattle.tree_trait.specs.declared.calls.TreeError.{TreeError}
 use Rattle.tree_trait.specs.declared.calls.TreeError.TheVariants as refused
 use Rattle.copy_move.specs.declared.deletion.Stage.{Stage}
@@ -121,28 +118,6 @@ IsAllowedStep job (Troubled trouble) = (job.course ≡ GoesOn) × IsTroubleAt jo
 IsAllowedStep job (Ended Finished part) = (job.course ≡ GoesOn) × (job.stage ≡ Finish) × (part ≡ None)
 IsAllowedStep job (Ended Aborted part) = (job.course ≡ Aborts) × (job.stage ≢ Sync) × (part ≡ None)
 IsAllowedStep job (Ended NoMemory part) = (job.course ≢ InTrouble) × (part ≡ None)
-
--- the job is as the step left it, unless it ended
-abbrev pub IfLive : Option LiveJob → LiveJob → Type 0
-IfLive None new = ⊤
-IfLive (Some job) new = new ≡ job
-
--- the report says that the device failed
-abbrev pub IsFault : Did → Type 0
-IsFault (Removed path) = ⊥
-IsFault Barrier = ⊥
-IsFault (Troubled trouble) = trouble.cause ≡ Tree refused.Fault
-IsFault (Ended ending part) = ⊥
-
--- A step of a job: what it reports is allowed, the job and the tree are then as it says, and it reports a fault only where
--- the tree's count has risen.
-pub record StepsOn (old new : LiveJob) (did : Did) (before after : Option CallLog) (faults faults_after : ℕ) : Type 0 where
-  pub allowed : IsAllowedStep old did
-  pub job : IfLive (after_step did old) new
-  pub tree : IfKnown before (λ log. StepsTree log did after)
-  pub unknown : before ≡ None → after ≡ None
-  pub later : faults ≤ faults_after
-  pub fault : IsFault did → HasRisen faults faults_after
 
 -- the report is that of an end
 abbrev pub ends : Did → Bool

@@ -1,8 +1,9 @@
 //! The deletion of one file, a call of the tree at each step: its name is removed, then its folder is synced, and only
 //! then is it finished, so that a finished deletion is on the disk.
-ghost use Rattle.std.specs.Prelude.{◌≡◌, ◌≢◌, ◌≤◌, ◌↔◌, IsTrue, None, Some};
+ghost use Rattle.std.specs.Prelude.{◌≡◌, ◌≢◌, ◌≤◌, ◌↔◌, IsTrue, None, Some, Err};
 ghost use Rattle.mc_text.specs.Routes.{parent_of};
-ghost use Rattle.copy_move.specs.Work.{begun, closed_course, trouble_at, StepsOn};
+ghost use Rattle.copy_move.specs.Work.{begun, closed_course, trouble_at};
+ghost use Rattle.copy_move.specs.Steps.{StepsOn, calls_for};
 
 use crate::history::{Cause, Did, Ending, Trouble};
 use mc_text::Path;
@@ -102,8 +103,8 @@ impl Deletion {
     /// Does the job's next piece of work, which is at most one call of the tree. After an end the job is to be let go.
     pub fn step<T: Tree>(&mut self, alloc: Global, tree: &mut T) -> Stepped
         requires ready { self.old.course ≢ Course.InTrouble }
-        ensures steps { StepsOn self.old self.new result.did (T.contents tree.old) (T.contents tree.new)
-            (T.fault_count tree.old) (T.fault_count tree.new) }
+        ensures steps { StepsOn self.old self.new result.did result.calls (T.contents tree.old)
+            (T.contents tree.new) (T.fault_count tree.old) (T.fault_count tree.new) }
         ensures one_call { result.calls ≤ 1 }
     {
         match (self.course, self.stage) {
@@ -119,8 +120,8 @@ impl Deletion {
     fn remove<T: Tree>(&mut self, alloc: Global, tree: &mut T) -> Stepped
         requires course { self.old.course ≡ Course.GoesOn }
         requires stage { self.old.stage ≡ Stage.Remove }
-        ensures steps { StepsOn self.old self.new result.did (T.contents tree.old) (T.contents tree.new)
-            (T.fault_count tree.old) (T.fault_count tree.new) }
+        ensures steps { StepsOn self.old self.new result.did result.calls (T.contents tree.old)
+            (T.contents tree.new) (T.fault_count tree.old) (T.fault_count tree.new) }
         ensures one_call { result.calls ≤ 1 }
     {
         // The path of the report comes first: after the call it is too late to find no memory.
@@ -143,8 +144,8 @@ impl Deletion {
     fn sync<T: Tree>(&mut self, alloc: Global, tree: &mut T) -> Stepped
         requires course { self.old.course ≡ Course.GoesOn }
         requires stage { self.old.stage ≡ Stage.Sync }
-        ensures steps { StepsOn self.old self.new result.did (T.contents tree.old) (T.contents tree.new)
-            (T.fault_count tree.old) (T.fault_count tree.new) }
+        ensures steps { StepsOn self.old self.new result.did result.calls (T.contents tree.old)
+            (T.contents tree.new) (T.fault_count tree.old) (T.fault_count tree.new) }
         ensures one_call { result.calls ≤ 1 }
     {
         let Ok(folder) = self.folder.copy(alloc) else {
@@ -167,8 +168,8 @@ impl Deletion {
     fn try_sync<T: Tree>(&mut self, alloc: Global, tree: &mut T) -> Stepped
         requires course { self.old.course ≡ Course.Aborts }
         requires stage { self.old.stage ≡ Stage.Sync }
-        ensures steps { StepsOn self.old self.new result.did (T.contents tree.old) (T.contents tree.new)
-            (T.fault_count tree.old) (T.fault_count tree.new) }
+        ensures steps { StepsOn self.old self.new result.did result.calls (T.contents tree.old)
+            (T.contents tree.new) (T.fault_count tree.old) (T.fault_count tree.new) }
         ensures one_call { result.calls ≤ 1 }
     {
         self.stage = Stage::Finish;
@@ -179,7 +180,7 @@ impl Deletion {
 /// A sync that was tried, whatever it answered. One that found no memory was not made.
 fn tried(answer: Result<(), TreeError>) -> Stepped
     ensures did { result.did ≡ Did.Barrier }
-    ensures one_call { result.calls ≤ 1 }
+    ensures calls { result.calls ≡ calls_for answer }
 {
     match answer {
         Err(TreeError::Memory) => without_call(Did::Barrier),
@@ -219,7 +220,7 @@ fn no_memory(barrier: bool) -> Trouble
 /// The report of a refused call. One that found no memory was not made.
 fn refused(error: TreeError, path: Path, barrier: bool) -> Stepped
     ensures did { result.did ≡ Did.Troubled (trouble_at error path barrier) }
-    ensures one_call { result.calls ≤ 1 }
+    ensures calls { result.calls ≡ calls_for (Err error) }
 {
     match error {
         TreeError::Memory => without_call(Did::Troubled(no_memory(barrier))),
