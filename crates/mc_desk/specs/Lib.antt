@@ -4,3 +4,4 @@ pub mod Panels
 pub mod Screens
 pub mod Sessions
 pub mod Starts
+pub mod Tallies

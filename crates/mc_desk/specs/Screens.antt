@@ -11,7 +11,10 @@ use Rattle.key_screen.specs.declared.keys.Base.{Base}
 use Rattle.key_screen.specs.declared.keys.Base.TheVariants.{F, Down, Enter, Unknown}
 use Rattle.copy_move.specs.declared.history.Refusal.{Refusal}
 use Rattle.copy_move.specs.declared.history.Refusal.TheVariants.{Tree}
+use Rattle.tree_trait.specs.Calls.{Stat}
 use Rattle.copy_move.specs.Replay.{ShowsView}
+use Rattle.copy_move.specs.Traces.{IsRefusedWith}
+use Rattle.mc_desk.specs.Tallies.{is_fault}
 use Rattle.mc_desk.specs.declared.choice.Choice.{Choice}
 use Rattle.mc_desk.specs.declared.choice.Choice.TheVariants.{Nothing, Asks, Refused}
 use Rattle.mc_desk.specs.declared.asks.Ask.{Ask}
@@ -97,3 +100,15 @@ abbrev pub with_ask : Ask → Screen → Screen
 with_ask (Delete confirmed) screen = record screen { confirmed = Some confirmed.path }
 with_ask ask.Nothing screen = screen
 with_ask End screen = screen
+
+-- what a choice says of the tree's calls: a look at the thing was refused, with its cause
+abbrev pub ChoiceCalls : CallLog → Choice → Type 0
+ChoiceCalls log Nothing = ⊤
+ChoiceCalls log (Asks chosen) = ⊤
+ChoiceCalls log (Refused path e) = IsRefusedWith log (Stat path) e
+
+-- the look at the thing met a fault
+abbrev pub is_faulty : Choice → Bool
+is_faulty Nothing = false
+is_faulty (Asks chosen) = false
+is_faulty (Refused path e) = is_fault e

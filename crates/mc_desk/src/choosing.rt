@@ -1,8 +1,9 @@
 //! The look at the thing under the cursor.
-ghost use Rattle.std.specs.Prelude.{◌≡◌, ◌≤◌, Option, IfOk};
+ghost use Rattle.std.specs.Prelude.{◌≡◌, ◌≤◌, true, Option, IfOk};
 ghost use Rattle.tree_trait.specs.FileSystem.{View};
+ghost use Rattle.tree_trait.specs.Answers.{IfKnown, HasRisen};
 ghost use Rattle.mc_desk.specs.Panels.{current_path};
-ghost use Rattle.mc_desk.specs.Screens.{Sees, IsChoice};
+ghost use Rattle.mc_desk.specs.Screens.{Sees, IsChoice, ChoiceCalls, is_faulty};
 
 use crate::choice::{Choice, Chosen};
 use crate::panel::Panel;
@@ -13,6 +14,8 @@ use tree_trait::{Tree, TreeError};
 /// Looks at the thing under the cursor.
 pub fn choose<T: Tree>(alloc: Global, tree: &mut T, panel: &Panel) -> Result<Choice, NoMemory>
     ensures chosen { IfOk result (λ choice. (o : Option View) → Sees (T.contents tree.old) o → IsChoice o (current_path panel.now) choice) }
+    ensures called { IfKnown (T.contents tree.old) (λ log. IfOk result (ChoiceCalls log)) }
+    ensures fault { IfOk result (λ choice. is_faulty choice ≡ true → HasRisen (T.fault_count tree.old) (T.fault_count tree.new)) }
     ensures same { T.contents tree.new ≡ T.contents tree.old }
     ensures later { T.fault_count tree.old ≤ T.fault_count tree.new }
 {

@@ -1,5 +1,5 @@
 //! The desk: the devices of a session, its screen, its job and its history. Every call leaves it whole.
-ghost use Rattle.std.specs.Prelude.{◌≡◌, ◌≤◌, [], IfOk, IfErr, OnOk, Some, None};
+ghost use Rattle.std.specs.Prelude.{◌≡◌, ◌≤◌, false, [], IfOk, IfErr, OnOk, Some, None};
 ghost use Rattle.tree_trait.specs.Calls.{ListFolder};
 ghost use Rattle.tree_trait.specs.Refusals.{refusal_of};
 ghost use Rattle.tree_trait.specs.Change.{current};
@@ -89,7 +89,6 @@ pub struct Desk<N: Tag, T: Tree, S: Sink, P: Spawner> {
     log: Log,
     last_id: u32,
     calls: u64,
-    faults: u64,
     shown: u128,
     unseen: bool,
     trouble: Option<TreeError>,
@@ -102,7 +101,7 @@ pub struct Desk<N: Tag, T: Tree, S: Sink, P: Spawner> {
 }
 
 impl<N: Tag, T: Tree, S: Sink, P: Spawner> Model for Desk<N, T, S, P> {
-    ghost use Rattle.mc_desk.specs.Desks.{Seen, KeepsDesk};
+    ghost use Rattle.mc_desk.specs.Desks.{Seen, KeepsDesk, awaited};
 
     ghost Value = { Seen };
 
@@ -110,21 +109,35 @@ impl<N: Tag, T: Tree, S: Sink, P: Spawner> Model for Desk<N, T, S, P> {
       newest = d.log.newest;
       spare = d.log.spare;
       screen = d.ui;
-      job = d.job;
-      last = d.last_id;
-      unseen = d.unseen;
-      closed = d.closed;
+      tally = record {
+        job = d.job;
+        last = d.last_id;
+        unseen = d.unseen;
+        closed = d.closed;
+        due = awaited d.due;
+        lost = d.lost;
+        calls = d.calls;
+      };
+      pending = d.keys;
+      quit = d.quit;
     } };
 
     ghost invariant = { λ d. KeepsDesk N.opening (T.contents d.tree) (record {
       newest = d.log.newest;
       spare = d.log.spare;
       screen = d.ui;
-      job = d.job;
-      last = d.last_id;
-      unseen = d.unseen;
-      closed = d.closed;
-    }) d.failed N.sink_faults (S.fault_count d.screen) };
+      tally = record {
+        job = d.job;
+        last = d.last_id;
+        unseen = d.unseen;
+        closed = d.closed;
+        due = awaited d.due;
+        lost = d.lost;
+        calls = d.calls;
+      };
+      pending = d.keys;
+      quit = d.quit;
+    }) N.tree_faults (T.fault_count d.tree) d.failed N.sink_faults (S.fault_count d.screen) };
 }
 
 impl<N: Tag, T: Tree, S: Sink, P: Spawner> Desk<N, T, S, P> {
@@ -138,8 +151,10 @@ impl<N: Tag, T: Tree, S: Sink, P: Spawner> Desk<N, T, S, P> {
         spawner: P,
     ) -> Result<Desk<N, T, S, P>, Refused<T, S, P>>
         requires opening { IfKnown (T.contents tree) (λ log. N.opening ≡ Some log) }
+        requires faults { N.tree_faults ≤ T.fault_count tree }
         requires sink { N.sink_faults ≤ S.fault_count screen }
         ensures opened { IfOk result (λ desk. (desk.newest ≡ []) × (desk.screen.panel.folder ≡ start.folder)) }
+        ensures fresh { IfOk result (λ desk. (desk.pending ≡ []) × (desk.tally.closed ≡ false)) }
         ensures permitted { IfKnown (T.contents tree) (λ log.
             OnOk result (refusal_of (current log) (ListFolder start.folder) ≡ None)) }
         ensures cause { IfKnown (T.contents tree) (λ log. IfErr result (λ r. IsStartCause (current log) start.folder r.error)) }
@@ -155,30 +170,26 @@ impl<N: Tag, T: Tree, S: Sink, P: Spawner> Desk<N, T, S, P> {
                 screen,
                 spawner,
             }),
-            Ok((ui, log)) => {
-                let faults = tree.faults();
-                Ok(Desk {
-                    tree,
-                    screen,
-                    spawner,
-                    keys: KeyReader::new(),
-                    ui,
-                    job: None,
-                    log,
-                    last_id: 0,
-                    calls: 0,
-                    faults,
-                    shown: 0,
-                    unseen: false,
-                    trouble: None,
-                    due: Due::First,
-                    closed: false,
-                    quit: false,
-                    failed: false,
-                    lost: false,
-                    of: PhantomData,
-                })
-            }
+            Ok((ui, log)) => Ok(Desk {
+                tree,
+                screen,
+                spawner,
+                keys: KeyReader::new(),
+                ui,
+                job: None,
+                log,
+                last_id: 0,
+                calls: 0,
+                shown: 0,
+                unseen: false,
+                trouble: None,
+                due: Due::First,
+                closed: false,
+                quit: false,
+                failed: false,
+                lost: false,
+                of: PhantomData,
+            }),
         }
     }
 }

@@ -1,5 +1,5 @@
 //! The history as it is written: entries are added in room that was made before, so that nothing is half written down.
-ghost use Rattle.std.specs.Prelude.{◌≡◌, ◌+◌, ◌≤◌, ◌<◌, [], ◌∷◌, IfOk, OnOk, OnErr, reverse};
+ghost use Rattle.std.specs.Prelude.{◌≡◌, ◌+◌, ◌-◌, ◌^◌, ◌≤◌, ◌<◌, [], ◌∷◌, length, IfOk, OnOk, OnErr, reverse};
 
 use copy_move::{Entries, Entry, History};
 use mc_text::NoMemory;
@@ -41,6 +41,7 @@ impl Log {
     pub fn reserve(&mut self, count: usize) -> Result<(), NoMemory>
         ensures same { self.new.newest ≡ self.old.newest }
         ensures room { OnOk result (count ≤ self.new.spare) }
+        ensures bounded { OnOk result (length self.new.newest + count ≤ 2 ^ 64 - 1) }
         ensures kept { self.old.spare ≤ self.new.spare }
     {
         self.entries.reserve(count)?;

@@ -1,6 +1,10 @@
 //! What stands on the screen: the panel, the box that asks whether to delete a file, and a line of news.
-ghost use Rattle.std.specs.Prelude.{◌≡◌, ◌∷◌, [], ◌≤◌, Option, None, IfOk, OnErr, IfSome, option_map};
+ghost use Rattle.std.specs.Prelude.{◌≡◌, ◌≢◌, ◌↔◌, ◌∷◌, [], ◌≤◌, true, Option, None, IfOk, OnErr, IfSome, option_map};
 ghost use Rattle.tree_trait.specs.FileSystem.{View};
+ghost use Rattle.tree_trait.specs.Calls.{Stat, ListFolder};
+ghost use Rattle.tree_trait.specs.Answers.{IfKnown, HasRisen};
+ghost use Rattle.copy_move.specs.Traces.{AreRefused};
+ghost use Rattle.mc_desk.specs.Tallies.{has_fault};
 ghost use Rattle.mc_desk.specs.Panels.{current_path};
 ghost use Rattle.mc_desk.specs.Screens.{Sees, KeyLeads, InPanel, Chooses, LookLeads, in_box, plain_base, with_ask};
 
@@ -68,11 +72,13 @@ impl Ui {
         self.news
     }
 
-    /// Shows why a job is in trouble.
-    pub fn tell(&mut self, news: TreeError)
+    /// Shows why a job is in trouble, if it is.
+    pub fn tell(&mut self, trouble: Option<TreeError>)
         ensures { self.new ≡ self.old }
     {
-        self.news = Some(news);
+        if trouble.is_some() {
+            self.news = trouble;
+        }
     }
 
     /// Works a key. `busy` says that a job is live. Where a look was refused, the refusals say so.
@@ -85,6 +91,9 @@ impl Ui {
     ) -> Result<KeyAct, NoMemory>
         ensures leads { IfOk result (λ act. (o : Option View) → Sees (T.contents tree.old) o
             → KeyLeads o busy key act.refusals self.old (with_ask act.ask self.new)) }
+        ensures ends { IfOk result (λ act. act.ask ≡ Ask.End ↔ ((plain_base key ≡ Base.F 10) × (self.old.asked ≡ None))) }
+        ensures called { IfKnown (T.contents tree.old) (λ log. IfOk result (λ act. AreRefused Stat log act.refusals)) }
+        ensures fault { IfOk result (λ act. has_fault act.refusals ≡ true → HasRisen (T.fault_count tree.old) (T.fault_count tree.new)) }
         ensures folder { self.new.panel.folder ≡ self.old.panel.folder }
         ensures settled { self.new.confirmed ≡ None }
         ensures lost { OnErr result (self.new ≡ self.old) }
@@ -105,6 +114,7 @@ impl Ui {
         ensures settled { self.new.confirmed ≡ None }
         ensures refusals { IfOk result (λ act. act.refusals ≡ []) }
         ensures leads { IfOk result (λ act. IfSome self.old.asked (λ path. with_ask act.ask self.new ≡ in_box base path self.old)) }
+        ensures stays { IfOk result (λ act. act.ask ≢ Ask.End) }
         ensures lost { OnErr result (self.new ≡ self.old) }
     {
         let _news = &self.news;
@@ -124,6 +134,7 @@ impl Ui {
         ensures settled { self.new.confirmed ≡ None }
         ensures refusals { IfOk result (λ act. act.refusals ≡ []) }
         ensures leads { IfOk result (λ act. IfSome self.old.asked (λ path. with_ask act.ask self.new ≡ in_box Base.Enter path self.old)) }
+        ensures stays { IfOk result (λ act. act.ask ≢ Ask.End) }
         ensures lost { OnErr result (self.new ≡ self.old) }
     {
         match self.asked.take() {
@@ -151,6 +162,9 @@ impl Ui {
         requires no_box { self.old.asked ≡ None }
         ensures leads { IfOk result (λ act. (o : Option View) → Sees (T.contents tree.old) o
             → InPanel o busy base act.refusals self.old (with_ask act.ask self.new)) }
+        ensures ends { IfOk result (λ act. act.ask ≡ Ask.End ↔ (base ≡ Base.F 10)) }
+        ensures called { IfKnown (T.contents tree.old) (λ log. IfOk result (λ act. AreRefused Stat log act.refusals)) }
+        ensures fault { IfOk result (λ act. has_fault act.refusals ≡ true → HasRisen (T.fault_count tree.old) (T.fault_count tree.new)) }
         ensures folder { self.new.panel.folder ≡ self.old.panel.folder }
         ensures settled { self.new.confirmed ≡ None }
         ensures lost { OnErr result (self.new ≡ self.old) }
@@ -181,6 +195,8 @@ impl Ui {
         ensures asks { IfOk result (λ act. act.ask ≡ Ask.Nothing) }
         ensures leads { IfOk result (λ act. (o : Option View) → Sees (T.contents tree.old) o
             → Chooses o busy (current_path self.old.panel) act.refusals self.old self.new) }
+        ensures called { IfKnown (T.contents tree.old) (λ log. IfOk result (λ act. AreRefused Stat log act.refusals)) }
+        ensures fault { IfOk result (λ act. has_fault act.refusals ≡ true → HasRisen (T.fault_count tree.old) (T.fault_count tree.new)) }
         ensures lost { OnErr result (self.new ≡ self.old) }
         ensures same { T.contents tree.new ≡ T.contents tree.old }
         ensures later { T.fault_count tree.old ≤ T.fault_count tree.new }
@@ -215,6 +231,8 @@ impl Ui {
     ) -> Result<Refusals, NoMemory>
         ensures leads { IfOk result (λ refusals. (o : Option View) → Sees (T.contents tree.old) o
             → LookLeads o unseen refusals self.old self.new) }
+        ensures called { IfKnown (T.contents tree.old) (λ log. IfOk result (AreRefused ListFolder log)) }
+        ensures fault { IfOk result (λ refusals. has_fault refusals ≡ true → HasRisen (T.fault_count tree.old) (T.fault_count tree.new)) }
         ensures folder { self.new.panel.folder ≡ self.old.panel.folder }
         ensures settled { self.new.confirmed ≡ None }
         ensures lost { OnErr result (self.new ≡ self.old) }

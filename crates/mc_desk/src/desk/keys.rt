@@ -1,14 +1,17 @@
 //! Keys and looks: what a desk does for its user.
-ghost use Rattle.std.specs.Prelude.{◌≡◌, ◌+◌, ◌≤◌, false, IsTrue, OnOk, Err};
+ghost use Rattle.std.specs.Prelude.{◌≡◌, ◌≢◌, ◌+◌, ◌≤◌, ◌∷◌, ◌++◌, [], ℕ, List, true, false, if◌then◌else◌, IsTrue, IfOk, OnOk, Ok, Err, Some, None};
 ghost use Rattle.copy_move.specs.Work.{IsReady};
-ghost use Rattle.mc_desk.specs.Desks.{failed_by};
+ghost use Rattle.mc_desk.specs.Screens.{plain_base};
+ghost use Rattle.mc_desk.specs.Tallies.{can_step, keys_in};
+ghost use Rattle.mc_desk.specs.Desks.{failed_by, awaited, HasTaken, TakesByte, KeepsKeys};
 
+use super::steps::{closed, closing};
 use super::{Desk, DeskError, DeskReply, Due};
 use crate::asks::{Ask, Confirmed, KeyAct};
 use crate::frame::draw;
 use crate::tag::Tag;
 use copy_move::{Deletion, Entry, Event, Job, Refusals};
-use key_screen::{Fed, Key};
+use key_screen::{Base, Fed, Key};
 use std::alloc::Global;
 use tree_trait::{Sink, SinkError, Spawner, Tree};
 
@@ -17,7 +20,11 @@ impl<N: Tag, T: Tree, S: Sink, P: Spawner> Desk<N, T, S, P> {
     /// Where it finds no memory before the byte is taken, nothing changes; each other error closes the desk. A closed desk
     /// takes no byte and answers `Quit`.
     pub fn byte(&mut self, alloc: Global, byte: u8, now: u64) -> Result<DeskReply, DeskError>
+        requires looked { self.old.tally.due ≡ None }
         ensures folder { self.new.screen.panel.folder ≡ self.old.screen.panel.folder }
+        ensures keys { (bytes : List ℕ) → HasTaken bytes self.old → TakesByte result bytes byte self.old self.new }
+        ensures unclosed { OnOk result (self.new.tally.closed ≡ self.old.tally.closed) }
+        ensures quit { result ≡ Ok DeskReply.Quit → self.old.tally.closed ≡ false → self.new.quit ≡ true }
     {
         if self.closed {
             return Ok(DeskReply::Quit);
@@ -29,16 +36,22 @@ impl<N: Tag, T: Tree, S: Sink, P: Spawner> Desk<N, T, S, P> {
         let Some(first) = first else {
             return self.redraw(alloc);
         };
-        let reply = self.work_key(alloc, first, now)?;
-        match second {
-            None => Ok(reply),
-            Some(second) => self.work_key(alloc, second, now),
+        let reply = self.work_key(alloc, first, now);
+        let Some(second) = second else {
+            return reply;
+        };
+        match reply {
+            Err(error) => Err(error),
+            Ok(_) => self.work_key(alloc, second, now),
         }
     }
 
     /// Takes up what the job did, and draws. After the job's end the panel is read again. A closed desk stays as it is.
     pub fn look(&mut self, alloc: Global) -> Result<(), DeskError>
         ensures folder { self.new.screen.panel.folder ≡ self.old.screen.panel.folder }
+        ensures keys { KeepsKeys self.old self.new }
+        ensures looked { OnOk result (can_step self.old.tally.job ≡ false → self.new.tally.due ≡ None) }
+        ensures unclosed { OnOk result (self.new.tally.closed ≡ self.old.tally.closed) }
     {
         if self.closed {
             return Ok(());
@@ -49,22 +62,19 @@ impl<N: Tag, T: Tree, S: Sink, P: Spawner> Desk<N, T, S, P> {
         let Ok(refusals) = self.ui.look(alloc, &mut self.tree, self.unseen) else {
             return Err(DeskError::Memory);
         };
-        if let Some(error) = self.trouble.take() {
-            self.ui.tell(error);
-        }
+        self.ui.tell(self.trouble.take());
         let drawn = draw(alloc, &mut self.screen, &self.ui);
         self.shown = after_draw(self.shown, &drawn);
         self.failed = failed_by(self.failed, &drawn);
-        self.faults = self.tree.faults();
         self.log.note(Entry {
             seat: 0,
             calls: self.calls,
-            faults: self.faults,
+            faults: self.tree.faults(),
             shown: self.shown,
             what: Event::Look { refusals },
         });
         self.unseen = false;
-        self.due = after_look(self.due, waits_or_gone(&self.job));
+        self.due = after_look(self.due, can_step(&self.job));
         match drawn {
             Ok(_) => Ok(()),
             Err(error) => Err(self.fail(error)),
@@ -72,10 +82,9 @@ impl<N: Tag, T: Tree, S: Sink, P: Spawner> Desk<N, T, S, P> {
     }
 
     /// What is to be looked at before the next byte: the job of this number, or 0 for the opening frame.
-    pub fn due(&self) -> Option<u32> {
-        if self.closed {
-            return None;
-        }
+    pub fn due(&self) -> Option<u32>
+        ensures { result ≡ self.now.tally.due }
+    {
         match self.due {
             Due::Nothing => None,
             Due::First => Some(0),
@@ -85,7 +94,8 @@ impl<N: Tag, T: Tree, S: Sink, P: Spawner> Desk<N, T, S, P> {
 
     /// Whether this job is live and can be stepped.
     pub fn is_ready(&self, job: u32) -> bool
-        ensures { IsTrue result → IsReady self.now.job }
+        ensures ready { IsTrue result → IsReady self.now.tally.job }
+        ensures due { self.now.tally.due ≡ Some job → result ≡ can_step self.now.tally.job }
     {
         match &self.job {
             None => false,
@@ -95,11 +105,16 @@ impl<N: Tag, T: Tree, S: Sink, P: Spawner> Desk<N, T, S, P> {
 
     /// Works one key, writes it down, and begins the job that it asks for.
     fn work_key(&mut self, alloc: Global, key: Key, now: u64) -> Result<DeskReply, DeskError>
-        requires unclosed { self.old.closed ≡ false }
+        requires unclosed { self.old.tally.closed ≡ false }
+        requires looked { self.old.tally.due ≡ None }
         requires room { 4 ≤ self.old.spare }
         ensures folder { self.new.screen.panel.folder ≡ self.old.screen.panel.folder }
-        ensures unclosed { OnOk result (self.new.closed ≡ false) }
+        ensures keys { keys_in self.new.newest ≡ keys_in self.old.newest ++ key ∷ [] }
+        ensures pending { self.new.pending ≡ self.old.pending }
+        ensures unclosed { OnOk result (self.new.tally.closed ≡ false) }
+        ensures looked { OnOk result (plain_base key ≡ Base.Unknown → self.new.tally.due ≡ None) }
         ensures room { OnOk result (self.old.spare ≤ self.new.spare + 2) }
+        ensures quit { result ≡ Ok DeskReply.Quit → self.new.quit ≡ true }
     {
         let Ok(act) = self.ui.key(alloc, &mut self.tree, self.job.is_some(), key) else {
             return self.lose_key(alloc, key, now);
@@ -108,11 +123,10 @@ impl<N: Tag, T: Tree, S: Sink, P: Spawner> Desk<N, T, S, P> {
         let drawn = draw(alloc, &mut self.screen, &self.ui);
         self.shown = after_draw(self.shown, &drawn);
         self.failed = failed_by(self.failed, &drawn);
-        self.faults = self.tree.faults();
         self.log.note(Entry {
             seat: 0,
             calls: self.calls,
-            faults: self.faults,
+            faults: self.tree.faults(),
             shown: self.shown,
             what: Event::Key {
                 key,
@@ -133,7 +147,7 @@ impl<N: Tag, T: Tree, S: Sink, P: Spawner> Desk<N, T, S, P> {
                 self.log.note(Entry {
                     seat: 0,
                     calls: self.calls,
-                    faults: self.faults,
+                    faults: self.tree.faults(),
                     shown: 0,
                     what: Event::Began {
                         job: id,
@@ -152,16 +166,20 @@ impl<N: Tag, T: Tree, S: Sink, P: Spawner> Desk<N, T, S, P> {
 
     /// Writes down that a key was lost for want of memory, and closes the desk.
     fn lose_key(&mut self, alloc: Global, key: Key, now: u64) -> Result<DeskReply, DeskError>
-        requires unclosed { self.old.closed ≡ false }
+        requires unclosed { self.old.tally.closed ≡ false }
+        requires looked { self.old.tally.due ≡ None }
         requires room { 3 ≤ self.old.spare }
         ensures screen { self.new.screen ≡ self.old.screen }
+        ensures keys { keys_in self.new.newest ≡ keys_in self.old.newest ++ key ∷ [] }
+        ensures pending { self.new.pending ≡ self.old.pending }
         ensures error { result ≡ Err DeskError.Memory }
     {
+        let faults = self.tree.faults();
         self.lost = true;
         self.log.note(Entry {
             seat: 0,
             calls: self.calls,
-            faults: self.faults,
+            faults,
             shown: self.shown,
             what: Event::Key {
                 key,
@@ -170,13 +188,19 @@ impl<N: Tag, T: Tree, S: Sink, P: Spawner> Desk<N, T, S, P> {
                 lost: true,
             },
         });
-        self.close();
+        self.log.note(closing(self.calls, faults));
+        self.job = closed(self.job.take());
+        self.due = Due::Nothing;
+        self.closed = true;
         Err(DeskError::Memory)
     }
 
     /// Draws once for a byte that completes no key.
     fn redraw(&mut self, alloc: Global) -> Result<DeskReply, DeskError>
         ensures screen { self.new.screen ≡ self.old.screen }
+        ensures keys { KeepsKeys self.old self.new }
+        ensures unclosed { OnOk result (self.new.tally.closed ≡ self.old.tally.closed) }
+        ensures goes_on { result ≢ Ok DeskReply.Quit }
     {
         let drawn = draw(alloc, &mut self.screen, &self.ui);
         self.shown = after_draw(self.shown, &drawn);
@@ -191,7 +215,10 @@ impl<N: Tag, T: Tree, S: Sink, P: Spawner> Desk<N, T, S, P> {
         reply: DeskReply,
     ) -> Result<DeskReply, DeskError>
         ensures screen { self.new.screen ≡ self.old.screen }
+        ensures keys { KeepsKeys self.old self.new }
         ensures same { OnOk result (self.new ≡ self.old) }
+        ensures reply { IfOk result (λ answer. answer ≡ reply) }
+        ensures quit { self.new.quit ≡ self.old.quit }
     {
         match drawn {
             Ok(_) => Ok(reply),
@@ -202,6 +229,8 @@ impl<N: Tag, T: Tree, S: Sink, P: Spawner> Desk<N, T, S, P> {
     /// Closes the desk after a draw that failed.
     fn fail(&mut self, error: SinkError) -> DeskError
         ensures screen { self.new.screen ≡ self.old.screen }
+        ensures keys { KeepsKeys self.old self.new }
+        ensures quit { self.new.quit ≡ self.old.quit }
     {
         self.close();
         match error {
@@ -219,20 +248,20 @@ fn after_draw(shown: u128, drawn: &Result<usize, SinkError>) -> u128 {
     }
 }
 
-/// What is due after a look: a job that is ready still is.
-fn after_look(due: Due, is_done: bool) -> Due {
-    match due {
-        Due::Nothing => Due::Nothing,
-        Due::First => Due::Nothing,
-        Due::Job(job) => { if is_done { Due::Nothing } else { Due::Job(job) } }
-    }
+/// What is due after a look: a job that can be stepped still is.
+fn after_look(due: Due, can_step: bool) -> Due
+    ensures { awaited result ≡ (if can_step then awaited due else None) }
+{
+    if can_step { due } else { Due::Nothing }
 }
 
-/// Whether the job has ended, or waits for an answer.
-fn waits_or_gone(job: &Option<Deletion>) -> bool {
+/// Whether there is a job, and it waits for nothing.
+fn can_step(job: &Option<Deletion>) -> bool
+    ensures { result ≡ can_step job.now }
+{
     match job {
-        None => true,
-        Some(job) => job.waits(),
+        None => false,
+        Some(job) => !job.waits(),
     }
 }
 

@@ -4,10 +4,12 @@ ghost use Rattle.std.specs.Option.{option_map};
 ghost use Rattle.tree_trait.specs.FileSystem.{View};
 ghost use Rattle.copy_move.specs.Work.{closed_job, if_closed, steps_left, live_job, IsReady};
 ghost use Rattle.copy_move.specs.Replay.{IsReplayed};
-ghost use Rattle.mc_desk.specs.Sessions.{MayOpen, EndsSession};
-ghost use Rattle.mc_desk.specs.Desks.{Blames};
+ghost use Rattle.copy_move.specs.Traces.{IsTracedTo};
+ghost use Rattle.mc_desk.specs.Sessions.{MayOpen, EndsSession, EndAsked};
+ghost use Rattle.mc_desk.specs.Tallies.{can_step, keys_in, has_lost};
+ghost use Rattle.mc_desk.specs.Desks.{Blames, KeepsKeys, idle_reply};
 
-use super::{Desk, Ended, StepReply};
+use super::{Desk, Due, Ended, StepReply};
 use crate::tag::Tag;
 use copy_move::{Deletion, Did, Ending, Entry, Event, Stepped};
 use std::alloc::Global;
@@ -17,20 +19,17 @@ impl<N: Tag, T: Tree, S: Sink, P: Spawner> Desk<N, T, S, P> {
     /// Closes the desk: no more keys are taken, and a job that waits for an answer is aborted. It takes no memory. A closed
     /// desk stays as it is.
     pub fn close(&mut self)
-        ensures closed { self.new.closed ≡ true }
+        ensures closed { self.new.tally.closed ≡ true }
         ensures screen { self.new.screen ≡ self.old.screen }
+        ensures keys { KeepsKeys self.old self.new }
+        ensures quit { self.new.quit ≡ self.old.quit }
     {
         if self.closed {
             return;
         }
-        self.log.note(Entry {
-            seat: 0,
-            calls: self.calls,
-            faults: self.faults,
-            shown: 0,
-            what: Event::Closed,
-        });
+        self.log.note(closing(self.calls, self.tree.faults()));
         self.job = closed(self.job.take());
+        self.due = Due::Nothing;
         self.closed = true;
     }
 
@@ -38,9 +37,13 @@ impl<N: Tag, T: Tree, S: Sink, P: Spawner> Desk<N, T, S, P> {
     /// the tree is made, and the job ends by the entry for which room was kept.
     pub fn step(&mut self, alloc: Global, seat: u32) -> StepReply
         ensures screen { self.new.screen ≡ self.old.screen }
-        ensures closed { self.new.closed ≡ self.old.closed }
-        ensures nearer { self.old.closed ≡ true → IsSome self.old.job → steps_left self.new.job < steps_left self.old.job }
-        ensures worked { IsReady self.old.job → steps_left self.new.job < steps_left self.old.job }
+        ensures keys { KeepsKeys self.old self.new }
+        ensures same { (self.new.tally.closed ≡ self.old.tally.closed) × (self.new.tally.due ≡ self.old.tally.due) }
+        ensures quit { self.new.quit ≡ self.old.quit }
+        ensures reply { result ≡ (if can_step self.old.tally.job then StepReply.Did else idle_reply self.old.tally.closed) }
+        ensures nearer { self.old.tally.closed ≡ true → IsSome self.old.tally.job
+            → steps_left self.new.tally.job < steps_left self.old.tally.job }
+        ensures worked { IsReady self.old.tally.job → steps_left self.new.tally.job < steps_left self.old.tally.job }
     {
         let Some(mut job) = self.job.take() else {
             return idle(self.closed);
@@ -54,7 +57,7 @@ impl<N: Tag, T: Tree, S: Sink, P: Spawner> Desk<N, T, S, P> {
             self.log.note(Entry {
                 seat,
                 calls: self.calls,
-                faults: self.faults,
+                faults: self.tree.faults(),
                 shown: 0,
                 what: Event::Step {
                     job: id,
@@ -66,13 +69,12 @@ impl<N: Tag, T: Tree, S: Sink, P: Spawner> Desk<N, T, S, P> {
         }
         let Stepped { did, calls } = job.step(alloc, &mut self.tree);
         self.calls = self.calls.saturating_add(calls);
-        self.faults = self.tree.faults();
         let ended = did.is_end();
         self.trouble = did.trouble();
         self.log.note(Entry {
             seat,
             calls: self.calls,
-            faults: self.faults,
+            faults: self.tree.faults(),
             shown: 0,
             what: Event::Step { job: id, did },
         });
@@ -84,9 +86,14 @@ impl<N: Tag, T: Tree, S: Sink, P: Spawner> Desk<N, T, S, P> {
     /// Ends the session: the desk is closed, and its job stepped to the end.
     pub fn end(self, alloc: Global) -> Ended<T, S, P>
         ensures session { (tree : Option View) → MayOpen N.opening (T.contents result.tree) tree
-            → EndsSession tree (reverse result.history.entries) self.screen.panel.folder }
+            → EndsSession tree N.tree_faults (reverse result.history.entries) self.screen.panel.folder }
+        ensures traced { IsTracedTo N.opening (T.contents result.tree) (reverse result.history.entries) }
         ensures replayed { IsReplayed N.opening (T.contents result.tree) (reverse result.history.entries) }
         ensures idle { live_job (reverse result.history.entries) ≡ None }
+        ensures keys { keys_in (reverse result.history.entries) ≡ keys_in self.newest }
+        ensures lost { result.lost ≡ has_lost (reverse result.history.entries) }
+        ensures quit { self.quit ≡ true → (tree : Option View) → MayOpen N.opening (T.contents result.tree) tree
+            → EndAsked tree N.tree_faults (reverse result.history.entries) }
         ensures screen { Blames result.failed N.sink_faults (S.fault_count result.screen) }
     {
         let mut desk = self;
@@ -104,7 +111,6 @@ impl<N: Tag, T: Tree, S: Sink, P: Spawner> Desk<N, T, S, P> {
             log,
             last_id: _,
             calls: _,
-            faults: _,
             shown: _,
             unseen: _,
             trouble: _,
@@ -127,7 +133,10 @@ impl<N: Tag, T: Tree, S: Sink, P: Spawner> Desk<N, T, S, P> {
     }
 }
 
-fn idle(is_closed: bool) -> StepReply {
+/// The reply where no job can be stepped.
+fn idle(is_closed: bool) -> StepReply
+    ensures { result ≡ idle_reply is_closed }
+{
     if is_closed {
         StepReply::Ended
     } else {
@@ -150,8 +159,21 @@ fn ended_without_memory() -> Did
     }
 }
 
+/// The entry that closes a session.
+pub(super) fn closing(calls: u64, faults: u64) -> Entry
+    ensures { result ≡ record { seat = 0; calls = calls; faults = faults; shown = 0; what = Event.Closed } }
+{
+    Entry {
+        seat: 0,
+        calls,
+        faults,
+        shown: 0,
+        what: Event::Closed,
+    }
+}
+
 /// The job of a session that closes.
-fn closed(job: Option<Deletion>) -> Option<Deletion>
+pub(super) fn closed(job: Option<Deletion>) -> Option<Deletion>
     ensures { result ≡ option_map closed_job job }
 {
     match job {

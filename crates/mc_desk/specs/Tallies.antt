@@ -1,0 +1,128 @@
+-- What a history comes to: the live job, what is due, and what was counted. Histories stand newest first here.
+use Rattle.std.specs.Prelude.{◌≡◌, ℕ, Bool, true, false, ◌||◌, if◌then◌else◌, List, [], ◌∷◌, ◌++◌, Option, Some, None}
+use Rattle.key_screen.specs.declared.keys.Key.{Key as KeyType}
+use Rattle.tree_trait.specs.declared.calls.TreeError.{TreeError}
+use Rattle.tree_trait.specs.declared.calls.TreeError.TheVariants.{Fault}
+use Rattle.copy_move.specs.declared.deletion.Course.{Course}
+use Rattle.copy_move.specs.declared.deletion.Course.TheVariants.{GoesOn, InTrouble, Aborts}
+use Rattle.copy_move.specs.declared.history.Did.TheVariants.{Ended}
+use Rattle.copy_move.specs.declared.history.Event.{Event}
+use Rattle.copy_move.specs.declared.history.Event.TheVariants.{Key, Look, Began, Step, Closed}
+use Rattle.copy_move.specs.declared.history.Entry.{Entry}
+use Rattle.copy_move.specs.declared.history.Refusal.{Refusal}
+use Rattle.copy_move.specs.declared.history.Refusal.TheVariants.{Tree}
+use Rattle.copy_move.specs.Work.{LiveJob, live_job, last_id, is_closed, closes, if_closed, after_event, id_after}
+use Rattle.copy_move.specs.Crashes.{calls_in}
+
+-- a job has ended, and no look has taken it up
+abbrev pub end_unseen_event : Event → Bool → Bool
+end_unseen_event (Step id (Ended ending part)) before = true
+end_unseen_event (Look refusals) before = false
+end_unseen_event event before = before
+
+abbrev pub end_unseen : List Entry → Bool
+end_unseen [] = false
+end_unseen (e ∷ older) = end_unseen_event e.what (end_unseen older)
+
+-- a live job that waits for nothing can be stepped
+abbrev pub is_working : Course → Bool
+is_working GoesOn = true
+is_working InTrouble = false
+is_working Aborts = true
+
+abbrev pub can_step : Option LiveJob → Bool
+can_step None = false
+can_step (Some job) = is_working job.course
+
+-- What is to be looked at before the next key: the opening frame, which has the number 0; or the job that was begun, until a
+-- look finds that it can't be stepped.
+abbrev pub due_after : Event → Option LiveJob → Option ℕ → Option ℕ
+due_after (Key key now refusals lost) job before = before
+due_after (Look refusals) job before = if can_step job then before else None
+due_after (Began id plan background) job before = Some id
+due_after (Step id did) job before = before
+due_after Closed job before = None
+
+abbrev pub due_in : List Entry → Option ℕ
+due_in [] = Some 0
+due_in (e ∷ older) = due_after e.what (live_job older) (due_in older)
+
+-- a key was lost for want of memory
+abbrev pub loses : Event → Bool
+loses (Key key now refusals lost) = lost
+loses (Look refusals) = false
+loses (Began id plan background) = false
+loses (Step id did) = false
+loses Closed = false
+
+abbrev pub has_lost : List Entry → Bool
+has_lost [] = false
+has_lost (e ∷ older) = loses e.what || has_lost older
+
+-- how often the tree had failed by the end of these entries, counted from so often at the opening
+abbrev pub faults_in : ℕ → List Entry → ℕ
+faults_in opening [] = opening
+faults_in opening (e ∷ older) = e.faults
+
+-- what a history comes to: the live job and the last one's number; whether a job's end waits for a look, whether the session
+-- is closed, what is to be looked at before the next key, and whether a key was lost; and the changing calls
+pub record Tally : Type 0 where
+  pub job : Option LiveJob
+  pub last : ℕ
+  pub unseen : Bool
+  pub closed : Bool
+  pub due : Option ℕ
+  pub lost : Bool
+  pub calls : ℕ
+
+abbrev pub tally : List Entry → Tally
+tally newest = record {
+  job = live_job newest;
+  last = last_id newest;
+  unseen = end_unseen newest;
+  closed = is_closed newest;
+  due = due_in newest;
+  lost = has_lost newest;
+  calls = calls_in newest;
+}
+
+-- the same with one entry more
+abbrev pub after_entry : Entry → Tally → Tally
+after_entry e t = record {
+  job = if_closed (closes e.what || t.closed) (after_event e.what t.job);
+  last = id_after e.what t.last;
+  unseen = end_unseen_event e.what t.unseen;
+  closed = closes e.what || t.closed;
+  due = due_after e.what t.job t.due;
+  lost = loses e.what || t.lost;
+  calls = e.calls;
+}
+
+-- how many changing calls an event makes at most
+abbrev pub most_calls : Event → ℕ
+most_calls (Key key now refusals lost) = 0
+most_calls (Look refusals) = 0
+most_calls (Began id plan background) = 0
+most_calls (Step id did) = 1
+most_calls Closed = 0
+
+-- the tree failed at a call that was refused
+abbrev pub is_fault : TreeError → Bool
+is_fault Fault = true
+is_fault e = false
+
+abbrev pub has_fault : List Refusal → Bool
+has_fault [] = false
+has_fault (Tree path e ∷ more) = is_fault e || has_fault more
+
+-- the keys of a history, the first one first
+abbrev pub keys_of : Event → List KeyType
+keys_of (Key key now refusals lost) = key ∷ []
+keys_of (Look refusals) = []
+keys_of (Began id plan background) = []
+keys_of (Step id did) = []
+keys_of Closed = []
+
+abbrev pub keys_in : List Entry → List KeyType
+keys_in [] = []
+keys_in (e ∷ older) = keys_in older ++ keys_of e.what
