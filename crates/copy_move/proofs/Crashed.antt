@@ -1,13 +1,12 @@
 -- What a crash leaves at a moment of a session that deletes files.
-use Rattle.std.proofs.Common.{◌≡◌, ℕ, ◌+◌, true, false, List, [], ◌∷◌, ◌++◌, length, take, refl, sym, ◌∙◌, ap, subst, inl, inr, ◌⊎◌, Option, Some, None}
-use Rattle.std.specs.Option.{option_map}
+use Rattle.std.proofs.Common.{◌≡◌, ℕ, ◌+◌, true, false, List, [], ◌∷◌, length, take, refl, sym, ◌∙◌, ap, subst, inl, inr, ◌⊎◌, Option, Some, None}
 use Rattle.std.proofs.lemmas.Bool.{cases_Bool, false_from_ne_true}
 use Rattle.mc_text.specs.Routes.{Route, same_path}
 use Rattle.tree_trait.specs.declared.file_system.FileSystem.{FileSystem}
-use Rattle.tree_trait.specs.FileSystem.{View, Spot, lookup, find, value_at, visible_tree}
+use Rattle.tree_trait.specs.FileSystem.{View, Spot, find, value_at, visible_tree}
 use Rattle.tree_trait.specs.Shape.{IsTree}
-use Rattle.tree_trait.specs.Change.{Change, CallLog, current, after_changes}
-use Rattle.tree_trait.specs.CrashImages.{all_settled, MayLeave, Among, IsCrashImage}
+use Rattle.tree_trait.specs.Change.{CallLog, current, after_changes}
+use Rattle.tree_trait.specs.CrashImages.{all_settled, MayLeave, Among}
 use Rattle.tree_trait.proofs.Settled.{MayLeave-is_settled}
 use Rattle.tree_trait.proofs.Visible.{same_path-true}
 use Rattle.copy_move.specs.declared.history.Did.TheVariants.{Removed, Barrier, Troubled, Ended}
@@ -18,9 +17,9 @@ use Rattle.copy_move.specs.declared.history.Entry.{Entry}
 use Rattle.copy_move.specs.Work.{LiveJob, live_job}
 use Rattle.copy_move.specs.Replay.{replayed_event, replayed_tree}
 use Rattle.copy_move.specs.Traces.{EventCalls, IsTraced}
-use Rattle.copy_move.specs.Crashes.{finished_by, finished_files, is_pending, IsInDoubt, IsBeingDeleted, IsSafe, DeletionsLaw}
+use Rattle.copy_move.specs.Crashes.{finished_by, finished_files, is_pending, IsInDoubt, IsBeingDeleted, DeletionsLaw}
 use Rattle.copy_move.proofs.Shows.{traced_replays}
-use Rattle.copy_move.proofs.Taking.{AllTake, Lacks, KeepsFolders, lacks_image, keeps_folders, keeps_image, all_there, value_lacks, find_alike}
+use Rattle.copy_move.proofs.Taking.{Lacks, KeepsFolders, lacks_image, keeps_folders, keeps_image, all_there, value_lacks, find_alike}
 use Rattle.copy_move.proofs.Pending.{pending_law}
 use Rattle.copy_move.proofs.Sessions.{IsSession, session_of, session_current}
 use Rattle.copy_move.proofs.Moments.{IsWithin, moment_within}

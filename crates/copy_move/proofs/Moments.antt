@@ -1,17 +1,16 @@
 -- Each moment of a session is the end of one of its entries, or of one that could follow those that stand.
-use Rattle.std.proofs.Common.{◌≡◌, ℕ, ◌+◌, ◌<◌, ◌≤◌, List, [], ◌∷◌, ◌++◌, length, length-append, take, refl, sym, ◌∙◌, ap, subst, inl, inr, ◌⊎◌, Option, Some, None, arith}
+use Rattle.std.proofs.Common.{◌≡◌, ℕ, ◌+◌, ◌≤◌, List, [], ◌∷◌, length, length-append, take, refl, sym, ◌∙◌, ap, subst, inl, inr, ◌⊎◌, Option, Some, None, arith}
 use Rattle.std.proofs.lemmas.Bool.{cases_lt}
 use Rattle.std.proofs.lemmas.List.{take-append-le}
 use Rattle.std.proofs.Math.Seq.{take-length}
 use Rattle.tree_trait.specs.Shape.{IsTree}
 use Rattle.tree_trait.specs.Change.{Change, CallLog, current}
-use Rattle.copy_move.specs.declared.history.Event.{Event}
 use Rattle.copy_move.specs.declared.history.Event.TheVariants.{Closed}
 use Rattle.copy_move.specs.declared.history.Entry.{Entry}
 use Rattle.copy_move.specs.Work.{LiveJob, live_job, after_event}
 use Rattle.copy_move.specs.Traces.{EventCalls, IsTraced}
 use Rattle.copy_move.specs.Crashes.{calls_in, IsMoment}
-use Rattle.copy_move.proofs.Sessions.{Turned, IsSession, session_of, newest_turned}
+use Rattle.copy_move.proofs.Sessions.{Turned, session_of, newest_turned}
 
 -- These changes were made when an entry ends that is the next, or could be it.
 pub record IsWithin (opening : CallLog) (standing : List Entry) (made : List Change) : Type 0 where
@@ -83,13 +82,17 @@ placed opening now (e ∷ older) standing calls most tree h (inr before) =
         let high = last.2 in
         elim (cases_lt (calls_in older) calls) [
           | inl more ↦
-              let whole : length opening.changes + calls ≡ length now.changes = omega (arith, added, grown, counted, turned.adds.short) in
-              (high, subst (λ es. IsWithin opening es (take (length opening.changes + calls) now.changes)) (sym last.0)
-              record { next = e; at = now; traced = h; made_is = ap (λ n. take n now.changes) whole ∙ take-length now.changes; })
+              let whole : length opening.changes + calls ≡ length now.changes = omega (arith, added, grown, counted, turned.adds.short) in (
+                high,
+                subst (λ es. IsWithin opening es (take (length opening.changes + calls) now.changes)) (sym last.0)
+                    record { next = e; at = now; traced = h; made_is = ap (λ n. take n now.changes) whole ∙ take-length now.changes },
+              )
           | inr same ↦
-              let whole : length opening.changes + calls ≡ length h.0.changes = omega (arith, added) in
-              (high, subst (λ es. IsWithin opening es (take (length opening.changes + calls) now.changes)) (sym last.0)
-              (subst (IsWithin opening older) (sym (front (length opening.changes + calls) (omega (arith, added)))) (at_end opening h.0 older (length opening.changes + calls) h.1 whole)))
+              let whole : length opening.changes + calls ≡ length h.0.changes = omega (arith, added) in (
+                high,
+                subst (λ es. IsWithin opening es (take (length opening.changes + calls) now.changes)) (sym last.0)
+                    (subst (IsWithin opening older) (sym (front (length opening.changes + calls) (omega (arith, added)))) (at_end opening h.0 older (length opening.changes + calls) h.1 whole)),
+              )
         ]
 
 pub moment_within : (opening now : CallLog) (newest standing : List Entry) (calls : ℕ) → IsTree (current opening) → IsTraced opening newest now

@@ -1,16 +1,16 @@
 -- What a session that deletes files did to its tree: each change took a file away, and a finished file is gone for good.
-use Rattle.std.proofs.Common.{◌≡◌, ℕ, List, [], ◌∷◌, ◌++◌, append_assoc, refl, sym, ◌∙◌, ap, subst, inl, inr, Option, Some, None, Ok}
+use Rattle.std.proofs.Common.{◌≡◌, ℕ, List, [], ◌∷◌, ◌++◌, append_assoc, sym, ◌∙◌, ap, subst, inl, inr, Option, Some, None}
 use Rattle.std.specs.Prelude.{Bool}
 use Rattle.std.proofs.lemmas.List.{append-nil}
 use Rattle.mc_text.specs.Routes.{Route}
 use Rattle.tree_trait.specs.declared.file_system.FileSystem.{FileSystem}
 use Rattle.tree_trait.specs.FileSystem.{find}
 use Rattle.tree_trait.specs.Shape.{IsTree}
-use Rattle.tree_trait.specs.Change.{Change, Syncs, CallLog, current, with_change, after_changes, found}
+use Rattle.tree_trait.specs.Change.{Change, Syncs, CallLog, current, after_changes, found}
 use Rattle.tree_trait.specs.CrashImages.{Among}
 use Rattle.tree_trait.proofs.Settled.{after_changes-append}
 use Rattle.tree_trait.proofs.Walking.{removable}
-use Rattle.copy_move.specs.declared.deletion.Stage.TheVariants.{Remove, Sync, Finish}
+use Rattle.copy_move.specs.declared.deletion.Stage.TheVariants.{Sync, Finish}
 use Rattle.copy_move.specs.declared.deletion.Course.{Course}
 use Rattle.copy_move.specs.declared.deletion.Course.TheVariants.{GoesOn, InTrouble, Aborts}
 use Rattle.copy_move.specs.declared.history.Ending.TheVariants.{Finished}
@@ -47,12 +47,12 @@ module _ (s : FileSystem) (tree : IsTree s) (cs : List Change) (takes : AllTake 
         record {
           removed = λ e. cc;
           synced = λ e goes.
-          subst (λ more. IsGone s (cs ++ more) (m ∷ up)) (sym a.1)
-          (subst (λ x. IsGone s (cs ++ Syncs (found x up) ∷ []) (m ∷ up)) (sym is) (gone_synced s cs m up tree takes gone));
+              subst (λ more. IsGone s (cs ++ more) (m ∷ up)) (sym a.1)
+              (subst (λ x. IsGone s (cs ++ Syncs (found x up) ∷ []) (m ∷ up)) (sym is) (gone_synced s cs m up tree takes gone));
         },
       )
   sync_turned InTrouble path gone h = absurd h
-  sync_turned Aborts path gone h = (adds_sync_tried s path h.0 log now h.1, record { removed = λ e. cc; synced = λ e goes. cc; })
+  sync_turned Aborts path gone h = (adds_sync_tried s path h.0 log now h.1, record { removed = λ e. cc; synced = λ e goes. cc })
 
   step_turned : (job : LiveJob) (did : Did) → Progress s cs job.stage job.course job.path → IsAllowedStep job did → StepCalls job did log (Some now)
       → Turned s cs log now (after_step did job)
@@ -64,30 +64,30 @@ module _ (s : FileSystem) (tree : IsTree s) (cs : List Change) (takes : AllTake 
         adds = a;
         live = record {
           removed = λ e.
-          subst (λ x. find x job.path ≡ None) (adds_current s cs log now a is)
-          (subst (λ q. find (current now) q ≡ None) allowed.2 (path_removed s log now path h.1.0 lacks r now_is));
+              subst (λ x. find x job.path ≡ None) (adds_current s cs log now a is)
+              (subst (λ q. find (current now) q ≡ None) allowed.2 (path_removed s log now path h.1.0 lacks r now_is));
           synced = λ e goes. cc;
         };
       }
   step_turned job Barrier p allowed h =
       let t = sync_turned job.course job.path (p.removed allowed.1) h in
-      record { adds = t.0; live = t.1; }
+      record { adds = t.0; live = t.1 }
   step_turned job (Troubled trouble) p allowed h =
       let a : Adds s log now = adds_not_done s job.stage job.path (error_of trouble.cause) log now h in
       record {
         adds = a;
-        live = record { removed = (progress_more s cs a.more job.stage job.course job.path a.takes p).removed; synced = λ e goes. cc; };
+        live = record { removed = (progress_more s cs a.more job.stage job.course job.path a.takes p).removed; synced = λ e goes. cc };
       }
-  step_turned job (Ended ending part) p allowed h = record { adds = adds_nothing s log now (some_log now log h); live = tt; }
+  step_turned job (Ended ending part) p allowed h = record { adds = adds_nothing s log now (some_log now log h); live = tt }
 
   same_job : (job : Option LiveJob) → JobProgress s cs job → now ≡ log → Turned s cs log now job
   same_job job p same =
       let a : Adds s log now = adds_nothing s log now same in
-      record { adds = a; live = job_progress_more s cs a.more job a.takes p; }
+      record { adds = a; live = job_progress_more s cs a.more job a.takes p }
 
   began : (job : Option LiveJob) (id : ℕ) (plan : _) (background : Bool) → JobProgress s cs job → now ≡ log → Turned s cs log now (after_event (Began id plan background) job)
   began job id (Delete []) background p same = same_job job p same
-  began job id (Delete (path ∷ more)) background p same = record { adds = adds_nothing s log now same; live = record { removed = λ e. cc; synced = λ e goes. cc; }; }
+  began job id (Delete (path ∷ more)) background p same = record { adds = adds_nothing s log now same; live = record { removed = λ e. cc; synced = λ e goes. cc } }
 
   event_turned : (job : Option LiveJob) (what : Event) → JobProgress s cs job → EventCalls job what log now → Turned s cs log now (after_event what job)
   event_turned None (Step id did) p h = absurd h

@@ -55,7 +55,7 @@ pub record Lacks (s image : FileSystem) : Type 0 where
   pub names : (f : ℕ) (m : List ℕ) → (lookup image.names f m ≡ lookup s.names f m) ⊎ (lookup image.names f m ≡ None)
 
 lacks_nothing : (s : FileSystem) → Lacks s s
-lacks_nothing s = record { nodes = refl; names = λ f m. inl refl; }
+lacks_nothing s = record { nodes = refl; names = λ f m. inl refl }
 
 lacks_then : (s mid image : FileSystem) → Lacks s mid → Lacks mid image → Lacks s image
 lacks_then s mid image a b = record {
@@ -74,7 +74,7 @@ pub lacks_change : (s x : FileSystem) (c : Change) → TakesFile s c → Lacks x
 lacks_change s x Nothing t = lacks_nothing x
 lacks_change s x (Makes f name made) t = absurd t
 lacks_change s x (Moves f old g new i replaced) t = absurd t
-lacks_change s x (Removes f name i) t = record { nodes = refl; names = λ g m. a_name_less (same_name f name g m) (lookup x.names g m); }
+lacks_change s x (Removes f name i) t = record { nodes = refl; names = λ g m. a_name_less (same_name f name g m) (lookup x.names g m) }
 lacks_change s x (Sets i mode) t = absurd t
 lacks_change s x (Writes i bytes mtime) t = absurd t
 lacks_change s x (Syncs i) t = lacks_nothing x
@@ -91,7 +91,7 @@ pub record KeepsFolders (s image : FileSystem) : Type 0 where
   pub names : (f : ℕ) (m : List ℕ) (i : ℕ) → lookup s.names f m ≡ Some i → is_folder (node s i) ≡ true → lookup image.names f m ≡ Some i
 
 pub keeps_folders : (s : FileSystem) → KeepsFolders s s
-keeps_folders s = record { names = λ f m i leads folder. leads; }
+keeps_folders s = record { names = λ f m i leads folder. leads }
 
 some_node : (i j : ℕ) → (let o : Option ℕ = Some i in o) ≡ Some j → i ≡ j
 some_node i j h = cc
