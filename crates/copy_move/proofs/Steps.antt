@@ -105,8 +105,8 @@ module _ (old new : LiveJob) (before after : Option CallLog) (faults faults_afte
         allowed = (goes_on old.course course, stage);
         job = job;
         called = λ log known.
-        subst (λ c. SyncCalls c (call_of Sync old.path) log after) (sym course)
-        (subst (λ call. Answers log call (Ok tt) after) (sym (sync_call old.path folder within)) (called log known));
+            subst (λ c. SyncCalls c (call_of Sync old.path) log after) (sym course)
+            (subst (λ call. Answers log call (Ok tt) after) (sym (sync_call old.path folder within)) (called log known));
         counted = counted (SyncFolder folder) (Ok tt) calls count called;
         unknown = unknown;
         later = later;
@@ -122,8 +122,8 @@ module _ (old new : LiveJob) (before after : Option CallLog) (faults faults_afte
         allowed = (aborts old.course course, stage);
         job = job;
         called = λ log known.
-        subst (λ c. SyncCalls c (call_of Sync old.path) log after) (sym course)
-        (answer, subst (λ call. Answers log call answer after) (sym (sync_call old.path folder within)) (called log known));
+            subst (λ c. SyncCalls c (call_of Sync old.path) log after) (sym course)
+            (answer, subst (λ call. Answers log call answer after) (sym (sync_call old.path folder within)) (called log known));
         counted = counted (SyncFolder folder) answer calls count called;
         unknown = unknown;
         later = later;

@@ -3,8 +3,10 @@
 
 mod deletion;
 mod history;
+mod laws;
 
 pub use deletion::{Course, Deletion, Stage, Stepped};
 pub use history::{
     Cause, Did, Ending, Entries, Entry, Event, History, Job, Refusal, Refusals, Trouble,
 };
+pub use laws::what_a_crash_leaves_of_deletions;
