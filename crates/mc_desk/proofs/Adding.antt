@@ -1,5 +1,5 @@
 -- The entries of a desk, one kind at a time: each leaves a whole desk.
-use Rattle.std.proofs.Common.{◌≡◌, ◌⊎◌, ℕ, ◌+◌, ◌-◌, ◌^◌, ◌≤◌, min, Bool, true, false, ◌||◌, List, [], ◌∷◌, length, refl, sym, ◌∙◌, ap, subst, inl, inr, Option, Some, None, arith}
+use Rattle.std.proofs.Common.{◌≡◌, ◌⊎◌, ℕ, ◌+◌, ◌-◌, ◌^◌, ◌≤◌, min, Bool, true, false, ◌||◌, List, [], ◌∷◌, length, refl, sym, ◌∙◌, ap, subst, inl, Option, Some, None, arith}
 use Rattle.std.specs.Prelude.{is_some, option_and_then, if◌then◌else◌}
 use Rattle.std.specs.Option.{option_map}
 use Rattle.key_screen.specs.declared.keys.Key.{Key as KeyType}
@@ -12,22 +12,20 @@ use Rattle.tree_trait.specs.Answers.{IfKnown, HasRisen}
 use Rattle.copy_move.specs.declared.history.Entry.{Entry}
 use Rattle.copy_move.specs.declared.history.Did.{Did}
 use Rattle.copy_move.specs.declared.history.Did.TheVariants.{Removed, Barrier, Troubled, Ended}
-use Rattle.copy_move.specs.declared.history.Ending.TheVariants.{NoMemory}
 use Rattle.copy_move.specs.declared.history.Event.{Event}
 use Rattle.copy_move.specs.declared.history.Event.TheVariants.{Key, Look, Began, Step, Closed}
 use Rattle.copy_move.specs.declared.history.Job.TheVariants.{Delete as DeleteJob}
 use Rattle.copy_move.specs.declared.history.Refusal.{Refusal}
 use Rattle.copy_move.specs.declared.deletion.Course.TheVariants.{InTrouble}
-use Rattle.copy_move.specs.Work.{LiveJob, begun, live_job, is_closed, if_closed, closed_job, after_event, after_step, ends, IsAllowedStep}
-use Rattle.copy_move.specs.Steps.{StepsOn, IsFault}
+use Rattle.copy_move.specs.Work.{LiveJob, begun, live_job, is_closed, if_closed, closed_job, after_event, after_step, ends}
+use Rattle.copy_move.specs.Steps.{StepsOn}
 use Rattle.copy_move.specs.Traces.{AreRefused, EventCalls, StepCalls}
 use Rattle.copy_move.proofs.Left.{live_after, never_waits}
 use Rattle.mc_desk.specs.declared.asks.Ask.{Ask}
 use Rattle.mc_desk.specs.declared.asks.Ask.TheVariants.{Delete}
 use Rattle.mc_desk.specs.declared.asks.Confirmed.{Confirmed}
 use Rattle.mc_desk.specs.Screens.{Screen, Sees, KeyLeads, ByMode, LookLeads, plain_base, with_ask}
-use Rattle.mc_desk.specs.Tallies.{Tally, tally, after_entry, faults_in, can_step, end_unseen_event, has_fault}
-use Rattle.mc_desk.specs.Sessions.{TellsFault}
+use Rattle.mc_desk.specs.Tallies.{Tally, tally, faults_in, can_step, end_unseen_event, has_fault}
 use Rattle.mc_desk.specs.Desks.{Seen, kept_room, IsWritten, IsDesk}
 use Rattle.mc_desk.proofs.Keeping.{Adds, written_more}
 

@@ -1,5 +1,5 @@
 -- One entry more is a session still.
-use Rattle.std.proofs.Common.{◌≡◌, ◌⊎◌, ℕ, ◌+◌, ◌≤◌, Bool, true, false, ◌||◌, List, [], ◌∷◌, length, refl, sym, ◌∙◌, ap, subst, inl, inr, Option, Some, None, arith}
+use Rattle.std.proofs.Common.{◌≡◌, ◌⊎◌, ℕ, ◌+◌, ◌≤◌, true, false, List, [], ◌∷◌, length, refl, sym, ◌∙◌, ap, subst, inl, inr, Option, Some, None, arith}
 use Rattle.std.specs.Option.{option_map}
 use Rattle.mc_text.specs.Routes.{Route}
 use Rattle.tree_trait.specs.FileSystem.{View, visible_tree}
@@ -9,7 +9,6 @@ use Rattle.tree_trait.specs.Answers.{IfKnown}
 use Rattle.copy_move.specs.declared.history.Entry.{Entry}
 use Rattle.copy_move.specs.declared.history.Event.{Event}
 use Rattle.copy_move.specs.declared.history.Event.TheVariants.{Key, Look, Began, Step, Closed}
-use Rattle.copy_move.specs.Work.{live_job}
 use Rattle.copy_move.specs.Replay.{IsReplayed, replayed_tree}
 use Rattle.copy_move.specs.Crashes.{calls_in}
 use Rattle.copy_move.specs.Traces.{EventCalls, IsTraced, IsTracedTo}

@@ -1,5 +1,5 @@
 -- A byte joins the bytes that were taken.
-use Rattle.std.proofs.Common.{◌≡◌, ℕ, Bool, true, false, List, [], ◌∷◌, ◌++◌, refl, sym, ◌∙◌, ap, subst, inl, inr, Option, Some, None, IsSome, Result, Ok, Err}
+use Rattle.std.proofs.Common.{◌≡◌, ℕ, false, List, [], ◌∷◌, ◌++◌, refl, sym, ◌∙◌, ap, subst, inl, inr, Some, None, Result, Ok, Err}
 use Rattle.std.specs.Prelude.{MatchBool}
 use Rattle.key_screen.specs.declared.keys.Key.{Key}
 use Rattle.key_screen.specs.declared.keys.Fed.{Fed}
@@ -8,7 +8,7 @@ use Rattle.key_screen.proofs.CutLemmas.{decoded_keys-append}
 use Rattle.mc_desk.specs.declared.desk.DeskReply.{DeskReply}
 use Rattle.mc_desk.specs.declared.desk.DeskError.{DeskError}
 use Rattle.mc_desk.specs.Tallies.{keys_in}
-use Rattle.mc_desk.specs.Desks.{Seen, HasTaken, TakesByte, KeepsKeys}
+use Rattle.mc_desk.specs.Desks.{Seen, HasTaken, TakesByte}
 
 decoded : List Key → List ℕ → Decoded
 decoded keys rest = record { keys = keys; rest = rest }

@@ -6,7 +6,7 @@ use Rattle.tree_trait.specs.Answers.{HasRisen}
 use Rattle.tree_trait.specs.declared.devices.SinkError.{SinkError}
 use Rattle.tree_trait.specs.declared.devices.SinkError.TheVariants.{Fault, Memory}
 use Rattle.key_screen.specs.declared.keys.Key.{Key as KeyType}
-use Rattle.key_screen.specs.DecodedKeys.{Decoded, decoded_keys}
+use Rattle.key_screen.specs.DecodedKeys.{decoded_keys}
 use Rattle.copy_move.specs.declared.history.Entry.{Entry}
 use Rattle.copy_move.specs.Work.{LiveJob}
 use Rattle.copy_move.specs.Traces.{IsTracedTo}

@@ -1,5 +1,5 @@
 -- What a history comes to: the live job, what is due, and what was counted. Histories stand newest first here.
-use Rattle.std.specs.Prelude.{◌≡◌, ℕ, Bool, true, false, ◌||◌, if◌then◌else◌, List, [], ◌∷◌, ◌++◌, Option, Some, None}
+use Rattle.std.specs.Prelude.{ℕ, Bool, true, false, ◌||◌, if◌then◌else◌, List, [], ◌∷◌, ◌++◌, Option, Some, None}
 use Rattle.key_screen.specs.declared.keys.Key.{Key as KeyType}
 use Rattle.tree_trait.specs.declared.calls.TreeError.{TreeError}
 use Rattle.tree_trait.specs.declared.calls.TreeError.TheVariants.{Fault}
@@ -8,6 +8,7 @@ use Rattle.copy_move.specs.declared.deletion.Course.TheVariants.{GoesOn, InTroub
 use Rattle.copy_move.specs.declared.history.Did.TheVariants.{Ended}
 use Rattle.copy_move.specs.declared.history.Event.{Event}
 use Rattle.copy_move.specs.declared.history.Event.TheVariants.{Key, Look, Began, Step, Closed}
+use Rattle.copy_move.specs.declared.history.Job.TheVariants.{Delete}
 use Rattle.copy_move.specs.declared.history.Entry.{Entry}
 use Rattle.copy_move.specs.declared.history.Refusal.{Refusal}
 use Rattle.copy_move.specs.declared.history.Refusal.TheVariants.{Tree}
@@ -39,7 +40,8 @@ can_step (Some job) = is_working job.course
 abbrev pub due_after : Event → Option LiveJob → Option ℕ → Option ℕ
 due_after (Key key now refusals lost) job before = before
 due_after (Look refusals) job before = if can_step job then before else None
-due_after (Began id plan background) job before = Some id
+due_after (Began id (Delete []) background) job before = before
+due_after (Began id (Delete (path ∷ more)) background) job before = Some id
 due_after (Step id did) job before = before
 due_after Closed job before = None
 
