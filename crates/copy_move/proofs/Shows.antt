@@ -2,6 +2,7 @@
 use Rattle.std.proofs.Common.{◌≡◌, ℕ, ℤ, List, [], ◌∷◌, refl, sym, ◌∙◌, ap, subst, inl, inr, Option, Some, None, Result, Ok, Err}
 use Rattle.mc_text.specs.Routes.{Route}
 use Rattle.tree_trait.specs.declared.calls.TreeError.{TreeError}
+use Rattle.tree_trait.specs.declared.calls.TreeError.TheVariants as refused
 use Rattle.tree_trait.specs.Calls.{Call, RemoveFile, SyncFolder}
 use Rattle.tree_trait.specs.FileSystem.{View, visible_tree}
 use Rattle.tree_trait.specs.Refusals.{refusal_of}
@@ -154,5 +155,24 @@ traced_replays opening now (e ∷ older) h =
     }
 
 pub replayed_to : (opening contents : Option CallLog) (newest : List Entry) → IsTracedTo opening contents newest → IsReplayed opening contents newest
-replayed_to opening None newest h = tt
-replayed_to opening (Some now) newest h = (h.0, h.1, traced_replays h.0 now newest h.2)
+replayed_to None contents newest h = tt
+replayed_to (Some opening) contents newest h = (h.0, h.1, traced_replays opening h.0 newest h.2)
+
+-- a tree that tells what it holds goes on telling
+call_tells : (log : CallLog) (call : Option Call) (answer : Result (Unit {0}) TreeError) (after : Option CallLog) → Answers log call answer after → (now : CallLog) × (after ≡ Some now)
+call_tells log None answer after h = (log, h)
+call_tells log (Some call) (Ok done) after h = (_, h.1.1)
+call_tells log (Some call) (Err refused.Fault) after h = (_, h.1.1)
+call_tells log (Some call) (Err refused.Memory) after h = (log, h)
+call_tells log (Some call) (Err e) after h = (_, h.1)
+
+pub step_tells : (job : LiveJob) (did : Did) (log : CallLog) (after : Option CallLog) → StepCalls job did log after → (now : CallLog) × (after ≡ Some now)
+step_tells job (Removed path) log after h = call_tells log (Some (RemoveFile path)) (Ok tt) after h
+step_tells job Barrier log after h = go job.course h
+  where
+    go : (course : Course) → SyncCalls course (call_of Sync job.path) log after → (now : CallLog) × (after ≡ Some now)
+    go GoesOn h = call_tells log (call_of Sync job.path) (Ok tt) after h
+    go InTrouble h = absurd h
+    go Aborts h = call_tells log (call_of Sync job.path) h.0 after h.1
+step_tells job (Troubled trouble) log after h = call_tells log (call_of job.stage job.path) (Err (error_of trouble.cause)) after h
+step_tells job (Ended ending part) log after h = (log, h)

@@ -40,7 +40,7 @@ pub record Replays (before after : CallLog) (newest : List Entry) : Type 0 where
   pub tree : IsTree (current before) → IsTree (current after)
   pub shows : IsTree (current before) → ShowsView after (replayed_tree (visible_tree (current before)) newest)
 
--- the same of what a tree holds, where that is known
+-- the same of a tree that tells what it holds
 abbrev pub IsReplayed : Option CallLog → Option CallLog → List Entry → Type 0
-IsReplayed opening None newest = ⊤
-IsReplayed opening (Some after) newest = (before : CallLog) × (opening ≡ Some before) × Replays before after newest
+IsReplayed None contents newest = ⊤
+IsReplayed (Some opening) contents newest = (now : CallLog) × (contents ≡ Some now) × Replays opening now newest

@@ -83,7 +83,7 @@ IsTraced opening (e ∷ older) now =
     (before : CallLog) × IsTraced opening older before × EventCalls (live_job older) e.what before now
     × (length now.changes ≡ length opening.changes + e.calls)
 
--- the same of what a tree holds, where that is known
+-- The same of a tree that tells what it holds: it goes on telling. One that tells nothing at the opening never does.
 abbrev pub IsTracedTo : Option CallLog → Option CallLog → List Entry → Type 0
-IsTracedTo opening None newest = ⊤
-IsTracedTo opening (Some now) newest = (before : CallLog) × (opening ≡ Some before) × IsTraced before newest now
+IsTracedTo None contents newest = contents ≡ None
+IsTracedTo (Some opening) contents newest = (now : CallLog) × (contents ≡ Some now) × IsTraced opening newest now

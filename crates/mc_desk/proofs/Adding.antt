@@ -21,6 +21,7 @@ use Rattle.copy_move.specs.Work.{LiveJob, begun, live_job, is_closed, if_closed,
 use Rattle.copy_move.specs.Steps.{StepsOn}
 use Rattle.copy_move.specs.Traces.{AreRefused, EventCalls, StepCalls}
 use Rattle.copy_move.proofs.Left.{live_after, never_waits}
+use Rattle.copy_move.proofs.Shows.{step_tells}
 use Rattle.mc_desk.specs.declared.asks.Ask.{Ask}
 use Rattle.mc_desk.specs.declared.asks.Ask.TheVariants.{Delete}
 use Rattle.mc_desk.specs.declared.asks.Confirmed.{Confirmed}
@@ -69,7 +70,7 @@ module _ (opening contents contents_after : Option CallLog) (faults : ℕ) (old 
     timely = settled;
     counts = record { later = later; fault = fault; calls = omega arith; most = omega arith };
     leads = λ tree sees. (record { unclosed = unclosed; looked = looked; unlost = unlost }, leads tree sees);
-    called = λ log known after is. (same_log contents contents_after same log after known is, refused log known);
+    called = λ log known. (log, same ∙ known, (refl, refused log known));
     counted = none_made contents contents_after same _ _ refl;
     unknown = still_unknown contents contents_after same;
     quit = quit;
@@ -87,7 +88,7 @@ module _ (opening contents contents_after : Option CallLog) (faults : ℕ) (old 
     timely = settled;
     counts = record { later = later; fault = λ h. absurd cc; calls = omega arith; most = omega arith };
     leads = λ tree sees. (record { unclosed = unclosed; looked = looked; unlost = unlost }, screen);
-    called = λ log known after is. (same_log contents contents_after same log after known is, tt);
+    called = λ log known. (log, same ∙ known, (refl, tt));
     counted = none_made contents contents_after same _ _ refl;
     unknown = still_unknown contents contents_after same;
     quit = λ h. inl (sym quit ∙ h);
@@ -107,7 +108,7 @@ module _ (opening contents contents_after : Option CallLog) (faults : ℕ) (old 
     timely = settled;
     counts = record { later = later; fault = fault; calls = omega arith; most = omega arith };
     leads = λ tree sees. (unclosed, leads tree sees);
-    called = λ log known after is. (same_log contents contents_after same log after known is, refused log known);
+    called = λ log known. (log, same ∙ known, (refl, refused log known));
     counted = none_made contents contents_after same _ _ refl;
     unknown = still_unknown contents contents_after same;
     quit = λ h. inl (sym quit ∙ h);
@@ -125,7 +126,7 @@ module _ (opening contents contents_after : Option CallLog) (faults : ℕ) (old 
     timely = tt;
     counts = record { later = later; fault = λ h. absurd h; calls = omega arith; most = omega arith };
     leads = λ tree sees. (path, confirmed, refl, refl, id_is, screen);
-    called = λ log known after is. same_log contents contents_after same log after known is;
+    called = λ log known. (log, same ∙ known, refl);
     counted = none_made contents contents_after same _ _ refl;
     unknown = still_unknown contents contents_after same;
     quit = λ h. inl (sym quit ∙ h);
@@ -142,7 +143,7 @@ module _ (opening contents contents_after : Option CallLog) (faults : ℕ) (old 
     timely = settled;
     counts = record { later = later; fault = λ h. absurd h; calls = omega arith; most = omega arith };
     leads = λ tree sees. screen;
-    called = λ log known after is. same_log contents contents_after same log after known is;
+    called = λ log known. (log, same ∙ known, refl);
     counted = none_made contents contents_after same _ _ refl;
     unknown = still_unknown contents contents_after same;
     quit = λ h. inl (sym quit ∙ h);
@@ -178,7 +179,10 @@ module _ (opening contents contents_after : Option CallLog) (faults : ℕ) (old 
       most = omega (arith, calls_is, one);
     };
     leads = λ tree sees. (screen, (live, is, refl, steps.allowed));
-    called = λ log known after is_after. subst (λ job. EventCalls job (Step live.id did) log after) (sym is) (steps.allowed, subst (λ o. StepCalls live did log o) is_after (steps.called log known));
+    called = λ log known.
+        let called = steps.called log known in
+        let told = step_tells live did log contents_after called in
+        (told.0, told.1, subst (λ job. EventCalls job (Step live.id did) log told.0) (sym is) (steps.allowed, subst (λ o. StepCalls live did log o) told.1 called));
     counted = λ log known after is_after. let m = steps.counted log known after is_after in omega (arith, m, calls_is);
     unknown = steps.unknown;
     quit = λ h. inl (sym quit ∙ h);

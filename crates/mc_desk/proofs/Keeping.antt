@@ -2,9 +2,8 @@
 use Rattle.std.proofs.Common.{◌≡◌, ◌⊎◌, ℕ, ◌+◌, ◌≤◌, true, false, List, [], ◌∷◌, length, refl, sym, ◌∙◌, ap, subst, inl, inr, Option, Some, None, arith}
 use Rattle.std.specs.Option.{option_map}
 use Rattle.mc_text.specs.Routes.{Route}
-use Rattle.tree_trait.specs.FileSystem.{View, visible_tree}
-use Rattle.tree_trait.specs.Change.{CallLog, current}
-use Rattle.tree_trait.specs.Shape.{IsTree}
+use Rattle.tree_trait.specs.FileSystem.{View}
+use Rattle.tree_trait.specs.Change.{CallLog}
 use Rattle.tree_trait.specs.Answers.{IfKnown}
 use Rattle.copy_move.specs.declared.history.Entry.{Entry}
 use Rattle.copy_move.specs.declared.history.Event.{Event}
@@ -21,55 +20,41 @@ use Rattle.mc_desk.specs.Starts.{IsOpened}
 use Rattle.mc_desk.specs.Desks.{Seen, IsWritten, IsDesk}
 
 -- what is known at the opening
-opening_seen : (opening contents : Option CallLog) (tree : Option View) → IfKnown contents (λ log. opening ≡ Some log) → MayOpen opening contents tree → Sees contents tree
-opening_seen opening contents None known may = tt
-opening_seen opening contents (Some view) known may =
-    let after = may.4.0 in
-    let same : may.0 ≡ after = let a = known after may.4.1 in let b = may.1 in cc in
-    (after, may.4.1, λ path. sym (ap (λ (v : View). v path) may.3 ∙ ap (λ (l : CallLog). visible_tree (current l) path) same))
+opening_seen : (opening contents : Option CallLog) (tree : Option View) → contents ≡ opening → MayOpen opening tree → Sees contents tree
+opening_seen opening contents None same may = tt
+opening_seen opening contents (Some view) same may = (may.0, same ∙ may.1, λ path. sym (ap (λ (v : View). v path) may.3))
 
-opening_traced : (opening contents : Option CallLog) → IfKnown contents (λ log. opening ≡ Some log) → IsTracedTo opening contents []
-opening_traced opening None known = tt
-opening_traced opening (Some log) known = (log, known log refl, refl)
+opening_traced : (opening contents : Option CallLog) → contents ≡ opening → IsTracedTo opening contents []
+opening_traced None contents same = same
+opening_traced (Some log) contents same = (log, same, refl)
 
 -- a desk on which nothing happened yet
 abbrev pub fresh : Tally
 fresh = record { job = None; last = 0; unseen = false; closed = false; due = Some 0; lost = false; calls = 0 }
 
-pub kept_opening : (opening contents contents_after : Option CallLog) (faults : ℕ) (folder : Route) (screen : Screen) (log : Logged) (pending : List ℕ) → contents_after ≡ contents
-    → IfKnown contents (λ l. opening ≡ Some l) → IsOpened contents folder screen log
-    → IsDesk opening contents_after faults (record { newest = log.newest; spare = log.spare; screen = screen; tally = fresh; pending = pending; quit = false })
-kept_opening opening contents contents_after faults folder screen log pending same known opened =
-    subst (λ o. IsDesk opening o faults (record { newest = log.newest; spare = log.spare; screen = screen; tally = fresh; pending = pending; quit = false })) (sym same) record {
-      written = record {
-        session = λ tree may. subst (λ es. IsSession tree faults es screen) (sym opened.empty) (opened.opening tree (opening_seen opening contents tree known may));
-        traced = subst (λ es. IsTracedTo opening contents es) (sym opened.empty) (opening_traced opening contents known);
-        tally = ap tally (sym opened.empty);
-        calls = omega arith;
-        quit = λ asked. absurd cc;
-      };
-      settled = (opened.opening None tt).confirmed;
-      lost = λ lost. absurd cc;
-      shut = λ closed. absurd cc;
-      room = let h = opened.room in omega (arith, h);
-    }
+pub kept_opening : (opening contents : Option CallLog) (faults : ℕ) (folder : Route) (screen : Screen) (log : Logged) (pending : List ℕ) → contents ≡ opening → IsOpened contents folder screen log
+    → IsDesk opening contents faults (record { newest = log.newest; spare = log.spare; screen = screen; tally = fresh; pending = pending; quit = false })
+kept_opening opening contents faults folder screen log pending same opened = record {
+  written = record {
+    session = λ tree may. subst (λ es. IsSession tree faults es screen) (sym opened.empty) (opened.opening tree (opening_seen opening contents tree same may));
+    traced = subst (λ es. IsTracedTo opening contents es) (sym opened.empty) (opening_traced opening contents same);
+    tally = ap tally (sym opened.empty);
+    calls = omega arith;
+    quit = λ asked. absurd cc;
+  };
+  settled = (opened.opening None tt).confirmed;
+  lost = λ lost. absurd cc;
+  shut = λ closed. absurd cc;
+  room = let h = opened.room in omega (arith, h);
+}
 
 -- the tree shows what the history makes of the opening's view
-seen_now : (opening contents : Option CallLog) (tree : Option View) (newest : List Entry) → MayOpen opening contents tree → IsReplayed opening contents newest
+seen_now : (opening contents : Option CallLog) (tree : Option View) (newest : List Entry) → MayOpen opening tree → IsReplayed opening contents newest
     → Sees contents (option_map (λ view. replayed_tree view newest) tree)
 seen_now opening contents None newest may replayed = tt
 seen_now opening contents (Some view) newest may replayed =
-    let after = may.4.0 in
-    let r = subst (λ c. IsReplayed opening c newest) may.4.1 replayed in
-    let same : r.0 ≡ may.0 = let a = r.1 in let b = may.1 in cc in
-    let is : view ≡ visible_tree (current r.0) = may.3 ∙ ap (λ (l : CallLog). visible_tree (current l)) (sym same) in
-    (after, may.4.1, λ path. r.2.shows (subst (λ (l : CallLog). IsTree (current l)) (sym same) may.2) path ∙ ap (λ (v : View). replayed_tree v newest path) (sym is))
-
--- what may have been the opening's view still may
-may_open : (opening contents contents_after : Option CallLog) (tree : Option View) → (contents ≡ None → contents_after ≡ None) → MayOpen opening contents_after tree → MayOpen opening contents tree
-may_open opening contents contents_after None unknown may = tt
-may_open opening None contents_after (Some view) unknown may = absurd (let a = unknown refl in let b = may.4.1 in cc)
-may_open opening (Some log) contents_after (Some view) unknown may = (may.0, may.1, may.2, may.3, (log, refl))
+    let r = subst (λ o. IsReplayed o contents newest) may.1 replayed in
+    (r.0, r.1, λ path. r.2.shows may.2 path ∙ ap (λ (v : View). replayed_tree v newest path) (sym may.3))
 
 -- What is known of an entry that is added: what it makes of the desk, and what the tree was called for it.
 pub record Adds (contents contents_after : Option CallLog) (faults : ℕ) (old new : Seen) (e : Entry) : Type 0 where
@@ -78,7 +63,7 @@ pub record Adds (contents contents_after : Option CallLog) (faults : ℕ) (old n
   pub timely : IsTimely e.what old.screen
   pub counts : Counts (faults_in faults old.newest) old.tally.calls e
   pub leads : (tree : Option View) → Sees contents tree → EventLeads tree old.tally e.what old.screen new.screen
-  pub called : IfKnown contents (λ log. IfKnown contents_after (λ now. EventCalls old.tally.job e.what log now))
+  pub called : IfKnown contents (λ log. (now : CallLog) × (contents_after ≡ Some now) × EventCalls old.tally.job e.what log now)
   pub counted : IfKnown contents (λ log. IfKnown contents_after (λ now. length now.changes + old.tally.calls ≡ length log.changes + e.calls))
   pub unknown : contents ≡ None → contents_after ≡ None
   pub quit : new.quit ≡ true → (old.quit ≡ true) ⊎ (IsQuitKey e.what × (old.screen.asked ≡ None))
@@ -88,18 +73,19 @@ traced_length opening now [] h = let same = ap (λ (l : CallLog). length l.chang
 traced_length opening now (e ∷ older) h = h.3
 
 module _ (opening : Option CallLog) (faults : ℕ) (old new : Seen) (e : Entry) where
-  traced_more : (contents contents_after : Option CallLog) → old.tally ≡ tally old.newest → Adds contents contents_after faults old new e
-      → IsTracedTo opening contents old.newest → IsTracedTo opening contents_after (e ∷ old.newest)
-  traced_more contents None is adds traced = tt
-  traced_more None (Some now) is adds traced = absurd (let h = adds.unknown refl in cc)
-  traced_more (Some log) (Some now) is adds traced =
-      let before = traced.0 in
-      let called = subst (λ job. EventCalls job e.what log now) (ap (λ (t : Tally). t.job) is) (adds.called log refl now refl) in
-      let counted = adds.counted log refl now refl in
+  traced_more : (o contents contents_after : Option CallLog) → old.tally ≡ tally old.newest → Adds contents contents_after faults old new e
+      → IsTracedTo o contents old.newest → IsTracedTo o contents_after (e ∷ old.newest)
+  traced_more None contents contents_after is adds traced = adds.unknown traced
+  traced_more (Some before) contents contents_after is adds traced =
+      let log = traced.0 in
+      let c = adds.called log traced.1 in
+      let now = c.0 in
+      let called = subst (λ job. EventCalls job e.what log now) (ap (λ (t : Tally). t.job) is) c.2 in
+      let counted = adds.counted log traced.1 now c.1 in
       let calls : old.tally.calls ≡ calls_in old.newest = ap (λ (t : Tally). t.calls) is in
       let had = traced_length before log old.newest traced.2 in
       let made : length now.changes ≡ length before.changes + e.calls = omega (arith, counted, calls, had) in
-      (before, traced.1, (log, traced.2, called, made))
+      (now, c.1, (log, traced.2, called, made))
 
   one_call : (what : Event) → most_calls what ≤ 1
   one_call (Key key now refusals lost) = omega arith
@@ -111,16 +97,15 @@ module _ (opening : Option CallLog) (faults : ℕ) (old new : Seen) (e : Entry) 
   pub written_more : (contents contents_after : Option CallLog) → IsWritten opening contents faults old → Adds contents contents_after faults old new e → IsWritten opening contents_after faults new
   written_more contents contents_after written adds = record {
     session = λ tree may.
-        let was = may_open opening contents contents_after tree adds.unknown may in
         subst (λ es. IsSession tree faults es new.screen) (sym adds.more) (
           old.screen,
-          written.session tree was,
+          written.session tree may,
           adds.timely,
           subst (λ n. Counts (faults_in faults old.newest) n e) (ap (λ (t : Tally). t.calls) written.tally) adds.counts,
           subst (λ t. EventLeads (option_map (λ view. replayed_tree view old.newest) tree) t e.what old.screen new.screen) written.tally
-              (adds.leads _ (seen_now opening contents tree old.newest was (replayed_to opening contents old.newest written.traced))),
+              (adds.leads _ (seen_now opening contents tree old.newest may (replayed_to opening contents old.newest written.traced))),
         );
-    traced = subst (λ es. IsTracedTo opening contents_after es) (sym adds.more) (traced_more contents contents_after written.tally adds written.traced);
+    traced = subst (λ es. IsTracedTo opening contents_after es) (sym adds.more) (traced_more opening contents contents_after written.tally adds written.traced);
     tally = adds.tally ∙ (ap (after_entry e) written.tally ∙ ap tally (sym adds.more));
     calls =
         let is : new.tally.calls ≡ e.calls = ap (λ (t : Tally). t.calls) adds.tally in
@@ -130,10 +115,9 @@ module _ (opening : Option CallLog) (faults : ℕ) (old new : Seen) (e : Entry) 
         let size : length new.newest ≡ length old.newest + 1 = ap length adds.more ∙ omega arith in
         omega (arith, is, one, most, had, size);
     quit = λ asked tree may.
-        let was = may_open opening contents contents_after tree adds.unknown may in
         subst (λ es. EndAsked tree faults es) (sym adds.more) (
         elim (adds.quit asked) [
-          | inl before ↦ inr (written.quit before tree was)
-          | inr now ↦ inl (now.0, (old.screen, written.session tree was, now.1))
+          | inl before ↦ inr (written.quit before tree may)
+          | inr now ↦ inl (now.0, (old.screen, written.session tree may, now.1))
         ]);
   }

@@ -43,11 +43,11 @@ kept_room closed job = (if closed then 0 else 1) + (if is_some job then 1 else 0
 -- What is written down is a session over the tree, which was opened with the one contents, and so many faults, and has the
 -- other now, and the rest of the desk is what the history says.
 pub record IsWritten (opening contents : Option CallLog) (faults : ℕ) (desk : Seen) : Type 0 where
-  pub session : (tree : Option View) → MayOpen opening contents tree → IsSession tree faults desk.newest desk.screen
+  pub session : (tree : Option View) → MayOpen opening tree → IsSession tree faults desk.newest desk.screen
   pub traced : IsTracedTo opening contents desk.newest
   pub tally : desk.tally ≡ tally desk.newest
   pub calls : desk.tally.calls ≤ length desk.newest
-  pub quit : desk.quit ≡ true → (tree : Option View) → MayOpen opening contents tree → EndAsked tree faults desk.newest
+  pub quit : desk.quit ≡ true → (tree : Option View) → MayOpen opening tree → EndAsked tree faults desk.newest
 
 -- What holds of a desk between two calls: besides, no confirmed deletion waits to be begun, a desk that lost a key is
 -- closed, on a closed one nothing is to be looked at, and the room is there.

@@ -78,10 +78,9 @@ EndAsked tree opening (e ∷ older) =
     (IsQuitKey e.what × ((before : Screen) × IsSession tree opening older before × (before.asked ≡ None))) ⊎ EndAsked tree opening older
 
 -- A view that the opening may have had: that of its files, where the tree tells them and they were a tree. Or none.
-abbrev pub MayOpen : Option CallLog → Option CallLog → Option View → Type 0
-MayOpen opening contents None = ⊤
-MayOpen opening contents (Some view) =
-    (before : CallLog) × (opening ≡ Some before) × IsTree (current before) × (view ≡ visible_tree (current before)) × ((after : CallLog) × (contents ≡ Some after))
+abbrev pub MayOpen : Option CallLog → Option View → Type 0
+MayOpen opening None = ⊤
+MayOpen opening (Some view) = (before : CallLog) × (opening ≡ Some before) × IsTree (current before) × (view ≡ visible_tree (current before))
 
 -- these entries are a session in this folder, and nothing that was confirmed was left undone
 abbrev pub EndsSession : Option View → ℕ → List Entry → Route → Type 0

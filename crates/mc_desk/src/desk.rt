@@ -150,7 +150,7 @@ impl<N: Tag, T: Tree, S: Sink, P: Spawner> Desk<N, T, S, P> {
         screen: S,
         spawner: P,
     ) -> Result<Desk<N, T, S, P>, Refused<T, S, P>>
-        requires opening { IfKnown (T.contents tree) (λ log. N.opening ≡ Some log) }
+        requires opening { T.contents tree ≡ N.opening }
         requires faults { N.tree_faults ≤ T.fault_count tree }
         requires sink { N.sink_faults ≤ S.fault_count screen }
         ensures opened { IfOk result (λ desk. (desk.newest ≡ []) × (desk.screen.panel.folder ≡ start.folder)) }

@@ -1,13 +1,23 @@
 -- What a run of the file manager promises.
-use Rattle.std.specs.Prelude.{◌≡◌, ◌≢◌, ◌⊎◌, ℕ, is_none, ⊤, if◌then◌else◌, List, [], ◌∷◌, Option, Some, None, IsSome}
+use Rattle.std.specs.Prelude.{◌≡◌, ◌≢◌, ◌⊎◌, ℕ, ◌+◌, ◌≤◌, Bool, true, is_none, ⊤, if◌then◌else◌, List, [], ◌∷◌, ◌++◌, length, Option, Some, None, IsSome, Result, Ok, Err}
 use Rattle.mc_text.specs.Routes.{Route, path_fault, route_of}
-use Rattle.tree_trait.specs.FileSystem.{View}
+use Rattle.tree_trait.specs.declared.file_system.FileSystem.{FileSystem}
+use Rattle.tree_trait.specs.FileSystem.{View, visible_tree}
 use Rattle.tree_trait.specs.Calls.{ListFolder}
 use Rattle.tree_trait.specs.Refusals.{refusal_of}
+use Rattle.tree_trait.specs.Shape.{IsTree}
 use Rattle.tree_trait.specs.Change.{CallLog, current}
+use Rattle.tree_trait.specs.CrashImages.{all_settled, IsCrashImage}
 use Rattle.tree_trait.specs.Answers.{HasRisen}
+use Rattle.tree_trait.specs.declared.devices.SourceFault.{SourceFault}
+use Rattle.key_screen.specs.DecodedKeys.{decoded_keys}
 use Rattle.copy_move.specs.declared.history.Entry.{Entry}
-use Rattle.mc_desk.specs.Sessions.{EndsSession}
+use Rattle.copy_move.specs.Crashes.{calls_in, IsMoment, IsSafe}
+use Rattle.mc_desk.specs.Tallies.{keys_in}
+use Rattle.mc_desk.specs.Sessions.{MayOpen, EndAsked, EndsSession}
+use Rattle.mc_desk.specs.Desks.{Seen, LacksLast}
+use Rattle.mc_main.specs.declared.session.SessionEnd.{SessionEnd}
+use Rattle.mc_main.specs.declared.session.SessionEnd.TheVariants.{Quit, KeysEnded, KeysFailed, ScreenFailed, NoMemory}
 
 -- the folder that the words name: they are one absolute path
 abbrev pub folder_in : List (List ℕ) → Option Route
@@ -34,6 +44,58 @@ abbrev pub BeginsNone : ℕ → Type 0
 BeginsNone status = (status ≡ 1) ⊎ (status ≡ 2) ⊎ (status ≡ 4) ⊎ (status ≡ 5)
 
 -- what a run wrote down, the newest first: a session in the folder that the words name, or nothing where none began
-abbrev pub IsRun : Option View → Option Route → ℕ → List Entry → Type 0
-IsRun tree folder status newest =
-    ((start : Route) × (folder ≡ Some start) × EndsSession tree newest start × (status ≢ 1) × (status ≢ 2)) ⊎ ((newest ≡ []) × BeginsNone status)
+abbrev pub IsRun : Option View → ℕ → Option Route → ℕ → List Entry → Type 0
+IsRun tree faults folder status newest =
+    ((start : Route) × (folder ≡ Some start) × EndsSession tree faults newest start × (status ≢ 1) × (status ≢ 2)) ⊎ ((newest ≡ []) × BeginsNone status)
+
+-- the end was asked for, whatever the opening's tree showed
+abbrev pub IsQuit : Option CallLog → ℕ → List Entry → Type 0
+IsQuit opening faults newest = (tree : Option View) → MayOpen opening tree → EndAsked tree faults newest
+
+-- The keys of a run are those of the bytes that were taken, a front of what the keyboard gives. Where the run ended for want
+-- of memory, or as the screen failed, the last of two keys that one byte completed may lack. At status 0 the end was asked
+-- for, or all bytes were taken.
+pub record ReadsKeys (bytes : List ℕ) (status : ℕ) (quit : Type 0) (newest : List Entry) : Type 0 where
+  pub taken : List ℕ
+  pub more : List ℕ
+  pub front : bytes ≡ taken ++ more
+  pub keys : ((decoded_keys taken).keys ≡ keys_in newest) ⊎ (LacksLast taken newest × ((status ≡ 4) ⊎ (status ≡ 5)))
+  pub whole : status ≡ 0 → quit ⊎ (more ≡ [])
+
+-- one byte is taken from the front of those that are left, or none at their end; a source that failed gave none
+abbrev pub TakesOne : List ℕ → Result (Option ℕ) SourceFault → Option (List ℕ) → Type 0
+TakesOne left (Ok None) new = (left ≡ []) × (new ≡ Some [])
+TakesOne left (Ok (Some byte)) new = (rest : List ℕ) × (left ≡ byte ∷ rest) × (new ≡ Some rest)
+TakesOne left (Err fault) new = new ≡ Some left
+
+-- what a session has taken by its end, however it ended
+pub record HasRead (bytes : List ℕ) (end : SessionEnd) (desk : Seen) : Type 0 where
+  pub taken : List ℕ
+  pub more : List ℕ
+  pub front : bytes ≡ taken ++ more
+  pub keys : ((decoded_keys taken).keys ≡ keys_in desk.newest) ⊎ (LacksLast taken desk.newest × ((end ≡ ScreenFailed) ⊎ (end ≡ NoMemory)))
+  pub whole : end ≡ KeysEnded → more ≡ []
+
+-- What a crash leaves, at each moment of a run on a tree on which nothing was pending, is safe.
+abbrev pub IsSafeRun : CallLog → CallLog → List Entry → Type 0
+IsSafeRun opening now newest =
+    IsTree (current opening) → all_settled opening.changes ≡ true → (standing : List Entry) (calls : ℕ) (image : FileSystem)
+    → IsMoment newest (calls_in newest) standing calls → IsCrashImage now (length opening.changes + calls) image
+    → IsSafe (visible_tree (current opening)) standing now (length opening.changes + calls) image
+
+-- Where the words name a folder that can be listed, and no device failed, the status is 0, or 5 for want of memory.
+abbrev pub IsComplete : CallLog → Option Route → ℕ → Type 0 → Type 0
+IsComplete log None status failed = ⊤
+IsComplete log (Some folder) status failed = refusal_of (current log) (ListFolder folder) ≡ None → (failed → ⊥) → (status ≡ 0) ⊎ (status ≡ 5)
+
+-- The status of a session. A key that was lost makes it 5. Else it is 3 only where the keyboard failed, 4 only where the
+-- screen did, and 0 only at the quit key or the end of the keys; so it is never 0 where the session failed.
+pub record IsStatusOf (end : SessionEnd) (screen_failed key_lost : Bool) (status : ℕ) : Type 0 where
+  pub lost : key_lost ≡ true → status ≡ 5
+  pub not_usage : status ≢ 1
+  pub not_start : status ≢ 2
+  pub keyboard : status ≡ 3 → end ≡ KeysFailed
+  pub screen : status ≡ 4 → screen_failed ≡ true
+  pub done : status ≡ 0 → (end ≡ Quit) ⊎ (end ≡ KeysEnded)
+  pub failed : (end ≡ ScreenFailed) ⊎ (end ≡ NoMemory) → (status ≡ 4) ⊎ (status ≡ 5)
+  pub most : status ≤ 5

@@ -1,11 +1,13 @@
 //! How a run ends: after its session, or before one began.
-ghost use Rattle.std.specs.Prelude.{◌≡◌, ◌≢◌, [], IsTrue, Option, None, reverse};
-ghost use Rattle.tree_trait.specs.Answers.{HasRisen};
+ghost use Rattle.std.specs.Prelude.{◌≡◌, ◌≢◌, ◌≤◌, [], true, false, Option, None, reverse};
+ghost use Rattle.tree_trait.specs.Answers.{IfKnown, HasRisen};
 ghost use Rattle.tree_trait.specs.FileSystem.{View};
 ghost use Rattle.copy_move.specs.Work.{live_job};
 ghost use Rattle.copy_move.specs.Replay.{IsReplayed};
+ghost use Rattle.copy_move.specs.Traces.{IsTracedTo};
+ghost use Rattle.mc_desk.specs.Tallies.{has_lost};
 ghost use Rattle.mc_desk.specs.Sessions.{MayOpen, EndsSession};
-ghost use Rattle.mc_main.specs.Headline.{IsStatusOr, BeginsNone};
+ghost use Rattle.mc_main.specs.Headline.{IsStatusOr, IsStatusOf, ReadsKeys, IsQuit};
 
 use crate::outcome::Outcome;
 use crate::session::{SessionEnd, run_session};
@@ -22,10 +24,17 @@ pub fn run_desk<N: Tag, T: Tree, K: Source, S: Sink, P: Spawner, C: Clock>(
     keys: &mut K,
     clock: &C,
 ) -> Outcome<T, S, P>
-    ensures session { (view : Option View) → MayOpen N.opening (T.contents result.tree) view
-        → EndsSession view (reverse result.history.entries) desk.screen.panel.folder }
+    requires fresh { (desk.newest ≡ []) × (desk.pending ≡ []) }
+    requires unclosed { desk.tally.closed ≡ false }
+    ensures session { (view : Option View) → MayOpen N.opening view
+        → EndsSession view N.tree_faults (reverse result.history.entries) desk.screen.panel.folder }
+    ensures traced { IsTracedTo N.opening (T.contents result.tree) (reverse result.history.entries) }
     ensures replayed { IsReplayed N.opening (T.contents result.tree) (reverse result.history.entries) }
     ensures idle { live_job (reverse result.history.entries) ≡ None }
+    ensures keys { IfKnown (K.left keys.old) (λ bytes. ReadsKeys bytes result.status
+        (IsQuit N.opening N.tree_faults (reverse result.history.entries)) (reverse result.history.entries)) }
+    ensures lost { has_lost (reverse result.history.entries) ≡ true → result.status ≡ 5 }
+    ensures statuses { result.status ≤ 5 }
     ensures not_usage { result.status ≢ 1 }
     ensures not_start { result.status ≢ 2 }
     ensures keyboard { result.status ≡ 3 → HasRisen (K.fault_count keys.old) (K.fault_count keys.new) }
@@ -51,34 +60,17 @@ pub fn run_desk<N: Tag, T: Tree, K: Source, S: Sink, P: Spawner, C: Clock>(
     }
 }
 
-/// The status of a session: the first cause that stands decides.
+/// The status of a session. A lost key is want of memory; else the first cause that stands decides.
 fn status_of(end: SessionEnd, screen_failed: bool, key_lost: bool) -> u8
-    ensures not_usage { result ≢ 1 }
-    ensures not_start { result ≢ 2 }
-    ensures keyboard { result ≡ 3 → end ≡ SessionEnd.KeysFailed }
-    ensures screen { result ≡ 4 → IsTrue screen_failed }
+    ensures { IsStatusOf end screen_failed key_lost result }
 {
+    if key_lost {
+        return 5;
+    }
     match end {
         SessionEnd::KeysFailed => 3,
-        SessionEnd::ScreenFailed => quiet_status(screen_failed, true),
-        SessionEnd::NoMemory => quiet_status(screen_failed, true),
-        SessionEnd::Quit => quiet_status(screen_failed, key_lost),
-        SessionEnd::KeysEnded => quiet_status(screen_failed, key_lost),
-    }
-}
-
-fn quiet_status(screen_failed: bool, key_lost: bool) -> u8
-    ensures not_usage { result ≢ 1 }
-    ensures not_start { result ≢ 2 }
-    ensures not_keyboard { result ≢ 3 }
-    ensures screen { result ≡ 4 → IsTrue screen_failed }
-{
-    if screen_failed {
-        4
-    } else if key_lost {
-        5
-    } else {
-        0
+        SessionEnd::ScreenFailed | SessionEnd::NoMemory => { if screen_failed { 4 } else { 5 } }
+        SessionEnd::Quit | SessionEnd::KeysEnded => { if screen_failed { 4 } else { 0 } }
     }
 }
 

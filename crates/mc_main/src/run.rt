@@ -1,11 +1,13 @@
 //! One run of the file manager over its devices.
-ghost use Rattle.std.specs.Prelude.{◌≡◌, Option, Some, None, reverse};
+ghost use Rattle.std.specs.Prelude.{◌≡◌, ◌⊎◌, ◌≤◌, true, Option, None, reverse};
 ghost use Rattle.tree_trait.specs.FileSystem.{View};
 ghost use Rattle.tree_trait.specs.Answers.{IfKnown, HasRisen};
 ghost use Rattle.copy_move.specs.Work.{live_job};
 ghost use Rattle.copy_move.specs.Replay.{IsReplayed};
+ghost use Rattle.copy_move.specs.Traces.{IsTracedTo};
+ghost use Rattle.mc_desk.specs.Tallies.{has_lost};
 ghost use Rattle.mc_desk.specs.Sessions.{MayOpen};
-ghost use Rattle.mc_main.specs.Headline.{folder_in, IsStatusOr, MayRefuseStart, RefusesStart, IsRun};
+ghost use Rattle.mc_main.specs.Headline.{folder_in, IsStatusOr, MayRefuseStart, RefusesStart, IsRun, IsQuit, ReadsKeys, IsSafeRun, IsComplete};
 
 use crate::endings::{refuse, refuse_start, run_desk, without_session};
 use crate::outcome::Outcome;
@@ -46,15 +48,30 @@ pub fn mc_run<N: Tag, T: Tree, K: Source, S: Sink, P: Spawner, C: Clock, G: Gate
     clock: &C,
     _gate: &G,
 ) -> Outcome<T, S, P>
-    requires opening { IfKnown (T.contents tree) (λ log. N.opening ≡ Some log) }
+    // The type names the world as the run finds it.
+    requires opening { T.contents tree ≡ N.opening }
+    requires faults { N.tree_faults ≡ T.fault_count tree }
     requires sink { N.sink_faults ≡ S.fault_count screen }
 
-    // The tree is what the history makes of the opening, and the history is a session: a job is begun directly after each
-    // confirmed deletion, and deletes the file that was chosen.
-    ensures replayed { IsReplayed N.opening (T.contents result.tree) (reverse result.history.entries) }
-    ensures session { (view : Option View) → MayOpen N.opening (T.contents result.tree) view
-        → IsRun view (folder_in words.now) result.status (reverse result.history.entries) }
+    // A crash at any moment, inside a call too, leaves each file whole or gone; but for the file that is being deleted, and
+    // those whose removal was not brought onto the disk before their job ended, all is as the history tells; and a file
+    // whose deletion was finished is gone.
+    ensures safe { IfKnown (T.contents tree) (λ opening. IfKnown (T.contents result.tree) (λ now.
+        IsSafeRun opening now (reverse result.history.entries))) }
+
+    // The tree is what the history makes of the opening, each entry of a step is a call of the tree with its answer, and the
+    // history is a session: a job is begun directly after each confirmed deletion, and deletes the file that was chosen; no
+    // key is taken where a step or a look is due. A tree that tells what it holds is handed back telling it.
+    ensures traced { IsTracedTo (T.contents tree) (T.contents result.tree) (reverse result.history.entries) }
+    ensures replayed { IsReplayed (T.contents tree) (T.contents result.tree) (reverse result.history.entries) }
+    ensures session { (view : Option View) → MayOpen (T.contents tree) view
+        → IsRun view (T.fault_count tree) (folder_in words.now) result.status (reverse result.history.entries) }
     ensures idle { live_job (reverse result.history.entries) ≡ None }
+
+    // The keys are those of the bytes that were taken. At status 0 F10 was reached, or all bytes were taken.
+    ensures keys { IfKnown (K.left keys.old) (λ bytes. ReadsKeys bytes result.status
+        (IsQuit (T.contents tree) (T.fault_count tree) (reverse result.history.entries)) (reverse result.history.entries)) }
+    ensures lost { has_lost (reverse result.history.entries) ≡ true → result.status ≡ 5 }
 
     // Statuses 1 and 2.
     ensures usage { result.status ≡ 1 → folder_in words.now ≡ None }
@@ -63,9 +80,13 @@ pub fn mc_run<N: Tag, T: Tree, K: Source, S: Sink, P: Spawner, C: Clock, G: Gate
         MayRefuseStart log (folder_in words.now) (T.fault_count tree) (T.fault_count result.tree)) }
     ensures refuses_start { IfKnown (T.contents tree) (λ log. RefusesStart log (folder_in words.now) result.status) }
 
-    // Statuses 3 and 4: only where the device's count of faults has risen.
+    // Statuses 3 and 4: only where the device's count of faults has risen. There are no others.
     ensures keyboard { result.status ≡ 3 → HasRisen (K.fault_count keys.old) (K.fault_count keys.new) }
-    ensures screen { result.status ≡ 4 → HasRisen N.sink_faults (S.fault_count result.screen) }
+    ensures screen { result.status ≡ 4 → HasRisen (S.fault_count screen) (S.fault_count result.screen) }
+    ensures complete { IfKnown (T.contents tree) (λ log. IsComplete log (folder_in words.now) result.status
+        (HasRisen (T.fault_count tree) (T.fault_count result.tree)
+            ⊎ (HasRisen (K.fault_count keys.old) (K.fault_count keys.new) ⊎ HasRisen (S.fault_count screen) (S.fault_count result.screen)))) }
+    ensures statuses { result.status ≤ 5 }
 {
     let folder = match read_words(alloc, words) {
         Ok(folder) => folder,

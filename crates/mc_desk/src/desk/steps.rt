@@ -85,14 +85,14 @@ impl<N: Tag, T: Tree, S: Sink, P: Spawner> Desk<N, T, S, P> {
 
     /// Ends the session: the desk is closed, and its job stepped to the end.
     pub fn end(self, alloc: Global) -> Ended<T, S, P>
-        ensures session { (tree : Option View) → MayOpen N.opening (T.contents result.tree) tree
+        ensures session { (tree : Option View) → MayOpen N.opening tree
             → EndsSession tree N.tree_faults (reverse result.history.entries) self.screen.panel.folder }
         ensures traced { IsTracedTo N.opening (T.contents result.tree) (reverse result.history.entries) }
         ensures replayed { IsReplayed N.opening (T.contents result.tree) (reverse result.history.entries) }
         ensures idle { live_job (reverse result.history.entries) ≡ None }
         ensures keys { keys_in (reverse result.history.entries) ≡ keys_in self.newest }
         ensures lost { result.lost ≡ has_lost (reverse result.history.entries) }
-        ensures quit { self.quit ≡ true → (tree : Option View) → MayOpen N.opening (T.contents result.tree) tree
+        ensures quit { self.quit ≡ true → (tree : Option View) → MayOpen N.opening tree
             → EndAsked tree N.tree_faults (reverse result.history.entries) }
         ensures screen { Blames result.failed N.sink_faults (S.fault_count result.screen) }
     {

@@ -1,7 +1,10 @@
--- The folder stays, and the keyboard's count of faults doesn't fall.
-use Rattle.std.proofs.Common.{◌≡◌, ◌≤◌}
+-- The folder stays, the desk is open, the keyboard's count of faults doesn't fall, and the keys are those of the bytes taken.
+use Rattle.std.proofs.Common.{◌≡◌, ◌≤◌, false}
+use Rattle.tree_trait.specs.Answers.{IfKnown}
+use Rattle.mc_main.proofs.Taking.{HasCome}
 use Rattle.mc_main.proofs.session.run_session.Given as goal
 
 abbrev pub invariant-loop : goal.invariant-loop
 invariant-loop g l =
-    (l.desk.screen.panel.folder ≡ l.fn.desk.screen.panel.folder) × (g.K.Source.fault_count l.fn.keys ≤ g.K.Source.fault_count l.keys)
+    (l.desk.screen.panel.folder ≡ l.fn.desk.screen.panel.folder) × (l.desk.tally.closed ≡ false) × (g.K.Source.fault_count l.fn.keys ≤ g.K.Source.fault_count l.keys)
+    × IfKnown (g.K.Source.left l.fn.keys) (λ bytes. HasCome bytes (g.K.Source.left l.keys) l.desk)
