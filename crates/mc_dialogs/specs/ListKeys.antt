@@ -1,5 +1,5 @@
 -- The box that lists rows, of which one is current, and what it makes of a key. Own, after the listboxes of mc(1).
-use Rattle.std.specs.Prelude.{ℕ, ◌+◌, ◌-◌, min, Bool, true, false, ◌==◌, ◌&&◌, nat_lt, nat_le, if◌then◌else◌, List, [], ◌∷◌, length, Option, Some, None}
+use Rattle.std.specs.Prelude.{ℕ, ◌+◌, ◌-◌, min, Bool, true, false, ◌==◌, ◌&&◌, nat_lt, nat_le, if◌then◌else◌, List, [], ◌∷◌, length, take, drop, Option, Some, None}
 use Rattle.std.specs.Str.{chars}
 use Rattle.key_screen.specs.declared.keys.Base.{Base}
 use Rattle.key_screen.specs.declared.keys.Base.TheVariants.{Char, Enter, Up, Down, Home, End, PgUp, PgDn}
@@ -8,17 +8,23 @@ use Rattle.mc_dialogs.specs.declared.shut.Shut.{Shut}
 use Rattle.mc_dialogs.specs.declared.shut.Shut.TheVariants.{Stay, Closed}
 use Rattle.mc_dialogs.specs.declared.shut.Reply.{Reply}
 use Rattle.mc_dialogs.specs.declared.shut.Reply.TheVariants.{Cancel, Chosen}
+use Rattle.key_screen.specs.declared.cells.Attr.TheVariants.{Plain, Reverse}
+use Rattle.mc_dialogs.specs.declared.frame.Line.{Line}
 use Rattle.mc_dialogs.specs.CommonKeys.{cancels}
 
--- a list box: its title and rows, how many rows it shows at most, whether letters choose, the position of the current
--- row, and that of the first one shown
+-- a list box: its title and rows, the lines of its screen, whether letters choose, the position of the current row, and
+-- that of the first one shown
 pub record ListState : Type 0 where
   pub title : List ℕ
   pub rows : List (List ℕ)
-  pub page : ℕ
+  pub lines : ℕ
   pub by_letter : Bool
   pub current : ℕ
   pub first : ℕ
+
+-- how many rows it shows at most
+abbrev pub page_of : ListState → ℕ
+page_of s = s.lines - 6
 
 -- the row that a key makes current, of so many
 abbrev pub moved_to : ℕ → ℕ → ℕ → Base → ℕ
@@ -39,8 +45,8 @@ scrolled_to page first current =
 
 abbrev pub list_moved : ListState → Base → ListState
 list_moved s base =
-    let current = moved_to (length s.rows) s.page s.current base in
-    record s { current = current; first = scrolled_to s.page s.first current }
+    let current = moved_to (length s.rows) (page_of s) s.current base in
+    record s { current = current; first = scrolled_to (page_of s) s.first current }
 
 -- a list box after a key
 abbrev pub list_after : ListState → Key → ListState
@@ -69,3 +75,14 @@ list_closed s base = if cancels base then Closed Cancel else Stay
 -- what it answers
 abbrev pub list_shut : ListState → Key → Shut
 list_shut s key = if key.meta then Stay else list_closed s key.base
+
+-- rows, of which the first has this position; the current one is in reverse
+abbrev pub rows_shown : ℕ → ℕ → List (List ℕ) → List Line
+rows_shown position current [] = []
+rows_shown position current (row ∷ rows) =
+    record { text = row; attr = (if position == current then Reverse else Plain) } ∷ rows_shown (position + 1) current rows
+
+-- the lines of a list box: its title, and the rows that it shows
+abbrev pub list_lines : ListState → List Line
+list_lines s =
+    record { text = s.title; attr = Plain } ∷ rows_shown s.first s.current (take (page_of s) (drop s.first s.rows))

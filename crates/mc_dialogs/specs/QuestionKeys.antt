@@ -8,6 +8,8 @@ use Rattle.mc_dialogs.specs.declared.shut.Shut.{Shut}
 use Rattle.mc_dialogs.specs.declared.shut.Shut.TheVariants.{Stay, Closed}
 use Rattle.mc_dialogs.specs.declared.shut.Reply.{Reply}
 use Rattle.mc_dialogs.specs.declared.shut.Reply.TheVariants.{Cancel, Letter}
+use Rattle.key_screen.specs.declared.cells.Attr.TheVariants.{Plain}
+use Rattle.mc_dialogs.specs.declared.frame.Line.{Line}
 use Rattle.mc_dialogs.specs.CommonKeys.{cancels}
 
 -- a question box: its lines, and the letters that answer it
@@ -32,3 +34,8 @@ question_closed letters base = if cancels base then Closed Cancel else Stay
 -- what a question box answers to a key; it stays as it is
 abbrev pub question_shut : QuestionState → Key → Shut
 question_shut s key = if key.meta then Stay else question_closed s.letters key.base
+
+-- the lines of a question box
+abbrev pub plain_lines : List (List ℕ) → List Line
+plain_lines [] = []
+plain_lines (text ∷ texts) = record { text = text; attr = Plain } ∷ plain_lines texts

@@ -85,12 +85,7 @@ fn edge_of(alloc: Global, inside: usize) -> Result<String, AllocError>
 }
 
 /// Writes the lines of a box, the first one at this place.
-fn write_lines(
-    grid: &mut Grid,
-    alloc: Global,
-    place: Place,
-    lines: &[Line],
-) -> Result<(), NoMemory>
+fn write_lines(grid: &mut Grid, alloc: Global, place: Place, lines: &[Line]) -> Result<(), NoMemory>
     requires row { place.row < 2 ^ 17 }
     requires column { place.column < 2 ^ 17 }
     requires inside { place.inside < 2 ^ 17 }
@@ -113,11 +108,19 @@ fn write_line(grid: &mut Grid, alloc: Global, place: Place, line: &Line) -> Resu
     requires inside { place.inside < 2 ^ 17 }
     ensures { OnOk result (grid.new ≡ with_line grid.old place.row place.column place.inside line.now) }
 {
-    let text = fit(alloc, drawn(alloc, line.text.as_str())?.as_str(), place.inside)?;
+    let shown = drawn(alloc, line.text.as_str())?;
+    let text = fit(alloc, shown.as_str(), place.inside)?;
     let column = place.column + 2;
     write_at(grid, alloc, place.row, place.column, "| ", Attr::Plain)?;
     write_at(grid, alloc, place.row, column, text.as_str(), line.attr)?;
-    write_at(grid, alloc, place.row, column + place.inside, " |", Attr::Plain)
+    write_at(
+        grid,
+        alloc,
+        place.row,
+        column + place.inside,
+        " |",
+        Attr::Plain,
+    )
 }
 
 /// Writes a text from a cell on, if that lies on the screen.

@@ -6,6 +6,8 @@ mod list_box;
 mod mode_box;
 mod question_box;
 mod shut;
+#[cfg(test)]
+mod tests;
 
 pub use list_box::ListBox;
 pub use mode_box::ModeBox;

@@ -1,10 +1,12 @@
 //! The box that lists rows.
-ghost use Rattle.std.specs.Prelude.{◌≡◌, ◌-◌, ◌+◌, ◌<◌, ◌≤◌, ◌^◌, ◌==◌, if◌then◌else◌, Some, None, length, IfOk};
+ghost use Rattle.std.specs.Prelude.{◌≡◌, ℕ, ◌-◌, ◌+◌, ◌<◌, ◌≤◌, ◌^◌, ◌==◌, ◌++◌, if◌then◌else◌, Some, None, length, take, drop, IfOk, OnOk};
 ghost use Rattle.std.specs.Str.{chars};
-ghost use Rattle.mc_dialogs.specs.ListKeys.{moved_to, scrolled_to, first_is, chosen_by, chosen_row, list_closed, list_after, list_shut};
+ghost use Rattle.mc_dialogs.specs.ListKeys.{moved_to, scrolled_to, first_is, chosen_by, chosen_row, list_closed, list_after, list_lines, list_shut, rows_shown};
+ghost use Rattle.mc_dialogs.specs.Boxes.{with_box};
 
+use crate::frame::{Line, paint_box};
 use crate::shut::{Reply, Shut};
-use key_screen::{Base, Key};
+use key_screen::{Attr, Base, Grid, Key};
 use mc_text::{NoMemory, Rows, Text};
 use std::alloc::Global;
 use std::convert::AsStr;
@@ -15,21 +17,21 @@ use std::marker::Model;
 pub struct ListBox {
     title: Text,
     rows: Rows,
-    page: usize,
+    lines: u16,
     by_letter: bool,
     current: usize,
     first: usize,
 }
 
 impl Model for ListBox {
-    ghost use Rattle.std.specs.Prelude.{◌<◌, ◌≤◌, ◌^◌, ◌-◌, length};
+    ghost use Rattle.std.specs.Prelude.{◌<◌, ◌≤◌, ◌+◌, ◌^◌, ◌-◌, length};
     ghost use Rattle.mc_dialogs.specs.ListKeys.{ListState};
 
     ghost Value = { ListState };
 
-    ghost view = { λ b. record { title = b.title; rows = b.rows; page = b.page; by_letter = b.by_letter; current = b.current; first = b.first } };
+    ghost view = { λ b. record { title = b.title; rows = b.rows; lines = b.lines; by_letter = b.by_letter; current = b.current; first = b.first } };
 
-    ghost invariant = { λ b. (b.current ≤ length b.rows - 1) × (b.first ≤ length b.rows - 1) × (b.page < 2 ^ 16) × (length b.rows < 2 ^ 60) };
+    ghost invariant = { λ b. (b.current ≤ length b.rows - 1) × (b.first ≤ length b.rows + 1) × (b.lines < 2 ^ 16) × (length b.rows < 2 ^ 59) };
 }
 
 impl ListBox {
@@ -42,12 +44,12 @@ impl ListBox {
         lines: u16,
         letters: bool,
     ) -> Result<ListBox, NoMemory>
-        ensures { IfOk result (λ asked. asked ≡ record { title = title.now; rows = rows; page = lines - 6; by_letter = letters; current = 0; first = 0 }) }
+        ensures { IfOk result (λ asked. asked ≡ record { title = title.now; rows = rows; lines = lines; by_letter = letters; current = 0; first = 0 }) }
     {
         Ok(ListBox {
             title: Text::from_str(alloc, title)?,
             rows,
-            page: usize::from(lines.saturating_sub(6)),
+            lines,
             by_letter: letters,
             current: 0,
             first: 0,
@@ -73,10 +75,27 @@ impl ListBox {
             return Ok(Shut::Stay);
         }
         let count = self.rows.as_slice().len();
+        let page = usize::from(self.lines).saturating_sub(6);
         let shut = self.shut_by(key.base);
-        self.current = moved(count, self.page, self.current, key.base);
-        self.first = scrolled(self.page, self.first, self.current);
+        self.current = moved(count, page, self.current, key.base);
+        self.first = scrolled(page, self.first, self.current);
         Ok(shut)
+    }
+
+    /// Paints it over the screen that it was made for. Where memory is wanting, a part of it may stand.
+    pub fn paint(&self, alloc: Global, grid: &mut Grid) -> Result<(), NoMemory>
+        requires { grid.old.lines ≡ self.now.lines }
+        ensures { OnOk result (grid.new ≡ with_box grid.old (list_lines self.now)) }
+    {
+        let mut lines = Vec::new(alloc);
+        lines.push(Line {
+            text: self.title.copy(alloc)?,
+            attr: Attr::Plain,
+        })?;
+        let page = usize::from(self.lines).saturating_sub(6);
+        let rows = rows_from(self.rows.as_slice(), self.first, page);
+        push_rows(&mut lines, alloc, rows, self.first, self.current)?;
+        paint_box(grid, alloc, &lines)
     }
 
     /// What it answers to a key without meta.
@@ -113,6 +132,48 @@ impl ListBox {
     }
 }
 
+/// At most so many rows from a position on.
+fn rows_from(rows: &[Text], first: usize, page: usize) -> &[Text]
+    ensures value { result.now ≡ take page (drop first rows.now) }
+    ensures bound { length result.now ≤ page }
+{
+    let (_, rest) = rows.split_at(first.min(rows.len()));
+    let (shown, _) = rest.split_at(page.min(rest.len()));
+    shown
+}
+
+/// Adds the lines of some rows, of which the first has this position.
+fn push_rows(
+    lines: &mut Vec<Line>,
+    alloc: Global,
+    rows: &[Text],
+    first: usize,
+    current: usize,
+) -> Result<(), NoMemory>
+    requires { first < 2 ^ 60 }
+    ensures lines { OnOk result (lines.new.items ≡ lines.old.items ++ rows_shown first current rows.now) }
+    ensures count { OnOk result (length lines.new.items ≡ length lines.old.items + length rows.now) }
+{
+    for (index, row) in rows.iter().enumerate() {
+        lines.push(Line {
+            text: row.copy(alloc)?,
+            attr: look_of(first + index, current),
+        })?;
+    }
+    Ok(())
+}
+
+/// How a row looks.
+fn look_of(position: usize, current: usize) -> Attr
+    ensures { result ≡ (if position == current then Attr.Reverse else Attr.Plain) }
+{
+    if position == current {
+        Attr::Reverse
+    } else {
+        Attr::Plain
+    }
+}
+
 /// The first row that begins with a character.
 fn first_row_with(rows: &[Text], code: char) -> Shut
     ensures { result ≡ chosen_by code 0 rows.now }
@@ -139,7 +200,8 @@ fn begins_with(row: &str, code: char) -> bool
 fn moved(count: usize, page: usize, current: usize, base: Base) -> usize
     requires current { current < 2 ^ 60 }
     requires page { page < 2 ^ 16 }
-    ensures { result ≡ moved_to count page current base }
+    ensures value { result ≡ moved_to count page current base }
+    ensures bound { current ≤ count - 1 → result ≤ count - 1 }
 {
     let last = count.saturating_sub(1);
     match base {
@@ -158,7 +220,8 @@ fn scrolled(page: usize, first: usize, current: usize) -> usize
     requires first { first < 2 ^ 60 }
     requires current { current < 2 ^ 60 }
     requires page { page < 2 ^ 16 }
-    ensures { result ≡ scrolled_to page first current }
+    ensures value { result ≡ scrolled_to page first current }
+    ensures bound { (last : ℕ) → first ≤ last → current + 1 ≤ last → result ≤ last }
 {
     if current < first {
         return current;

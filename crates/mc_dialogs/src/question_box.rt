@@ -1,10 +1,12 @@
 //! The box that asks a question.
-ghost use Rattle.std.specs.Prelude.{◌≡◌, ◌≤◌, if◌then◌else◌, length, IfOk};
-ghost use Rattle.mc_dialogs.specs.QuestionKeys.{is_letter_of, first_letter, question_shut};
+ghost use Rattle.std.specs.Prelude.{◌≡◌, ◌≤◌, if◌then◌else◌, length, IfOk, OnOk};
+ghost use Rattle.mc_dialogs.specs.QuestionKeys.{is_letter_of, first_letter, plain_lines, question_shut};
+ghost use Rattle.mc_dialogs.specs.Boxes.{with_box};
 
+use crate::frame::{Line, paint_box};
 use crate::shut::{Reply, Shut};
-use key_screen::{Base, Key};
-use mc_text::{NoMemory, Rows};
+use key_screen::{Attr, Base, Grid, Key};
+use mc_text::{NoMemory, Rows, Text};
 use std::alloc::Global;
 use std::marker::Model;
 
@@ -54,6 +56,29 @@ impl QuestionBox {
             _ => Ok(Shut::Stay),
         }
     }
+
+    /// Paints it over a screen. Where memory is wanting, a part of it may stand.
+    pub fn paint(&self, alloc: Global, grid: &mut Grid) -> Result<(), NoMemory>
+        ensures { OnOk result (grid.new ≡ with_box grid.old (plain_lines self.now.lines)) }
+    {
+        let lines = lines_of(alloc, self.lines.as_slice())?;
+        paint_box(grid, alloc, &lines)
+    }
+}
+
+/// Lines of these texts, all plain.
+fn lines_of(alloc: Global, texts: &[Text]) -> Result<Vec<Line>, NoMemory>
+    ensures value { IfOk result (λ lines. lines.items ≡ plain_lines texts.now) }
+    ensures count { IfOk result (λ lines. length lines.items ≡ length texts.now) }
+{
+    let mut lines = Vec::new(alloc);
+    for text in texts {
+        lines.push(Line {
+            text: text.copy(alloc)?,
+            attr: Attr::Plain,
+        })?;
+    }
+    Ok(lines)
 }
 
 /// What a character answers.
