@@ -1,7 +1,7 @@
 -- How text is drawn. Clusters are the extended grapheme clusters of UAX #29, and their columns those of unicode_width.
 use Rattle.std.specs.Prelude.{ℕ, ◌+◌, ◌-◌, Bool, true, false, not, ◌&&◌, ◌||◌, ◌==◌, nat_le, nat_lt, if◌then◌else◌, List, [], ◌∷◌, length}
 use Rattle.std.specs.List.{list_any}
-use Rattle.std.specs.Str.{chars}
+use Rattle.std.specs.Str.{chars, is_utf8}
 use Rattle.std.specs.Char.{is_control}
 use Rattle.unicode_width.specs.Width.{str_width}
 use Rattle.unicode_segmentation.specs.Grapheme.{graphemes}
@@ -19,9 +19,9 @@ cluster_columns cluster = str_width false (chars cluster)
 unfoldable pub has_control : List ℕ → Bool
 has_control cluster = list_any is_control (chars cluster)
 
--- a text by itself is one cluster, as each cluster of a text is
+-- bytes are a text of one cluster, as each cluster of a text is
 unfoldable pub stands_alone : List ℕ → Bool
-stands_alone cluster = length (graphemes true cluster) == 1
+stands_alone cluster = is_utf8 cluster && length (graphemes true cluster) == 1
 
 -- a cluster is shown as it is: one column or two, and no control
 abbrev pub is_drawable : List ℕ → Bool

@@ -3,6 +3,7 @@ pub mod DecodedKeys
 pub mod KeyCuts
 pub mod Cells
 pub mod DrawnText
+pub mod Layout
 pub mod Grids
 pub mod Controls
 pub mod Terminal

@@ -4,6 +4,7 @@ ghost use Rattle.unicode_segmentation.specs.Grapheme.{graphemes};
 ghost use Rattle.key_screen.specs.Cells.{blank_cell};
 ghost use Rattle.key_screen.specs.DrawnText.{drawn_glyph, glyph_columns, put_glyph, put_glyphs};
 ghost use Rattle.key_screen.specs.Grids.{blank_grid, written, IsOnGrid};
+ghost use Rattle.key_screen.specs.Layout.{IsLaidOut};
 
 use crate::cells::{Attr, Cell, Glyph, are_same, put_one, put_two};
 use crate::drawn::{columns_of_glyph, drawn};
@@ -33,12 +34,13 @@ pub struct Grid {
 impl Model for Grid {
     ghost use Rattle.std.specs.Prelude.{◌≡◌, ◌*◌, ◌<◌, ◌^◌, length};
     ghost use Rattle.key_screen.specs.Grids.{CellGrid};
+    ghost use Rattle.key_screen.specs.Layout.{IsLaidOut};
 
     ghost Value = { CellGrid };
 
     ghost view = { λ g. record { lines = g.lines; columns = g.columns; cells = g.cells.items } };
 
-    ghost invariant = { λ g. (length g.cells.items ≡ g.lines * g.columns) × (g.lines < 2 ^ 16) × (g.columns < 2 ^ 16) };
+    ghost invariant = { λ g. (length g.cells.items ≡ g.lines * g.columns) × (g.lines < 2 ^ 16) × (g.columns < 2 ^ 16) × IsLaidOut g.columns g.cells.items };
 }
 
 impl Grid {
@@ -54,9 +56,10 @@ impl Grid {
         })
     }
 
-    /// A screen of these cells, row by row.
-    pub(crate) fn of_cells(lines: u16, columns: u16, cells: Vec<Cell>) -> Grid
-        requires { length cells.items ≡ lines * columns }
+    /// A screen of these cells, row by row, of which each wide cluster has its right half behind it.
+    pub fn of_cells(lines: u16, columns: u16, cells: Vec<Cell>) -> Grid
+        requires size { length cells.items ≡ lines * columns }
+        requires laid_out { IsLaidOut columns cells.items }
         ensures { result ≡ record { lines = lines; columns = columns; cells = cells.items } }
     {
         Grid {
@@ -64,6 +67,29 @@ impl Grid {
             columns,
             cells,
         }
+    }
+
+    /// How many lines it has.
+    pub fn lines(&self) -> u16
+        ensures { result ≡ self.now.lines }
+    {
+        self.lines
+    }
+
+    /// How many columns it has.
+    pub fn columns(&self) -> u16
+        ensures { result ≡ self.now.columns }
+    {
+        self.columns
+    }
+
+    /// Its cells, row by row. A right half stands directly behind each wide cluster, in the same row, and nowhere else.
+    pub fn cells(&self) -> &[Cell]
+        ensures value { result.now ≡ self.now.cells }
+        ensures size { length self.now.cells ≡ self.now.lines * self.now.columns }
+        ensures laid_out { IsLaidOut self.now.columns self.now.cells }
+    {
+        &self.cells
     }
 
     /// Writes a text from a cell on, counted from 1, in one row. What passes the last column is dropped.

@@ -17,7 +17,7 @@ mod sequences;
 mod spelling;
 mod terminal;
 
-pub use cells::Attr;
+pub use cells::{Attr, Cell, Glyph};
 pub use grid::{Grid, GridError};
 pub use keys::{Base, Fed, Key};
 pub use laws::{keys_have_one_cut, keys_survive_any_pieces};

@@ -27,12 +27,13 @@ pub struct Terminal {
 impl Model for Terminal {
     ghost use Rattle.std.specs.Prelude.{◌≡◌, ◌≤◌, ◌+◌, ◌*◌, ◌<◌, ◌^◌, length};
     ghost use Rattle.key_screen.specs.Terminal.{TerminalState};
+    ghost use Rattle.key_screen.specs.Layout.{IsLaidOut, IsRowEnd};
 
     ghost Value = { TerminalState };
 
     ghost view = { λ t. record { lines = t.lines; columns = t.columns; cells = t.cells.items; at = t.at; room = t.room; mode = t.mode } };
 
-    ghost invariant = { λ t. (length t.cells.items ≡ t.lines * t.columns) × (t.at + t.room ≤ length t.cells.items) };
+    ghost invariant = { λ t. (length t.cells.items ≡ t.lines * t.columns) × (t.at + t.room ≤ length t.cells.items) × (t.room ≤ t.columns) × IsRowEnd t.columns (t.at + t.room) × IsLaidOut t.columns t.cells.items };
 }
 
 impl Terminal {

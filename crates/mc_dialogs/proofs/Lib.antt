@@ -1,0 +1,2 @@
+pub mod AsciiLines
+pub mod PaintedLines

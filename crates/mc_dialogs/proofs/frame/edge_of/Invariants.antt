@@ -1,0 +1,6 @@
+use Rattle.std.proofs.Common.{◌≡◌, ◌∷◌, replicate}
+use Rattle.std.specs.Prelude.{string_bytes}
+use Rattle.mc_dialogs.proofs.frame.edge_of.Given as goal
+
+abbrev pub invariant-loop : goal.invariant-loop
+invariant-loop l = string_bytes l.line ≡ 43 ∷ replicate l.counter 45

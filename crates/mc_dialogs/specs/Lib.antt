@@ -1,0 +1,5 @@
+pub mod Boxes
+pub mod CommonKeys
+pub mod ModeKeys
+pub mod QuestionKeys
+pub mod ListKeys

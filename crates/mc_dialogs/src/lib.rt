@@ -1,0 +1,15 @@
+//! The boxes that ask: how each answers a key, and how it is painted over a screen.
+#![tactic(auto)]
+
+mod frame;
+mod list_box;
+mod mode_box;
+mod question_box;
+mod shut;
+#[cfg(test)]
+mod tests;
+
+pub use list_box::ListBox;
+pub use mode_box::ModeBox;
+pub use question_box::QuestionBox;
+pub use shut::{Reply, Shut};

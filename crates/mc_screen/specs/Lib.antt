@@ -1,0 +1,2 @@
+pub mod DrawnBytes
+pub mod Drawings

@@ -1,0 +1,9 @@
+//! The screen: the frame that was drawn last, and the bytes that draw the next one.
+#![tactic(auto)]
+
+mod bytes;
+mod screen;
+#[cfg(test)]
+mod tests;
+
+pub use screen::Screen;
