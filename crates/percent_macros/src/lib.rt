@@ -1,13 +1,20 @@
-// A library with one function.
+//! The macros of a command: `%f` and its like, prompts, and the quoting of names for the shell.
 #![tactic(auto)]
 
-ghost use Rattle.std.specs.Prelude.{◌≡◌};
-ghost use Rattle.percent_macros.specs.Echo.{echo_of};
+mod context;
+mod draft;
+mod error;
+mod expanding;
+mod extension;
+mod inserted;
+mod macros;
+mod pieces;
+mod quoting;
+#[cfg(test)]
+mod tests;
 
-// The `ensures` clause is the contract: what `echo` returns is `echo_of` of its argument, a definition
-// in `specs/Echo.antt`, which a caller's clause can cite too.
-pub fn echo(x: usize) -> usize
-    ensures { result ≡ echo_of x }
-{
-    x
-}
+pub use context::{Context, Side};
+pub use error::MacroError;
+pub use expanding::expand;
+pub use pieces::{Expanded, Piece, Pieces};
+pub use quoting::quote;

@@ -32,6 +32,15 @@ pub fn split_at_mark(text: &str, mark: char) -> Option<(&str, &str)>
     text.split_once(mark)
 }
 
+/// What stands before the last mark of a text, and what stands behind it. The mark is ASCII.
+pub fn split_at_last_mark(text: &str, mark: char) -> Option<(&str, &str)>
+    requires { mark < 128 }
+    ensures found { MatchOption result (IsWithout mark text.now)
+        (λ (before, behind). IsWithout mark behind.now × (text.now ≡ before.now ++ mark ∷ behind.now)) }
+{
+    text.rsplit_once(mark)
+}
+
 /// A text's first line without its newline, and the text behind that. An empty text has no line.
 pub fn first_line(text: &str) -> Option<(&str, &str)>
     ensures first { MatchOption result (text.now ≡ []) (λ (line, rest). lines_of text.now ≡ line.now ∷ lines_of rest.now) }

@@ -9,6 +9,8 @@ fn takes_texts_apart(rt: HostRuntime) -> Result<(), Fail> {
     assert_eq!(rt; first_char("日b"), Some(('日', "b")));
     assert_eq!(rt; split_at_mark("a%b%", '%'), Some(("a", "b%")));
     assert_eq!(rt; split_at_mark("ab", '%'), None);
+    assert_eq!(rt; split_at_last_mark("a.b.c", '.'), Some(("a.b", "c")));
+    assert_eq!(rt; split_at_last_mark("ab", '.'), None);
     Ok(())
 }
 
