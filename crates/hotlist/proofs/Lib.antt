@@ -4,3 +4,4 @@ pub mod ListLemmas
 pub mod GrammarLemmas
 pub mod PrintLemmas
 pub mod PlaceLemmas
+pub mod EditLemmas

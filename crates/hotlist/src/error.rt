@@ -1,4 +1,4 @@
-//! Why a file is no hotlist.
+//! Why a file is no hotlist, and why a list can't be changed so.
 use mc_text::NoMemory;
 use std::alloc::{AllocError, AllocFailed};
 use thiserror::Error;
@@ -17,6 +17,29 @@ pub enum HotError {
     UnclosedGroup(usize),
     #[error("out of memory")]
     Memory,
+}
+
+/// Why an item isn't added: no group stands at the place, groups would nest to more than 32, or want of memory. The list
+/// is as it was, and the item is dropped.
+#[derive(Clone, Copy, Debug, Drop, Error, PartialEq, Eq)]
+pub enum HotEditError {
+    #[error("no group there")]
+    NoSuchGroup,
+    #[error("groups nest too deep")]
+    TooDeep,
+    #[error("out of memory")]
+    Memory,
+}
+
+impl From<NoMemory> for HotEditError {
+    ghost use Rattle.std.specs.Prelude.{◌≡◌};
+    ghost use Rattle.hotlist.specs.declared.error.HotEditError.TheVariants.{Memory};
+
+    ghost from_gives = { λ _ error. error ≡ Memory };
+
+    fn from(_error: NoMemory) -> HotEditError {
+        HotEditError::Memory
+    }
 }
 
 impl From<AllocError> for HotError {

@@ -27,7 +27,7 @@ pub fn is_within(items: &[HotItem], room: usize) -> bool
 
 /// Whether the item is a group with a level of its own within the room.
 #[cycle(nesting)]
-fn fits(item: &HotItem, room: usize) -> bool
+pub fn fits(item: &HotItem, room: usize) -> bool
     ensures { result ≡ is_within room (before item.now NoMore) }
 {
     match item {

@@ -2,6 +2,7 @@
 #![tactic(auto)]
 
 mod draft;
+mod edit;
 mod error;
 mod file;
 mod items;
@@ -12,7 +13,7 @@ mod print;
 #[cfg(test)]
 mod tests;
 
-pub use error::HotError;
+pub use error::{HotEditError, HotError};
 pub use file::parse_hotlist;
 pub use items::HotItem;
 pub use list::Hotlist;

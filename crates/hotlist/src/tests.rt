@@ -1,6 +1,6 @@
 //! Hotlists read and printed, by rows.
-use crate::{HotError, HotItem, Hotlist, parse_hotlist, print_hotlist};
-use mc_text::{Bytes, NoMemory};
+use crate::{HotEditError, HotError, HotItem, Hotlist, parse_hotlist, print_hotlist};
+use mc_text::{Bytes, NoMemory, Text};
 use std::alloc::Global;
 use std::convert::AsStr;
 use std::test::Fail;
@@ -222,4 +222,41 @@ fn reads_each_front(rt: HostRuntime) -> Result<(), Fail> {
         }
     }
     Ok(())
+}
+
+#[test]
+fn adds_and_removes(rt: HostRuntime) -> Result<(), Fail> {
+    let alloc = rt.alloc();
+    let mut list = Hotlist::new(alloc);
+    assert_eq!(rt; list.add(&[], entry(alloc, "a")?).is_ok(), true);
+    assert_eq!(rt;
+        list.add(&[0], entry(alloc, "b")?).err(),
+        Some(HotEditError::NoSuchGroup)
+    );
+    assert_eq!(rt;
+        list.add(&[1], entry(alloc, "b")?).err(),
+        Some(HotEditError::NoSuchGroup)
+    );
+    let group = HotItem::Group {
+        label: Text::from_str(alloc, "g")?,
+        items: Vec::new(alloc),
+    };
+    assert_eq!(rt; list.add(&[], group).is_ok(), true);
+    assert_eq!(rt; list.add(&[1], entry(alloc, "b")?).is_ok(), true);
+    assert_eq!(rt; label_at(&list, &[1, 0]), Some("b"));
+    assert_eq!(rt; list.remove(&[]).is_none(), true);
+    assert_eq!(rt; list.remove(&[1, 1]).is_none(), true);
+    assert_eq!(rt; list.remove(&[0]).is_some(), true);
+    assert_eq!(rt; label_at(&list, &[0, 0]), Some("b"));
+    assert_eq!(rt; list.remove(&[0, 0]).is_some(), true);
+    assert_eq!(rt; label_at(&list, &[0]), Some("g"));
+    Ok(())
+}
+
+/// An entry with this label and the path of the root.
+fn entry(alloc: Global, label: &str) -> Result<HotItem, NoMemory> {
+    Ok(HotItem::Entry {
+        label: Text::from_str(alloc, label)?,
+        path: Text::from_str(alloc, "/")?,
+    })
 }
