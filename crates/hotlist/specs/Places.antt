@@ -1,0 +1,61 @@
+-- Places in a hotlist: a position in the list, then one in that group, and so on, each counted from 0 (own).
+use Rattle.std.specs.Prelude.{ℕ, zero, suc, List, [], ◌∷◌, Option, Some, None, option_map}
+use Rattle.hotlist.specs.HotLists.{HotList, NoMore, AnEntry, AGroup}
+
+-- the items from a position on
+abbrev pub from_position : ℕ → HotList → HotList
+from_position zero list = list
+from_position (suc position) NoMore = NoMore
+from_position (suc position) (AnEntry label path others) = from_position position others
+from_position (suc position) (AGroup label items others) = from_position position others
+
+-- the first item alone
+abbrev pub first_of : HotList → Option HotList
+first_of NoMore = None
+first_of (AnEntry label path others) = Some (AnEntry label path NoMore)
+first_of (AGroup label items others) = Some (AGroup label items NoMore)
+
+-- the items of a group that stands first
+abbrev pub inside : HotList → HotList
+inside NoMore = NoMore
+inside (AnEntry label path others) = NoMore
+inside (AGroup label items others) = items
+
+-- the item at a place; the empty place names the list itself, which is no item
+abbrev pub item_at : List ℕ → HotList → Option HotList
+item_at [] list = None
+item_at (position ∷ []) list = first_of (from_position position list)
+item_at (position ∷ next ∷ place) list = item_at (next ∷ place) (inside (from_position position list))
+
+-- a list before another
+abbrev pub followed_by : HotList → HotList → HotList
+followed_by NoMore second = second
+followed_by (AnEntry label path others) second = AnEntry label path (followed_by others second)
+followed_by (AGroup label items others) second = AGroup label items (followed_by others second)
+
+-- the list with the items of the group at a position changed; nothing where no group stands there, or it can't be changed
+abbrev pub changed_at : ℕ → (HotList → Option HotList) → HotList → Option HotList
+changed_at position change NoMore = None
+changed_at zero change (AnEntry label path others) = None
+changed_at zero change (AGroup label items others) = option_map (λ changed. AGroup label changed others) (change items)
+changed_at (suc position) change (AnEntry label path others) = option_map (AnEntry label path) (changed_at position change others)
+changed_at (suc position) change (AGroup label items others) = option_map (AGroup label items) (changed_at position change others)
+
+-- the list with an item at the end of the group at a place; the empty place names the list itself
+abbrev pub added : List ℕ → HotList → HotList → Option HotList
+added [] item list = Some (followed_by list item)
+added (position ∷ place) item list = changed_at position (added place item) list
+
+-- the list without the item at a position
+abbrev pub without_position : ℕ → HotList → Option HotList
+without_position position NoMore = None
+without_position zero (AnEntry label path others) = Some others
+without_position zero (AGroup label items others) = Some others
+without_position (suc position) (AnEntry label path others) = option_map (AnEntry label path) (without_position position others)
+without_position (suc position) (AGroup label items others) = option_map (AGroup label items) (without_position position others)
+
+-- the list without the item at a place
+abbrev pub removed : List ℕ → HotList → Option HotList
+removed [] list = None
+removed (position ∷ []) list = without_position position list
+removed (position ∷ next ∷ place) list = changed_at position (removed (next ∷ place)) list

@@ -1,0 +1,58 @@
+//! A hotlist.
+ghost use Rattle.std.specs.Prelude.{◌≡◌, ◌-◌, true, false, Some, None, length, OnOk, OnErr, IfErr, IfNone, IfSome, MatchOption};
+ghost use Rattle.hotlist.specs.HotLists.{NoMore, before, list_of, is_within};
+
+use crate::edit::{add_in, remove_in};
+use crate::error::HotEditError;
+use crate::items::{HotItem, fits};
+use std::alloc::Global;
+
+/// The most levels to which groups are nested.
+pub const NESTING: usize = 32;
+
+/// A list of folders in groups, which are nested to at most 32. Contracts see the items in order.
+#[derive(Drop)]
+pub struct Hotlist {
+    pub(crate) items: Vec<HotItem>,
+    pub ghost nested: { is_within 32 (list_of items.items) ≡ true },
+}
+
+impl Hotlist {
+    ghost use Rattle.hotlist.specs.ListViews.{list_in};
+    ghost use Rattle.hotlist.specs.Places.{added, removed, item_at};
+
+    /// None yet. It takes no memory.
+    pub fn new(alloc: Global) -> Hotlist
+        ensures { list_in result ≡ NoMore }
+    {
+        Hotlist {
+            items: Vec::new(alloc),
+        }
+    }
+
+    /// Puts an item at the end of the group at a place; the empty place is that of the list itself. `TooDeep` where the
+    /// item would nest past 32 levels there, else `NoSuchGroup` where no group stands there.
+    pub fn add(&mut self, group: &[usize], item: HotItem) -> Result<(), HotEditError>
+        ensures added { OnOk result (added group.now (before item NoMore) (list_in self.old) ≡ Some (list_in self.new)) }
+        ensures fits { OnOk result (is_within (32 - length group.now) (before item NoMore) ≡ true) }
+        ensures refused { OnErr result (list_in self.new ≡ list_in self.old) }
+        ensures too_deep { IfErr result (λ e. e ≡ HotEditError.TooDeep → is_within (32 - length group.now) (before item NoMore) ≡ false) }
+        ensures no_group { IfErr result (λ e. e ≡ HotEditError.NoSuchGroup →
+            (is_within (32 - length group.now) (before item NoMore) ≡ true) × (added group.now (before item NoMore) (list_in self.old) ≡ None)) }
+    {
+        if !fits(&item, NESTING.saturating_sub(group.len())) {
+            return Err(HotEditError::TooDeep);
+        }
+        add_in(&mut self.items, group, item)
+    }
+
+    /// Takes the item at a place out; with a group all that it holds. The empty place is that of no item.
+    pub fn remove(&mut self, place: &[usize]) -> Option<HotItem>
+        ensures removed { MatchOption result (removed place.now (list_in self.old) ≡ None)
+            (λ _. removed place.now (list_in self.old) ≡ Some (list_in self.new)) }
+        ensures same { IfNone result (list_in self.new ≡ list_in self.old) }
+        ensures item { IfSome result (λ item. item_at place.now (list_in self.old) ≡ Some (before item NoMore)) }
+    {
+        remove_in(&mut self.items, place)
+    }
+}

@@ -1,0 +1,9 @@
+pub mod Quoting
+pub mod ShellWords
+pub mod Extensions
+pub mod MacroTable
+pub mod Inserted
+pub mod Commands
+pub mod Expansion
+pub mod Drafts
+pub mod Steps
