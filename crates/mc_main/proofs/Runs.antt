@@ -29,7 +29,7 @@ not_zero own status differs is h = elim is [ inl a ↦ differs (sym a ∙ h) | i
 pub refused_start : (log : CallLog) (o : Option Route) (status faults faults_after : ℕ) (keys screen : Type 0) → (status ≡ 2 → MayRefuseStart log o faults faults_after) → IsStatusOr 2 status → (status ≡ 4 → screen)
     → IsComplete log o status (HasRisen faults faults_after ⊎ (keys ⊎ screen))
 refused_start log None status faults faults_after keys screen start is sink = tt
-refused_start log (Some folder) status faults faults_after keys screen start is sink permits none_failed =
+refused_start log (Some folder) status faults faults_after keys screen start is sink = λ permits none_failed.
     elim is [
       | inl two ↦
           elim (start two) [
