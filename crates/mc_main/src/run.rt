@@ -85,7 +85,7 @@ pub fn mc_run<N: Tag, T: Tree, K: Source, S: Sink, P: Spawner, C: Clock, G: Gate
     ensures screen { result.status ≡ 4 → HasRisen (S.fault_count screen) (S.fault_count result.screen) }
     ensures complete { IfKnown (T.contents tree) (λ log. IsComplete log (folder_in words.now) result.status
         (HasRisen (T.fault_count tree) (T.fault_count result.tree)
-            ⊎ (HasRisen (K.fault_count keys.old) (K.fault_count keys.new) ⊎ HasRisen (S.fault_count screen) (S.fault_count result.screen)))) }
+        ⊎ (HasRisen (K.fault_count keys.old) (K.fault_count keys.new) ⊎ HasRisen (S.fault_count screen) (S.fault_count result.screen)))) }
     ensures statuses { result.status ≤ 5 }
 {
     let folder = match read_words(alloc, words) {

@@ -1,12 +1,13 @@
 //! Whole runs over devices in memory.
 use crate::outcome::Outcome;
 use crate::run::{Env, Gate, mc_run};
+use copy_move::{Cause, Did, Ending, Event, History};
 use mc_text::{Bytes, Path, Text};
 use mem_tree::{FakeSpawner, FixedClock, MemSink, MemSource, MemTree, Mute, Outcomes};
 use std::alloc::Global;
 use std::marker::Brand;
 use std::test::Fail;
-use tree_trait::Tree;
+use tree_trait::{Tree, TreeError};
 
 const DOWN: &str = "\x1b[B";
 
@@ -125,14 +126,21 @@ fn lines_are_printed(rt: HostRuntime) -> Result<(), Fail> {
     Ok(())
 }
 
-#[test]
-fn silent_devices_serve_as_well(rt: HostRuntime) -> Result<(), Fail> {
-    let alloc = rt.alloc();
+/// A run over devices that tell nothing. The source and the screen fail at the calls of these numbers.
+fn run_mute(
+    alloc: Global,
+    tree: MemTree,
+    keys: &str,
+    source_fails: Option<u64>,
+    screen_fails: Option<u64>,
+) -> Result<Outcome<Mute<MemTree>, Mute<MemSink>, Mute<FakeSpawner>>, Fail> {
     let mut words = Vec::new(alloc);
     words.push(Text::from_str(alloc, "/a")?)?;
-    let keys = format!(in alloc; "{DOWN}{F8}\r{F10}")?;
-    let mut source = Mute::new(MemSource::new(Bytes::from_slice(alloc, keys.as_bytes())?, None));
-    let outcome = mc_run::<
+    let mut source = Mute::new(MemSource::new(
+        Bytes::from_slice(alloc, keys.as_bytes())?,
+        source_fails,
+    ));
+    Ok(mc_run::<
         Brand,
         Mute<MemTree>,
         Mute<MemSource>,
@@ -144,17 +152,84 @@ fn silent_devices_serve_as_well(rt: HostRuntime) -> Result<(), Fail> {
         alloc,
         words.as_slice(),
         &env(alloc),
-        Mute::new(small_tree(alloc)?),
-        Mute::new(MemSink::new(alloc, None)),
+        Mute::new(tree),
+        Mute::new(MemSink::new(alloc, screen_fails)),
         &mut source,
         Mute::new(FakeSpawner::new(Outcomes(Vec::new(alloc)))),
         &FixedClock::new(0),
         &Open,
-    );
+    ))
+}
+
+/// The reports of the steps of a history, one letter each: removed, barrier, denied, another trouble, finished, aborted, or
+/// another end.
+fn steps_of(alloc: Global, history: &History) -> Result<String, Fail> {
+    let mut letters = String::new(alloc);
+    for entry in history.entries.0.iter() {
+        if let Event::Step { job: _, did } = &entry.what {
+            letters.push(letter_of(did))?;
+        }
+    }
+    Ok(letters)
+}
+
+fn letter_of(did: &Did) -> char {
+    match did {
+        Did::Removed(_) => 'r',
+        Did::Barrier => 'b',
+        Did::Troubled(trouble) => match trouble.cause {
+            Cause::Tree(TreeError::Denied) => 'd',
+            _ => 't',
+        },
+        Did::Ended { ending, part: _ } => match ending {
+            Ending::Finished => 'f',
+            Ending::Aborted => 'a',
+            Ending::NoMemory => 'm',
+        },
+    }
+}
+
+#[test]
+fn silent_devices_serve_as_well(rt: HostRuntime) -> Result<(), Fail> {
+    let alloc = rt.alloc();
+    let keys = format!(in alloc; "{DOWN}{F8}\r{F10}")?;
+    let outcome = run_mute(alloc, small_tree(alloc)?, keys.as_str(), None, None)?;
     assert_eq!(rt; outcome.status, 0);
     // Look, Down, F8, Enter, Began, Removed, Barrier, Ended, Look, F10, Closed.
     assert_eq!(rt; outcome.history.entries.0.len(), 11);
+    assert_eq!(rt; steps_of(alloc, &outcome.history)?.as_str(), "rbf");
     let mut tree = outcome.tree.into_inner();
     assert!(rt; tree.stat(alloc, &Path::parse(alloc, "/a/x")?).is_err());
+    Ok(())
+}
+
+#[test]
+fn failing_devices_end_the_run(rt: HostRuntime) -> Result<(), Fail> {
+    let alloc = rt.alloc();
+    let keys = format!(in alloc; "{DOWN}{F10}")?;
+    let whole = run_mute(alloc, small_tree(alloc)?, keys.as_str(), None, None)?;
+    let no_keys = run_mute(alloc, small_tree(alloc)?, keys.as_str(), Some(1), None)?;
+    assert_eq!(rt; no_keys.status, 3);
+    let no_screen = run_mute(alloc, small_tree(alloc)?, keys.as_str(), None, Some(2))?;
+    assert_eq!(rt; no_screen.status, 4);
+    let shown = no_screen.screen.inner().bytes();
+    assert!(rt; shown.len() < whole.screen.inner().bytes().len());
+    assert!(rt; whole.screen.inner().bytes().starts_with(shown));
+    Ok(())
+}
+
+#[test]
+fn a_folder_that_may_not_be_changed_keeps_its_file(rt: HostRuntime) -> Result<(), Fail> {
+    let alloc = rt.alloc();
+    let file = Path::parse(alloc, "/a/x")?;
+    let mut tree = MemTree::new(alloc, 0)?;
+    tree.put_folder(alloc, &Path::parse(alloc, "/a")?, 0o555, 0)?;
+    tree.put_file(alloc, &file, 0o644, 0, b"hi")?;
+    let keys = format!(in alloc; "{DOWN}{F8}\r{F10}")?;
+    let outcome = run_mute(alloc, tree, keys.as_str(), None, None)?;
+    assert_eq!(rt; outcome.status, 0);
+    assert_eq!(rt; steps_of(alloc, &outcome.history)?.as_str(), "da");
+    let mut tree = outcome.tree.into_inner();
+    assert!(rt; tree.stat(alloc, &file).is_ok());
     Ok(())
 }

@@ -35,7 +35,11 @@ loop-preserved g c =
     let was : c.work_due.new.desk.tally.closed ≡ false = search rules in
     let unclosed : c.byte.new.self.tally.closed ≡ false = search rules in
     let had = c.loop.invariant.2 in
-    let later = c.take_byte.ensures.cause.later in
-    (c.byte.ensures.folder ∙ (c.work_due.ensures.folder ∙ c.loop.invariant.0), unclosed, omega (arith, had, later), λ bytes known.
-    come_byte bytes _ _ c.in-Ok-Some.byte c.work_due.new.desk c.byte.new.self (taken_as _ _ c.in-Ok-Some.field-0 _ c.in-Ok-Some.field-0-is c.in-Ok-Some.ensures.taken)
-    (come_kept bytes _ c.loop.desk c.work_due.new.desk c.work_due.ensures.keys (c.loop.invariant.3 bytes known)) c.in-Ok.field-0 was c.in-Ok.ensures.keys)
+    let later = c.take_byte.ensures.cause.later in (
+      c.byte.ensures.folder ∙ (c.work_due.ensures.folder ∙ c.loop.invariant.0),
+      unclosed,
+      omega (arith, had, later),
+      λ bytes known.
+          come_byte bytes _ _ c.in-Ok-Some.byte c.work_due.new.desk c.byte.new.self (taken_as _ _ c.in-Ok-Some.field-0 _ c.in-Ok-Some.field-0-is c.in-Ok-Some.ensures.taken)
+          (come_kept bytes _ c.loop.desk c.work_due.new.desk c.work_due.ensures.keys (c.loop.invariant.3 bytes known)) c.in-Ok.field-0 was c.in-Ok.ensures.keys,
+    )
