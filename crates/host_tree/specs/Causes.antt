@@ -1,8 +1,8 @@
 -- What the kinds of the system's errors mean for a tree (POSIX.1-2017, 2.3 Error Numbers, by Linux's names in `errno.h`).
 use Rattle.std.specs.declared.io.ErrorKind.{ErrorKind}
-use Rattle.std.specs.declared.io.ErrorKind.TheVariants.{NotFound, NotADirectory, PermissionDenied, AlreadyExists, IsADirectory, DirectoryNotEmpty, ResourceBusy, CrossesDevices, StorageFull, QuotaExceeded, OutOfMemory}
+use Rattle.std.specs.declared.io.ErrorKind.TheVariants.{NotFound, NotADirectory, PermissionDenied, AlreadyExists, IsADirectory, DirectoryNotEmpty, ResourceBusy, CrossesDevices, StorageFull, QuotaExceeded, OutOfMemory, InvalidInput}
 use Rattle.tree_trait.specs.declared.calls.TreeError.{TreeError}
-use Rattle.tree_trait.specs.declared.calls.TreeError.TheVariants.{Missing, NotFolder, Denied, Exists, IsFolder, NotEmpty, Mounted, CrossMount, NoSpace, Fault, Memory}
+use Rattle.tree_trait.specs.declared.calls.TreeError.TheVariants.{Missing, NotFolder, Denied, Exists, IsFolder, NotEmpty, Mounted, CrossMount, NoSpace, IntoItself, Fault, Memory}
 
 -- a kind that has no name here is a fault
 abbrev pub cause_of_kind : ErrorKind → TreeError
@@ -18,3 +18,9 @@ cause_of_kind StorageFull = NoSpace
 cause_of_kind QuotaExceeded = NoSpace
 cause_of_kind OutOfMemory = Memory
 cause_of_kind _ = Fault
+
+-- of `rename` and `rmdir`: a folder that was to go into itself (EINVAL), and one with entries (EEXIST or ENOTEMPTY)
+abbrev pub naming_cause_of_kind : ErrorKind → TreeError
+naming_cause_of_kind InvalidInput = IntoItself
+naming_cause_of_kind AlreadyExists = NotEmpty
+naming_cause_of_kind kind = cause_of_kind kind

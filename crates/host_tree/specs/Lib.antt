@@ -1,3 +1,4 @@
 pub mod Causes
+pub mod Kept
 pub mod Kinds
 pub mod Listing

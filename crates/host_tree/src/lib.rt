@@ -5,8 +5,14 @@
 mod cause;
 mod faults;
 mod host_clock;
+mod kept;
+mod kinds;
 mod listing;
+mod looking;
+mod machine;
+mod naming;
 mod read;
+mod reading;
 mod real_path;
 mod sh_spawner;
 mod stdin_source;
@@ -14,6 +20,7 @@ mod stdout_sink;
 #[cfg(test)]
 mod tests;
 mod tree;
+mod writing;
 
 pub use host_clock::HostClock;
 pub use sh_spawner::ShSpawner;

@@ -4,31 +4,20 @@ ghost use Rattle.mc_text.specs.Names.{name_fault};
 ghost use Rattle.tree_trait.specs.Answers.{IsAscending};
 ghost use Rattle.host_tree.specs.Listing.{IsNamed, IsCounted};
 
-use crate::cause::cause_of;
+use crate::cause::{answer_of, cause_of};
 use crate::read::{TURNS, read_once};
-use crate::real_path::{Walked, real_text};
-use mc_text::{Name, NameError, Names, Path};
+use mc_text::{Name, NameError, Names};
 use std::alloc::Global;
-use std::convert::AsStr;
 use std::io::Read;
 use std::rt::Files;
 use tree_trait::{Children, TreeError};
 
-/// The children of a folder. A name that is no `Name`, because it is not UTF-8 or is too long for one, is counted alone.
-pub fn children<R: Files>(
-    rt: &R,
-    alloc: Global,
-    walked: &mut Walked,
-    path: &Path,
-) -> Result<Children, TreeError>
+/// The children of the folder with this path. A name that is no `Name`, because it is not UTF-8 or is too long for one, is counted alone.
+pub fn children_of<R: Files>(rt: &R, alloc: Global, text: &str) -> Result<Children, TreeError>
     ensures { IfOk result (λ children. IsAscending children.names) }
 {
-    let text = real_text(rt, alloc, walked, path)?;
     // This opens no link, and nothing but a folder.
-    let mut folder = match rt.open_dir(text.as_str()) {
-        Ok(folder) => folder,
-        Err(error) => return Err(cause_of(&error)),
-    };
+    let mut folder = answer_of(rt.open_dir(text))?;
     let Children { names, unnamed } = read_names(alloc, &mut folder)?;
     let names = Names(in_order(names.0));
     Ok(Children { names, unnamed })

@@ -4,11 +4,10 @@ ghost use Rattle.std.specs.Option.{option_map_or};
 ghost use Rattle.std.specs.Str.{bytes_eq};
 ghost use Rattle.mc_text.specs.Routes.{path_text};
 
-use crate::cause::cause_of;
+use crate::kinds::{Wanted, require};
 use mc_text::{Path, Text};
 use std::alloc::Global;
 use std::convert::AsStr;
-use std::fs;
 use std::marker::Model;
 use std::rt::Files;
 use tree_trait::TreeError;
@@ -86,14 +85,5 @@ fn walk<R: Files>(rt: &R, walked: &Walked, folder: &str) -> Result<(), TreeError
     if let Some((above, _)) = folder.rsplit_once('/') {
         walk(rt, walked, above)?;
     }
-    require_folder(rt, folder)
-}
-
-/// Looks at what stands at a path, which has to be a folder itself and no link to one.
-pub fn require_folder<R: Files>(rt: &R, text: &str) -> Result<(), TreeError> {
-    match fs::symlink_metadata(rt, text) {
-        Ok(facts) if facts.is_dir() => Ok(()),
-        Ok(_) => Err(TreeError::NotFolder),
-        Err(error) => Err(cause_of(&error)),
-    }
+    require(rt, folder, Wanted::Folder)
 }

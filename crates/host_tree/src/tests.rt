@@ -1,4 +1,6 @@
 //! One run of each device on the machine itself.
+mod calls;
+
 use crate::{HostClock, HostTree, ShSpawner, StdinSource, StdoutSink};
 use mc_text::{Kind, Name, Path};
 use std::convert::AsStr;

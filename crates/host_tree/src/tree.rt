@@ -1,32 +1,25 @@
-//! The files of the machine.
-ghost use Rattle.std.specs.Prelude.{◌≡◌, ◌≤◌, ◌^◌, min, None, IfOk, bit_and};
-ghost use Rattle.std.specs.Fs.{metadata_len, metadata_mode};
-ghost use Rattle.host_tree.specs.Kinds.{kind_of_mode};
-ghost use Rattle.tree_trait.specs.Answers.{HasCause, IsInRange};
+//! The tree of the machine's files.
+ghost use Rattle.std.specs.Prelude.{◌≡◌, None};
+ghost use Rattle.tree_trait.specs.Answers.{HasCause};
 
-use crate::cause::cause_of;
 use crate::faults::Faults;
-use crate::listing::children;
-use crate::real_path::{Walked, real_text, require_folder};
-use mc_text::{Kind, Path};
-use std::alloc::Global;
-use std::convert::AsStr;
-use std::fs;
-use std::fs::{File, Metadata, OpenFile};
+use crate::kinds::Wanted;
+use crate::machine::Machine;
+use mc_text::{Path, Text};
+use std::alloc::{AllocGlobal, Global};
 use std::marker::Model;
-use std::os::unix::fs::MetadataExt;
+use std::os::unix::fs::FileExt;
 use std::rt::Files;
 use tree_trait::{Children, Meta, Tree, TreeError};
 
 /// The files of the machine. Contracts see how often a call has failed. It tells nothing of what it holds.
 #[derive(Drop)]
-pub struct HostTree<R> {
-    rt: R,
+pub struct HostTree<R: Files> {
+    machine: Machine<R>,
     faults: Faults,
-    walked: Walked,
 }
 
-impl<R> Model for HostTree<R> {
+impl<R: Files> Model for HostTree<R> {
     ghost use Rattle.std.specs.Prelude.{ℕ};
 
     ghost Value = { ℕ };
@@ -34,18 +27,19 @@ impl<R> Model for HostTree<R> {
     ghost view = { λ t. t.faults };
 }
 
-impl<R> HostTree<R> {
+impl<R: Files + AllocGlobal> HostTree<R> {
     /// The files that this runtime reaches. It takes no memory.
     pub fn new(rt: R) -> HostTree<R>
         ensures { result ≡ 0 }
     {
         HostTree {
-            rt,
+            machine: Machine::new(rt),
             faults: Faults::new(),
-            walked: Walked::new(),
         }
     }
+}
 
+impl<R: Files> HostTree<R> {
     /// The answer as it is, where a fault is counted first.
     fn counted<T>(&mut self, answer: Result<T, TreeError>) -> Result<T, TreeError>
         ensures same { result ≡ answer }
@@ -58,116 +52,97 @@ impl<R> HostTree<R> {
     }
 }
 
-impl<R: Files> Tree for HostTree<R> {
+impl<R: Files> Tree for HostTree<R>
+where
+    R::File: FileExt,
+{
     ghost contents = { λ _. None };
 
     ghost fault_count = { λ count. count };
 
     fn stat(&mut self, alloc: Global, path: &Path) -> Result<Meta, TreeError> {
-        let answer = look(&self.rt, alloc, &mut self.walked, path);
-        self.counted(answer)
+        let seen = self.machine.stat(alloc, path);
+        self.counted(seen)
     }
 
     fn list(&mut self, alloc: Global, path: &Path) -> Result<Children, TreeError> {
-        self.walked.forget();
-        let answer = children(&self.rt, alloc, &mut self.walked, path);
-        self.counted(answer)
+        let listed = self.machine.list(alloc, path);
+        self.counted(listed)
+    }
+
+    fn read_at(
+        &mut self,
+        alloc: Global,
+        path: &Path,
+        offset: u64,
+        into: &mut [u8],
+    ) -> Result<usize, TreeError> {
+        let read = self.machine.read_at(alloc, path, offset, into);
+        self.counted(read)
+    }
+
+    fn read_link(&mut self, alloc: Global, path: &Path) -> Result<Text, TreeError> {
+        let said = self.machine.read_link(alloc, path);
+        self.counted(said)
+    }
+
+    fn make_file(&mut self, alloc: Global, path: &Path, mode: u16) -> Result<(), TreeError> {
+        let made = self.machine.make_file(alloc, path, mode);
+        self.counted(made)
+    }
+
+    fn write_at(
+        &mut self,
+        alloc: Global,
+        path: &Path,
+        offset: u64,
+        bytes: &[u8],
+    ) -> Result<(), TreeError> {
+        let written = self.machine.write_at(alloc, path, offset, bytes);
+        self.counted(written)
+    }
+
+    fn set_mode(&mut self, alloc: Global, path: &Path, mode: u16) -> Result<(), TreeError> {
+        let set = self.machine.set_mode(alloc, path, mode);
+        self.counted(set)
+    }
+
+    fn make_folder(&mut self, alloc: Global, path: &Path, mode: u16) -> Result<(), TreeError> {
+        let opened = self.machine.make_folder(alloc, path, mode);
+        self.counted(opened)
+    }
+
+    fn make_link(&mut self, alloc: Global, path: &Path, text: &str) -> Result<(), TreeError> {
+        let linked = self.machine.make_link(alloc, path, text);
+        self.counted(linked)
+    }
+
+    fn rename(&mut self, alloc: Global, from: &Path, to: &Path) -> Result<(), TreeError> {
+        let moved = self.machine.rename(alloc, from, to);
+        self.counted(moved)
     }
 
     fn remove_file(&mut self, alloc: Global, path: &Path) -> Result<(), TreeError> {
-        self.walked.forget();
-        let answer = remove_name(&self.rt, alloc, &mut self.walked, path);
-        self.counted(answer)
+        let removed = self.machine.remove_file(alloc, path);
+        self.counted(removed)
+    }
+
+    fn remove_folder(&mut self, alloc: Global, path: &Path) -> Result<(), TreeError> {
+        let emptied = self.machine.remove_folder(alloc, path);
+        self.counted(emptied)
+    }
+
+    fn sync_file(&mut self, alloc: Global, path: &Path) -> Result<(), TreeError> {
+        let synced = self.machine.sync(alloc, path, Wanted::File);
+        self.counted(synced)
     }
 
     fn sync_folder(&mut self, alloc: Global, path: &Path) -> Result<(), TreeError> {
-        let answer = sync_names(&self.rt, alloc, &mut self.walked, path);
-        self.counted(answer)
+        let settled = self.machine.sync(alloc, path, Wanted::Folder);
+        self.counted(settled)
     }
 
     fn faults(&self) -> u64 {
         self.faults.count()
-    }
-}
-
-/// What stands at a path.
-fn look<R: Files>(
-    rt: &R,
-    alloc: Global,
-    walked: &mut Walked,
-    path: &Path,
-) -> Result<Meta, TreeError>
-    ensures { IfOk result IsInRange }
-{
-    let text = real_text(rt, alloc, walked, path)?;
-    match fs::symlink_metadata(rt, text.as_str()) {
-        Ok(facts) => Ok(meta_of(&facts)),
-        Err(error) => Err(cause_of(&error)),
-    }
-}
-
-/// The most bytes that a thing is said to have.
-const GREATEST_SIZE: u64 = 1 << 63;
-
-/// The system's facts. The number of a mount is that of its device, or 0 where that is too large.
-fn meta_of(facts: &Metadata) -> Meta
-    ensures in_range { IsInRange result }
-    ensures size { result.size ≡ min (metadata_len facts.now) (2 ^ 63) }
-    ensures mode { result.mode ≡ bit_and (metadata_mode facts.now) 0o7777 }
-    ensures kind { result.kind ≡ kind_of_mode (metadata_mode facts.now) }
-{
-    Meta {
-        kind: kind_of(facts),
-        size: facts.len().min(GREATEST_SIZE),
-        mode: (facts.mode() & 0o7777) as u16,
-        mtime: facts.mtime(),
-        mount: u32::try_from(facts.dev()).unwrap_or(0),
-    }
-}
-
-fn kind_of(facts: &Metadata) -> Kind
-    ensures { result ≡ kind_of_mode (metadata_mode facts.now) }
-{
-    if facts.is_file() {
-        Kind::File
-    } else if facts.is_dir() {
-        Kind::Folder
-    } else if facts.is_symlink() {
-        Kind::Link
-    } else {
-        Kind::Other
-    }
-}
-
-/// Removes a name. The system refuses it where the name is of a folder.
-fn remove_name<R: Files>(
-    rt: &R,
-    alloc: Global,
-    walked: &mut Walked,
-    path: &Path,
-) -> Result<(), TreeError> {
-    let text = real_text(rt, alloc, walked, path)?;
-    match fs::remove_file(rt, text.as_str()) {
-        Ok(()) => Ok(()),
-        Err(error) => Err(cause_of(&error)),
-    }
-}
-
-/// Brings the names of a folder onto the disk. The look comes before the open, which would follow a link, and wait for
-/// ever at a pipe.
-fn sync_names<R: Files>(
-    rt: &R,
-    alloc: Global,
-    walked: &mut Walked,
-    path: &Path,
-) -> Result<(), TreeError> {
-    let text = real_text(rt, alloc, walked, path)?;
-    require_folder(rt, text.as_str())?;
-    match File::open(rt, text.as_str()) {
-        Ok(folder) => match folder.sync_all() {
-            Ok(()) => Ok(()),
-            Err(error) => Err(cause_of(&error)),
-        },
-        Err(error) => Err(cause_of(&error)),
     }
 }

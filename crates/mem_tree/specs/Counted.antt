@@ -3,11 +3,8 @@ use Rattle.std.specs.Prelude.{◌≡◌, ℕ, ◌+◌, ◌-◌, ◌^◌, ◌<◌
 use Rattle.std.specs.List.{list_any}
 use Rattle.tree_trait.specs.declared.calls.TreeError.{TreeError}
 use Rattle.tree_trait.specs.declared.calls.TreeError.TheVariants.{Fault, Memory}
+use Rattle.tree_trait.specs.Answers.{one_more}
 use Rattle.mem_tree.specs.Held.{Held}
-
--- a count with one more, which stays at its last value
-abbrev pub one_more : ℕ → ℕ
-one_more count = min (count + 1) (2 ^ 64 - 1)
 
 -- after so many calls the next one is named to fail
 abbrev pub is_due : List ℕ → ℕ → Bool

@@ -1,16 +1,16 @@
 -- What a tree in memory holds.
-use Rattle.std.specs.Prelude.{pos, ℤ, ◌≡◌, ℕ, ◌-◌, ◌^◌, List, [], ◌∷◌, length, take, ◌≤◌}
-use Rattle.mc_text.specs.declared.kind.Kind.TheVariants.{File, Folder}
+use Rattle.std.specs.Prelude.{pos, ℤ, ◌≡◌, ℕ, ◌-◌, ◌^◌, List, [], ◌∷◌, take}
+use Rattle.mc_text.specs.declared.kind.Kind.TheVariants.{File, Folder, Link, Other}
 use Rattle.tree_trait.specs.declared.file_system.Node.{Node}
 use Rattle.tree_trait.specs.declared.file_system.Mount.{Mount}
-use Rattle.tree_trait.specs.declared.calls.Meta.{Meta}
 use Rattle.tree_trait.specs.declared.file_system.FileSystem.{FileSystem}
 use Rattle.mc_text.specs.Routes.{Route}
-use Rattle.tree_trait.specs.FileSystem.{node}
 use Rattle.tree_trait.specs.Shape.{IsTree}
 use Rattle.tree_trait.specs.Change.{CallLog, Makes, after_change, of_name}
 use Rattle.mem_tree.specs.declared.record.Record.{Record}
-use Rattle.mem_tree.specs.Records.{changes_by}
+use Rattle.mem_tree.specs.Records.{changes_by, after}
+use Rattle.mem_tree.specs.Live.{standing}
+use Rattle.mem_tree.specs.Sound.{IsSound, AllFit}
 use Rattle.mem_tree.specs.declared.choice.Choice.{Choice}
 use Rattle.mem_tree.specs.Fills.{filled}
 use Rattle.tree_trait.specs.CrashImages.{chosen}
@@ -26,18 +26,19 @@ pub record Held : Type 0 where
 
 -- the log of an opening and the records since
 abbrev pub log_of : FileSystem → List Record → CallLog
-log_of s records = record { opening = s; changes = changes_by s.names records }
+log_of s records = record { opening = s; changes = changes_by records }
+
+-- What a tree in memory keeps true of its opening, its records and the names that stand: each node fits, also in each
+-- image; and what was a tree at the opening is a tree.
+pub record IsKept (opening : FileSystem) (records : List Record) (stands : FileSystem) : Type 0 where
+  pub stands_is : stands ≡ standing (after opening records)
+  pub sound : IsSound opening
+  pub fits : AllFit opening (changes_by records)
+  pub tree : IsTree opening → IsTree (after opening records)
 
 -- the root's mount
 abbrev pub the_mount : Mount
 the_mount = record { folder = 0; capacity = 2 ^ 64 - 1 }
-
--- a tree with the root's mount alone, and modes and sizes in range
-pub record IsWhole (s : FileSystem) : Type 0 where
-  pub tree : IsTree s
-  pub mounts : s.mounts ≡ the_mount ∷ []
-  pub modes : (i : ℕ) → (node s i).mode ≤ 0o7777
-  pub sizes : (i : ℕ) → length (node s i).bytes ≤ 2 ^ 63
 
 -- a root alone
 abbrev pub fresh : FileSystem
@@ -46,14 +47,6 @@ fresh = record {
   names = [];
   mounts = the_mount ∷ [];
 }
-
--- a Meta has the facts of a node of the only mount
-pub record HasFacts (s : FileSystem) (i : ℕ) (meta : Meta) : Type 0 where
-  pub kind : meta.kind ≡ (node s i).kind
-  pub size : meta.size ≡ length (node s i).bytes
-  pub mode : meta.mode ≡ (node s i).mode
-  pub mtime : meta.mtime ≡ (node s i).mtime
-  pub mount : meta.mount ≡ 0
 
 -- a folder, with how many names in it are not UTF-8
 abbrev pub folder_node : ℕ → ℕ → Node
@@ -74,3 +67,11 @@ unused_tree s time = record { log = record { opening = s; changes = [] }; time =
 -- the image of a choice, after so many calls
 abbrev pub image_chosen : CallLog → ℕ → Choice → FileSystem
 image_chosen log at_call choice = chosen (filled choice.fill) log.opening (take at_call log.changes) choice.keep
+
+-- a link
+abbrev pub link_node : List ℕ → Node
+link_node text = record { kind = Link; bytes = text; mode = 0; mtime = pos 0; unnamed = 0 }
+
+-- a thing that is neither file, folder nor link
+abbrev pub other_node : Node
+other_node = record { kind = Other; bytes = []; mode = 0; mtime = pos 0; unnamed = 0 }

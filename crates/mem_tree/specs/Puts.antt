@@ -1,10 +1,12 @@
 -- What keeps a thing from being put into the opening: what would refuse its making, but never a mode.
-use Rattle.std.specs.Prelude.{◌≡◌, ◌≢◌, ℕ, ◌+◌, Bool, nat_lt, is_some, if◌then◌else◌, List, [], ◌∷◌, length, map, Option, Some, None, Result, MatchResult}
+use Rattle.std.specs.Prelude.{◌≡◌, ◌≢◌, ℕ, ◌+◌, Bool, nat_lt, is_some, if◌then◌else◌, List, [], ◌∷◌, length, map, ◌++◌, Option, Some, None, Result, MatchResult}
 use Rattle.mc_text.specs.Routes.{Route}
 use Rattle.tree_trait.specs.declared.file_system.Node.{Node}
 use Rattle.tree_trait.specs.declared.file_system.FileSystem.{FileSystem}
 use Rattle.tree_trait.specs.declared.calls.TreeError.{TreeError}
 use Rattle.tree_trait.specs.declared.calls.TreeError.TheVariants.{Memory, NoSpace}
+use Rattle.tree_trait.specs.Change.{Makes, after_change, of_name}
+use Rattle.mem_tree.specs.Held.{folder_node}
 use Rattle.tree_trait.specs.Calls.{MakeFolder}
 use Rattle.tree_trait.specs.Refusals.{refusal_of, mount_of, capacity_of, used_by}
 
@@ -34,7 +36,11 @@ put_file_refusal s path count =
 abbrev pub IsRefusedBy : {A : Type 0} → Option TreeError → Result A TreeError → Type 0
 IsRefusedBy refusal result = MatchResult result (λ _. refusal ≡ None) (λ e. e ≢ Memory → refusal ≡ Some e)
 
--- the bytes of all nodes
-abbrev pub total_bytes : List Node → ℕ
-total_bytes [] = 0
-total_bytes (n ∷ nodes) = length n.bytes + total_bytes nodes
+-- a mount more, which begins at this folder
+abbrev pub with_mount : FileSystem → ℕ → ℕ → FileSystem
+with_mount s folder capacity = record s { mounts = s.mounts ++ record { folder = folder; capacity = capacity } ∷ [] }
+
+-- a folder more at a path, where a mount begins
+abbrev pub mounted : FileSystem → Route → ℕ → FileSystem
+mounted s path capacity =
+    with_mount (after_change s (of_name s path (λ f name. Makes f name (folder_node 0o755 0)))) (length s.nodes) capacity

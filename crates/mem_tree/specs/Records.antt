@@ -1,32 +1,23 @@
 -- What the records of a tree in memory stand for.
-use Rattle.std.specs.Prelude.{ℕ, Bool, false, ◌&&◌, ◌==◌, List, [], map, Some, None, slice_get}
-use Rattle.std.specs.Str.{bytes_eq}
-use Rattle.tree_trait.specs.declared.file_system.NameEdit.{NameEdit}
+use Rattle.std.specs.Prelude.{List, map}
 use Rattle.tree_trait.specs.declared.file_system.FileSystem.{FileSystem}
-use Rattle.tree_trait.specs.Change.{Change, Nothing, Removes, Syncs, after_changes}
+use Rattle.tree_trait.specs.Change.{Change, Nothing, Makes, Moves, Removes, Sets, Writes, Syncs, after_changes}
 use Rattle.mem_tree.specs.declared.record.Record.{Record}
-use Rattle.mem_tree.specs.declared.record.Record.TheVariants.{Idle, Unlink, Flush}
+use Rattle.mem_tree.specs.declared.record.Record.TheVariants.{Idle, Make, Move, Unlink, SetMode, Write, Flush}
 
--- the change that a record stands for, among these names
-abbrev pub change_by : List NameEdit → Record → Change
-change_by names Idle = Nothing
-change_by names (Unlink folder edit node) = elim (slice_get names edit) [ None ↦ Nothing | Some e ↦ Removes folder e.name node ]
-change_by names (Flush node) = Syncs node
+-- the change that a record stands for
+abbrev pub change_by : Record → Change
+change_by Idle = Nothing
+change_by (Make folder name made) = Makes folder name made
+change_by (Move from old to new moved replaced) = Moves from old to new moved replaced
+change_by (Unlink folder name node) = Removes folder name node
+change_by (SetMode node mode) = Sets node mode
+change_by (Write node bytes mtime) = Writes node bytes mtime
+change_by (Flush node) = Syncs node
 
-abbrev pub changes_by : List NameEdit → List Record → List Change
-changes_by names records = map (change_by names) records
+abbrev pub changes_by : List Record → List Change
+changes_by records = map change_by records
 
 -- the file system after the records
 abbrev pub after : FileSystem → List Record → FileSystem
-after s records = after_changes s (changes_by s.names records)
-
--- a record removes this name of this folder
-abbrev pub removes_name : List NameEdit → ℕ → List ℕ → Record → Bool
-removes_name names folder name Idle = false
-removes_name names folder name (Unlink f edit node) =
-    elim (slice_get names edit) [ None ↦ false | Some e ↦ (f == folder) && bytes_eq e.name name ]
-removes_name names folder name (Flush node) = false
-
--- names alone
-abbrev pub bare : List NameEdit → FileSystem
-bare names = record { nodes = []; names = names; mounts = [] }
+after s records = after_changes s (changes_by records)

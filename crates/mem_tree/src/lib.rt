@@ -1,28 +1,22 @@
-//! A tree in memory, with all that a crash may leave of it; and the other devices of a session in memory.
+//! A tree in memory, with all that a crash may leave of it.
 #![tactic(auto)]
 
-mod children;
+mod calls;
 mod choice;
-mod clock;
+mod copies;
+mod counts;
 mod image;
+mod links;
 mod make;
-mod meta;
-mod mute;
+mod mounting;
+mod names;
+mod perform;
 mod plan;
-mod read;
 mod record;
-mod sink;
-mod source;
-mod spawner;
+mod step;
 #[cfg(test)]
 mod tests;
 mod tree;
-mod walk;
 
 pub use choice::{Choice, Fill};
-pub use clock::FixedClock;
-pub use mute::Mute;
-pub use sink::MemSink;
-pub use source::MemSource;
-pub use spawner::{FakeSpawner, Outcomes};
 pub use tree::MemTree;

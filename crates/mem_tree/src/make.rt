@@ -1,14 +1,16 @@
 //! What the opening of a tree in memory is made of.
-ghost use Rattle.std.specs.Prelude.{◌≡◌, ◌∷◌, [], Some, Ok, IfOk, IfSome, OnOk, OnErr, ◌≤◌, ◌^◌, length, reverse, true, false};
-ghost use Rattle.mc_text.specs.Routes.{Route};
+ghost use Rattle.std.specs.Prelude.{◌≡◌, ◌∷◌, [], Ok, IfOk, OnOk, OnErr, ◌<◌, ◌-◌, ◌&&◌, is_none, drop, take, length, reverse};
 ghost use Rattle.tree_trait.specs.Change.{Makes, after_change, found, of_name};
 ghost use Rattle.tree_trait.specs.Refusals.{reached, step};
-ghost use Rattle.mem_tree.specs.Held.{fresh, folder_node, file_node, IsWhole};
-ghost use Rattle.mem_tree.specs.Puts.{unlocked, put_refusal, is_full, IsRefusedBy, total_bytes};
+ghost use Rattle.mem_tree.specs.Held.{fresh, folder_node, file_node, other_node, IsKept};
+ghost use Rattle.mem_tree.specs.Sound.{FitsNode};
+ghost use Rattle.mem_tree.specs.Puts.{unlocked, put_refusal, is_full, IsRefusedBy};
 
-use crate::read::{folder_at, leads};
+use crate::copies::copy_node;
+use crate::perform::place;
 use mc_text::{Kind, Name, NoMemory};
 use std::alloc::Global;
+use tree_rules::{folder_at, is_full, lookup, mount_of};
 use tree_trait::{FileSystem, Mount, NameEdit, Node, Seq, TreeError};
 
 /// A root alone.
@@ -55,29 +57,16 @@ pub fn file_node(alloc: Global, mode: u16, mtime: i64, bytes: &[u8]) -> Result<N
     })
 }
 
-/// Makes a node under a name.
-pub fn place(
-    opening: &mut FileSystem,
-    folder: usize,
-    name: Name,
-    node: Node,
-) -> Result<(), NoMemory>
-    ensures ok { OnOk result (opening.new ≡ after_change opening.old (Makes folder name node)) }
-    ensures err { OnErr result (opening.new ≡ opening.old) }
+/// A thing that is neither file, folder nor link.
+pub fn other_node(alloc: Global) -> Node
+    ensures { result ≡ other_node }
 {
-    let number = opening.nodes.len();
-    opening.nodes.push(node)?;
-    let edit = NameEdit {
-        folder,
-        name,
-        to: Some(number),
-    };
-    match opening.names.push_front(edit) {
-        Ok(()) => Ok(()),
-        Err(_) => {
-            opening.nodes.pop();
-            Err(NoMemory)
-        }
+    Node {
+        kind: Kind::Other,
+        bytes: Seq::new(alloc),
+        mode: 0,
+        mtime: 0,
+        unnamed: 0,
     }
 }
 
@@ -98,35 +87,108 @@ fn reach(opening: &FileSystem, names: &[Name]) -> Result<usize, TreeError>
 fn step(opening: &FileSystem, folder: usize, name: &Name) -> Result<usize, TreeError>
     ensures { result ≡ step (unlocked opening.now) name.now folder }
 {
-    if !folder_at(opening, &[], folder) {
+    if !folder_at(opening, folder) {
         return Err(TreeError::NotFolder);
     }
-    match leads(opening, &[], folder, name) {
+    match lookup(opening.names.as_slice(), folder, name) {
         None => Err(TreeError::Missing),
-        Some((_, i)) => Ok(i),
+        Some(i) => Ok(i),
     }
 }
 
-/// Makes a node at a path, if nothing stands there.
+/// What keeps a thing from being put at a path.
+pub fn refuse_put(opening: &FileSystem, names: &[Name]) -> Option<TreeError>
+    ensures { result ≡ put_refusal opening.now (reverse names.now) }
+{
+    match names {
+        [] => Some(TreeError::Exists),
+        [front @ .., name] => match reach(opening, front) {
+            Err(e) => Some(e),
+            Ok(folder) => refuse_in(opening, front, folder, name),
+        },
+    }
+}
+
+/// What keeps a thing from being put under a name of a folder, to which `front` leads.
+fn refuse_in(opening: &FileSystem, front: &[Name], folder: usize, name: &Name) -> Option<TreeError>
+    requires { reached (unlocked opening.now) (reverse front.now) ≡ Ok folder }
+    ensures { result ≡ put_refusal opening.now (name.now ∷ reverse front.now) }
+{
+    let _ = front;
+    if !folder_at(opening, folder) {
+        return Some(TreeError::NotFolder);
+    }
+    if lookup(opening.names.as_slice(), folder, name).is_some() {
+        return Some(TreeError::Exists);
+    }
+    None
+}
+
+/// Only the mount's room keeps a file of so many bytes from being put at a path.
+pub fn is_full_for(opening: &FileSystem, names: &[Name], count: usize) -> bool
+    ensures { result ≡ (is_none (put_refusal opening.now (reverse names.now)) && is_full opening.now (reverse names.now) count) }
+{
+    refuse_put(opening, names).is_none() && is_full(opening, mount_of(opening, names), count as u64)
+}
+
+/// Takes back the newest node and its name. It takes no memory.
+fn take_back(fs: &mut FileSystem)
+    requires { 0 < length fs.old.names }
+    ensures names { fs.new.names ≡ drop 1 fs.old.names }
+    ensures nodes { fs.new.nodes ≡ take (length fs.old.nodes - 1) fs.old.nodes }
+    ensures mounts { fs.new.mounts ≡ fs.old.mounts }
+{
+    let _ = fs.names.remove(0);
+    fs.nodes.pop();
+}
+
+/// Makes a node under a name in both of two file systems, or in none.
+fn place_both(
+    alloc: Global,
+    opening: &mut FileSystem,
+    stands: &mut FileSystem,
+    folder: usize,
+    name: &Name,
+    node: Node,
+) -> Result<(), NoMemory>
+    ensures made { OnOk result (opening.new ≡ after_change opening.old (Makes folder name.now node)) }
+    ensures stands { OnOk result (stands.new ≡ after_change stands.old (Makes folder name.now node)) }
+    ensures same { OnErr result (opening.new ≡ opening.old) }
+    ensures same_stands { OnErr result (stands.new ≡ stands.old) }
+{
+    let mine = name.copy(alloc)?;
+    let other = name.copy(alloc)?;
+    let copy = copy_node(alloc, &node)?;
+    place(stands, folder, mine, copy)?;
+    match place(opening, folder, other, node) {
+        Ok(()) => Ok(()),
+        Err(_) => {
+            take_back(stands);
+            Err(NoMemory)
+        }
+    }
+}
+
+/// Makes a node at a path in both of two file systems, if nothing stands there.
 pub fn put_node(
     alloc: Global,
     opening: &mut FileSystem,
+    stands: &mut FileSystem,
     names: &[Name],
     node: Node,
 ) -> Result<(), TreeError>
-    requires whole { IsWhole opening.old }
-    requires mode { node.mode ≤ 0o7777 }
-    requires size { length node.bytes ≤ 2 ^ 63 }
+    requires kept { IsKept opening.old [] stands.old }
+    requires fits { FitsNode node }
     ensures made { OnOk result (opening.new ≡ after_change opening.old (of_name opening.old (reverse names.now) (λ f name. Makes f name node))) }
     ensures same { OnErr result (opening.new ≡ opening.old) }
-    ensures whole { IsWhole opening.new }
+    ensures kept { IsKept opening.new [] stands.new }
     ensures refusal { IsRefusedBy (put_refusal opening.old (reverse names.now)) result }
 {
     match names {
         [] => Err(TreeError::Exists),
         [front @ .., name] => match reach(opening, front) {
             Err(e) => Err(e),
-            Ok(folder) => put_in(alloc, opening, front, folder, name, node),
+            Ok(folder) => put_in(alloc, opening, stands, front, folder, name, node),
         },
     }
 }
@@ -135,55 +197,28 @@ pub fn put_node(
 fn put_in(
     alloc: Global,
     opening: &mut FileSystem,
+    stands: &mut FileSystem,
     front: &[Name],
     folder: usize,
     name: &Name,
     node: Node,
 ) -> Result<(), TreeError>
     requires at { reached (unlocked opening.old) (reverse front.now) ≡ Ok folder }
-    requires whole { IsWhole opening.old }
-    requires mode { node.mode ≤ 0o7777 }
-    requires size { length node.bytes ≤ 2 ^ 63 }
+    requires kept { IsKept opening.old [] stands.old }
+    requires fits { FitsNode node }
     ensures made { OnOk result (opening.new ≡ after_change opening.old (Makes (found opening.old (reverse front.now)) name.now node)) }
     ensures same { OnErr result (opening.new ≡ opening.old) }
     ensures refusal { IsRefusedBy (put_refusal opening.old (name.now ∷ reverse front.now)) result }
-    ensures whole { IsWhole opening.new }
+    ensures kept { IsKept opening.new [] stands.new }
 {
-    if !folder_at(opening, &[], folder) {
+    if !folder_at(opening, folder) {
         return Err(TreeError::NotFolder);
     }
-    if leads(opening, &[], folder, name).is_some() {
+    if lookup(opening.names.as_slice(), folder, name).is_some() {
         return Err(TreeError::Exists);
     }
-    match name.copy(alloc) {
+    match place_both(alloc, opening, stands, folder, name, node) {
         Err(_) => Err(TreeError::Memory),
-        Ok(copy) => match place(opening, folder, copy, node) {
-            Err(_) => Err(TreeError::Memory),
-            Ok(()) => Ok(()),
-        },
-    }
-}
-
-/// The bytes of all nodes, if a `u64` holds their number.
-fn bytes_of(nodes: &[Node]) -> Option<u64>
-    ensures { IfSome result (λ count. count ≡ total_bytes nodes.now) }
-{
-    match nodes {
-        [] => Some(0),
-        [first, rest @ ..] => match bytes_of(rest) {
-            None => None,
-            Some(count) => count.checked_add(first.bytes.len() as u64),
-        },
-    }
-}
-
-/// With so many bytes more the root's mount isn't full.
-pub fn has_room(opening: &FileSystem, count: usize) -> bool
-    requires { IsWhole opening.now }
-    ensures { result ≡ true → (path : Route) → is_full opening.now path count ≡ false }
-{
-    match bytes_of(opening.nodes.as_slice()) {
-        None => false,
-        Some(used) => used <= u64::MAX - count as u64,
+        Ok(()) => Ok(()),
     }
 }

@@ -44,14 +44,14 @@ reached-find s (name ∷ folder) x h =
     let p = and_then-ok (step s name) (reached s folder) x h in
     ap (option_and_then (λ f. lookup s.names f name)) (reached-find s folder p.0 p.1) ∙ step-lookup s name p.0 x p.2
 
-passed_walk : (r : Result Place TreeError) (checks : Place → Option TreeError) → (let o : Option TreeError = elim r [ Err e ↦ Some e | Ok place ↦ checks place ] in o) ≡ None → (p : Place) × (r ≡ Ok p) × (checks p ≡ None)
+pub passed_walk : (r : Result Place TreeError) (checks : Place → Option TreeError) → (let o : Option TreeError = elim r [ Err e ↦ Some e | Ok place ↦ checks place ] in o) ≡ None → (p : Place) × (r ≡ Ok p) × (checks p ≡ None)
 passed_walk (Ok p) checks h = (p, refl, h)
 passed_walk (Err e) checks h = cc
 
-ok_same : {A : Type 0} {x y : A} → (let r : Result A TreeError = Ok x in r) ≡ Ok y → y ≡ x
+pub ok_same : {A : Type 0} {x y : A} → (let r : Result A TreeError = Ok x in r) ≡ Ok y → y ≡ x
 ok_same h = cc
 
-some_there : (o : Option ℕ) → is_none o ≡ false → (i : ℕ) × (o ≡ Some i)
+pub some_there : (o : Option ℕ) → is_none o ≡ false → (i : ℕ) × (o ≡ Some i)
 some_there None h = absurd (true≢false h)
 some_there (Some i) h = (i, refl)
 
@@ -102,3 +102,29 @@ pub list-found : (s : FileSystem) (path : Route) → refusal_of s (ListFolder pa
 list-found s path h =
     let w = passed_walk (walk s path) (λ p. first_of (missing p ∷ no_folder s p ∷ denied 0o400 (thing s p) ∷ [])) h in
     found_place s path w.0.there (walk-find s path w.0 w.1) (check_passes (is_none w.0.there) Missing _ w.2).0
+
+-- where the walk to a name in a folder ended
+pub record IsLast (s : FileSystem) (name : List ℕ) (up : Route) (place : Place) : Type 0 where
+  pub folder : find s up ≡ Some (unwrap_or (find s up) 0)
+  pub is_one : is_folder (node s (unwrap_or (find s up) 0)) ≡ true
+  pub holder : place.holder ≡ Some (unwrap_or (find s up) 0)
+  pub there : place.there ≡ lookup s.names (unwrap_or (find s up) 0) name
+
+pub last_place : (s : FileSystem) (name : List ℕ) (up : Route) (place : Place) → walk s (name ∷ up) ≡ Ok place → IsLast s name up place
+last_place s name up place h =
+    let r = and_then-ok (last_step s name) (reached s up) place h in
+    let a = check_passed (not (is_folder (node s r.0))) NotFolder _ place r.2 in
+    let b = check_passed (lacks 0o100 (node s r.0)) Denied _ place a.1 in
+    let q = ok_same b.1 in
+    let at = reached-find s up r.0 r.1 in
+    let f : unwrap_or (find s up) 0 ≡ r.0 = ap (λ o. unwrap_or o 0) at in
+    record {
+      folder = at ∙ ap (λ k. Some k) (sym f);
+      is_one = subst (λ k. is_folder (node s k) ≡ true) (sym f) (not_false (is_folder (node s r.0)) a.0);
+      holder = ap (λ (p : Place). p.holder) q ∙ ap (λ k. Some k) (sym f);
+      there = ap (λ (p : Place). p.there) q ∙ ap (λ k. lookup s.names k name) (sym f);
+    }
+  where
+    not_false : (b : Bool) → not b ≡ false → b ≡ true
+    not_false true h = refl
+    not_false false h = absurd (true≢false h)

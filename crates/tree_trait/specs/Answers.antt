@@ -1,5 +1,5 @@
 -- What an answer of a tree says of what it holds, and when a device may answer a fault.
-use Rattle.std.specs.Prelude.{◌≡◌, ◌↔◌, ℕ, ℤ, ◌+◌, ◌-◌, ◌^◌, ◌≤◌, min, ⊤, if◌then◌else◌, ◌==◌, List, [], ◌∷◌, length, IsSome, Option, Some, None, Result, Ok, Err, IsErrOf}
+use Rattle.std.specs.Prelude.{◌≡◌, ◌↔◌, ℕ, ℤ, ◌+◌, ◌-◌, ◌^◌, ◌≤◌, ◌≢◌, All, take, drop, min, ⊤, if◌then◌else◌, ◌==◌, List, [], ◌∷◌, length, IsSome, Option, Some, None, Result, Ok, Err, IsErrOf}
 use Rattle.std.specs.Ordering.{nat_cmp}
 use Rattle.std.specs.declared.cmp.Ordering.{Ordering}
 use Rattle.std.specs.declared.cmp.Ordering.TheVariants.{Less}
@@ -16,6 +16,10 @@ use Rattle.tree_trait.specs.declared.calls.Children.{Children}
 use Rattle.tree_trait.specs.FileSystem.{lookup, node}
 use Rattle.tree_trait.specs.Refusals.{refusal_of, mount_of}
 use Rattle.tree_trait.specs.Change.{CallLog, Nothing, current, with_change, change_of, torn_write, found}
+
+-- a count with one more, which stays at its last value
+abbrev pub one_more : ℕ → ℕ
+one_more count = min (count + 1) (2 ^ 64 - 1)
 
 -- a count of faults has risen; one that stands at its last value counts as risen
 abbrev pub HasRisen : ℕ → ℕ → Type 0
@@ -76,6 +80,17 @@ IsAscending (name ∷ names) = AllAfter name names × IsAscending names
 pub record IsListing (s : FileSystem) (folder : ℕ) (children : Children) : Type 0 where
   pub names : (name : List ℕ) → Among children.names name ↔ IsSome (lookup s.names folder name)
   pub unnamed : children.unnamed ≡ (node s folder).unnamed
+
+-- what `read_at` tells: the bytes of the file from the offset on, as many as there are and are asked for
+pub record IsRead (bytes : List ℕ) (offset : ℕ) (room : List ℕ) (into : List ℕ) (count : ℕ) : Type 0 where
+  pub count_is : count ≡ min (length room) (length bytes - offset)
+  pub read : take count into ≡ take count (drop offset bytes)
+
+-- what a link may say: 1 to 4,095 bytes and no NUL (POSIX.1-2017, 3.381 Symbolic Link, with PATH_MAX of 4,096)
+pub record IsLinkText (text : List ℕ) : Type 0 where
+  pub some : 1 ≤ length text
+  pub short : length text ≤ 4095
+  pub no_nul : All (λ byte. byte ≢ 0) text
 
 -- what holds of each Meta
 pub record IsInRange (meta : Meta) : Type 0 where

@@ -1,6 +1,8 @@
 //! A list that contracts see as a list, for file systems.
-ghost use Rattle.std.specs.Prelude.{◌≡◌, ◌<◌, ◌≤◌, [], ◌∷◌, ◌++◌, length, take, insert, ◌-◌, IfOk, OnOk, OnErr, IfErr, slice_get, alloc_error};
+ghost use Rattle.std.specs.Prelude.{◌≡◌, ◌<◌, ◌≤◌, [], ◌∷◌, ◌++◌, length, take, insert, remove, Some, slice_set, unwrap_or, ◌-◌, IfOk, OnOk, OnErr, IfErr, slice_get, alloc_error};
+ghost use Rattle.tree_trait.specs.FileSystem.{no_node};
 
+use crate::file_system::Node;
 use std::alloc::{AllocError, Global};
 use std::marker::Model;
 
@@ -26,6 +28,13 @@ impl<T> Seq<T> {
         Seq {
             items: Vec::new(alloc),
         }
+    }
+
+    /// The items of a vector. It takes no memory.
+    pub fn from_vec(items: Vec<T>) -> Seq<T>
+        ensures { result ≡ items.items }
+    {
+        Seq { items }
     }
 
     /// The same items once more.
@@ -83,10 +92,52 @@ impl<T: Drop> Seq<T> {
         Ok(())
     }
 
+    /// Takes an item out, and moves those behind it. It takes no memory.
+    pub fn remove(&mut self, at: usize) -> T
+        requires { at < length self.old }
+        ensures item { slice_get self.old at ≡ Some result }
+        ensures left { self.new ≡ remove self.old at }
+    {
+        self.items.remove(at)
+    }
+
+    /// Takes an item out, and puts another in front. It takes no memory.
+    pub fn replace_in_front(&mut self, at: usize, item: T) -> T
+        requires { at < length self.old }
+        ensures item { slice_get self.old at ≡ Some result }
+        ensures left { self.new ≡ item ∷ remove self.old at }
+    {
+        let old = self.items.remove(at);
+        let _ = self.items.insert(0, item);
+        old
+    }
+
     /// Takes back what `push` added.
     pub fn pop(&mut self)
         ensures { self.new ≡ take (length self.old - 1) self.old }
     {
         let _ = self.items.pop();
+    }
+}
+
+impl Seq<Node> {
+    /// Gives a node another mode. It takes no memory.
+    pub fn set_mode(&mut self, i: usize, mode: u16)
+        ensures { self.new ≡ slice_set self.old i (record (unwrap_or (slice_get self.old i) no_node) { mode = mode }) }
+    {
+        if i < self.items.len() {
+            self.items[i].mode = mode;
+        }
+    }
+
+    /// Gives a node other bytes, and the time of their writing. It takes no memory.
+    pub fn set_bytes(&mut self, i: usize, bytes: Seq<u8>, mtime: i64)
+        ensures { self.new ≡ slice_set self.old i (record (unwrap_or (slice_get self.old i) no_node) { bytes = bytes; mtime = mtime }) }
+    {
+        if i < self.items.len() {
+            let node = &mut self.items[i];
+            node.bytes = bytes;
+            node.mtime = mtime;
+        }
     }
 }

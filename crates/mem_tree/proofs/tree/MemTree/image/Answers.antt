@@ -1,5 +1,4 @@
--- what is chosen of the opening's changes is chosen of the log's
-use Rattle.std.proofs.Common.{rules, ◌≡◌, Bool, List, take, sym, ◌∙◌, ap, subst, to_z, of_z, w64}
+use Rattle.std.proofs.Common.{rules, to_z, of_z, w64, ◌≡◌, ℕ, Bool, List, [], take, sym, ◌∙◌, ap, subst}
 use Rattle.std.proofs.lemmas.List.{take-map}
 use Rattle.tree_trait.specs.declared.file_system.FileSystem.{FileSystem}
 use Rattle.tree_trait.specs.Change.{Change}
@@ -7,31 +6,39 @@ use Rattle.tree_trait.specs.CrashImages.{MayLeave, chosen}
 use Rattle.tree_trait.proofs.Choosing.{chosen_leaves}
 use Rattle.mem_tree.specs.declared.record.Record.{Record}
 use Rattle.mem_tree.specs.Records.{change_by, changes_by}
-use Rattle.mem_tree.specs.Held.{Held, IsWhole, unused_tree, image_chosen}
-use Rattle.mem_tree.specs.declared.choice.Fill.TheVariants.{Written}
+use Rattle.mem_tree.specs.Live.{standing}
+use Rattle.mem_tree.specs.Held.{Held, IsKept, unused_tree, image_chosen}
+use Rattle.mem_tree.specs.Sound.{AllFit}
 use Rattle.mem_tree.specs.Fills.{filled}
-use Rattle.mem_tree.proofs.Images.{all_plain, same_fill, whole_chosen}
+use Rattle.mem_tree.proofs.Sounds.{fit_take, kept_image}
 use Rattle.mem_tree.proofs.tree.MemTree.image.Goals as goal
 use Rattle.mem_tree.proofs.tree.MemTree.image.Goals.{After-unused}
 
+eq : (records : List Record) (items : List Record) (k : ℕ) → records ≡ items → changes_by (take k records) ≡ take k (changes_by items)
+eq records items k same = sym (take-map change_by k records) ∙ ap (λ (rs : List Record). take k (changes_by rs)) same
+
 pub unused-requires : goal.unused-requires
 unused-requires c =
-    subst (λ (x : FileSystem). IsWhole x) (sym c.in_ok-image.ensures)
-    (whole_chosen (filled Written) c.self.inside.opening c.self.inside.opening.names (take c.args.at_call c.deref.result.now) c.bits.result.now c.self.invariant)
+    let s = c.self.inside.opening in
+    let k = c.args.at_call in
+    let cs = changes_by (take k c.deref.result.now) in
+    let items = c.self.inside.records.items in
+    let fill = c.args.choice.now.fill in
+    subst (λ (x : FileSystem). IsKept x [] c.in_ok-stands.stands) (sym c.in_ok-image.ensures)
+    (kept_image fill s c.in_ok-stands.stands cs c.bits.result.now c.self.invariant.sound
+    (subst (λ (ds : List Change). AllFit s ds) (sym (eq c.deref.result.now items k c.deref.ensures.value)) (fit_take k s (changes_by items) c.self.invariant.fits))
+    (c.in_ok-stands.ensures ∙ ap (λ (x : FileSystem). standing x) c.in_ok-image.ensures))
 
 is_chosen : (c : After-unused) → c.in_ok-image.image ≡ image_chosen c.args.self.now.log c.args.at_call c.args.choice.now
 is_chosen c =
     let s = c.self.inside.opening in
+    let k = c.args.at_call in
     let fill = filled c.args.choice.now.fill in
     let keep = c.args.choice.now.keep in
-    let records = take c.args.at_call c.deref.result.now in
-    let here : chosen fill s (changes_by s.names records) keep ≡ chosen fill s (take c.args.at_call (changes_by s.names c.self.inside.records.items)) keep =
-    ap (λ (cs : List Change). chosen fill s cs keep) (sym (take-map (change_by s.names) c.args.at_call c.deref.result.now)
-    ∙ ap (λ (rs : List Record). take c.args.at_call (changes_by s.names rs)) c.deref.ensures.value) in
     c.in_ok-image.ensures
-    ∙ (ap (λ (bits : List Bool). chosen (filled Written) s (changes_by s.names records) bits) c.bits.ensures
-    ∙ (same_fill (filled Written) fill s (changes_by s.names records) keep (all_plain s.names records)
-    ∙ (here ∙ ap (λ (h : Held). image_chosen h.log c.args.at_call c.args.choice.now) c.self.view_is)))
+    ∙ (ap (λ (bits : List Bool). chosen fill s (changes_by (take k c.deref.result.now)) bits) c.bits.ensures
+    ∙ (ap (λ (cs : List Change). chosen fill s cs keep) (eq c.deref.result.now c.self.inside.records.items k c.deref.ensures.value)
+    ∙ ap (λ (h : Held). image_chosen h.log k c.args.choice.now) c.self.view_is))
 
 same_time : (c : After-unused) → to_z w64 (of_z w64 c.self.inside.time) ≡ c.args.self.now.time
 same_time c = search rules

@@ -1,17 +1,19 @@
-use Rattle.std.proofs.Common.{ap, ◌∙◌, refl, w64}
-use Rattle.std.proofs.lemmas.Int.{to_z-of_z}
-use Rattle.std.proofs.lemmas.Result.{on_ok_weaker}
-use Rattle.mem_tree.specs.Held.{Held, file_node}
-use Rattle.mem_tree.proofs.Putting.{map_none, put_held}
+use Rattle.std.proofs.Common.{◌≡◌, false, ◌&&◌, length, sym, ◌∙◌, ap, subst, Option, reverse}
+use Rattle.std.specs.Prelude.{is_none}
+use Rattle.mc_text.specs.Routes.{Route}
+use Rattle.tree_trait.specs.declared.calls.TreeError.{TreeError}
+use Rattle.mem_tree.specs.Held.{Held}
+use Rattle.mem_tree.specs.Puts.{put_refusal, put_file_refusal, is_full, IsRefusedBy}
+use Rattle.mem_tree.proofs.Puts.{file_refused}
 use Rattle.mem_tree.proofs.tree.MemTree.put_file.Goals as goal
 
-pub returns-in-Ok-clause-made : goal.returns-in-Ok-clause-made
-returns-in-Ok-clause-made c =
-    on_ok_weaker c.put_node.result
-    (λ is. put_held _ c.args.self.now c.self.inside.opening c.put_node.new.opening c.self.inside.records.items _ c.args.path.now _
-    (file_node c.args.mode c.args.mtime c.args.bytes.now) c.self.view_is refl c.requires.unused c.names.ensures.names
-    (c.in-Ok.ensures ∙ ap (λ time. file_node c.args.mode time c.args.bytes.now) (to_z-of_z w64 c.args.mtime c.ranges.mtime)) is)
-    c.put_node.ensures.made
-
-pub returns-in-Ok-clause-unused : goal.returns-in-Ok-clause-unused
-returns-in-Ok-clause-unused c = map_none _ _ c.self.inside.records.items (ap (λ (h : Held). h.log.changes) c.self.view_is ∙ c.requires.unused)
+pub returns-in-Ok-clause-refusal : goal.returns-in-Ok-clause-refusal
+returns-in-Ok-clause-refusal c =
+    let s = c.self.inside.opening in
+    let path = c.args.path.now in
+    let count = length c.args.bytes.now in
+    let roomy = subst (λ (p : Route). (is_none (put_refusal s p) && is_full s p count) ≡ false) c.names.ensures.names (sym c.is_full_for.ensures ∙ c.if-is_full_for.false) in
+    let is : put_refusal s (reverse c.names-in-Ok.result.now) ≡ put_file_refusal c.args.self.now.log.opening path count =
+    ap (λ (p : Route). put_refusal s p) c.names-in-Ok.ensures.names
+    ∙ (sym (file_refused s path count roomy) ∙ ap (λ (h : Held). put_file_refusal h.log.opening path count) c.self.view_is) in
+    subst (λ (o : Option TreeError). IsRefusedBy {A = Unit {0}} o c.put_node.result) is c.put_node.ensures.refusal

@@ -1,0 +1,60 @@
+//! The calls that tell what stands at a path.
+ghost use Rattle.std.specs.Prelude.{◌≡◌, ◌≤◌, ◌^◌, min, None, IfOk, bit_and};
+ghost use Rattle.std.specs.Fs.{metadata_len, metadata_mode};
+ghost use Rattle.host_tree.specs.Kept.{forgetting};
+ghost use Rattle.host_tree.specs.Kinds.{kind_of_mode};
+ghost use Rattle.tree_trait.specs.Answers.{IsInRange, IsAscending};
+
+use crate::kinds::{facts_at, kind_of};
+use crate::listing::children_of;
+use crate::machine::Machine;
+use mc_text::Path;
+use std::alloc::Global;
+use std::convert::AsStr;
+use std::fs::Metadata;
+use std::os::unix::fs::MetadataExt;
+use std::rt::Files;
+use tree_trait::{Children, Meta, TreeError};
+
+impl<R: Files> Machine<R> {
+    /// What stands at a path. The next read of a file there opens it anew, as it may be another one by now.
+    pub fn stat(&mut self, alloc: Global, path: &Path) -> Result<Meta, TreeError>
+        ensures in_range { IfOk result IsInRange }
+        ensures kept { self.new.kept ≡ self.old.kept }
+        ensures read { self.new.read.files.items ≡ forgetting self.old.read.files.items path.now }
+    {
+        self.read.forget(path);
+        let text = self.text_of(alloc, path)?;
+        let facts = facts_at(&self.rt, text.as_str())?;
+        Ok(meta_of(&facts))
+    }
+
+    /// The children of a folder.
+    pub fn list(&mut self, alloc: Global, path: &Path) -> Result<Children, TreeError>
+        ensures ascending { IfOk result (λ children. IsAscending children.names) }
+        ensures kept { self.new.kept ≡ self.old.kept }
+    {
+        self.look_anew();
+        let text = self.text_of(alloc, path)?;
+        children_of(&self.rt, alloc, text.as_str())
+    }
+}
+
+/// The most bytes that a thing is said to have.
+const GREATEST_SIZE: u64 = 1 << 63;
+
+/// The system's facts. The number of a mount is that of its device, or 0 where that is too large.
+fn meta_of(facts: &Metadata) -> Meta
+    ensures in_range { IsInRange result }
+    ensures size { result.size ≡ min (metadata_len facts.now) (2 ^ 63) }
+    ensures mode { result.mode ≡ bit_and (metadata_mode facts.now) 0o7777 }
+    ensures kind { result.kind ≡ kind_of_mode (metadata_mode facts.now) }
+{
+    Meta {
+        kind: kind_of(facts),
+        size: facts.len().min(GREATEST_SIZE),
+        mode: (facts.mode() & 0o7777) as u16,
+        mtime: facts.mtime(),
+        mount: u32::try_from(facts.dev()).unwrap_or(0),
+    }
+}

@@ -1,0 +1,142 @@
+//! The calls that change and sync what a file holds, and its mode.
+ghost use Rattle.std.specs.Prelude.{◌≡◌, [], ◌+◌, ◌^◌, ◌≤◌, length, OnOk, OnErr};
+ghost use Rattle.std.specs.Fs.{permissions_mode};
+ghost use Rattle.host_tree.specs.Kept.{HasRoom, forgetting, with_newest};
+
+use crate::cause::answer_of;
+use crate::kept::{Access, KeptFile};
+use crate::kinds::{Wanted, require};
+use crate::machine::Machine;
+use mc_text::Path;
+use std::alloc::Global;
+use std::convert::AsStr;
+use std::fs;
+use std::fs::{File, OpenFile, OpenOptions, Permissions};
+use std::os::unix::fs::{FileExt, OpenOptionsExt, PermissionsExt};
+use std::rt::Files;
+use tree_trait::TreeError;
+
+/// The permissions of a mode's twelve bits.
+pub fn permissions_of(mode: u16) -> Permissions
+    ensures { permissions_mode result ≡ mode }
+{
+    Permissions::from_mode(u32::from(mode))
+}
+
+impl<R: Files> Machine<R>
+where
+    R::File: FileExt,
+{
+    /// Makes an empty file, and keeps it open. Where its mode can't be set the file is taken away again.
+    pub fn make_file(&mut self, alloc: Global, path: &Path, mode: u16) -> Result<(), TreeError> {
+        let text = self.text_of(alloc, path)?;
+        let place = self.kept.room_for(alloc, path)?;
+        let file = create(&self.rt, text.as_str(), mode)?;
+        // The system's mask may have narrowed the mode.
+        if let Err(cause) = answer_of(file.set_permissions(permissions_of(mode))) {
+            let _removed = fs::remove_file(&self.rt, text.as_str());
+            return Err(cause);
+        }
+        self.kept.keep(KeptFile {
+            path: place,
+            access: Access::Write,
+            file,
+        });
+        Ok(())
+    }
+
+    /// Writes bytes over what stands at an offset of a file, and keeps it open.
+    pub fn write_at(
+        &mut self,
+        alloc: Global,
+        path: &Path,
+        offset: u64,
+        bytes: &[u8],
+    ) -> Result<(), TreeError> {
+        if let Some(open) = self.kept.at(path) {
+            if open.access == Access::Write {
+                return put_into(&open.file, offset, bytes);
+            }
+        }
+        let open = self.open_to_write(alloc, path)?;
+        let answer = put_into(&open.file, offset, bytes);
+        self.kept.keep(open);
+        answer
+    }
+
+    /// Opens a file to be written, with room to keep it.
+    fn open_to_write(&mut self, alloc: Global, path: &Path) -> Result<KeptFile<R::File>, TreeError>
+        ensures room { OnOk result (HasRoom self.new.kept.files) }
+    {
+        let text = self.text_of(alloc, path)?;
+        let path = self.kept.room_for(alloc, path)?;
+        require(&self.rt, text.as_str(), Wanted::File)?;
+        let file = answer_of(OpenOptions::new().write(true).open(&self.rt, text.as_str()))?;
+        Ok(KeptFile {
+            path,
+            access: Access::Write,
+            file,
+        })
+    }
+
+    /// Sets the mode of a file or a folder, and keeps it open where the old mode lets it be read: the new one may hinder
+    /// the sync.
+    pub fn set_mode(&mut self, alloc: Global, path: &Path, mode: u16) -> Result<(), TreeError>
+        ensures read { self.new.read.files.items ≡ [] }
+    {
+        self.read.forget_all();
+        if let Some(open) = self.kept.at(path) {
+            return answer_of(open.file.set_permissions(permissions_of(mode)));
+        }
+        let text = self.text_of(alloc, path)?;
+        let place = self.kept.room_for(alloc, path)?;
+        require(&self.rt, text.as_str(), Wanted::Moded)?;
+        let Ok(file) = File::open(&self.rt, text.as_str()) else {
+            return answer_of(fs::set_permissions(&self.rt, text.as_str(), permissions_of(mode)));
+        };
+        let answer = answer_of(file.set_permissions(permissions_of(mode)));
+        self.kept.keep(KeptFile {
+            path: place,
+            access: Access::Sync,
+            file,
+        });
+        answer
+    }
+
+    /// Brings a file, or the names of a folder, onto the disk, and closes it. The look comes first, since an open would
+    /// follow a link, and wait for ever at a pipe.
+    pub fn sync(&mut self, alloc: Global, path: &Path, wanted: Wanted) -> Result<(), TreeError>
+        ensures closed { OnOk result (self.new.kept.files.items ≡ forgetting self.old.kept.files.items path.now) }
+        ensures refused { OnErr result (self.new.kept ≡ self.old.kept) }
+    {
+        let text = self.text_of(alloc, path)?;
+        require(&self.rt, text.as_str(), wanted)?;
+        if let Some(open) = self.kept.at(path) {
+            answer_of(open.file.sync_all())?;
+        } else {
+            let file = answer_of(File::open(&self.rt, text.as_str()))?;
+            answer_of(file.sync_all())?;
+        }
+        self.kept.forget(path);
+        Ok(())
+    }
+}
+
+/// Makes a file where nothing stands yet, open to be written and synced.
+fn create<R: Files>(rt: &R, text: &str, mode: u16) -> Result<R::File, TreeError> {
+    answer_of(
+        OpenOptions::new()
+            .write(true)
+            .create_new(true)
+            .mode(u32::from(mode))
+            .open(rt, text),
+    )
+}
+
+/// Writes bytes at an offset of a file. With no bytes the file reaches up to the offset at least.
+fn put_into<F: FileExt + OpenFile>(file: &F, offset: u64, bytes: &[u8]) -> Result<(), TreeError> {
+    if bytes.is_empty() && answer_of(file.metadata())?.len() < offset {
+        return answer_of(file.set_len(offset));
+    }
+    answer_of(file.write_all_at(bytes, offset))
+}

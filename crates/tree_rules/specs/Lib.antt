@@ -1,0 +1,3 @@
+pub mod Spot
+pub mod Told
+pub mod Listed
