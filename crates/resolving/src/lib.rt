@@ -1,0 +1,10 @@
+//! Resolving: the path without links that a typed text leads to.
+#![tactic(auto)]
+
+mod ahead;
+mod error;
+mod looking;
+mod walking;
+
+pub use error::ResolveError;
+pub use walking::{resolve_folder, resolve_thing};
