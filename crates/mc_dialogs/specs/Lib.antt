@@ -3,3 +3,6 @@ pub mod CommonKeys
 pub mod ModeKeys
 pub mod QuestionKeys
 pub mod ListKeys
+pub mod InputKeys
+pub mod InputField
+pub mod KeyLists

@@ -17,10 +17,10 @@ pub struct Line {
 
 /// Where a box stands: its first row and column, counted from 1, and the columns inside it.
 #[derive(Clone, Copy, Debug)]
-struct Place {
-    row: usize,
-    column: usize,
-    inside: usize,
+pub struct Place {
+    pub row: usize,
+    pub column: usize,
+    pub inside: usize,
 }
 
 /// Paints a box with these lines in the middle of a screen. Where memory is wanting, a part of it may stand.
@@ -55,7 +55,7 @@ pub fn paint_box(grid: &mut Grid, alloc: Global, lines: &[Line]) -> Result<(), N
 }
 
 /// The columns inside a box on a screen of so many.
-fn columns_in_box(columns: usize) -> usize
+pub fn columns_in_box(columns: usize) -> usize
     ensures value { result ≡ columns_inside columns }
     ensures bound { result < 61 }
 {
@@ -63,7 +63,7 @@ fn columns_in_box(columns: usize) -> usize
 }
 
 /// The first of `part` rows or columns in the middle of `whole` ones, counted from 1.
-fn middle_of(whole: usize, part: usize) -> usize
+pub fn middle_of(whole: usize, part: usize) -> usize
     requires { whole < 2 ^ 16 }
     ensures value { result ≡ middle whole part }
     ensures bound { result < 2 ^ 16 }
@@ -124,7 +124,7 @@ fn write_line(grid: &mut Grid, alloc: Global, place: Place, line: &Line) -> Resu
 }
 
 /// Writes a text from a cell on, if that lies on the screen.
-fn write_at(
+pub fn write_at(
     grid: &mut Grid,
     alloc: Global,
     row: usize,

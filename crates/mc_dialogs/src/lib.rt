@@ -1,7 +1,11 @@
 //! The boxes that ask: how each answers a key, and how it is painted over a screen.
 #![tactic(auto)]
 
+mod clusters;
+mod field;
 mod frame;
+mod input_line;
+mod key_lists;
 mod list_box;
 mod mode_box;
 mod question_box;
@@ -9,6 +13,7 @@ mod shut;
 #[cfg(test)]
 mod tests;
 
+pub use input_line::InputLine;
 pub use list_box::ListBox;
 pub use mode_box::ModeBox;
 pub use question_box::QuestionBox;

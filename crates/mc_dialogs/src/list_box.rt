@@ -1,5 +1,5 @@
 //! The box that lists rows.
-ghost use Rattle.std.specs.Prelude.{◌≡◌, ℕ, ◌-◌, ◌+◌, ◌<◌, ◌≤◌, ◌^◌, ◌==◌, ◌++◌, if◌then◌else◌, Some, None, length, take, drop, IfOk, OnOk};
+ghost use Rattle.std.specs.Prelude.{◌≡◌, ℕ, ◌-◌, ◌+◌, ◌<◌, ◌≤◌, ◌^◌, ◌==◌, ◌++◌, if◌then◌else◌, Some, None, length, take, drop, IfOk, IfSome, OnOk};
 ghost use Rattle.std.specs.Str.{chars};
 ghost use Rattle.mc_dialogs.specs.ListKeys.{moved_to, scrolled_to, first_is, chosen_by, chosen_row, list_closed, list_after, list_lines, list_shut, rows_shown};
 ghost use Rattle.mc_dialogs.specs.Boxes.{with_box};
@@ -58,7 +58,8 @@ impl ListBox {
 
     /// The position of the current row, counted from 0; none where there are no rows.
     pub fn current(&self) -> Option<usize>
-        ensures { result ≡ (if length self.now.rows == 0 then None else Some self.now.current) }
+        ensures value { result ≡ (if length self.now.rows == 0 then None else Some self.now.current) }
+        ensures within { IfSome result (λ row. row < length self.now.rows) }
     {
         if self.rows.as_slice().is_empty() {
             return None;
@@ -69,13 +70,14 @@ impl ListBox {
     /// What it answers to a key. It takes no memory.
     pub fn key(&mut self, key: Key) -> Result<Shut, NoMemory>
         ensures state { self.new ≡ list_after self.old key }
+        ensures within { self.new.current ≤ length self.new.rows - 1 }
         ensures shut { result ≡ Ok (list_shut self.old key) }
     {
+        let count = self.rows.as_slice().len();
+        let page = usize::from(self.lines).saturating_sub(6);
         if key.meta {
             return Ok(Shut::Stay);
         }
-        let count = self.rows.as_slice().len();
-        let page = usize::from(self.lines).saturating_sub(6);
         let shut = self.shut_by(key.base);
         self.current = moved(count, page, self.current, key.base);
         self.first = scrolled(page, self.first, self.current);

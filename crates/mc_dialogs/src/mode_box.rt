@@ -44,19 +44,21 @@ impl ModeBox {
     /// What it answers to a key. It takes no memory.
     pub fn key(&mut self, key: Key) -> Result<Shut, NoMemory>
         ensures state { self.new ≡ mode_after self.old key }
+        ensures bound { self.new.mode < 4096 }
         ensures shut { result ≡ Ok (mode_shut self.old key) }
     {
+        let mode = self.mode;
         if key.meta {
             return Ok(Shut::Stay);
         }
         match key.base {
             Base::Char(digit) => {
                 if '0' <= digit && digit <= '7' {
-                    self.mode = shift_in(self.mode, digit);
+                    self.mode = shift_in(mode, digit);
                 }
                 Ok(Shut::Stay)
             }
-            Base::Enter => Ok(Shut::Closed(Reply::Mode(self.mode))),
+            Base::Enter => Ok(Shut::Closed(Reply::Mode(mode))),
             Base::Escape => Ok(Shut::Closed(Reply::Cancel)),
             Base::F(10) => Ok(Shut::Closed(Reply::Cancel)),
             _ => Ok(Shut::Stay),

@@ -1,16 +1,19 @@
 //! What a box answers to a key.
+use mc_text::Text;
 
 /// Whether a box is still there.
-#[derive(Clone, Copy, Debug, PartialEq, Eq)]
+#[derive(Debug, Drop)]
 pub enum Shut {
     Stay,
     Closed(Reply),
 }
 
 /// With what a box closed.
-#[derive(Clone, Copy, Debug, PartialEq, Eq)]
+#[derive(Debug, Drop)]
 pub enum Reply {
     Cancel,
+    /// The text of an input line, and whether what it asks for is to run in the background.
+    Line { text: Text, background: bool },
     /// The position of a row, counted from 0.
     Chosen(usize),
     /// A letter of a question.

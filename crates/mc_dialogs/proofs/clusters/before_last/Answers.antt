@@ -1,0 +1,9 @@
+use Rattle.std.proofs.Common.{length, ◌-◌, ap, ◌∙◌}
+use Rattle.std.proofs.lemmas.Iterator.Consumers.{count_from_yields_List}
+use Rattle.unicode_segmentation.proofs.SegmentsLemmas.{YieldsList-from_gives}
+use Rattle.mc_dialogs.proofs.clusters.before_last.Goals as goal
+
+pub returns : goal.returns
+returns c =
+    c.saturating_sub.ensures
+    ∙ ap (λ n. n - 1) (count_from_yields_List _ _ c.count.ensures.ran (YieldsList-from_gives _ _ c.graphemes.result) ∙ ap length c.graphemes.ensures.left)
