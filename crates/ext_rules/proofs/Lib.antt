@@ -1,0 +1,4 @@
+pub mod WordLemmas
+pub mod DraftLemmas
+pub mod FileLemmas
+pub mod KeyLemmas

@@ -1,0 +1,7 @@
+pub mod Words
+pub mod Conditions
+pub mod FileRules
+pub mod Actions
+pub mod ExtLines
+pub mod ExtFiles
+pub mod Drafts
