@@ -1,0 +1,169 @@
+-- The last steps: a part is removed or stays, and the folder's sync is tried.
+use Rattle.std.proofs.Common.{◌≡◌, ℕ, ◌+◌, ◌<◌, ◌≤◌, false, refl, sym, ◌∙◌, ap, subst, Option, Some, None, Result, Ok, Err, arith}
+use Rattle.mc_text.specs.Routes.{Route}
+use Rattle.tree_trait.specs.declared.calls.TreeError.{TreeError}
+use Rattle.tree_trait.specs.declared.calls.TreeError.TheVariants as refused
+use Rattle.tree_trait.specs.Calls.{Call, RemoveFile, SyncFolder}
+use Rattle.tree_trait.specs.Change.{CallLog}
+use Rattle.tree_trait.specs.Answers.{IfKnown, HasCause, Performs}
+use Rattle.file_copy.specs.declared.report.Ending.{Ending}
+use Rattle.file_copy.specs.declared.report.Did.{Did}
+use Rattle.file_copy.specs.declared.report.Did.TheVariants.{Began, Chunk, Placed, Skipped, Cleaned, Barrier, Troubled, Ended}
+use Rattle.file_copy.specs.declared.stage.Stage.{Stage}
+use Rattle.file_copy.specs.declared.stage.Stage.TheVariants.{Begin, Fill, Clean, Left, Decided}
+use Rattle.file_copy.specs.declared.stage.FolderState.{FolderState}
+use Rattle.file_copy.specs.declared.stage.FolderState.TheVariants.{Synced, Dirty}
+use Rattle.file_copy.specs.declared.work.Moved.{Moved}
+use Rattle.file_copy.specs.CallRuns.{HasMore}
+use Rattle.file_copy.specs.Copying.{Copying, IsSound, Places, copying, folder_of}
+use Rattle.file_copy.specs.LastSteps.{Leaves, SyncTried, WindMoves, Winds, WindsOn, given_up, last_steps, let_go, removable, tries_of}
+use Rattle.file_copy.proofs.Runs.{one_more, no_more, ran_one}
+
+-- a call that was tried counts
+counts_try : (call : Call) (answer : Result (Unit {0}) TreeError) (log now : CallLog) (after : Option CallLog)
+    → Performs {A = Unit {0}} log call answer after → after ≡ Some now → HasMore log (tries_of answer) now
+counts_try call (Ok done) log now after h is = one_more log _ now (sym h.1.1 ∙ is)
+counts_try call (Err refused.Memory) log now after h is = no_more log now (sym h ∙ is)
+counts_try call (Err refused.Fault) log now after h is = one_more log _ now (sym h.1.1 ∙ is)
+counts_try call (Err e) log now after h is = one_more log _ now (sym h.1 ∙ is)
+
+tries_few : (answer : Result (Unit {0}) TreeError) → tries_of answer ≤ 1
+tries_few (Ok done) = omega arith
+tries_few (Err refused.Memory) = omega arith
+tries_few (Err e) = omega arith
+
+-- a refused call leaves a log
+err_some : (call : Call) (e : TreeError) (log : CallLog) (after : Option CallLog) → Performs {A = Unit {0}} log call (Err e) after → (now : CallLog) × (after ≡ Some now)
+err_some call refused.Memory log after h = (log, h)
+err_some call refused.Fault log after h = (_, h.1.1)
+err_some call e log after h = (_, h.1)
+
+-- with no part to be removed
+settled_same : (stage : Stage) → removable stage ≡ None → given_up stage ≡ stage
+settled_same Begin h = refl
+settled_same (Fill part said done) h = absurd cc
+settled_same (Clean part follows) h = absurd cc
+settled_same (Left part) h = refl
+settled_same Decided h = refl
+
+settled_fewer : (stage : Stage) → removable stage ≡ None → last_steps stage Synced < last_steps stage Dirty
+settled_fewer Begin h = omega arith
+settled_fewer (Fill part said done) h = absurd cc
+settled_fewer (Clean part follows) h = absurd cc
+settled_fewer (Left part) h = omega arith
+settled_fewer Decided h = omega arith
+
+-- with a part to be removed
+left_after : (stage : Stage) (part : Route) → removable stage ≡ Some part → given_up stage ≡ Left part
+left_after Begin part h = absurd cc
+left_after (Fill q said done) part h = let same : q ≡ part = cc in ap Left same
+left_after (Clean q follows) part h = let same : q ≡ part = cc in ap Left same
+left_after (Left q) part h = absurd cc
+left_after Decided part h = absurd cc
+
+three_left : (stage : Stage) (part : Route) → removable stage ≡ Some part → last_steps stage Dirty ≡ 3
+three_left Begin part h = absurd cc
+three_left (Fill q said done) part h = refl
+three_left (Clean q follows) part h = refl
+three_left (Left q) part h = absurd cc
+three_left Decided part h = absurd cc
+
+module _ (ending : Ending) (p : Places) (stage : Stage) (before after : Option CallLog) where
+  -- the sync of the folder was tried
+  pub winds_tried : (folder : FolderState) (at : Route) (answer : Result (Unit {0}) TreeError) (calls f0 f1 : ℕ) → removable stage ≡ None → folder ≡ Dirty → at ≡ folder_of p.target → calls ≡ tries_of answer
+      → IfKnown before (λ log. Performs {A = Unit {0}} log (SyncFolder at) answer after) → (before ≡ None → after ≡ None) → f0 ≤ f1
+      → WindsOn ending (copying p stage folder) (copying p stage Synced) Barrier calls before after f0 f1
+  winds_tried folder at answer calls f0 f1 settled owed at_is calls_is called unknown later = record {
+    tells = (owed, ap (λ s. copying p s Synced) (sym (settled_same stage settled)));
+    called = λ log known.
+        subst (λ part. SyncTried (copying p stage folder) part log after) (sym settled)
+        (answer, subst (λ q. Performs {A = Unit {0}} log (SyncFolder q) answer after) at_is (called log known));
+    counted = λ log known now is. subst (λ n. HasMore log n now) (sym calls_is) (counts_try (SyncFolder at) answer log now after (called log known) is);
+    few = let few = tries_few answer in omega (arith, few, calls_is);
+    unknown = unknown;
+    later = later;
+    falls = subst (λ f. last_steps stage Synced < last_steps stage f) (sym owed) (settled_fewer stage settled);
+  }
+
+  module _ (part : Route) (has : removable stage ≡ Some part) where
+    -- the part was removed
+    pub winds_cleaned : (done : Unit {0}) (f0 f1 : ℕ) → IfKnown before (λ log. Performs {A = Unit {0}} log (RemoveFile part) (Ok done) after) → (before ≡ None → after ≡ None)
+        → HasCause refused.Fault f0 f1 (let r : Result (Unit {0}) TreeError = Ok done in r)
+        → WindsOn ending (copying p stage Dirty) (copying p Decided Dirty) (Cleaned part) 1 before after f0 f1
+    winds_cleaned done f0 f1 called unknown cause =
+        let ran = ran_one (RemoveFile part) (Ok done) part false before after f0 f1 refl called unknown cause in
+        let three = three_left stage part has in
+        record {
+          tells = (has, refl);
+          called = ran.done;
+          counted = ran.counted;
+          few = omega arith;
+          unknown = unknown;
+          later = cause.later;
+          falls = omega (arith, three);
+        }
+
+    -- the part stays, and the sync of the folder was tried
+    winds_stays : (e : TreeError) (mid : Option CallLog) (answer : Result (Unit {0}) TreeError) (calls total f0 f1 f2 : ℕ) → calls ≡ tries_of (Err e) → total ≡ calls + tries_of answer
+        → IfKnown before (λ log. Performs {A = Unit {0}} log (RemoveFile part) (Err e) mid) → IfKnown mid (λ log. Performs {A = Unit {0}} log (SyncFolder (folder_of p.target)) answer after)
+        → (before ≡ None → after ≡ None) → f0 ≤ f2
+        → WindsOn ending (copying p stage Dirty) (copying p (Left part) Synced) Barrier total before after f0 f2
+    winds_stays e mid answer calls total f0 f1 f2 calls_is total_is removed synced unknown later =
+        let three = three_left stage part has in
+        record {
+          tells = (refl, ap (λ s. copying p s Synced) (sym (left_after stage part has)));
+          called = λ log known.
+              let middle = err_some (RemoveFile part) e log mid (removed log known) in
+              subst (λ q. SyncTried (copying p stage Dirty) q log after) (sym has)
+              (e, middle.0, subst (Performs {A = Unit {0}} log (RemoveFile part) (Err e)) middle.1 (removed log known), (answer, synced middle.0 middle.1));
+          counted = λ log known now is.
+              let middle = err_some (RemoveFile part) e log mid (removed log known) in
+              let first = counts_try (RemoveFile part) (Err e) log middle.0 mid (removed log known) middle.1 in
+              let second = counts_try (SyncFolder (folder_of p.target)) answer middle.0 now after (synced middle.0 middle.1) is in
+              omega (arith, first, second, calls_is, total_is);
+          few = let one = tries_few (Err e) in let two = tries_few answer in omega (arith, one, two, calls_is, total_is);
+          unknown = unknown;
+          later = later;
+          falls = omega (arith, three);
+        }
+
+    pub winds_left : (e : TreeError) (mid : Option CallLog) (moved : Moved) (calls f0 f1 f2 : ℕ) → calls ≡ tries_of (Err e)
+        → IfKnown before (λ log. Performs {A = Unit {0}} log (RemoveFile part) (Err e) mid) → (before ≡ None → mid ≡ None) → f0 ≤ f1 → Leaves p part calls moved mid after f1 f2
+        → WindMoves ending (copying p stage Dirty) moved before after f0 f2
+    winds_left e mid moved calls f0 f1 f2 calls_is removed unknown later l =
+        let stays = winds_stays e mid l.tried.0 calls moved.calls f0 f1 f2 calls_is l.tried.1 removed l.tried.2 (λ h. l.unknown (unknown h)) (let more = l.later in omega (arith, later, more)) in
+        let at_stage = subst (λ s. WindsOn ending (copying p stage Dirty) (copying p s Synced) Barrier moved.calls before after f0 f2) (sym l.stage) stays in
+        let at_folder = subst (λ f. WindsOn ending (copying p stage Dirty) (copying p moved.stage f) Barrier moved.calls before after f0 f2) (sym l.folder) at_stage in
+        subst (λ d. WindsOn ending (copying p stage Dirty) (copying p moved.stage moved.folder) d moved.calls before after f0 f2) (sym l.did) at_folder
+
+-- where the copy stands at this stage
+pub winds_at : (ending : Ending) (p : Places) (stage at : Stage) (folder : FolderState) (moved : Moved) (before after : Option CallLog) (f0 f1 : ℕ)
+    → stage ≡ at → folder ≡ Dirty → WindMoves ending (copying p at Dirty) moved before after f0 f1 → WindMoves ending (copying p stage folder) moved before after f0 f1
+winds_at ending p stage at folder moved before after f0 f1 is folder_is m =
+    subst (λ s. WindMoves ending (copying p s folder) moved before after f0 f1) (sym is)
+    (subst (λ f. WindMoves ending (copying p at f) moved before after f0 f1) (sym folder_is) m)
+
+-- a last step leaves the copy sound
+given_sound : (stage : Stage) → IsSound (given_up stage) Synced
+given_sound Begin = tt
+given_sound (Fill part said done) = tt
+given_sound (Clean part follows) = tt
+given_sound (Left part) = tt
+given_sound Decided = tt
+
+let_go_sound : (stage : Stage) (folder : FolderState) → removable stage ≡ None → IsSound (let_go stage) folder
+let_go_sound Begin folder h = tt
+let_go_sound (Fill part said done) folder h = absurd cc
+let_go_sound (Clean part follows) folder h = absurd cc
+let_go_sound (Left part) folder h = tt
+let_go_sound Decided folder h = tt
+
+pub winds_sound : (ending : Ending) (c new : Copying) (did : Did) → Winds ending c did new → IsSound new.stage new.folder
+winds_sound ending c new (Cleaned part) w = subst (λ (n : Copying). IsSound n.stage n.folder) (sym w.1) tt
+winds_sound ending c new Barrier w = subst (λ (n : Copying). IsSound n.stage n.folder) (sym w.1) (given_sound c.stage)
+winds_sound ending c new (Ended how part) w = subst (λ (n : Copying). IsSound n.stage n.folder) (sym w.4) (let_go_sound c.stage c.folder w.0)
+winds_sound ending c new (Began part) w = absurd w
+winds_sound ending c new (Chunk count) w = absurd w
+winds_sound ending c new (Placed path) w = absurd w
+winds_sound ending c new (Skipped path cause) w = absurd w
+winds_sound ending c new (Troubled trouble) w = absurd w

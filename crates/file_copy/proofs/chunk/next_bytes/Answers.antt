@@ -1,0 +1,14 @@
+-- A reading that is refused.
+use Rattle.std.proofs.Common.{◌≡◌, length, ap, arith}
+use Rattle.file_copy.specs.CopyCalls.{room_for}
+use Rattle.file_copy.proofs.Peeking.{read_stops}
+use Rattle.file_copy.proofs.chunk.next_bytes.Goals as goal
+
+pub returns-in-Err-clause-known : goal.returns-in-Err-clause-known
+returns-in-Err-clause-known g c = λ log known.
+    let same = ap length c.as_mut_slice.ensures.value in
+    let len = c.in-Ok.ensures.len in
+    let room = c.min-room.ensures in
+    let count : length c.as_mut_slice.result.now ≡ room_for c.args.said c.args.done = omega (arith, same, len, room) in
+    read_stops _ log c.source.result.now c.source-in-Err.result.now c.args.item.now.source c.args.said c.args.done (length c.as_mut_slice.result.now) c.in-Err.error c.refused.result
+    c.source.ensures c.source-in-Err.ensures count (c.in-Err.ensures.answer log known) c.refused.ensures

@@ -1,0 +1,142 @@
+-- The last steps of a copy that is to end: its part is removed, if it can be, the folder's sync is tried, and it ends.
+use Rattle.std.specs.Prelude.{◌≡◌, ℕ, ◌+◌, ◌<◌, ◌≤◌, ⊤, [], ◌∷◌, Option, Some, None, Result, Ok, Err}
+use Rattle.mc_text.specs.Routes.{Route}
+use Rattle.tree_trait.specs.declared.calls.TreeError.{TreeError}
+use Rattle.tree_trait.specs.declared.calls.TreeError.TheVariants as refused
+use Rattle.tree_trait.specs.Calls.{Call, RemoveFile, SyncFolder}
+use Rattle.tree_trait.specs.Change.{CallLog}
+use Rattle.tree_trait.specs.Answers.{IfKnown, Performs}
+use Rattle.file_copy.specs.declared.report.Ending.{Ending}
+use Rattle.file_copy.specs.declared.report.Did.{Did}
+use Rattle.file_copy.specs.declared.report.Did.TheVariants.{Began, Chunk, Placed, Skipped, Cleaned, Barrier, Troubled, Ended}
+use Rattle.file_copy.specs.declared.stage.Stage.{Stage}
+use Rattle.file_copy.specs.declared.stage.Stage.TheVariants.{Begin, Fill, Clean, Left, Decided}
+use Rattle.file_copy.specs.declared.stage.FolderState.{FolderState}
+use Rattle.file_copy.specs.declared.stage.FolderState.TheVariants.{Synced, Dirty}
+use Rattle.file_copy.specs.CallRuns.{AllDone, HasMore}
+use Rattle.file_copy.specs.declared.work.Moved.{Moved}
+use Rattle.file_copy.specs.Copying.{Places, Copying, copying, folder_of}
+
+-- the part that could not be removed
+abbrev pub left_at : Stage → Option Route
+left_at (Left part) = Some part
+left_at Begin = None
+left_at (Fill part said done) = None
+left_at (Clean part follows) = None
+left_at Decided = None
+
+-- the removal of a part was tried in vain
+abbrev pub given_up : Stage → Stage
+given_up (Fill part said done) = Left part
+given_up (Clean part follows) = Left part
+given_up Begin = Begin
+given_up (Left part) = Left part
+given_up Decided = Decided
+
+-- the end names the part that stays, and the copy knows it no more
+abbrev pub let_go : Stage → Stage
+let_go (Left part) = Decided
+let_go Begin = Begin
+let_go (Fill part said done) = Fill part said done
+let_go (Clean part follows) = Clean part follows
+let_go Decided = Decided
+
+-- the part that a last step may try to remove
+abbrev pub removable : Stage → Option Route
+removable (Fill part said done) = Some part
+removable (Clean part follows) = Some part
+removable Begin = None
+removable (Left part) = None
+removable Decided = None
+
+-- What a last step may report, and where the copy stands then: the part is removed, if it can be, the folder's sync is
+-- tried, and the job ends as it was ordered.
+abbrev pub Winds : Ending → Copying → Did → Copying → Type 0
+Winds ending c (Cleaned part) new = (removable c.stage ≡ Some part) × (new ≡ record c { stage = Decided })
+Winds ending c Barrier new = (c.folder ≡ Dirty) × (new ≡ record c { stage = given_up c.stage; folder = Synced })
+Winds ending c (Ended how part) new =
+    (removable c.stage ≡ None) × (c.folder ≡ Synced) × (how ≡ ending) × (part ≡ left_at c.stage) × (new ≡ record c { stage = let_go c.stage })
+Winds ending c (Began part) new = ⊥
+Winds ending c (Chunk count) new = ⊥
+Winds ending c (Placed path) new = ⊥
+Winds ending c (Skipped path cause) new = ⊥
+Winds ending c (Troubled trouble) new = ⊥
+
+-- a call that may be refused, or find no memory
+abbrev pub IsTried : CallLog → Call → Option CallLog → Type 0
+IsTried log call after = (answer : Result (Unit {0}) TreeError) × Performs {A = Unit {0}} log call answer after
+
+-- the sync of the folder is tried; a part that stands was refused its removal before
+abbrev pub SyncTried : Copying → Option Route → CallLog → Option CallLog → Type 0
+SyncTried c None log after = IsTried log (SyncFolder (folder_of c.target)) after
+SyncTried c (Some part) log after =
+    (e : TreeError) × (mid : CallLog) × Performs {A = Unit {0}} log (RemoveFile part) (Err e) (Some mid) × IsTried mid (SyncFolder (folder_of c.target)) after
+
+-- what a last step says of the tree's calls
+abbrev pub WindCalls : Copying → Did → CallLog → Option CallLog → Type 0
+WindCalls c (Cleaned path) log after = AllDone log (RemoveFile path ∷ []) after
+WindCalls c Barrier log after = SyncTried c (removable c.stage) log after
+WindCalls c (Ended how part) log after = after ≡ Some log
+WindCalls c (Began part) log after = ⊥
+WindCalls c (Chunk count) log after = ⊥
+WindCalls c (Placed path) log after = ⊥
+WindCalls c (Skipped path cause) log after = ⊥
+WindCalls c (Troubled trouble) log after = ⊥
+
+-- the most last steps that a copy makes yet
+abbrev pub last_steps : Stage → FolderState → ℕ
+last_steps (Fill part said done) folder = 3
+last_steps (Clean part follows) folder = 3
+last_steps Begin Dirty = 2
+last_steps Begin Synced = 1
+last_steps (Left part) Dirty = 2
+last_steps (Left part) Synced = 1
+last_steps Decided Dirty = 2
+last_steps Decided Synced = 1
+
+-- no report but the end leaves as many steps to be made
+abbrev pub GoesDown : Did → Copying → Copying → Type 0
+GoesDown (Ended how part) old new = ⊤
+GoesDown did old new = last_steps new.stage new.folder < last_steps old.stage old.folder
+
+-- A last step: what it reports is allowed, the copy is then as it says, and it made the calls that it says, which it
+-- counts. It is always one of at most three.
+pub record WindsOn (ending : Ending) (old new : Copying) (did : Did) (calls : ℕ) (before after : Option CallLog) (faults faults_after : ℕ) : Type 0 where
+  pub tells : Winds ending old did new
+  pub called : IfKnown before (λ log. WindCalls old did log after)
+  pub counted : IfKnown before (λ log. IfKnown after (HasMore log calls))
+  pub few : calls ≤ 2
+  pub unknown : before ≡ None → after ≡ None
+  pub later : faults ≤ faults_after
+  pub falls : GoesDown did old new
+
+-- the same of a step that says where it left the copy
+abbrev pub WindMoves : Ending → Copying → Moved → Option CallLog → Option CallLog → ℕ → ℕ → Type 0
+WindMoves ending old moved before after faults faults_after =
+    WindsOn ending old (record old { stage = moved.stage; folder = moved.folder }) moved.did moved.calls before after faults faults_after
+
+-- how many calls were made for an answer: none where there was no memory
+abbrev pub tries_of : Result (Unit {0}) TreeError → ℕ
+tries_of (Ok done) = 1
+tries_of (Err refused.Memory) = 0
+tries_of (Err e) = 1
+
+-- the end of a copy with no part to be removed
+abbrev pub Ends : Ending → Stage → Moved → Type 0
+Ends ending stage moved =
+    moved ≡ record { did = Ended ending (left_at stage); calls = 0; stage = let_go stage; folder = Synced }
+
+-- The sync of the folder is tried where a part stays for which so many calls were made.
+pub record Leaves (p : Places) (part : Route) (calls : ℕ) (moved : Moved) (before after : Option CallLog) (faults faults_after : ℕ) : Type 0 where
+  pub did : moved.did ≡ Barrier
+  pub stage : moved.stage ≡ Left part
+  pub folder : moved.folder ≡ Synced
+  pub tried : (answer : Result (Unit {0}) TreeError) × (moved.calls ≡ calls + tries_of answer)
+      × IfKnown before (λ log. Performs {A = Unit {0}} log (SyncFolder (folder_of p.target)) answer after)
+  pub unknown : before ≡ None → after ≡ None
+  pub later : faults ≤ faults_after
+
+-- the part that a stage has is removed, or it stays and the folder's sync is tried
+abbrev pub Removes : Places → Route → Moved → Option CallLog → Option CallLog → ℕ → ℕ → Type 0
+Removes p part moved before after faults faults_after =
+    (ending : Ending) (stage : Stage) → removable stage ≡ Some part → WindMoves ending (copying p stage Dirty) moved before after faults faults_after

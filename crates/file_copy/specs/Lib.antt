@@ -1,0 +1,10 @@
+pub mod CallRuns
+pub mod Chunks
+pub mod Copying
+pub mod CopyCalls
+pub mod CopyCrashes
+pub mod CopySteps
+pub mod LastSteps
+pub mod Looking
+pub mod PartNames
+pub mod Stops

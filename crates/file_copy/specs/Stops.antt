@@ -1,0 +1,66 @@
+-- What changing calls come to: how many were made, or the trouble that stopped them.
+use Rattle.std.specs.Prelude.{◌≡◌, ◌⊎◌, ℕ, ◌+◌, ◌≤◌, ⊤, Bool, false, List, length, Option, Some, None, Result, Ok, Err, IfOk, IfErr}
+use Rattle.mc_text.specs.Routes.{Route}
+use Rattle.tree_trait.specs.Calls.{Call}
+use Rattle.tree_trait.specs.Change.{CallLog}
+use Rattle.tree_trait.specs.Answers.{IfKnown, HasRisen}
+use Rattle.tree_trait.specs.declared.calls.TreeError.{TreeError}
+use Rattle.tree_trait.specs.declared.calls.TreeError.TheVariants as refused
+use Rattle.file_copy.specs.declared.report.Cause.{Cause}
+use Rattle.file_copy.specs.declared.report.Cause.TheVariants.{Tree, Memory}
+use Rattle.file_copy.specs.declared.report.Trouble.{Trouble}
+use Rattle.file_copy.specs.declared.stop.Stop.{Stop}
+use Rattle.file_copy.specs.CallRuns.{AllDone, RunStops, HasMore}
+
+-- trouble for want of memory
+abbrev pub no_memory_of : Bool → Trouble
+no_memory_of barrier = record { cause = Memory; path = None; barrier = barrier }
+
+-- a trouble before any call was made
+abbrev pub unmade_of : Trouble → Stop
+unmade_of trouble = record { trouble = trouble; calls = 0 }
+
+-- away from a barrier a trouble with this cause names this path, or there was no memory for it
+abbrev pub IsNamed : Cause → Route → Trouble → Type 0
+IsNamed cause path trouble =
+    (trouble ≡ record { cause = cause; path = Some path; barrier = false }) ⊎ (trouble ≡ no_memory_of false)
+
+-- the trouble of a reading call that was refused with this error at this path
+abbrev pub IsTold : TreeError → Route → Trouble → Type 0
+IsTold refused.Memory path trouble = trouble ≡ no_memory_of false
+IsTold e path trouble = IsNamed (Tree e) path trouble
+
+-- a look that was refused with this error found nothing there, or is a trouble
+abbrev pub IsAbsent : TreeError → Route → Result (Unit {0}) Trouble → Type 0
+IsAbsent refused.Missing path (Ok done) = ⊤
+IsAbsent refused.Missing path (Err trouble) = ⊥
+IsAbsent e path (Ok done) = ⊥
+IsAbsent e path (Err trouble) = IsTold e path trouble
+
+-- what the answer of one call comes to; one that found no memory was not made
+abbrev pub ran_of : Result (Unit {0}) TreeError → Route → Bool → Result ℕ Stop
+ran_of (Ok done) path barrier = Ok 1
+ran_of (Err refused.Memory) path barrier = Err (unmade_of (no_memory_of barrier))
+ran_of (Err e) path barrier = Err (record { trouble = record { cause = Tree e; path = Some path; barrier = barrier }; calls = 1 })
+
+-- how many calls were made
+abbrev pub calls_of : Result ℕ Stop → ℕ
+calls_of (Ok calls) = calls
+calls_of (Err stop) = stop.calls
+
+-- what calls come to before which so many were made
+abbrev pub later_of : ℕ → Result ℕ Stop → Result ℕ Stop
+later_of calls (Ok more) = Ok (calls + more)
+later_of calls (Err stop) = Err (record stop { calls = calls + stop.calls })
+
+-- What calls in a row come to, on a tree that may tell what it holds: all were done, or the trouble says which one was
+-- not. It counts those that were made, and reports a fault only where the tree's count has risen.
+pub record Ran (calls : List Call) (at_barrier : Bool) (result : Result ℕ Stop) (before after : Option CallLog) (faults faults_after : ℕ) : Type 0 where
+  pub done : IfOk result (λ _. IfKnown before (λ log. AllDone log calls after))
+  pub stopped : IfErr result (λ stop. IfKnown before (λ log. RunStops calls stop.trouble.cause stop.trouble.path log after))
+  pub barrier : IfErr result (λ stop. stop.trouble.barrier ≡ at_barrier)
+  pub counted : IfKnown before (λ log. IfKnown after (HasMore log (calls_of result)))
+  pub few : calls_of result ≤ length calls
+  pub unknown : before ≡ None → after ≡ None
+  pub later : faults ≤ faults_after
+  pub fault : IfErr result (λ stop. stop.trouble.cause ≡ Tree refused.Fault → HasRisen faults faults_after)

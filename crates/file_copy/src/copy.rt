@@ -1,0 +1,166 @@
+//! The copy of one file, a piece of work at each step.
+ghost use Rattle.std.specs.Prelude.{◌≡◌, None, Some, true, option_map};
+ghost use Rattle.mc_text.specs.Routes.{parent_of};
+ghost use Rattle.file_copy.specs.Copying.{at_barrier, begun, part_at, skipped as skipped_to, taken_anew as stage_anew};
+ghost use Rattle.file_copy.specs.CopySteps.{Skips, StepsOn};
+ghost use Rattle.file_copy.specs.LastSteps.{WindsOn, left_at};
+
+use crate::item::Item;
+use crate::part_name::PartTest;
+use crate::report::{Cause, Did, Ending};
+use crate::stage::{FolderState, Next, Stage};
+use crate::stop::no_memory;
+use crate::winding::wind;
+use crate::work::{Moved, work};
+use mc_text::Path;
+use std::alloc::Global;
+use std::marker::Model;
+use std::mem;
+use tree_trait::Tree;
+
+/// The copy of one file to a path at which nothing stands.
+#[derive(Debug, Drop)]
+pub struct FileCopy {
+    item: Item,
+    stage: Stage,
+    folder: FolderState,
+}
+
+impl Model for FileCopy {
+    ghost use Rattle.file_copy.specs.Copying.{Copying, IsSound, copying};
+
+    ghost Value = { Copying };
+
+    ghost view = { λ c. copying c.item c.stage c.folder };
+
+    ghost invariant = { λ c. IsSound c.stage c.folder };
+}
+
+/// What a step did, and how many changing calls of the tree it made.
+#[derive(Debug, Drop)]
+pub struct Stepped {
+    pub did: Did,
+    pub calls: u64,
+}
+
+impl FileCopy {
+    /// A copy of the file at `source` to `target`. The two folders hold them.
+    pub fn new(job: u32, source: Path, source_folder: Path, target: Path, folder: Path) -> FileCopy
+        requires source { parent_of source ≡ Some source_folder }
+        requires target { parent_of target ≡ Some folder }
+        ensures { result ≡ begun job source target }
+    {
+        FileCopy {
+            item: Item::new(job, source, source_folder, target, folder),
+            stage: Stage::Begin,
+            folder: FolderState::Synced,
+        }
+    }
+
+    /// The part that stands.
+    pub fn part(&self) -> Option<&Path>
+        ensures { option_map (λ part. part.now) result ≡ part_at self.now.stage }
+    {
+        match &self.stage {
+            Stage::Fill { part, .. } => Some(part),
+            Stage::Clean { part, .. } => Some(part),
+            Stage::Left { part } => Some(part),
+            Stage::Begin => None,
+            Stage::Decided => None,
+        }
+    }
+
+    /// Does the next piece of work.
+    pub fn step<T: Tree, P: PartTest>(&mut self, alloc: Global, tree: &mut T, parts: &P) -> Stepped
+        requires { left_at self.old.stage ≡ None }
+        ensures steps { StepsOn (λ path. P.is_free parts.now path ≡ true) self.old self.new result.did result.calls
+            (T.contents tree.old) (T.contents tree.new) (T.fault_count tree.old) (T.fault_count tree.new) }
+        ensures ready { left_at self.new.stage ≡ None }
+    {
+        let stage = mem::replace(&mut self.stage, Stage::Decided);
+        let moved = work(alloc, tree, parts, &self.item, stage, self.folder);
+        self.stage = moved.stage;
+        self.folder = moved.folder;
+        Stepped {
+            did: moved.did,
+            calls: moved.calls,
+        }
+    }
+
+    /// The file is not copied. A part that stands is to be removed.
+    pub fn skip(&mut self, alloc: Global, cause: Cause) -> Did
+        ensures skips { Skips cause self.old result self.new }
+        ensures ready { left_at self.new.stage ≡ left_at self.old.stage }
+    {
+        let Ok(source) = self.item.source().copy(alloc) else {
+            return Did::Troubled(no_memory(is_at_barrier(&self.stage)));
+        };
+        self.stage = skipped(mem::replace(&mut self.stage, Stage::Decided));
+        Did::Skipped(source, cause)
+    }
+
+    /// What was refused is tried again. A file whose part stands is copied anew.
+    pub fn retry(&mut self)
+        ensures anew { self.new ≡ record self.old { stage = stage_anew self.old.stage } }
+        ensures ready { left_at self.new.stage ≡ left_at self.old.stage }
+    {
+        self.stage = taken_anew(mem::replace(&mut self.stage, Stage::Decided));
+    }
+
+    /// Makes the next of the last steps of a job that is to end so. After the end the copy is to be let go.
+    pub fn wind_up<T: Tree>(&mut self, alloc: Global, tree: &mut T, ending: Ending) -> Stepped
+        ensures { WindsOn ending self.old self.new result.did result.calls
+            (T.contents tree.old) (T.contents tree.new) (T.fault_count tree.old) (T.fault_count tree.new) }
+    {
+        let stage = mem::replace(&mut self.stage, Stage::Decided);
+        let moved = wind(alloc, tree, &self.item, stage, self.folder, ending);
+        self.stage = moved.stage;
+        self.folder = moved.folder;
+        Stepped {
+            did: moved.did,
+            calls: moved.calls,
+        }
+    }
+}
+
+fn is_at_barrier(stage: &Stage) -> bool
+    ensures { result ≡ at_barrier stage.now }
+{
+    match stage {
+        Stage::Begin | Stage::Fill { .. } => false,
+        Stage::Clean { .. } | Stage::Left { .. } | Stage::Decided => true,
+    }
+}
+
+fn skipped(stage: Stage) -> Stage
+    ensures { result ≡ skipped_to stage }
+{
+    match stage {
+        Stage::Begin => Stage::Decided,
+        Stage::Fill { part, .. } => Stage::Clean {
+            part,
+            next: Next::Decided,
+        },
+        Stage::Clean { part, .. } => Stage::Clean {
+            part,
+            next: Next::Decided,
+        },
+        Stage::Left { part } => Stage::Left { part },
+        Stage::Decided => Stage::Decided,
+    }
+}
+
+fn taken_anew(stage: Stage) -> Stage
+    ensures { result ≡ stage_anew stage }
+{
+    match stage {
+        Stage::Begin => Stage::Begin,
+        Stage::Fill { part, .. } => Stage::Clean {
+            part,
+            next: Next::Begin,
+        },
+        Stage::Clean { part, next } => Stage::Clean { part, next },
+        Stage::Left { part } => Stage::Left { part },
+        Stage::Decided => Stage::Decided,
+    }
+}

@@ -1,0 +1,14 @@
+//! What a crash leaves of a copy, and what a finished copy leaves. The functions here do nothing: their contracts are laws of
+//! the definitions.
+ghost use Rattle.file_copy.specs.CopyCrashes.{CopyLaw, FinishedCopyLaw};
+
+/// At each moment of a copy each crash image is safe: the target is as it was, or has the bytes and the mode of the source;
+/// what stood anywhere when the copy was begun is as it was; and nothing is new but the target and the job's parts.
+pub fn what_a_crash_leaves_of_a_copy()
+    ensures { CopyLaw }
+{}
+
+/// When a copy is finished nothing is pending any more: the target is there, if it was placed, and nothing else is new.
+pub fn what_a_finished_copy_leaves()
+    ensures { FinishedCopyLaw }
+{}

@@ -1,0 +1,22 @@
+//! The copy of one file: a part is made beside the target, filled, synced and renamed, and the folder is synced. A copy that
+//! dies leaves the target as it was or whole, and a part file with a name of its own.
+#![tactic(auto)]
+
+mod chunk;
+mod copy;
+mod item;
+mod laws;
+mod looks;
+mod part_name;
+mod place;
+mod report;
+mod stage;
+mod stop;
+mod winding;
+mod work;
+
+pub use copy::{FileCopy, Stepped};
+pub use laws::{what_a_crash_leaves_of_a_copy, what_a_finished_copy_leaves};
+pub use part_name::PartTest;
+pub use report::{Cause, Did, Ending, Trouble};
+pub use stage::{FolderState, Next, Said, Stage};

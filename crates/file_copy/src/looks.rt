@@ -1,0 +1,92 @@
+//! The looks before a part is made: a file stands at the source, and nothing at the target.
+ghost use Rattle.std.specs.Prelude.{◌≡◌, None, IfOk, MatchResult};
+ghost use Rattle.tree_trait.specs.Calls.{Stat};
+ghost use Rattle.tree_trait.specs.Change.{current};
+ghost use Rattle.tree_trait.specs.Refusals.{refusal_of};
+ghost use Rattle.tree_trait.specs.Answers.{IfKnown, IsInRange, IsMeta};
+ghost use Rattle.file_copy.specs.Looking.{HasRange, IsReady, IsSaid, IsThere, Judges, LookStops, Peeks, StatStops, TargetStops};
+
+use crate::item::Item;
+use crate::report::{Cause, Trouble};
+use crate::stage::Said;
+use crate::stop::{absent, named, refused};
+use mc_text::{Kind, Path};
+use std::alloc::Global;
+use tree_trait::{Meta, Tree};
+
+/// Looks at the source, the target and the folders that hold them, in this order. What a refused look says goes before
+/// what stands at the target, and that before what the source is.
+pub(crate) fn looks<T: Tree>(alloc: Global, tree: &mut T, item: &Item) -> Result<Said, Trouble>
+    ensures known { IfKnown (T.contents tree.old) (λ log. MatchResult result
+        (λ said. IsReady (current log) item.now × IsSaid (current log) item.now.source said)
+        (λ trouble. LookStops (current log) item.now trouble.cause trouble.path)) }
+    ensures peeks { Peeks result (T.contents tree.old) (T.contents tree.new)
+        (T.fault_count tree.old) (T.fault_count tree.new) }
+    ensures in_range { IfOk result HasRange }
+{
+    let source = match look(alloc, tree, item.source()) {
+        Ok(meta) => meta,
+        Err(trouble) => return Err(trouble),
+    };
+    let target = match look_at_target(alloc, tree, item.target()) {
+        Ok(target) => target,
+        Err(trouble) => return Err(trouble),
+    };
+    if let Err(trouble) = look(alloc, tree, item.source_folder()) {
+        return Err(trouble);
+    }
+    if let Err(trouble) = look(alloc, tree, item.folder()) {
+        return Err(trouble);
+    }
+    judge(alloc, item, source, target)
+}
+
+/// What stands at a path.
+fn look<T: Tree>(alloc: Global, tree: &mut T, path: &Path) -> Result<Meta, Trouble>
+    ensures known { IfKnown (T.contents tree.old) (λ log. MatchResult result
+        (λ meta. (refusal_of (current log) (Stat path.now) ≡ None) × IsMeta (current log) path.now meta)
+        (λ trouble. StatStops (current log) path.now trouble.cause trouble.path)) }
+    ensures peeks { Peeks result (T.contents tree.old) (T.contents tree.new)
+        (T.fault_count tree.old) (T.fault_count tree.new) }
+    ensures in_range { IfOk result IsInRange }
+{
+    match tree.stat(alloc, path) {
+        Ok(meta) => Ok(meta),
+        Err(error) => Err(refused(alloc, error, path)),
+    }
+}
+
+/// What stands at the target, if anything does.
+fn look_at_target<T: Tree>(
+    alloc: Global,
+    tree: &mut T,
+    path: &Path,
+) -> Result<Option<Meta>, Trouble>
+    ensures known { IfKnown (T.contents tree.old) (λ log. MatchResult result
+        (λ found. IsThere (current log) path.now found)
+        (λ trouble. TargetStops (current log) path.now trouble.cause trouble.path)) }
+    ensures peeks { Peeks result (T.contents tree.old) (T.contents tree.new)
+        (T.fault_count tree.old) (T.fault_count tree.new) }
+{
+    match tree.stat(alloc, path) {
+        Ok(meta) => Ok(Some(meta)),
+        Err(error) => match absent(alloc, error, path) {
+            Ok(()) => Ok(None),
+            Err(trouble) => Err(trouble),
+        },
+    }
+}
+
+/// What the looks at source and target come to.
+fn judge(alloc: Global, item: &Item, source: Meta, target: Option<Meta>) -> Result<Said, Trouble>
+    ensures { Judges item.now source target result }
+{
+    match (target, source.kind) {
+        (Some(target), _) => Err(named(alloc, Cause::TargetKind(target.kind), item.target())),
+        (None, Kind::File) => Ok(Said {
+            size: source.size,
+            mode: source.mode,
+        }),
+        (None, _) => Err(named(alloc, Cause::SpecialSource, item.source())),
+    }
+}

@@ -1,0 +1,145 @@
+//! The calls that change a part, and those that bring it to its place: each refusal is named with its path.
+ghost use Rattle.std.specs.Prelude.{◌+◌, ◌≤◌, ◌^◌, ◌∷◌, [], length, true, false};
+ghost use Rattle.tree_trait.specs.Calls.{MakeFile, WriteAt, SetMode, Rename, RemoveFile, SyncFile, SyncFolder};
+ghost use Rattle.file_copy.specs.CopyCalls.{moding, placing};
+ghost use Rattle.file_copy.specs.Stops.{Ran};
+
+use crate::stop::{Stop, no_memory, ran, then, unmade};
+use mc_text::Path;
+use std::alloc::Global;
+use tree_trait::Tree;
+
+/// A part is made with these bits of its mode: its owner may read and write it.
+pub(crate) const PART_MODE: u16 = 0o600;
+
+/// Makes the part, with no bytes.
+pub(crate) fn make_part<T: Tree>(
+    alloc: Global,
+    tree: &mut T,
+    part: &Path,
+    mode: u16,
+) -> Result<u64, Stop>
+    requires { mode ≤ 0o7777 }
+    ensures { Ran (MakeFile part.now mode ∷ []) false result (T.contents tree.old) (T.contents tree.new)
+        (T.fault_count tree.old) (T.fault_count tree.new) }
+{
+    // The path of the report comes first, here and below: after the call it is too late to find no memory.
+    let Ok(named) = part.copy(alloc) else {
+        return Err(unmade(no_memory(false)));
+    };
+    ran(tree.make_file(alloc, part, mode), named, false)
+}
+
+pub(crate) fn write_part<T: Tree>(
+    alloc: Global,
+    tree: &mut T,
+    part: &Path,
+    offset: u64,
+    bytes: &[u8],
+) -> Result<u64, Stop>
+    requires { offset + length bytes.now ≤ 2 ^ 63 }
+    ensures { Ran (WriteAt part.now offset bytes.now ∷ []) false result (T.contents tree.old) (T.contents tree.new)
+        (T.fault_count tree.old) (T.fault_count tree.new) }
+{
+    let Ok(named) = part.copy(alloc) else {
+        return Err(unmade(no_memory(false)));
+    };
+    ran(tree.write_at(alloc, part, offset, bytes), named, false)
+}
+
+/// Brings a full part to the target. It is synced before it is renamed, so that no crash leaves half a target.
+pub(crate) fn place<T: Tree>(
+    alloc: Global,
+    tree: &mut T,
+    part: &Path,
+    mode: u16,
+    target: &Path,
+) -> Result<u64, Stop>
+    requires { mode ≤ 0o7777 }
+    ensures { Ran (placing mode part.now target.now) false result (T.contents tree.old) (T.contents tree.new)
+        (T.fault_count tree.old) (T.fault_count tree.new) }
+{
+    match give_mode(alloc, tree, part, mode) {
+        Ok(calls) => then(calls, sync_and_rename(alloc, tree, part, target)),
+        Err(stop) => Err(stop),
+    }
+}
+
+/// Gives the part the source's mode, where it was made with another.
+fn give_mode<T: Tree>(alloc: Global, tree: &mut T, part: &Path, mode: u16) -> Result<u64, Stop>
+    requires { mode ≤ 0o7777 }
+    ensures { Ran (moding part.now mode) false result (T.contents tree.old) (T.contents tree.new)
+        (T.fault_count tree.old) (T.fault_count tree.new) }
+{
+    if mode | PART_MODE == mode {
+        return Ok(0);
+    }
+    let Ok(named) = part.copy(alloc) else {
+        return Err(unmade(no_memory(false)));
+    };
+    ran(tree.set_mode(alloc, part, mode), named, false)
+}
+
+fn sync_and_rename<T: Tree>(
+    alloc: Global,
+    tree: &mut T,
+    part: &Path,
+    target: &Path,
+) -> Result<u64, Stop>
+    ensures { Ran (SyncFile part.now ∷ Rename part.now target.now ∷ []) false result (T.contents tree.old) (T.contents tree.new)
+        (T.fault_count tree.old) (T.fault_count tree.new) }
+{
+    match sync_part(alloc, tree, part) {
+        Ok(calls) => then(calls, rename_part(alloc, tree, part, target)),
+        Err(stop) => Err(stop),
+    }
+}
+
+fn sync_part<T: Tree>(alloc: Global, tree: &mut T, part: &Path) -> Result<u64, Stop>
+    ensures { Ran (SyncFile part.now ∷ []) false result (T.contents tree.old) (T.contents tree.new)
+        (T.fault_count tree.old) (T.fault_count tree.new) }
+{
+    let Ok(named) = part.copy(alloc) else {
+        return Err(unmade(no_memory(false)));
+    };
+    ran(tree.sync_file(alloc, part), named, false)
+}
+
+fn rename_part<T: Tree>(
+    alloc: Global,
+    tree: &mut T,
+    part: &Path,
+    target: &Path,
+) -> Result<u64, Stop>
+    ensures { Ran (Rename part.now target.now ∷ []) false result (T.contents tree.old) (T.contents tree.new)
+        (T.fault_count tree.old) (T.fault_count tree.new) }
+{
+    let Ok(named) = target.copy(alloc) else {
+        return Err(unmade(no_memory(false)));
+    };
+    ran(tree.rename(alloc, part, target), named, false)
+}
+
+pub(crate) fn remove_part<T: Tree>(alloc: Global, tree: &mut T, part: &Path) -> Result<u64, Stop>
+    ensures { Ran (RemoveFile part.now ∷ []) true result (T.contents tree.old) (T.contents tree.new)
+        (T.fault_count tree.old) (T.fault_count tree.new) }
+{
+    let Ok(named) = part.copy(alloc) else {
+        return Err(unmade(no_memory(true)));
+    };
+    ran(tree.remove_file(alloc, part), named, true)
+}
+
+pub(crate) fn sync_target_folder<T: Tree>(
+    alloc: Global,
+    tree: &mut T,
+    folder: &Path,
+) -> Result<u64, Stop>
+    ensures { Ran (SyncFolder folder.now ∷ []) true result (T.contents tree.old) (T.contents tree.new)
+        (T.fault_count tree.old) (T.fault_count tree.new) }
+{
+    let Ok(named) = folder.copy(alloc) else {
+        return Err(unmade(no_memory(true)));
+    };
+    ran(tree.sync_folder(alloc, folder), named, true)
+}

@@ -1,0 +1,60 @@
+//! What the step of a job reports.
+use mc_text::{Kind, Path};
+use tree_trait::TreeError;
+
+/// Why a job can't go on.
+#[derive(Clone, Copy, Debug, Drop, PartialEq, Eq)]
+pub enum Cause {
+    /// A call of the tree was refused.
+    Tree(TreeError),
+    /// Something of this kind stands at the target.
+    TargetKind(Kind),
+    /// The source is no file.
+    SpecialSource,
+    /// All 1,000 names of a part are taken.
+    PartTaken,
+    /// The path of the part would have more than 4,096 bytes.
+    TooLong,
+    /// The source was said to have so many bytes, and gave so many.
+    Changed { said: u64, got: u64 },
+    /// No memory was left.
+    Memory,
+}
+
+/// A job in trouble: why, at which path, and whether it stands at a barrier, where nothing can be skipped.
+#[derive(Debug, Drop)]
+pub struct Trouble {
+    pub cause: Cause,
+    pub path: Option<Path>,
+    pub barrier: bool,
+}
+
+/// How a job ended.
+#[derive(Clone, Copy, Debug, Drop, PartialEq, Eq)]
+pub enum Ending {
+    Finished,
+    Aborted,
+    Killed,
+    /// There was no memory for a step's entry.
+    NoMemory,
+}
+
+/// What a step did.
+#[derive(Debug, Drop)]
+pub enum Did {
+    /// The part at this path was made, empty.
+    Began(Path),
+    /// So many bytes went to the part, 1 to 65,536.
+    Chunk(u32),
+    /// The part was renamed to this path, with all bytes and the mode of the source.
+    Placed(Path),
+    /// The source at this path was left as it is.
+    Skipped(Path, Cause),
+    /// The part at this path was removed.
+    Cleaned(Path),
+    /// What was changed is on the disk, or in a job's last steps its sync was tried.
+    Barrier,
+    Troubled(Trouble),
+    /// The job ended; `part` is a part file that it could not remove.
+    Ended { ending: Ending, part: Option<Path> },
+}

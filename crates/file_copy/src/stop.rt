@@ -1,0 +1,100 @@
+//! What changing calls come to: how many were made, or the trouble that stopped them.
+ghost use Rattle.std.specs.Prelude.{◌≡◌, ◌≤◌};
+ghost use Rattle.file_copy.specs.Stops.{IsAbsent, IsNamed, IsTold, calls_of, later_of, no_memory_of, ran_of, unmade_of};
+
+use crate::report::{Cause, Trouble};
+use mc_text::Path;
+use std::alloc::Global;
+use tree_trait::TreeError;
+
+/// A trouble, and how many changing calls were made until then.
+#[derive(Debug, Drop)]
+pub(crate) struct Stop {
+    pub(crate) trouble: Trouble,
+    pub(crate) calls: u64,
+}
+
+/// What the answer of a call comes to. One that found no memory was not made.
+pub(crate) fn ran(answer: Result<(), TreeError>, path: Path, barrier: bool) -> Result<u64, Stop>
+    ensures { result ≡ ran_of answer path barrier }
+{
+    match answer {
+        Ok(()) => Ok(1),
+        Err(TreeError::Memory) => Err(unmade(no_memory(barrier))),
+        Err(error) => Err(Stop {
+            trouble: Trouble {
+                cause: Cause::Tree(error),
+                path: Some(path),
+                barrier,
+            },
+            calls: 1,
+        }),
+    }
+}
+
+/// What calls come to before which so many were made.
+pub(crate) fn then(calls: u64, answer: Result<u64, Stop>) -> Result<u64, Stop>
+    requires few { calls ≤ 3 }
+    requires few_more { calls_of answer ≤ 3 }
+    ensures { result ≡ later_of calls answer }
+{
+    match answer {
+        Ok(more) => Ok(calls + more),
+        Err(stop) => Err(Stop {
+            trouble: stop.trouble,
+            calls: calls + stop.calls,
+        }),
+    }
+}
+
+/// A trouble before any call was made.
+pub(crate) fn unmade(trouble: Trouble) -> Stop
+    ensures { result ≡ unmade_of trouble }
+{
+    Stop { trouble, calls: 0 }
+}
+
+/// Trouble for want of memory.
+pub(crate) fn no_memory(barrier: bool) -> Trouble
+    ensures { result ≡ no_memory_of barrier }
+{
+    Trouble {
+        cause: Cause::Memory,
+        path: None,
+        barrier,
+    }
+}
+
+/// A trouble away from a barrier with this cause, which names a path, or want of memory for the path's copy.
+pub(crate) fn named(alloc: Global, cause: Cause, path: &Path) -> Trouble
+    ensures { IsNamed cause path.now result }
+{
+    match path.copy(alloc) {
+        Ok(path) => Trouble {
+            cause,
+            path: Some(path),
+            barrier: false,
+        },
+        Err(_) => no_memory(false),
+    }
+}
+
+/// The trouble of a reading call that was refused.
+pub(crate) fn refused(alloc: Global, error: TreeError, path: &Path) -> Trouble
+    ensures { IsTold error path.now result }
+{
+    match error {
+        TreeError::Memory => no_memory(false),
+        error => named(alloc, Cause::Tree(error), path),
+    }
+}
+
+/// Whether a look was refused because nothing is there. Another refusal is a trouble.
+pub(crate) fn absent(alloc: Global, error: TreeError, path: &Path) -> Result<(), Trouble>
+    ensures { IsAbsent error path.now result }
+{
+    match error {
+        TreeError::Missing => Ok(()),
+        error => Err(refused(alloc, error, path)),
+    }
+}

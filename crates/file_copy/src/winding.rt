@@ -1,0 +1,120 @@
+//! The last steps of a copy that is aborted or killed: one try to remove its part, one try to sync the folder.
+ghost use Rattle.std.specs.Prelude.{◌≡◌, ◌≤◌, None};
+ghost use Rattle.file_copy.specs.Copying.{IsSound, copying};
+ghost use Rattle.file_copy.specs.LastSteps.{Ends, Leaves, Removes, WindMoves, removable, tries_of};
+
+use crate::item::Item;
+use crate::report::{Did, Ending};
+use crate::stage::{FolderState, Stage};
+use crate::work::Moved;
+use mc_text::Path;
+use std::alloc::Global;
+use tree_trait::{Tree, TreeError};
+
+/// Makes the next of the last steps. None of them takes memory of its own.
+pub(crate) fn wind<T: Tree>(
+    alloc: Global,
+    tree: &mut T,
+    item: &Item,
+    stage: Stage,
+    folder: FolderState,
+    ending: Ending,
+) -> Moved
+    requires { IsSound stage folder }
+    ensures { WindMoves ending (copying item.now stage folder) result (T.contents tree.old) (T.contents tree.new)
+        (T.fault_count tree.old) (T.fault_count tree.new) }
+{
+    match stage {
+        Stage::Fill { part, .. } => remove_or_leave(alloc, tree, item, part),
+        Stage::Clean { part, .. } => remove_or_leave(alloc, tree, item, part),
+        Stage::Begin => settle(alloc, tree, item, Stage::Begin, folder, ending),
+        Stage::Left { part } => settle(alloc, tree, item, Stage::Left { part }, folder, ending),
+        Stage::Decided => settle(alloc, tree, item, Stage::Decided, folder, ending),
+    }
+}
+
+/// Tries to remove the part. One that stays has had its try, and the folder's sync is tried at once.
+fn remove_or_leave<T: Tree>(alloc: Global, tree: &mut T, item: &Item, part: Path) -> Moved
+    ensures { Removes item.now part result (T.contents tree.old) (T.contents tree.new)
+        (T.fault_count tree.old) (T.fault_count tree.new) }
+{
+    match tree.remove_file(alloc, &part) {
+        Ok(()) => Moved {
+            did: Did::Cleaned(part),
+            calls: 1,
+            stage: Stage::Decided,
+            folder: FolderState::Dirty,
+        },
+        Err(error) => leave(alloc, tree, item, part, tried(Err(error))),
+    }
+}
+
+/// The sync of the folder after so many calls, where the part stays.
+fn leave<T: Tree>(alloc: Global, tree: &mut T, item: &Item, part: Path, calls: u64) -> Moved
+    requires { calls ≤ 1 }
+    ensures { Leaves item.now part calls result (T.contents tree.old) (T.contents tree.new)
+        (T.fault_count tree.old) (T.fault_count tree.new) }
+{
+    Moved {
+        did: Did::Barrier,
+        calls: calls + tried(tree.sync_folder(alloc, item.folder())),
+        stage: Stage::Left { part },
+        folder: FolderState::Synced,
+    }
+}
+
+/// With no part to be removed: the sync, if the folder is owed one, and then the end.
+fn settle<T: Tree>(
+    alloc: Global,
+    tree: &mut T,
+    item: &Item,
+    stage: Stage,
+    folder: FolderState,
+    ending: Ending,
+) -> Moved
+    requires { removable stage ≡ None }
+    ensures { WindMoves ending (copying item.now stage folder) result (T.contents tree.old) (T.contents tree.new)
+        (T.fault_count tree.old) (T.fault_count tree.new) }
+{
+    match folder {
+        FolderState::Dirty => Moved {
+            did: Did::Barrier,
+            calls: tried(tree.sync_folder(alloc, item.folder())),
+            stage,
+            folder: FolderState::Synced,
+        },
+        FolderState::Synced => end(stage, ending),
+    }
+}
+
+/// The end names the part that stays.
+fn end(stage: Stage, ending: Ending) -> Moved
+    requires { removable stage ≡ None }
+    ensures { Ends ending stage result }
+{
+    match stage {
+        Stage::Left { part } => ended(ending, Some(part), Stage::Decided),
+        stage => ended(ending, None, stage),
+    }
+}
+
+fn ended(ending: Ending, part: Option<Path>, stage: Stage) -> Moved
+    ensures { result ≡ record { did = Did.Ended ending part; calls = 0; stage = stage; folder = FolderState.Synced } }
+{
+    Moved {
+        did: Did::Ended { ending, part },
+        calls: 0,
+        stage,
+        folder: FolderState::Synced,
+    }
+}
+
+/// How many calls were made for an answer: none where there was no memory.
+fn tried(answer: Result<(), TreeError>) -> u64
+    ensures { result ≡ tries_of answer }
+{
+    match answer {
+        Err(TreeError::Memory) => 0,
+        Ok(()) | Err(_) => 1,
+    }
+}

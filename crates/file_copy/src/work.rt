@@ -1,0 +1,243 @@
+//! The next piece of a copy's work, by its stage.
+ghost use Rattle.std.specs.Prelude.{◌≡◌, ◌<◌, ◌≤◌, ⊤, None, true};
+ghost use Rattle.file_copy.specs.Copying.{IsSound, after_clean as stage_after, copying};
+ghost use Rattle.file_copy.specs.CopySteps.{Begins, MovesOn, moved_by};
+ghost use Rattle.file_copy.specs.LastSteps.{left_at};
+
+use crate::chunk::write_chunk;
+use crate::item::Item;
+use crate::looks::looks;
+use crate::part_name::{PartTest, choose_part};
+use crate::place::{PART_MODE, make_part, place, remove_part, sync_target_folder};
+use crate::report::{Did, Ending};
+use crate::stage::{FolderState, Next, Said, Stage};
+use crate::stop::{Stop, no_memory, unmade};
+use mc_text::Path;
+use std::alloc::Global;
+use tree_trait::Tree;
+
+/// What a step did, how many changing calls it made, and where the copy stands then.
+#[derive(Debug, Drop)]
+pub(crate) struct Moved {
+    pub(crate) did: Did,
+    pub(crate) calls: u64,
+    pub(crate) stage: Stage,
+    pub(crate) folder: FolderState,
+}
+
+/// Does the next piece of work.
+pub(crate) fn work<T: Tree, P: PartTest>(
+    alloc: Global,
+    tree: &mut T,
+    parts: &P,
+    item: &Item,
+    stage: Stage,
+    folder: FolderState,
+) -> Moved
+    requires ready { left_at stage ≡ None }
+    requires sound { IsSound stage folder }
+    ensures { MovesOn (λ path. P.is_free parts.now path ≡ true) (copying item.now stage folder) result (T.contents tree.old) (T.contents tree.new)
+        (T.fault_count tree.old) (T.fault_count tree.new) }
+{
+    match stage {
+        Stage::Begin => begin(alloc, tree, parts, item, folder),
+        Stage::Fill { part, said, done } => {
+            if done < said.size {
+                fill(alloc, tree, item, part, said, done)
+            } else {
+                finish_part(alloc, tree, item, part, said, done)
+            }
+        }
+        Stage::Clean { part, next } => clean(alloc, tree, item, part, next),
+        Stage::Left { .. } => unreachable!(),
+        Stage::Decided => conclude(alloc, tree, item, folder),
+    }
+}
+
+/// A trouble leaves the copy where it stood.
+fn troubled(stop: Stop, stage: Stage, folder: FolderState) -> Moved
+    ensures { result ≡ moved_by stop stage folder }
+{
+    Moved {
+        did: Did::Troubled(stop.trouble),
+        calls: stop.calls,
+        stage,
+        folder,
+    }
+}
+
+/// A part that was made, its path once more, and what the source was said to be.
+#[derive(Debug, Drop)]
+struct Made {
+    part: Path,
+    named: Path,
+    said: Said,
+}
+
+fn begin<T: Tree, P: PartTest>(
+    alloc: Global,
+    tree: &mut T,
+    parts: &P,
+    item: &Item,
+    folder: FolderState,
+) -> Moved
+    ensures { MovesOn (λ path. P.is_free parts.now path ≡ true) (copying item.now Stage.Begin folder) result (T.contents tree.old) (T.contents tree.new)
+        (T.fault_count tree.old) (T.fault_count tree.new) }
+{
+    match begin_part(alloc, tree, parts, item) {
+        Ok(made) => Moved {
+            did: Did::Began(made.named),
+            calls: 1,
+            stage: Stage::Fill {
+                part: made.part,
+                said: made.said,
+                done: 0,
+            },
+            folder: FolderState::Dirty,
+        },
+        Err(stop) => troubled(stop, Stage::Begin, folder),
+    }
+}
+
+fn begin_part<T: Tree, P: PartTest>(
+    alloc: Global,
+    tree: &mut T,
+    parts: &P,
+    item: &Item,
+) -> Result<Made, Stop>
+    ensures { Begins (λ path. P.is_free parts.now path ≡ true) item.now result (T.contents tree.old) (T.contents tree.new)
+        (T.fault_count tree.old) (T.fault_count tree.new) }
+{
+    let said = match looks(alloc, tree, item) {
+        Ok(said) => said,
+        Err(trouble) => return Err(unmade(trouble)),
+    };
+    let part = match choose_part(alloc, tree, parts, item) {
+        Ok(part) => part,
+        Err(trouble) => return Err(unmade(trouble)),
+    };
+    let Ok(named) = part.copy(alloc) else {
+        return Err(unmade(no_memory(false)));
+    };
+    match make_part(alloc, tree, &part, said.mode | PART_MODE) {
+        Ok(_) => Ok(Made { part, named, said }),
+        Err(stop) => Err(stop),
+    }
+}
+
+fn fill<T: Tree>(
+    alloc: Global,
+    tree: &mut T,
+    item: &Item,
+    part: Path,
+    said: Said,
+    done: u64,
+) -> Moved
+    requires sound { IsSound (Stage.Fill part said done) FolderState.Dirty }
+    requires unfilled { done < said.size }
+    ensures { MovesOn (λ _. ⊤) (copying item.now (Stage.Fill part said done) FolderState.Dirty) result (T.contents tree.old) (T.contents tree.new)
+        (T.fault_count tree.old) (T.fault_count tree.new) }
+{
+    match write_chunk(alloc, tree, item, &part, said, done) {
+        Ok(count) => Moved {
+            did: Did::Chunk(count),
+            calls: 1,
+            stage: Stage::Fill {
+                part,
+                said,
+                done: done + count as u64,
+            },
+            folder: FolderState::Dirty,
+        },
+        Err(stop) => troubled(stop, Stage::Fill { part, said, done }, FolderState::Dirty),
+    }
+}
+
+fn finish_part<T: Tree>(
+    alloc: Global,
+    tree: &mut T,
+    item: &Item,
+    part: Path,
+    said: Said,
+    done: u64,
+) -> Moved
+    requires sound { IsSound (Stage.Fill part said done) FolderState.Dirty }
+    requires filled { said.size ≤ done }
+    ensures { MovesOn (λ _. ⊤) (copying item.now (Stage.Fill part said done) FolderState.Dirty) result (T.contents tree.old) (T.contents tree.new)
+        (T.fault_count tree.old) (T.fault_count tree.new) }
+{
+    let Ok(placed) = item.target().copy(alloc) else {
+        return troubled(
+            unmade(no_memory(false)),
+            Stage::Fill { part, said, done },
+            FolderState::Dirty,
+        );
+    };
+    match place(alloc, tree, &part, said.mode, item.target()) {
+        Ok(calls) => Moved {
+            did: Did::Placed(placed),
+            calls,
+            stage: Stage::Decided,
+            folder: FolderState::Dirty,
+        },
+        Err(stop) => troubled(stop, Stage::Fill { part, said, done }, FolderState::Dirty),
+    }
+}
+
+fn clean<T: Tree>(alloc: Global, tree: &mut T, item: &Item, part: Path, next: Next) -> Moved
+    ensures { MovesOn (λ _. ⊤) (copying item.now (Stage.Clean part next) FolderState.Dirty) result (T.contents tree.old) (T.contents tree.new)
+        (T.fault_count tree.old) (T.fault_count tree.new) }
+{
+    match remove_part(alloc, tree, &part) {
+        Ok(calls) => Moved {
+            did: Did::Cleaned(part),
+            calls,
+            stage: after_clean(next),
+            folder: FolderState::Dirty,
+        },
+        Err(stop) => troubled(stop, Stage::Clean { part, next }, FolderState::Dirty),
+    }
+}
+
+fn after_clean(next: Next) -> Stage
+    ensures { result ≡ stage_after next }
+{
+    match next {
+        Next::Begin => Stage::Begin,
+        Next::Decided => Stage::Decided,
+    }
+}
+
+/// The folder is synced before the end, so that a finished copy is on the disk.
+fn conclude<T: Tree>(alloc: Global, tree: &mut T, item: &Item, folder: FolderState) -> Moved
+    ensures { MovesOn (λ _. ⊤) (copying item.now Stage.Decided folder) result (T.contents tree.old) (T.contents tree.new)
+        (T.fault_count tree.old) (T.fault_count tree.new) }
+{
+    match folder {
+        FolderState::Dirty => sync_names(alloc, tree, item),
+        FolderState::Synced => Moved {
+            did: Did::Ended {
+                ending: Ending::Finished,
+                part: None,
+            },
+            calls: 0,
+            stage: Stage::Decided,
+            folder,
+        },
+    }
+}
+
+fn sync_names<T: Tree>(alloc: Global, tree: &mut T, item: &Item) -> Moved
+    ensures { MovesOn (λ _. ⊤) (copying item.now Stage.Decided FolderState.Dirty) result (T.contents tree.old) (T.contents tree.new)
+        (T.fault_count tree.old) (T.fault_count tree.new) }
+{
+    match sync_target_folder(alloc, tree, item.folder()) {
+        Ok(calls) => Moved {
+            did: Did::Barrier,
+            calls,
+            stage: Stage::Decided,
+            folder: FolderState::Synced,
+        },
+        Err(stop) => troubled(stop, Stage::Decided, FolderState::Dirty),
+    }
+}
