@@ -35,9 +35,11 @@ fn env(alloc: Global) -> Env {
 
 /// A root with the folder `/a` and in it the file `x`, which holds `hi`.
 fn small_tree(alloc: Global) -> Result<MemTree, Fail> {
+    let folder = Path::parse(alloc, "/a")?;
+    let file = Path::parse(alloc, "/a/x")?;
     let mut tree = MemTree::new(alloc, 0)?;
-    tree.put_folder(alloc, &Path::parse(alloc, "/a")?, 0o755, 0)?;
-    tree.put_file(alloc, &Path::parse(alloc, "/a/x")?, 0o644, 0, b"hi")?;
+    tree.put_folder(alloc, &folder, 0o755, 0)?;
+    tree.put_file(alloc, &file, 0o644, 0, b"hi")?;
     Ok(tree)
 }
 
