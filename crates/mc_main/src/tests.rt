@@ -76,7 +76,8 @@ fn status_and_file(alloc: Global, word: &str, keys: &str) -> Result<(u8, bool), 
         spawner: _,
         history: _,
     } = outcome;
-    let there = tree.stat(alloc, &Path::parse(alloc, "/a/x")?).is_ok();
+    let file = Path::parse(alloc, "/a/x")?;
+    let there = tree.stat(alloc, &file).is_ok();
     Ok((status, there))
 }
 
@@ -195,41 +196,61 @@ fn letter_of(did: &Did) -> char {
 #[test]
 fn silent_devices_serve_as_well(rt: HostRuntime) -> Result<(), Fail> {
     let alloc = rt.alloc();
+    let file = Path::parse(alloc, "/a/x")?;
     let keys = format!(in alloc; "{DOWN}{F8}\r{F10}")?;
-    let outcome = run_mute(alloc, small_tree(alloc)?, keys.as_str(), None, None)?;
+    let tree = small_tree(alloc)?;
+    let outcome = run_mute(alloc, tree, keys.as_str(), None, None)?;
     assert_eq!(rt; outcome.status, 0);
     // Look, Down, F8, Enter, Began, Removed, Barrier, Ended, Look, F10, Closed.
     assert_eq!(rt; outcome.history.entries.0.len(), 11);
     assert_eq!(rt; steps_of(alloc, &outcome.history)?.as_str(), "rbf");
     let mut tree = outcome.tree.into_inner();
-    assert!(rt; tree.stat(alloc, &Path::parse(alloc, "/a/x")?).is_err());
+    assert!(rt; tree.stat(alloc, &file).is_err());
     Ok(())
+}
+
+/// The status of a run over devices that tell nothing, and the bytes that its screen was given.
+fn status_and_bytes(
+    alloc: Global,
+    source_fails: Option<u64>,
+    screen_fails: Option<u64>,
+) -> Result<(u8, Bytes), Fail> {
+    let keys = format!(in alloc; "{DOWN}{F10}")?;
+    let tree = small_tree(alloc)?;
+    let outcome = run_mute(alloc, tree, keys.as_str(), source_fails, screen_fails)?;
+    let bytes = Bytes::from_slice(alloc, outcome.screen.inner().bytes())?;
+    Ok((outcome.status, bytes))
 }
 
 #[test]
 fn failing_devices_end_the_run(rt: HostRuntime) -> Result<(), Fail> {
     let alloc = rt.alloc();
-    let keys = format!(in alloc; "{DOWN}{F10}")?;
-    let whole = run_mute(alloc, small_tree(alloc)?, keys.as_str(), None, None)?;
-    let no_keys = run_mute(alloc, small_tree(alloc)?, keys.as_str(), Some(1), None)?;
-    assert_eq!(rt; no_keys.status, 3);
-    let no_screen = run_mute(alloc, small_tree(alloc)?, keys.as_str(), None, Some(2))?;
-    assert_eq!(rt; no_screen.status, 4);
-    let shown = no_screen.screen.inner().bytes();
-    assert!(rt; shown.len() < whole.screen.inner().bytes().len());
-    assert!(rt; whole.screen.inner().bytes().starts_with(shown));
+    let (_, whole) = status_and_bytes(alloc, None, None)?;
+    let (no_keys, _) = status_and_bytes(alloc, Some(1), None)?;
+    assert_eq!(rt; no_keys, 3);
+    let (no_screen, shown) = status_and_bytes(alloc, None, Some(2))?;
+    assert_eq!(rt; no_screen, 4);
+    assert!(rt; shown.0.as_slice().len() < whole.0.as_slice().len());
+    assert!(rt; whole.0.as_slice().starts_with(shown.0.as_slice()));
     Ok(())
+}
+
+/// A root with the folder `/a`, which may not be changed, and in it the file `x`.
+fn fixed_tree(alloc: Global) -> Result<MemTree, Fail> {
+    let folder = Path::parse(alloc, "/a")?;
+    let file = Path::parse(alloc, "/a/x")?;
+    let mut tree = MemTree::new(alloc, 0)?;
+    tree.put_folder(alloc, &folder, 0o555, 0)?;
+    tree.put_file(alloc, &file, 0o644, 0, b"hi")?;
+    Ok(tree)
 }
 
 #[test]
 fn a_folder_that_may_not_be_changed_keeps_its_file(rt: HostRuntime) -> Result<(), Fail> {
     let alloc = rt.alloc();
     let file = Path::parse(alloc, "/a/x")?;
-    let mut tree = MemTree::new(alloc, 0)?;
-    tree.put_folder(alloc, &Path::parse(alloc, "/a")?, 0o555, 0)?;
-    tree.put_file(alloc, &file, 0o644, 0, b"hi")?;
     let keys = format!(in alloc; "{DOWN}{F8}\r{F10}")?;
-    let outcome = run_mute(alloc, tree, keys.as_str(), None, None)?;
+    let outcome = run_mute(alloc, fixed_tree(alloc)?, keys.as_str(), None, None)?;
     assert_eq!(rt; outcome.status, 0);
     assert_eq!(rt; steps_of(alloc, &outcome.history)?.as_str(), "da");
     let mut tree = outcome.tree.into_inner();
