@@ -1,5 +1,5 @@
 -- A rule more, a line read as an action, and the faults of bytes that are or aren't text.
-use Rattle.std.proofs.Common.{◌≡◌, ◌≢◌, ℕ, Bool, false, true, cond, ◌==◌, List, [], ◌∷◌, ◌++◌, length, Option, Some, None, is_some, option_map, Result, Ok, Err, IfOk, refl, ap, ◌∙◌, sym, append_assoc, codes}
+use Rattle.std.proofs.Common.{◌≡◌, ℕ, Bool, false, true, cond, ◌==◌, List, [], ◌∷◌, ◌++◌, length, Option, Some, None, is_some, option_map, Result, Ok, Err, IfOk, refl, ap, ◌∙◌, sym, append_assoc, codes}
 use denote.Ref.{Bor}
 use Rattle.std.specs.Option.{option_map_or}
 use Rattle.std.specs.Str.{IsUtf8, is_utf8}
@@ -14,7 +14,7 @@ use Rattle.ext_rules.specs.Words.{behind_word, behind_indent, unindented}
 use Rattle.ext_rules.specs.FileRules.{FileRule}
 use Rattle.ext_rules.specs.ExtLines.{reading_of, action_line, rule_line}
 use Rattle.ext_rules.specs.ExtFiles.{ext_fault, fault_from, readings, leading_actions, rules_said, IsExtFile}
-use Rattle.ext_rules.specs.Drafts.{extended, continued}
+use Rattle.ext_rules.specs.Drafts.{continued}
 use Rattle.ext_rules.proofs.DraftLemmas.{extended-push, extended-nothing}
 
 -- a rule without actions, put behind the others

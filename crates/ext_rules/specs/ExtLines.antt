@@ -1,5 +1,5 @@
 -- The lines of an extension file in its older form (mc(1), "Extension File Edit"; what is refused is own).
-use Rattle.std.specs.Prelude.{ℕ, ◌==◌, if◌then◌else◌, List, [], ◌∷◌, ◌++◌, length, Option, Some, None, is_some, option_map, codes}
+use Rattle.std.specs.Prelude.{ℕ, ◌==◌, if◌then◌else◌, List, [], ◌∷◌, ◌++◌, length, Option, Some, None, is_some, codes}
 use Rattle.std.specs.Option.{option_map_or}
 use Rattle.tagging.specs.Patterns.{PatternText}
 use Rattle.tagging.specs.declared.pattern.PatternKind.TheVariants.{Regex}

@@ -1,5 +1,5 @@
 //! An extension file, read.
-ghost use Rattle.std.specs.Prelude.{◌≡◌, ◌≢◌, ◌+◌, ◌<◌, ◌∷◌, ◌++◌, [], List, Some, None, true, false, length, vec_len, IfOk, IfErr, OnOk};
+ghost use Rattle.std.specs.Prelude.{◌≡◌, ◌≢◌, ◌+◌, ◌<◌, ◌∷◌, List, Some, None, false, vec_len, IfOk, IfErr, OnOk};
 ghost use Rattle.ext_rules.specs.declared.line.LineRead.{LineRead};
 ghost use Rattle.ext_rules.specs.declared.actions.Action.{Action};
 ghost use Rattle.ext_rules.specs.ExtFiles.{IsExtFile, ext_fault, fault_from, readings, rules_said};

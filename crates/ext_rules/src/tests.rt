@@ -229,5 +229,8 @@ fn refuses_any_bytes_exactly(rt: HostRuntime) -> Result<(), Fail> {
     }
     let unknown = outcome(alloc, brackets.as_bytes(), Act::Launch, Kind::File, "a")?;
     assert_eq!(rt; unknown.as_str(), "unknown 1");
+    let nested = format!(in alloc; "regex/{brackets}")?;
+    let no_regex = outcome(alloc, nested.as_bytes(), Act::Launch, Kind::File, "a")?;
+    assert_eq!(rt; no_regex.as_str(), "pattern 1");
     Ok(())
 }

@@ -1,4 +1,4 @@
-use Rattle.std.proofs.Common.{◌≡◌, Some, codes, ap, ◌∙◌, sym}
+use Rattle.std.proofs.Common.{◌≡◌, codes, ap, ◌∙◌, sym}
 use Rattle.std.proofs.lemmas.Result.{IfOk-weaker}
 use Rattle.ext_rules.specs.Words.{behind_word}
 use Rattle.ext_rules.specs.ExtLines.{reading_of, action_line}
