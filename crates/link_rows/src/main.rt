@@ -26,7 +26,7 @@ enum Step {
 }
 
 /// The calls, in order.
-fn steps() -> [(Step, &'static str); 27] {
+fn steps() -> [(Step, &'static str); 29] {
     [
         (Step::ReadLink, "/dir/link"),
         (Step::ReadLink, "/dir/none"),
@@ -51,6 +51,8 @@ fn steps() -> [(Step, &'static str); 27] {
         (Step::SyncFile, "/dir/link"),
         (Step::SyncFolder, "/dir/link"),
         (Step::RemoveFolder, "/dir/link"),
+        (Step::RemoveFolder, "/fixed/link"),
+        (Step::RemoveFolder, "/fixed/folder"),
         (Step::MakeLink, "/dir/new"),
         (Step::ReadLink, "/dir/new"),
         (Step::RemoveFile, "/dir/new"),
@@ -77,17 +79,21 @@ fn answered(alloc: Global, tree: &mut MemTree, step: Step, place: &str) -> Resul
     }
 }
 
-/// A folder with a file and a link, one that may not be changed, with a link, and one that may not be searched.
+/// Three folders, each with a link and a folder: one with a file, one that may not be changed, and one that may not be
+/// searched.
 fn linked(alloc: Global) -> Result<MemTree> {
     let mut tree = MemTree::new(alloc, 0)?;
-    for (folder, link, mode) in [
-        ("/dir", "/dir/link", 0o755),
-        ("/fixed", "/fixed/link", 0o555),
-        ("/shut", "/shut/link", 0o600),
+    for (folder, link, inner, mode) in [
+        ("/dir", "/dir/link", "/dir/folder", 0o755),
+        ("/fixed", "/fixed/link", "/fixed/folder", 0o555),
+        ("/shut", "/shut/link", "/shut/folder", 0o600),
     ] {
         let folder = Path::parse(alloc, folder)?;
+        let link = Path::parse(alloc, link)?;
+        let inner = Path::parse(alloc, inner)?;
         tree.make_folder(alloc, &folder, 0o755)?;
-        tree.make_link(alloc, &Path::parse(alloc, link)?, "file")?;
+        tree.make_link(alloc, &link, "file")?;
+        tree.make_folder(alloc, &inner, 0o755)?;
         tree.set_mode(alloc, &folder, mode)?;
     }
     tree.make_file(alloc, &Path::parse(alloc, "/dir/file")?, 0o644)?;
