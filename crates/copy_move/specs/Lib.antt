@@ -1,5 +1,10 @@
 pub mod Crashes
+pub mod DeletionSteps
+pub mod Deletions
+pub mod Jobs
+pub mod PlainCrashes
+pub mod Ranks
 pub mod Replay
 pub mod Steps
+pub mod Told
 pub mod Traces
-pub mod Work

@@ -1,58 +1,24 @@
--- What a history says of the tree's calls: each step of a job is one call with its answer, and nothing else changes the
--- tree. Histories stand newest first here.
-use Rattle.std.specs.Prelude.{◌≡◌, ◌+◌, ⊤, List, [], ◌∷◌, length, Option, Some, None, Result, Ok, Err}
+-- What a history says of the tree's calls: each step of a job is one piece of its work with the calls that belong to it, and
+-- nothing else changes the tree. Histories stand newest first here.
+use Rattle.std.specs.Prelude.{◌≡◌, ◌⊎◌, ◌+◌, true, ⊤, if◌then◌else◌, List, [], ◌∷◌, length, Option, Some, None}
 use Rattle.mc_text.specs.Routes.{Route}
-use Rattle.tree_trait.specs.Calls.{Call, Stat, ListFolder, RemoveFile, SyncFolder}
+use Rattle.tree_trait.specs.Calls.{Call, Stat, ListFolder}
 use Rattle.tree_trait.specs.Change.{CallLog, current}
 use Rattle.tree_trait.specs.Refusals.{refusal_of}
-use Rattle.tree_trait.specs.Answers.{Performs}
 use Rattle.tree_trait.specs.declared.calls.TreeError.{TreeError}
 use Rattle.tree_trait.specs.declared.calls.TreeError.TheVariants as refused
-use Rattle.copy_move.specs.declared.deletion.Stage.{Stage}
-use Rattle.copy_move.specs.declared.deletion.Stage.TheVariants.{Remove, Sync, Finish}
-use Rattle.copy_move.specs.declared.deletion.Course.{Course}
-use Rattle.copy_move.specs.declared.deletion.Course.TheVariants.{GoesOn, InTrouble, Aborts}
-use Rattle.copy_move.specs.declared.history.Cause.{Cause}
-use Rattle.copy_move.specs.declared.history.Cause.TheVariants.{Tree, Memory}
-use Rattle.copy_move.specs.declared.history.Did.{Did}
-use Rattle.copy_move.specs.declared.history.Did.TheVariants.{Removed, Barrier, Troubled, Ended}
+use Rattle.file_copy.specs.declared.report.Ending.TheVariants.{NoMemory}
+use Rattle.file_copy.specs.declared.report.Did.{Did}
+use Rattle.file_copy.specs.declared.report.Did.TheVariants.{Ended}
+use Rattle.copy_move.specs.declared.history.PlanError.{PlanError}
+use Rattle.copy_move.specs.declared.history.PlanError.TheVariants.{TargetThere, TargetTooLong}
 use Rattle.copy_move.specs.declared.history.Refusal.{Refusal}
 use Rattle.copy_move.specs.declared.history.Refusal.TheVariants as refusal
 use Rattle.copy_move.specs.declared.history.Event.{Event}
-use Rattle.copy_move.specs.declared.history.Event.TheVariants.{Key, Look, Began, Step, Closed}
+use Rattle.copy_move.specs.declared.history.Event.TheVariants.{Key, Look, Began, Order, Step, Closed}
 use Rattle.copy_move.specs.declared.history.Entry.{Entry}
-use Rattle.copy_move.specs.Work.{LiveJob, live_job, IsAllowedStep}
-
--- the call that a job makes next; one that has all done makes none
-abbrev pub call_of : Stage → Route → Option Call
-call_of Remove path = Some (RemoveFile path)
-call_of Sync [] = None
-call_of Sync (name ∷ folder) = Some (SyncFolder folder)
-call_of Finish path = None
-
--- the tree's error that a trouble tells of
-abbrev pub error_of : Cause → TreeError
-error_of (Tree e) = e
-error_of Memory = refused.Memory
-
--- a call that changes trees, and its answer; where there is none, the tree's log stays
-abbrev pub Answers : CallLog → Option Call → Result (Unit {0}) TreeError → Option CallLog → Type 0
-Answers log None answer after = after ≡ Some log
-Answers log (Some call) answer after = Performs log call answer after
-
--- the sync of a job that goes on was done; the last one of a job that is aborted was tried, whatever it answered
-abbrev pub SyncCalls : Course → Option Call → CallLog → Option CallLog → Type 0
-SyncCalls GoesOn call log after = Answers log call (Ok tt) after
-SyncCalls InTrouble call log after = ⊥
-SyncCalls Aborts call log after = (answer : Result (Unit {0}) TreeError) × Answers log call answer after
-
--- What a step says of the tree's calls. A removal and a sync were done; a trouble is the refusal of the job's next call,
--- with the cause that the tree gives; an end makes no call.
-abbrev pub StepCalls : LiveJob → Did → CallLog → Option CallLog → Type 0
-StepCalls job (Removed path) log after = Performs {A = Unit {0}} log (RemoveFile path) (Ok tt) after
-StepCalls job Barrier log after = SyncCalls job.course (call_of Sync job.path) log after
-StepCalls job (Troubled trouble) log after = Answers log (call_of job.stage job.path) (Err (error_of trouble.cause)) after
-StepCalls job (Ended ending part) log after = after ≡ Some log
+use Rattle.copy_move.specs.Jobs.{Running, JobTells, JobCalls, ends, part_of}
+use Rattle.copy_move.specs.Told.{after_event, if_closed, is_closed}
 
 -- a reading call is refused with this error: as the tree gives it, or by a fault
 abbrev pub IsRefusedWith : CallLog → Call → TreeError → Type 0
@@ -60,30 +26,58 @@ IsRefusedWith log call refused.Fault = refusal_of (current log) call ≡ None
 IsRefusedWith log call refused.Memory = ⊥
 IsRefusedWith log call e = refusal_of (current log) call ≡ Some e
 
--- each of these refusals is one of this reading call at its path
+-- a plan is refused: something stands at its target, or the target's path is too long
+abbrev pub IsPlanRefused : CallLog → PlanError → Type 0
+IsPlanRefused log (TargetThere path) = refusal_of (current log) (Stat path) ≡ None
+IsPlanRefused log TargetTooLong = ⊤
+
+-- a refusal is one of this reading call at its path, or of a plan
+abbrev pub HasCause : (Route → Call) → CallLog → Refusal → Type 0
+HasCause call log (refusal.Tree path e) = IsRefusedWith log (call path) e
+HasCause call log (refusal.Plan error) = IsPlanRefused log error
+
+-- each of these refusals has its cause in the tree
 abbrev pub AreRefused : (Route → Call) → CallLog → List Refusal → Type 0
 AreRefused call log [] = ⊤
-AreRefused call log (refusal.Tree path e ∷ more) = IsRefusedWith log (call path) e × AreRefused call log more
+AreRefused call log (refusal ∷ more) = HasCause call log refusal × AreRefused call log more
 
--- What an entry says of the tree's calls. A step is one that the live job may make; a key looks at a thing, a look lists a
--- folder, and what they were refused has its cause in the tree.
-abbrev pub EventCalls : Option LiveJob → Event → CallLog → CallLog → Type 0
-EventCalls None (Step id did) log after = ⊥
-EventCalls (Some job) (Step id did) log after = IsAllowedStep job did × StepCalls job did log (Some after)
-EventCalls job (Key key now refusals lost) log after = (after ≡ log) × AreRefused Stat log refusals
-EventCalls job (Look refusals) log after = (after ≡ log) × AreRefused ListFolder log refusals
-EventCalls job (Began id plan background) log after = after ≡ log
-EventCalls job Closed log after = after ≡ log
+-- no other job is live, so each path may be a part's
+abbrev pub IsUnclaimed : Route → Type 0
+IsUnclaimed path = true ≡ true
 
--- The tree's log goes on from the opening as these entries tell. Each entry counts the changing calls that the session has
--- made by its end.
-abbrev pub IsTraced : CallLog → List Entry → CallLog → Type 0
-IsTraced opening [] now = now ≡ opening
-IsTraced opening (e ∷ older) now =
-    (before : CallLog) × IsTraced opening older before × EventCalls (live_job older) e.what before now
-    × (length now.changes ≡ length opening.changes + e.calls)
+-- A step of the live job: it is one that the job may make, with its calls of the tree; or the job ends for want of memory
+-- for the entry, and makes none.
+abbrev pub StepLeads : Running → Did → Option Running → CallLog → CallLog → Type 0
+StepLeads job did after log now =
+    ((new : Running) × JobTells job did new × JobCalls IsUnclaimed job did new log (Some now) × (after ≡ (if ends did then None else Some new)))
+    ⊎ ((did ≡ Ended NoMemory (part_of job.work)) × (after ≡ None) × (now ≡ log))
+
+-- What an entry says of the live job and of the tree's calls. A key looks at a thing, a look lists folders, and what they
+-- were refused has its cause in the tree.
+abbrev pub EventLeads : Option Running → Event → Option Running → CallLog → CallLog → Type 0
+EventLeads None (Step id did) after log now = ⊥
+EventLeads (Some job) (Step id did) after log now = StepLeads job did after log now
+EventLeads job (Key key time refusals lost) after log now = (after ≡ job) × (now ≡ log) × AreRefused Stat log refusals
+EventLeads job (Look refusals) after log now = (after ≡ job) × (now ≡ log) × AreRefused ListFolder log refusals
+EventLeads job (Began id plan background) after log now = (after ≡ after_event (Began id plan background) job) × (now ≡ log)
+EventLeads job (Order id order) after log now = (after ≡ after_event (Order id order) job) × (now ≡ log)
+EventLeads job Closed after log now = (after ≡ job) × (now ≡ log)
+
+-- An entry after older ones: it leads from the live job and the log so far to these. It counts the changing calls that the
+-- session has made by its end.
+pub record Follows (opening : CallLog) (e : Entry) (older : List Entry) (was : Option Running) (before : CallLog) (job : Option Running) (now : CallLog) : Type 0 where
+  pub after : Option Running
+  pub leads : EventLeads was e.what after before now
+  pub job_is : job ≡ if_closed (is_closed (e ∷ older)) after
+  pub counts : length now.changes ≡ length opening.changes + e.calls
+
+-- The tree's log has come from the opening to this one as these entries tell, and so has the live job.
+abbrev pub IsTraced : CallLog → List Entry → Option Running → CallLog → Type 0
+IsTraced opening [] job now = (job ≡ None) × (now ≡ opening)
+IsTraced opening (e ∷ older) job now =
+    (was : Option Running) × (before : CallLog) × IsTraced opening older was before × Follows opening e older was before job now
 
 -- The same of a tree that tells what it holds: it goes on telling. One that tells nothing at the opening never does.
-abbrev pub IsTracedTo : Option CallLog → Option CallLog → List Entry → Type 0
-IsTracedTo None contents newest = contents ≡ None
-IsTracedTo (Some opening) contents newest = (now : CallLog) × (contents ≡ Some now) × IsTraced opening newest now
+abbrev pub IsTracedTo : Option CallLog → Option CallLog → List Entry → Option Running → Type 0
+IsTracedTo None contents newest job = contents ≡ None
+IsTracedTo (Some opening) contents newest job = (now : CallLog) × (contents ≡ Some now) × IsTraced opening newest job now

@@ -1,11 +1,12 @@
 //! The deletion of one file, a call of the tree at each step: its name is removed, then its folder is synced, and only
 //! then is it finished, so that a finished deletion is on the disk.
-ghost use Rattle.std.specs.Prelude.{◌≡◌, ◌≢◌, ◌≤◌, ◌↔◌, IsTrue, None, Some, Err};
+ghost use Rattle.std.specs.Prelude.{◌≡◌, Err, None, Some};
 ghost use Rattle.mc_text.specs.Routes.{parent_of};
-ghost use Rattle.copy_move.specs.Work.{begun, closed_course, trouble_at};
-ghost use Rattle.copy_move.specs.Steps.{StepsOn, calls_for};
+ghost use Rattle.file_copy.specs.Stops.{no_memory_of};
+ghost use Rattle.copy_move.specs.Deletions.{at_barrier, calls_for, skipped as skipped_to, trouble_at};
+ghost use Rattle.copy_move.specs.DeletionSteps.{DeletionSkips, DeletionStep, LastDeletionStep};
 
-use crate::history::{Cause, Did, Ending, Trouble};
+use file_copy::{Cause, Did, Ending, Stepped, Trouble};
 use mc_text::Path;
 use std::alloc::Global;
 use std::marker::Model;
@@ -18,115 +19,98 @@ pub enum Stage {
     Remove,
     /// The name is gone. Its folder is synced before the end, so that no crash brings it back after the end.
     Sync,
-    /// Nothing is left to be done.
+    /// The name is gone for good. Nothing is left to be done.
     Finish,
+    /// The file was left as it is. Nothing is left to be done.
+    PassedOver,
 }
 
-/// Whether a job goes on.
-#[derive(Clone, Copy, Debug, Drop, PartialEq, Eq)]
-pub enum Course {
-    GoesOn,
-    /// A call was refused. The job waits.
-    InTrouble,
-    /// It makes its last steps: a sync that is owed is tried once.
-    Aborts,
-}
-
-/// A job that deletes one file.
+/// The deletion of one file.
 #[derive(Debug, Drop)]
 pub struct Deletion {
-    id: u32,
     path: Path,
     folder: Path,
     stage: Stage,
-    course: Course,
 }
 
 impl Model for Deletion {
     ghost use Rattle.std.specs.Prelude.{◌≡◌, Some};
     ghost use Rattle.mc_text.specs.Routes.{parent_of};
-    ghost use Rattle.copy_move.specs.Work.{LiveJob};
+    ghost use Rattle.copy_move.specs.Deletions.{Deleting};
 
-    ghost Value = { LiveJob };
+    ghost Value = { Deleting };
 
-    ghost view = { λ d. record { id = d.id; path = d.path; stage = d.stage; course = d.course } };
+    ghost view = { λ d. record { path = d.path; stage = d.stage } };
 
     ghost invariant = { λ d. parent_of d.path ≡ Some d.folder };
 }
 
-/// What a step did, and how many changing calls of the tree it made.
-#[derive(Debug, Drop)]
-pub struct Stepped {
-    pub did: Did,
-    pub calls: u64,
-}
-
 impl Deletion {
     /// A deletion of the file at `path`, which lies in `folder`.
-    pub fn new(id: u32, path: Path, folder: Path) -> Deletion
+    pub fn new(path: Path, folder: Path) -> Deletion
         requires { parent_of path ≡ Some folder }
-        ensures { result ≡ begun id path }
+        ensures { result ≡ record { path = path; stage = Stage.Remove } }
     {
         Deletion {
-            id,
             path,
             folder,
             stage: Stage::Remove,
-            course: Course::GoesOn,
         }
     }
 
-    /// The job's number.
-    pub fn id(&self) -> u32
-        ensures { result ≡ self.now.id }
-    {
-        self.id
-    }
-
-    /// Whether the job is in trouble, and waits for an answer.
-    pub fn waits(&self) -> bool
-        ensures { IsTrue result ↔ (self.now.course ≡ Course.InTrouble) }
-    {
-        matches!(self.course, Course::InTrouble)
-    }
-
-    /// The session closes: a job that waits for an answer is aborted.
-    pub fn close(&mut self)
-        ensures { self.new ≡ record self.old { course = closed_course self.old.course } }
-    {
-        match self.course {
-            Course::GoesOn => {}
-            Course::InTrouble | Course::Aborts => self.course = Course::Aborts,
-        }
-    }
-
-    /// Does the job's next piece of work, which is at most one call of the tree. After an end the job is to be let go.
+    /// Does the next piece of work, which is at most one call of the tree.
     pub fn step<T: Tree>(&mut self, alloc: Global, tree: &mut T) -> Stepped
-        requires ready { self.old.course ≢ Course.InTrouble }
-        ensures steps { StepsOn self.old self.new result.did result.calls (T.contents tree.old)
+        ensures { DeletionStep self.old self.new result.did result.calls (T.contents tree.old)
             (T.contents tree.new) (T.fault_count tree.old) (T.fault_count tree.new) }
-        ensures one_call { result.calls ≤ 1 }
     {
-        match (self.course, self.stage) {
-            (Course::GoesOn, Stage::Remove) => self.remove(alloc, tree),
-            (Course::GoesOn, Stage::Sync) => self.sync(alloc, tree),
-            (Course::GoesOn, Stage::Finish) => without_call(ended(Ending::Finished)),
-            (Course::Aborts, Stage::Sync) => self.try_sync(alloc, tree),
-            (Course::Aborts, _) => without_call(ended(Ending::Aborted)),
-            (Course::InTrouble, _) => unreachable!(),
+        match self.stage {
+            Stage::Remove => self.remove(alloc, tree),
+            Stage::Sync => self.sync(alloc, tree),
+            Stage::Finish | Stage::PassedOver => without_call(ended(Ending::Finished)),
         }
     }
 
-    fn remove<T: Tree>(&mut self, alloc: Global, tree: &mut T) -> Stepped
-        requires course { self.old.course ≡ Course.GoesOn }
-        requires stage { self.old.stage ≡ Stage.Remove }
-        ensures steps { StepsOn self.old self.new result.did result.calls (T.contents tree.old)
+    /// The file is not deleted.
+    pub fn skip(&mut self, alloc: Global, cause: Cause) -> Did
+        ensures { DeletionSkips cause self.old result self.new }
+    {
+        let Ok(path) = self.path.copy(alloc) else {
+            return Did::Troubled(no_memory(self.is_at_barrier()));
+        };
+        self.stage = skipped(self.stage);
+        Did::Skipped(path, cause)
+    }
+
+    /// Makes the next of the last steps of a job that is to end so: a sync that is owed is tried once.
+    pub fn wind_up<T: Tree>(&mut self, alloc: Global, tree: &mut T, ending: Ending) -> Stepped
+        ensures { LastDeletionStep ending self.old self.new result.did result.calls (T.contents tree.old)
             (T.contents tree.new) (T.fault_count tree.old) (T.fault_count tree.new) }
-        ensures one_call { result.calls ≤ 1 }
+    {
+        match self.stage {
+            Stage::Sync => self.try_sync(alloc, tree, ending),
+            Stage::Remove | Stage::Finish | Stage::PassedOver => without_call(ended(ending)),
+        }
+    }
+
+    /// Whether the next call is at a barrier, where nothing can be skipped.
+    pub fn is_at_barrier(&self) -> bool
+        ensures { result ≡ at_barrier self.now.stage }
+    {
+        match self.stage {
+            Stage::Remove => false,
+            Stage::Sync | Stage::Finish | Stage::PassedOver => true,
+        }
+    }
+}
+
+impl Deletion {
+    fn remove<T: Tree>(&mut self, alloc: Global, tree: &mut T) -> Stepped
+        requires stage { self.old.stage ≡ Stage.Remove }
+        ensures { DeletionStep self.old self.new result.did result.calls (T.contents tree.old)
+            (T.contents tree.new) (T.fault_count tree.old) (T.fault_count tree.new) }
     {
         // The path of the report comes first: after the call it is too late to find no memory.
         let Ok(path) = self.path.copy(alloc) else {
-            self.course = Course::InTrouble;
             return without_call(Did::Troubled(no_memory(false)));
         };
         match tree.remove_file(alloc, &self.path) {
@@ -134,22 +118,16 @@ impl Deletion {
                 self.stage = Stage::Sync;
                 with_call(Did::Removed(path))
             }
-            Err(error) => {
-                self.course = Course::InTrouble;
-                refused(error, path, false)
-            }
+            Err(error) => refused(error, path, false),
         }
     }
 
     fn sync<T: Tree>(&mut self, alloc: Global, tree: &mut T) -> Stepped
-        requires course { self.old.course ≡ Course.GoesOn }
         requires stage { self.old.stage ≡ Stage.Sync }
-        ensures steps { StepsOn self.old self.new result.did result.calls (T.contents tree.old)
+        ensures { DeletionStep self.old self.new result.did result.calls (T.contents tree.old)
             (T.contents tree.new) (T.fault_count tree.old) (T.fault_count tree.new) }
-        ensures one_call { result.calls ≤ 1 }
     {
         let Ok(folder) = self.folder.copy(alloc) else {
-            self.course = Course::InTrouble;
             return without_call(Did::Troubled(no_memory(true)));
         };
         match tree.sync_folder(alloc, &self.folder) {
@@ -157,23 +135,31 @@ impl Deletion {
                 self.stage = Stage::Finish;
                 with_call(Did::Barrier)
             }
-            Err(error) => {
-                self.course = Course::InTrouble;
-                refused(error, folder, true)
-            }
+            Err(error) => refused(error, folder, true),
         }
     }
 
-    /// The one try of a job that is aborted.
-    fn try_sync<T: Tree>(&mut self, alloc: Global, tree: &mut T) -> Stepped
-        requires course { self.old.course ≡ Course.Aborts }
+    /// The one try of a job that is to end.
+    fn try_sync<T: Tree>(&mut self, alloc: Global, tree: &mut T, ending: Ending) -> Stepped
         requires stage { self.old.stage ≡ Stage.Sync }
-        ensures steps { StepsOn self.old self.new result.did result.calls (T.contents tree.old)
+        ensures { LastDeletionStep ending self.old self.new result.did result.calls (T.contents tree.old)
             (T.contents tree.new) (T.fault_count tree.old) (T.fault_count tree.new) }
-        ensures one_call { result.calls ≤ 1 }
     {
+        let _ending = ending;
         self.stage = Stage::Finish;
         tried(tree.sync_folder(alloc, &self.folder))
+    }
+}
+
+/// Where a deletion stands without its file.
+fn skipped(stage: Stage) -> Stage
+    ensures { result ≡ skipped_to stage }
+{
+    match stage {
+        Stage::Remove => Stage::PassedOver,
+        Stage::Sync => Stage::Sync,
+        Stage::Finish => Stage::Finish,
+        Stage::PassedOver => Stage::PassedOver,
     }
 }
 
@@ -208,7 +194,7 @@ fn ended(ending: Ending) -> Did
 
 /// Trouble for want of memory.
 fn no_memory(barrier: bool) -> Trouble
-    ensures { result ≡ record { cause = Cause.Memory; path = None; barrier = barrier } }
+    ensures { result ≡ no_memory_of barrier }
 {
     Trouble {
         cause: Cause::Memory,

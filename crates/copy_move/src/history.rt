@@ -1,81 +1,83 @@
-//! What a session writes down of itself: an entry for each key, each look, each job begun and each step of one.
+//! What a session writes down of itself: an entry for each key, each look, each job begun, each order to one and each step
+//! of one.
+use file_copy::{Cause, Did};
 use key_screen::Key;
 use mc_text::{Path, Paths};
 use std::marker::Model;
 use tree_trait::TreeError;
 
+/// A file that is to be copied, and where to.
+#[derive(Debug, Drop)]
+pub struct Pair {
+    pub source: Path,
+    pub target: Path,
+}
+
+/// Some pairs.
+#[derive(Debug, Drop)]
+pub struct Pairs(pub Vec<Pair>);
+
+impl Model for Pairs {
+    ghost use Rattle.std.specs.Prelude.{List};
+    ghost use Rattle.copy_move.specs.declared.history.Pair.{Pair};
+
+    ghost Value = { List Pair };
+
+    ghost view = { λ l. l.0.items };
+}
+
 /// A job, as it was planned.
 #[derive(Debug, Drop)]
 pub enum Job {
+    /// Copies each source to its target.
+    Copy(Pairs),
     /// Deletes these.
     Delete(Paths),
 }
 
-/// Why a job can't go on.
+/// What is done about a trouble.
 #[derive(Clone, Copy, Debug, Drop, PartialEq, Eq)]
-pub enum Cause {
-    /// A call of the tree was refused.
-    Tree(TreeError),
-    /// No memory was left.
-    Memory,
+pub enum Answer {
+    /// The call is tried again; a file whose part stands is copied anew.
+    Retry,
+    /// The file is left as it is.
+    Skip,
+    /// So is each later one that meets the same.
+    SkipAll,
+    Abort,
 }
 
-/// A job in trouble: why, at which path, and whether it stands at a barrier, where nothing can be skipped.
-#[derive(Debug, Drop)]
-pub struct Trouble {
-    pub cause: Cause,
-    pub path: Option<Path>,
-    pub barrier: bool,
-}
-
-/// How a job ended.
+/// Why an answer was not taken.
 #[derive(Clone, Copy, Debug, Drop, PartialEq, Eq)]
-pub enum Ending {
-    Finished,
-    Aborted,
-    /// There was no memory for a step's entry.
-    NoMemory,
+pub enum AnswerError {
+    /// The job is in no trouble.
+    NotAsked,
+    /// At a barrier nothing can be skipped.
+    WrongAnswer,
 }
 
-/// What a step of a job did.
+/// What a job was ordered.
+#[derive(Clone, Copy, Debug, Drop, PartialEq, Eq)]
+pub enum JobOrder {
+    Answered(Answer),
+}
+
+/// Why a plan could not be made.
 #[derive(Debug, Drop)]
-pub enum Did {
-    /// The thing at this path is gone from its folder.
-    Removed(Path),
-    /// What was changed is on the disk, or in a job's last steps its sync was tried.
-    Barrier,
-    Troubled(Trouble),
-    /// The job ended; `part` is a part file that it could not remove.
-    Ended { ending: Ending, part: Option<Path> },
+pub enum PlanError {
+    /// Something stands at the target.
+    TargetThere(Path),
+    /// The target's path would have more than 4,096 bytes.
+    TargetTooLong,
 }
 
-impl Did {
-    ghost use Rattle.std.specs.Prelude.{◌≡◌};
-    ghost use Rattle.copy_move.specs.Work.{ends};
-
-    /// Whether the job ended.
-    pub fn is_end(&self) -> bool
-        ensures { result ≡ ends self.now }
-    {
-        matches!(self, Did::Ended { .. })
-    }
-
-    /// What stands in the job's way, if it is in trouble.
-    pub fn trouble(&self) -> Option<TreeError> {
-        match self {
-            Did::Troubled(trouble) => match trouble.cause {
-                Cause::Tree(error) => Some(error),
-                Cause::Memory => Some(TreeError::Memory),
-            },
-            _ => None,
-        }
-    }
-}
-
-/// A call that a key or a look wanted and that was refused.
+/// What a key or a look wanted and was refused.
 #[derive(Debug, Drop)]
 pub enum Refusal {
+    /// This call of the tree.
     Tree(Path, TreeError),
+    /// This plan of a job.
+    Plan(PlanError),
 }
 
 /// The refusals of one key or look.
@@ -101,7 +103,7 @@ pub enum Event {
         refusals: Refusals,
         lost: bool,
     },
-    /// The panel took up what a job did, and was drawn.
+    /// The panels took up what a job did, and were drawn.
     Look {
         refusals: Refusals,
     },
@@ -109,6 +111,10 @@ pub enum Event {
         job: u32,
         plan: Job,
         background: bool,
+    },
+    Order {
+        job: u32,
+        order: JobOrder,
     },
     Step {
         job: u32,
@@ -147,4 +153,22 @@ impl Model for Entries {
 pub struct History {
     pub started: u64,
     pub entries: Entries,
+}
+
+ghost use Rattle.std.specs.Prelude.{◌≡◌};
+ghost use Rattle.copy_move.specs.Jobs.{ends};
+
+/// Whether a report is that of an end.
+pub fn is_end(did: &Did) -> bool
+    ensures { result ≡ ends did.now }
+{
+    matches!(did, Did::Ended { .. })
+}
+
+/// The cause of the trouble that a report tells of, and whether it stands at a barrier.
+pub fn trouble_of(did: &Did) -> Option<Cause> {
+    match did {
+        Did::Troubled(trouble) => Some(trouble.cause),
+        _ => None,
+    }
 }

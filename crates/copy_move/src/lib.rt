@@ -4,9 +4,14 @@
 mod deletion;
 mod history;
 mod laws;
+mod run;
+mod work;
 
-pub use deletion::{Course, Deletion, Stage, Stepped};
+pub use deletion::{Deletion, Stage};
+pub use file_copy::{Cause, Did, Ending, PartTest, Stepped, Trouble};
 pub use history::{
-    Cause, Did, Ending, Entries, Entry, Event, History, Job, Refusal, Refusals, Trouble,
+    Answer, AnswerError, Entries, Entry, Event, History, Job, JobOrder, Pair, Pairs, PlanError,
+    Refusal, Refusals, is_end, trouble_of,
 };
-pub use laws::what_a_crash_leaves_of_deletions;
+pub use run::{Course, Run};
+pub use work::Work;

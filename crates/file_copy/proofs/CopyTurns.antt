@@ -7,7 +7,7 @@ use Rattle.file_copy.specs.declared.report.Cause.{Cause}
 use Rattle.file_copy.specs.declared.report.Trouble.{Trouble}
 use Rattle.file_copy.specs.declared.report.Ending.TheVariants.{Finished, Aborted, Killed, NoMemory}
 use Rattle.file_copy.specs.declared.report.Did.{Did}
-use Rattle.file_copy.specs.declared.report.Did.TheVariants.{Began, Chunk, Placed, Skipped, Cleaned, Barrier, Troubled, Ended}
+use Rattle.file_copy.specs.declared.report.Did.TheVariants.{Began, Chunk, Placed, Removed, Skipped, Cleaned, Barrier, Troubled, Ended}
 use Rattle.file_copy.specs.declared.stage.Said.{Said}
 use Rattle.file_copy.specs.declared.stage.Next.{Next}
 use Rattle.file_copy.specs.declared.stage.Next.TheVariants as next
@@ -185,6 +185,7 @@ module _ (unclaimed : Route → Type 0) (start : Start) where
     step_goes (Ended Aborted part) tells calls = absurd tells
     step_goes (Ended Killed part) tells calls = absurd tells
     step_goes (Ended NoMemory part) tells calls = absurd tells
+    step_goes (Removed path) tells calls = absurd tells
     step_goes (Skipped path cause) tells calls = absurd tells
 
   -- a skip, or a retry

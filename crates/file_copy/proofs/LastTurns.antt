@@ -6,7 +6,7 @@ use Rattle.tree_trait.specs.Change.{CallLog}
 use Rattle.tree_trait.proofs.Ending.{Performs-err}
 use Rattle.file_copy.specs.declared.report.Ending.{Ending}
 use Rattle.file_copy.specs.declared.report.Did.{Did}
-use Rattle.file_copy.specs.declared.report.Did.TheVariants.{Began, Chunk, Placed, Skipped, Cleaned, Barrier, Troubled, Ended}
+use Rattle.file_copy.specs.declared.report.Did.TheVariants.{Began, Chunk, Placed, Removed, Skipped, Cleaned, Barrier, Troubled, Ended}
 use Rattle.file_copy.specs.declared.stage.Stage.{Stage}
 use Rattle.file_copy.specs.declared.stage.Stage.TheVariants.{Begin, Fill, Clean, Left, Decided}
 use Rattle.file_copy.specs.declared.stage.FolderState.{FolderState}
@@ -92,6 +92,7 @@ module _ (start : Start) where
   last_goes older ending (Began part) stage folder log after new st winds calls = absurd winds
   last_goes older ending (Chunk count) stage folder log after new st winds calls = absurd winds
   last_goes older ending (Placed path) stage folder log after new st winds calls = absurd winds
+  last_goes older ending (Removed path) stage folder log after new st winds calls = absurd winds
   last_goes older ending (Skipped path cause) stage folder log after new st winds calls = absurd winds
   last_goes older ending (Troubled trouble) stage folder log after new st winds calls = absurd winds
 

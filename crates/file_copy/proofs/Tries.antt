@@ -8,7 +8,7 @@ use Rattle.tree_trait.specs.Change.{CallLog}
 use Rattle.tree_trait.specs.Answers.{IfKnown, HasCause, Performs}
 use Rattle.file_copy.specs.declared.report.Ending.{Ending}
 use Rattle.file_copy.specs.declared.report.Did.{Did}
-use Rattle.file_copy.specs.declared.report.Did.TheVariants.{Began, Chunk, Placed, Skipped, Cleaned, Barrier, Troubled, Ended}
+use Rattle.file_copy.specs.declared.report.Did.TheVariants.{Began, Chunk, Placed, Removed, Skipped, Cleaned, Barrier, Troubled, Ended}
 use Rattle.file_copy.specs.declared.stage.Stage.{Stage}
 use Rattle.file_copy.specs.declared.stage.Stage.TheVariants.{Begin, Fill, Clean, Left, Decided}
 use Rattle.file_copy.specs.declared.stage.FolderState.{FolderState}
@@ -165,5 +165,6 @@ winds_sound ending c new (Ended how part) w = subst (λ (n : Copying). IsSound n
 winds_sound ending c new (Began part) w = absurd w
 winds_sound ending c new (Chunk count) w = absurd w
 winds_sound ending c new (Placed path) w = absurd w
+winds_sound ending c new (Removed path) w = absurd w
 winds_sound ending c new (Skipped path cause) w = absurd w
 winds_sound ending c new (Troubled trouble) w = absurd w

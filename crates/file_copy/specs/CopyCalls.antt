@@ -7,7 +7,7 @@ use Rattle.tree_trait.specs.Change.{CallLog, current}
 use Rattle.file_copy.specs.declared.report.Cause.{Cause}
 use Rattle.file_copy.specs.declared.report.Cause.TheVariants.{Tree, TargetKind, SpecialSource, PartTaken, TooLong, Changed, Memory}
 use Rattle.file_copy.specs.declared.report.Did.{Did}
-use Rattle.file_copy.specs.declared.report.Did.TheVariants.{Began, Chunk, Placed, Skipped, Cleaned, Barrier, Troubled, Ended}
+use Rattle.file_copy.specs.declared.report.Did.TheVariants.{Began, Chunk, Placed, Removed, Skipped, Cleaned, Barrier, Troubled, Ended}
 use Rattle.file_copy.specs.declared.stage.Said.{Said}
 use Rattle.file_copy.specs.declared.stage.Stage.{Stage}
 use Rattle.file_copy.specs.declared.stage.Stage.TheVariants.{Begin, Fill, Clean, Left, Decided}
@@ -99,5 +99,6 @@ CopyCalls unclaimed c (Placed path) new log after =
 CopyCalls unclaimed c (Cleaned part) new log after = AllDone log (RemoveFile part ∷ []) after
 CopyCalls unclaimed c Barrier new log after = AllDone log (SyncFolder (folder_of c.target) ∷ []) after
 CopyCalls unclaimed c (Troubled trouble) new log after = CopyStops unclaimed (places_of c) c.stage trouble.cause trouble.path log after
+CopyCalls unclaimed c (Removed path) new log after = ⊥
 CopyCalls unclaimed c (Skipped path cause) new log after = after ≡ Some log
 CopyCalls unclaimed c (Ended ending part) new log after = after ≡ Some log

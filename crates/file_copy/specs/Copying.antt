@@ -3,7 +3,7 @@ use Rattle.std.specs.Prelude.{◌≡◌, ℕ, ◌+◌, ◌-◌, ◌^◌, ◌≤�
 use Rattle.mc_text.specs.Routes.{Route}
 use Rattle.file_copy.specs.declared.report.Ending.TheVariants.{Finished}
 use Rattle.file_copy.specs.declared.report.Did.{Did}
-use Rattle.file_copy.specs.declared.report.Did.TheVariants.{Began, Chunk, Placed, Skipped, Cleaned, Barrier, Troubled, Ended}
+use Rattle.file_copy.specs.declared.report.Did.TheVariants.{Began, Chunk, Placed, Removed, Skipped, Cleaned, Barrier, Troubled, Ended}
 use Rattle.file_copy.specs.declared.stage.Said.{Said}
 use Rattle.file_copy.specs.declared.stage.Next.{Next}
 use Rattle.file_copy.specs.declared.stage.Next.TheVariants as next
@@ -94,6 +94,7 @@ Tells c Barrier new = (c.stage ≡ Decided) × (c.folder ≡ Dirty) × (new ≡ 
 Tells c (Troubled trouble) new = (trouble.barrier ≡ at_barrier c.stage) × (new ≡ c)
 Tells c (Ended Finished part) new = (c.stage ≡ Decided) × (c.folder ≡ Synced) × (part ≡ None) × (new ≡ c)
 Tells c (Ended ending part) new = ⊥
+Tells c (Removed path) new = ⊥
 Tells c (Skipped path cause) new = ⊥
 
 -- a file that is skipped is not copied; a part that stands is to be removed

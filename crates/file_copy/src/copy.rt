@@ -1,7 +1,7 @@
 //! The copy of one file, a piece of work at each step.
 ghost use Rattle.std.specs.Prelude.{◌≡◌, None, Some, true, option_map};
 ghost use Rattle.mc_text.specs.Routes.{parent_of};
-ghost use Rattle.file_copy.specs.Copying.{at_barrier, begun, part_at, skipped as skipped_to, taken_anew as stage_anew};
+ghost use Rattle.file_copy.specs.Copying.{IsSound, at_barrier, begun, part_at, skipped as skipped_to, taken_anew as stage_anew};
 ghost use Rattle.file_copy.specs.CopySteps.{Skips, StepsOn};
 ghost use Rattle.file_copy.specs.LastSteps.{WindsOn, left_at};
 
@@ -70,12 +70,32 @@ impl FileCopy {
         }
     }
 
+    /// The part that stands, where the copy is given up.
+    pub fn into_part(self) -> Option<Path>
+        ensures { result ≡ part_at self.stage }
+    {
+        let FileCopy {
+            item: _,
+            stage,
+            folder: _,
+        } = self;
+        part_in(stage)
+    }
+
+    /// Whether the next call is at a barrier, where nothing can be skipped.
+    pub fn is_at_barrier(&self) -> bool
+        ensures { result ≡ at_barrier self.now.stage }
+    {
+        is_at_barrier(&self.stage)
+    }
+
     /// Does the next piece of work.
     pub fn step<T: Tree, P: PartTest>(&mut self, alloc: Global, tree: &mut T, parts: &P) -> Stepped
         requires { left_at self.old.stage ≡ None }
         ensures steps { StepsOn (λ path. P.is_free parts.now path ≡ true) self.old self.new result.did result.calls
             (T.contents tree.old) (T.contents tree.new) (T.fault_count tree.old) (T.fault_count tree.new) }
         ensures ready { left_at self.new.stage ≡ None }
+        ensures sound { IsSound self.new.stage self.new.folder }
     {
         let stage = mem::replace(&mut self.stage, Stage::Decided);
         let moved = work(alloc, tree, parts, &self.item, stage, self.folder);
@@ -120,6 +140,19 @@ impl FileCopy {
             did: moved.did,
             calls: moved.calls,
         }
+    }
+}
+
+/// The part that a stage has.
+fn part_in(stage: Stage) -> Option<Path>
+    ensures { result ≡ part_at stage }
+{
+    match stage {
+        Stage::Fill { part, .. } => Some(part),
+        Stage::Clean { part, .. } => Some(part),
+        Stage::Left { part } => Some(part),
+        Stage::Begin => None,
+        Stage::Decided => None,
     }
 }
 

@@ -48,6 +48,8 @@ pub enum Did {
     Chunk(u32),
     /// The part was renamed to this path, with all bytes and the mode of the source.
     Placed(Path),
+    /// The thing at this path is gone from its folder.
+    Removed(Path),
     /// The source at this path was left as it is.
     Skipped(Path, Cause),
     /// The part at this path was removed.

@@ -1,0 +1,210 @@
+-- A live job: what it does, how far it is, and whether it goes on; what a step of it may report, and what that says of the
+-- tree's calls.
+use Rattle.std.specs.Prelude.{◌≡◌, ◌⊎◌, ℕ, ⊤, Bool, true, false, ◌&&◌, is_some, if◌then◌else◌, [], ◌∷◌, Option, Some, None}
+use Rattle.mc_text.specs.Routes.{Route, parent_of}
+use Rattle.tree_trait.specs.Change.{CallLog}
+use Rattle.file_copy.specs.declared.report.Cause.{Cause}
+use Rattle.file_copy.specs.declared.report.Cause.TheVariants.{Memory}
+use Rattle.file_copy.specs.declared.report.Ending.{Ending}
+use Rattle.file_copy.specs.declared.report.Ending.TheVariants.{Aborted}
+use Rattle.file_copy.specs.declared.report.Did.{Did}
+use Rattle.file_copy.specs.declared.report.Did.TheVariants.{Began, Chunk, Placed, Removed, Skipped, Cleaned, Barrier, Troubled, Ended}
+use Rattle.file_copy.specs.Copying.{begun}
+use Rattle.file_copy.specs.Copying as copying
+use Rattle.file_copy.specs.CopyCalls.{CopyCalls}
+use Rattle.file_copy.specs.LastSteps as last
+use Rattle.file_copy.specs.Stops.{no_memory_of}
+use Rattle.copy_move.specs.declared.history.Job.{Job}
+use Rattle.copy_move.specs.declared.history.Job.TheVariants as plan
+use Rattle.copy_move.specs.declared.history.Answer.{Answer}
+use Rattle.copy_move.specs.declared.history.Answer.TheVariants.{Retry, Skip, SkipAll, Abort}
+use Rattle.copy_move.specs.declared.deletion.Stage.TheVariants.{Remove}
+use Rattle.copy_move.specs.declared.work.Work.{Work}
+use Rattle.copy_move.specs.declared.work.Work.TheVariants.{Copy, Delete}
+use Rattle.copy_move.specs.declared.run.Course.{Course}
+use Rattle.copy_move.specs.declared.run.Course.TheVariants.{GoesOn, InTrouble, Skips, Ends}
+use Rattle.copy_move.specs.Deletions.{DeletionCalls, LastCalls}
+use Rattle.copy_move.specs.Deletions as deletions
+
+-- a live job: its number, what it does, and whether it goes on
+pub record Running : Type 0 where
+  pub id : ℕ
+  pub work : Work
+  pub course : Course
+
+-- the copy of a file, just begun
+abbrev pub copies : ℕ → Route → Route → Work
+copies id source target = Copy (begun id source target)
+
+-- the deletion of a file, just begun
+abbrev pub deletes : Route → Work
+deletes path = Delete (record { path = path; stage = Remove })
+
+-- The work of a job of one file. Other plans aren't worked yet; and the root, which no folder holds, is neither deleted nor
+-- copied.
+abbrev pub first_work : ℕ → Job → Option Work
+first_work id (plan.Delete []) = None
+first_work id (plan.Delete (path ∷ [])) = if is_some (parent_of path) then Some (deletes path) else None
+first_work id (plan.Delete (path ∷ more ∷ paths)) = None
+first_work id (plan.Copy []) = None
+first_work id (plan.Copy (pair ∷ [])) =
+    if is_some (parent_of pair.source) && is_some (parent_of pair.target) then Some (copies id pair.source pair.target) else None
+first_work id (plan.Copy (pair ∷ more ∷ pairs)) = None
+
+-- the report is that of an end
+abbrev pub ends : Did → Bool
+ends (Ended ending part) = true
+ends (Began part) = false
+ends (Chunk count) = false
+ends (Placed path) = false
+ends (Removed path) = false
+ends (Skipped path cause) = false
+ends (Cleaned part) = false
+ends Barrier = false
+ends (Troubled trouble) = false
+
+-- what a job works on: the file that is copied or deleted
+abbrev pub file_of : Work → Route
+file_of (Copy c) = c.source
+file_of (Delete d) = d.path
+
+-- the next call is at a barrier, where nothing can be skipped
+abbrev pub at_barrier : Work → Bool
+at_barrier (Copy c) = copying.at_barrier c.stage
+at_barrier (Delete d) = deletions.at_barrier d.stage
+
+-- the work without the file
+abbrev pub skipped : Work → Work
+skipped (Copy c) = Copy (record c { stage = copying.skipped c.stage })
+skipped (Delete d) = Delete (record d { stage = deletions.skipped d.stage })
+
+-- the work taken up once more after a trouble; a deletion tries its call again
+abbrev pub taken_anew : Work → Work
+taken_anew (Copy c) = Copy (record c { stage = copying.taken_anew c.stage })
+taken_anew (Delete d) = Delete d
+
+-- the part that stands
+abbrev pub part_of : Work → Option Route
+part_of (Copy c) = copying.part_at c.stage
+part_of (Delete d) = None
+
+-- work that goes on: no part of it was left in last steps
+abbrev pub IsGoing : Work → Type 0
+IsGoing (Copy c) = last.left_at c.stage ≡ None
+IsGoing (Delete d) = ⊤
+
+-- only a job that makes its last steps leaves a part
+abbrev pub IsSound : Course → Work → Type 0
+IsSound GoesOn work = IsGoing work
+IsSound (InTrouble cause) work = IsGoing work
+IsSound (Skips cause) work = IsGoing work
+IsSound (Ends ending) work = ⊤
+
+-- what a step of the work may report that goes on, and where the work stands then
+abbrev pub WorkTells : Work → Did → Work → Type 0
+WorkTells (Copy c) did (Copy new) = copying.Tells c did new
+WorkTells (Copy c) did (Delete new) = ⊥
+WorkTells (Delete d) did (Copy new) = ⊥
+WorkTells (Delete d) did (Delete new) = deletions.Tells d did new
+
+-- the same of a last step
+abbrev pub WorkWinds : Ending → Work → Did → Work → Type 0
+WorkWinds ending (Copy c) did (Copy new) = last.Winds ending c did new
+WorkWinds ending (Copy c) did (Delete new) = ⊥
+WorkWinds ending (Delete d) did (Copy new) = ⊥
+WorkWinds ending (Delete d) did (Delete new) = deletions.Winds ending d did new
+
+-- a job whose call was refused waits for an answer, else it goes on
+abbrev pub course_after : Did → Course
+course_after (Troubled trouble) = InTrouble trouble.cause
+course_after (Began part) = GoesOn
+course_after (Chunk count) = GoesOn
+course_after (Placed path) = GoesOn
+course_after (Removed path) = GoesOn
+course_after (Skipped path cause) = GoesOn
+course_after (Cleaned part) = GoesOn
+course_after Barrier = GoesOn
+course_after (Ended ending part) = GoesOn
+
+-- What a step may report of a job that goes so, and what the job is then. A file that is to be skipped is reported with the
+-- cause of its trouble, or there is no memory for the report.
+abbrev pub TellsOn : Course → Running → Did → Running → Type 0
+TellsOn GoesOn job did new = (work : Work) × WorkTells job.work did work × (new ≡ record job { work = work; course = course_after did })
+TellsOn (InTrouble cause) job did new = ⊥
+TellsOn (Skips cause) job did new =
+    ((did ≡ Skipped (file_of job.work) cause) × (new ≡ record job { work = skipped job.work; course = GoesOn }))
+    ⊎ ((did ≡ Troubled (no_memory_of (at_barrier job.work))) × (new ≡ record job { course = InTrouble Memory }))
+TellsOn (Ends ending) job did new = (work : Work) × WorkWinds ending job.work did work × (new ≡ record job { work = work })
+
+abbrev pub JobTells : Running → Did → Running → Type 0
+JobTells job did new = TellsOn job.course job did new
+
+-- what a step of the work says of the tree's calls; a part may have the paths that no other job claims
+abbrev pub WorkCalls : (Route → Type 0) → Work → Did → Work → CallLog → Option CallLog → Type 0
+WorkCalls unclaimed (Copy c) did (Copy new) log after = CopyCalls unclaimed c did new log after
+WorkCalls unclaimed (Copy c) did (Delete new) log after = ⊥
+WorkCalls unclaimed (Delete d) did new log after = DeletionCalls d did log after
+
+-- the same of a last step
+abbrev pub WorkLastCalls : Work → Did → CallLog → Option CallLog → Type 0
+WorkLastCalls (Copy c) did log after = last.WindCalls c did log after
+WorkLastCalls (Delete d) did log after = LastCalls d did log after
+
+-- What a step of a job says of the tree's calls. The report of a skip makes none.
+abbrev pub CallsOn : (Route → Type 0) → Course → Running → Did → Running → CallLog → Option CallLog → Type 0
+CallsOn unclaimed GoesOn job did new log after = WorkCalls unclaimed job.work did new.work log after
+CallsOn unclaimed (InTrouble cause) job did new log after = ⊥
+CallsOn unclaimed (Skips cause) job did new log after = after ≡ Some log
+CallsOn unclaimed (Ends ending) job did new log after = WorkLastCalls job.work did log after
+
+abbrev pub JobCalls : (Route → Type 0) → Running → Did → Running → CallLog → Option CallLog → Type 0
+JobCalls unclaimed job did new log after = CallsOn unclaimed job.course job did new log after
+
+-- an answer to a trouble, as it makes a job go on
+abbrev pub answered_on : Course → Answer → Running → Running
+answered_on (InTrouble cause) Retry job = record job { work = taken_anew job.work; course = GoesOn }
+answered_on (InTrouble cause) Skip job = record job { course = Skips cause }
+answered_on (InTrouble cause) SkipAll job = record job { course = Skips cause }
+answered_on (InTrouble cause) Abort job = record job { course = Ends Aborted }
+answered_on GoesOn answer job = job
+answered_on (Skips cause) answer job = job
+answered_on (Ends ending) answer job = job
+
+abbrev pub answered : Answer → Running → Running
+answered answer job = answered_on job.course answer job
+
+-- these pass over what is in trouble
+abbrev pub passes_over : Answer → Bool
+passes_over Skip = true
+passes_over SkipAll = true
+passes_over Retry = false
+passes_over Abort = false
+
+-- a job waits for an answer
+abbrev pub waits_on : Course → Bool
+waits_on (InTrouble cause) = true
+waits_on GoesOn = false
+waits_on (Skips cause) = false
+waits_on (Ends ending) = false
+
+-- a trouble can be answered so: at a barrier nothing is passed over
+pub record MayAnswer (job : Running) (answer : Answer) : Type 0 where
+  pub waits : waits_on job.course ≡ true
+  pub fits : passes_over answer ≡ true → at_barrier job.work ≡ false
+
+-- a job is ordered to end so; one that makes its last steps already ends as it was ordered first
+abbrev pub ended_course : Ending → Course → Course
+ended_course ending GoesOn = Ends ending
+ended_course ending (InTrouble cause) = Ends ending
+ended_course ending (Skips cause) = Ends ending
+ended_course ending (Ends first) = Ends first
+
+-- a job that waits for an answer is aborted when the session closes, and one that would wait later too
+abbrev pub closed_course : Course → Course
+closed_course GoesOn = GoesOn
+closed_course (InTrouble cause) = Ends Aborted
+closed_course (Skips cause) = Skips cause
+closed_course (Ends ending) = Ends ending
+
+abbrev pub closed_job : Running → Running
+closed_job job = record job { course = closed_course job.course }

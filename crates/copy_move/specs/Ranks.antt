@@ -1,0 +1,59 @@
+-- How many steps a job makes at most before its end or its next trouble. Each step leaves fewer.
+use Rattle.std.specs.Prelude.{ℕ, ◌+◌, ◌-◌, ◌^◌, Option, Some, None}
+use Rattle.file_copy.specs.declared.stage.Stage.{Stage}
+use Rattle.file_copy.specs.declared.stage.Stage.TheVariants.{Begin, Fill, Clean, Left, Decided}
+use Rattle.file_copy.specs.declared.stage.Next.TheVariants as next
+use Rattle.file_copy.specs.declared.stage.FolderState.{FolderState}
+use Rattle.file_copy.specs.declared.stage.FolderState.TheVariants.{Synced, Dirty}
+use Rattle.file_copy.specs.LastSteps.{last_steps}
+use Rattle.copy_move.specs.declared.deletion.Stage.{Stage as DeletionStage}
+use Rattle.copy_move.specs.declared.deletion.Stage.TheVariants as deletion
+use Rattle.copy_move.specs.declared.work.Work.{Work}
+use Rattle.copy_move.specs.declared.work.Work.TheVariants.{Copy, Delete}
+use Rattle.copy_move.specs.declared.run.Course.{Course}
+use Rattle.copy_move.specs.declared.run.Course.TheVariants.{GoesOn, InTrouble, Skips, Ends}
+use Rattle.copy_move.specs.Jobs.{Running}
+
+-- of a copy that goes on: a file has at most 2^63 bytes, and each chunk at least one; at last three steps more, if it is
+-- aborted
+abbrev pub copy_rank : Stage → FolderState → ℕ
+copy_rank Begin folder = 2 ^ 63 + 8
+copy_rank (Fill part said done) folder = (said.size - done) + 7
+copy_rank (Clean part next.Begin) folder = 2 ^ 63 + 9
+copy_rank (Clean part next.Decided) folder = 6
+copy_rank (Left part) folder = 4
+copy_rank Decided Dirty = 5
+copy_rank Decided Synced = 4
+
+-- of a deletion that goes on
+abbrev pub deletion_rank : DeletionStage → ℕ
+deletion_rank deletion.Remove = 6
+deletion_rank deletion.Sync = 5
+deletion_rank deletion.Finish = 4
+deletion_rank deletion.PassedOver = 4
+
+-- the last steps of a deletion
+abbrev pub last_deletion_steps : DeletionStage → ℕ
+last_deletion_steps deletion.Remove = 1
+last_deletion_steps deletion.Sync = 2
+last_deletion_steps deletion.Finish = 1
+last_deletion_steps deletion.PassedOver = 1
+
+abbrev pub work_rank : Work → ℕ
+work_rank (Copy c) = copy_rank c.stage c.folder
+work_rank (Delete d) = deletion_rank d.stage
+
+abbrev pub last_rank : Work → ℕ
+last_rank (Copy c) = last_steps c.stage c.folder
+last_rank (Delete d) = last_deletion_steps d.stage
+
+-- a job that waits counts as one that is aborted
+abbrev pub rank_on : Course → Work → ℕ
+rank_on GoesOn work = work_rank work
+rank_on (InTrouble cause) work = last_rank work
+rank_on (Skips cause) work = 10
+rank_on (Ends ending) work = last_rank work
+
+abbrev pub rank : Option Running → ℕ
+rank None = 0
+rank (Some job) = rank_on job.course job.work

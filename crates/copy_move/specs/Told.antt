@@ -1,0 +1,152 @@
+-- What a history tells of its jobs: the live one, but for the size and the mode that a copy's source was said to have and
+-- how many of its bytes were copied. Histories stand newest first here.
+use Rattle.std.specs.Prelude.{◌≡◌, ◌⊎◌, ℕ, Bool, true, false, ◌||◌, List, [], ◌∷◌, Option, Some, None, option_and_then}
+use Rattle.std.specs.Option.{option_map}
+use Rattle.mc_text.specs.Routes.{Route}
+use Rattle.file_copy.specs.declared.report.Ending.TheVariants.{NoMemory}
+use Rattle.file_copy.specs.declared.report.Did.{Did}
+use Rattle.file_copy.specs.declared.report.Did.TheVariants.{Began, Chunk, Placed, Removed, Skipped, Cleaned, Barrier, Troubled, Ended}
+use Rattle.file_copy.specs.declared.stage.Said.{Said}
+use Rattle.file_copy.specs.declared.stage.Stage.{Stage}
+use Rattle.file_copy.specs.declared.stage.Stage.TheVariants as at
+use Rattle.file_copy.specs.declared.stage.FolderState.TheVariants.{Synced, Dirty}
+use Rattle.file_copy.specs.Copying.{after_clean}
+use Rattle.file_copy.specs.LastSteps.{given_up}
+use Rattle.copy_move.specs.declared.history.Event.{Event}
+use Rattle.copy_move.specs.declared.history.Event.TheVariants.{Key, Look, Order, Step, Closed}
+use Rattle.copy_move.specs.declared.history.Event.TheVariants as event
+use Rattle.copy_move.specs.declared.history.JobOrder.{JobOrder}
+use Rattle.copy_move.specs.declared.history.JobOrder.TheVariants.{Answered}
+use Rattle.copy_move.specs.declared.history.Entry.{Entry}
+use Rattle.copy_move.specs.declared.deletion.Stage.TheVariants as deletion
+use Rattle.copy_move.specs.declared.work.Work.{Work}
+use Rattle.copy_move.specs.declared.work.Work.TheVariants.{Copy, Delete}
+use Rattle.copy_move.specs.declared.run.Course.{Course}
+use Rattle.copy_move.specs.declared.run.Course.TheVariants.{GoesOn, InTrouble, Skips, Ends}
+use Rattle.copy_move.specs.Jobs.{Running, JobTells, answered, answered_on, closed_job, course_after, first_work, part_of, skipped, waits_on}
+
+-- what no history tells
+abbrev pub unsaid : Said
+unsaid = record { size = 0; mode = 0 }
+
+-- a copy's place in its work, as its history tells it
+abbrev pub stage_told : Stage → Stage
+stage_told (at.Fill part said done) = at.Fill part unsaid 0
+stage_told at.Begin = at.Begin
+stage_told (at.Clean part follows) = at.Clean part follows
+stage_told (at.Left part) = at.Left part
+stage_told at.Decided = at.Decided
+
+abbrev pub work_told : Work → Work
+work_told (Copy c) = Copy (record c { stage = stage_told c.stage })
+work_told (Delete d) = Delete d
+
+-- a job as its history tells it
+abbrev pub told : Running → Running
+told job = record job { work = work_told job.work }
+
+-- the work once a part stands
+abbrev pub with_part : Route → Work → Work
+with_part part (Copy c) = Copy (record c { stage = at.Fill part unsaid 0; folder = Dirty })
+with_part part (Delete d) = Delete d
+
+-- the work once its file was placed
+abbrev pub placed : Work → Work
+placed (Copy c) = Copy (record c { stage = at.Decided })
+placed (Delete d) = Delete d
+
+-- the work once its file was removed
+abbrev pub removed : Work → Work
+removed (Copy c) = Copy c
+removed (Delete d) = Delete (record d { stage = deletion.Sync })
+
+-- where a copy stands once its part was removed; in its last steps it is done then
+abbrev pub cleaned_stage : Course → Stage → Stage
+cleaned_stage GoesOn (at.Clean part follows) = after_clean follows
+cleaned_stage course stage = at.Decided
+
+abbrev pub cleaned : Course → Work → Work
+cleaned course (Copy c) = Copy (record c { stage = cleaned_stage course c.stage })
+cleaned course (Delete d) = Delete d
+
+-- the work once its folder was synced, or its sync was tried; a part that stands then has had its try
+abbrev pub synced : Work → Work
+synced (Copy c) = Copy (record c { stage = given_up c.stage; folder = Synced })
+synced (Delete d) = Delete (record d { stage = deletion.Finish })
+
+-- the job after a step
+abbrev pub after_step : Did → Running → Option Running
+after_step (Began part) job = Some (record job { work = with_part part job.work })
+after_step (Chunk count) job = Some job
+after_step (Placed path) job = Some (record job { work = placed job.work })
+after_step (Removed path) job = Some (record job { work = removed job.work })
+after_step (Skipped path cause) job = Some (record job { work = skipped job.work; course = GoesOn })
+after_step (Cleaned part) job = Some (record job { work = cleaned job.course job.work })
+after_step Barrier job = Some (record job { work = synced job.work })
+after_step (Troubled trouble) job = Some (record job { course = InTrouble trouble.cause })
+after_step (Ended ending part) job = None
+
+-- a job just begun
+abbrev pub running : ℕ → Work → Running
+running id work = record { id = id; work = work; course = GoesOn }
+
+-- the live job after an event
+abbrev pub after_event : Event → Option Running → Option Running
+after_event (event.Began id plan background) job = option_map (running id) (first_work id plan)
+after_event (Order id (Answered answer)) job = option_map (answered answer) job
+after_event (Step id did) job = option_and_then (after_step did) job
+after_event Closed job = job
+after_event (Key key now refusals lost) job = job
+after_event (Look refusals) job = job
+
+abbrev pub closes : Event → Bool
+closes Closed = true
+closes (Key key now refusals lost) = false
+closes (Look refusals) = false
+closes (event.Began id plan background) = false
+closes (Order id order) = false
+closes (Step id did) = false
+
+abbrev pub if_closed : Bool → Option Running → Option Running
+if_closed true job = option_map closed_job job
+if_closed false job = job
+
+-- the session is closed after these entries
+abbrev pub is_closed : List Entry → Bool
+is_closed [] = false
+is_closed (e ∷ older) = closes e.what || is_closed older
+
+-- the live job after these entries
+abbrev pub live_job : List Entry → Option Running
+live_job [] = None
+live_job (e ∷ older) = if_closed (is_closed (e ∷ older)) (after_event e.what (live_job older))
+
+abbrev pub id_after : Event → ℕ → ℕ
+id_after (event.Began id plan background) before = id
+id_after (Key key now refusals lost) before = before
+id_after (Look refusals) before = before
+id_after (Order id order) before = before
+id_after (Step id did) before = before
+id_after Closed before = before
+
+-- the number of the job that these entries began last, or 0
+abbrev pub last_id : List Entry → ℕ
+last_id [] = 0
+last_id (e ∷ older) = id_after e.what (last_id older)
+
+-- some job of which the history tells this much may report it
+abbrev pub Reports : Running → Did → Type 0
+Reports job did = (old : Running) × (new : Running) × (told old ≡ job) × JobTells old did new
+
+-- any job that waits for nothing may end for want of memory, and names the part that stands then
+abbrev pub EndsWithoutMemory : Running → Did → Type 0
+EndsWithoutMemory job did = (waits_on job.course ≡ false) × (did ≡ Ended NoMemory (part_of job.work))
+
+-- a step that a job may report, as far as its history tells
+abbrev pub IsAllowedStep : Running → Did → Type 0
+IsAllowedStep job did = Reports job did ⊎ EndsWithoutMemory job did
+
+-- a live job that waits for nothing
+abbrev pub IsReady : Option Running → Type 0
+IsReady None = ⊥
+IsReady (Some job) = waits_on job.course ≡ false

@@ -1,0 +1,241 @@
+//! A job that is worked, step by step: it does its work, waits in a trouble for an answer, and makes its last steps where it
+//! is to end early.
+ghost use Rattle.std.specs.Prelude.{◌≡◌, Err, IfOk, IsSome, OnErr, OnOk, Some, false, option_map, true};
+ghost use Rattle.copy_move.specs.Jobs.{IsGoing, MayAnswer, answered, at_barrier, closed_job, course_after, ended_course, first_work, part_of, passes_over, waits_on};
+ghost use Rattle.copy_move.specs.Steps.{SkipSteps, StepsOn};
+ghost use Rattle.copy_move.specs.Told.{running};
+
+use crate::deletion::Deletion;
+use crate::history::{Answer, AnswerError, Job, Pairs};
+use crate::work::Work;
+use file_copy::{Cause, Did, Ending, FileCopy, PartTest, Stepped};
+use mc_text::{NoMemory, Path, Paths};
+use std::alloc::Global;
+use std::marker::Model;
+use tree_trait::Tree;
+
+/// Whether a job goes on.
+#[derive(Clone, Copy, Debug, Drop, PartialEq, Eq)]
+pub enum Course {
+    GoesOn,
+    /// A call was refused, or there was no memory. The job waits for an answer.
+    InTrouble(Cause),
+    /// Its file is to be left as it is, since this stood in the way.
+    Skips(Cause),
+    /// It makes its last steps, and then it ends so.
+    Ends(Ending),
+}
+
+/// A job that is worked.
+#[derive(Debug, Drop)]
+pub struct Run {
+    id: u32,
+    work: Work,
+    course: Course,
+}
+
+impl Model for Run {
+    ghost use Rattle.copy_move.specs.Jobs.{Running, IsSound};
+
+    ghost Value = { Running };
+
+    ghost view = { λ r. record { id = r.id; work = r.work; course = r.course } };
+
+    ghost invariant = { λ r. IsSound r.course r.work };
+}
+
+impl Run {
+    /// Starts a job of one file, which isn't the root.
+    pub fn start(alloc: Global, job: &Job, id: u32) -> Result<Run, NoMemory>
+        requires sound { IsSome (first_work id job.now) }
+        ensures started { IfOk result (λ run. option_map (running id) (first_work id job.now) ≡ Some run) }
+    {
+        let work = match job {
+            Job::Copy(pairs) => copy_of(alloc, pairs, id)?,
+            Job::Delete(paths) => deletion_of(alloc, paths)?,
+        };
+        Ok(Run {
+            id,
+            work,
+            course: Course::GoesOn,
+        })
+    }
+
+    /// The job's number.
+    pub fn id(&self) -> u32
+        ensures { result ≡ self.now.id }
+    {
+        self.id
+    }
+
+    /// Whether the job is in trouble, and waits for an answer.
+    pub fn waits(&self) -> bool
+        ensures { result ≡ waits_on self.now.course }
+    {
+        matches!(self.course, Course::InTrouble(_))
+    }
+
+    /// Whether its next call is at a barrier, where nothing can be skipped.
+    pub fn is_at_barrier(&self) -> bool
+        ensures { result ≡ at_barrier self.now.work }
+    {
+        self.work.is_at_barrier()
+    }
+
+    /// The part that stands.
+    pub fn part(&self) -> Option<&Path>
+        ensures { option_map (λ part. part.now) result ≡ part_of self.now.work }
+    {
+        self.work.part()
+    }
+
+    /// Makes the job's next step. After an end the job is to be let go.
+    pub fn step<T: Tree, P: PartTest>(&mut self, alloc: Global, tree: &mut T, parts: &P) -> Stepped
+        requires ready { waits_on self.old.course ≡ false }
+        ensures steps { StepsOn (λ path. P.is_free parts.now path ≡ true) self.old self.new result.did result.calls
+            (T.contents tree.old) (T.contents tree.new) (T.fault_count tree.old) (T.fault_count tree.new) }
+    {
+        match self.course {
+            Course::GoesOn => self.go_on(alloc, tree, parts),
+            Course::Skips(cause) => self.skip(alloc, cause),
+            Course::Ends(ending) => self.work.wind_up(alloc, tree, ending),
+            Course::InTrouble(_) => unreachable!(),
+        }
+    }
+
+    /// Answers the trouble. `NotAsked` where the job is in none, `WrongAnswer` where it would pass over a barrier; the job
+    /// is as it was then.
+    pub fn answer(&mut self, answer: Answer) -> Result<(), AnswerError>
+        ensures taken { OnOk result (self.new ≡ answered answer self.old) }
+        ensures fits { OnOk result (MayAnswer self.old answer) }
+        ensures not_asked { result ≡ Err AnswerError.NotAsked → waits_on self.old.course ≡ false }
+        ensures wrong { result ≡ Err AnswerError.WrongAnswer → (passes_over answer ≡ true) × (at_barrier self.old.work ≡ true) }
+        ensures same { OnErr result (self.new ≡ self.old) }
+    {
+        let Course::InTrouble(cause) = self.course else {
+            return Err(AnswerError::NotAsked);
+        };
+        match answer {
+            Answer::Retry => {
+                self.work.retry();
+                self.course = Course::GoesOn;
+            }
+            Answer::Skip | Answer::SkipAll => {
+                if self.work.is_at_barrier() {
+                    return Err(AnswerError::WrongAnswer);
+                }
+                self.course = Course::Skips(cause);
+            }
+            Answer::Abort => self.course = Course::Ends(Ending::Aborted),
+        }
+        Ok(())
+    }
+
+    /// The job is to make its last steps, and to end as aborted.
+    pub fn abort(&mut self)
+        ensures { self.new ≡ record self.old { course = ended_course Ending.Aborted self.old.course } }
+    {
+        self.end_as(Ending::Aborted);
+    }
+
+    /// The job is to make its last steps, and to end as killed.
+    pub fn kill(&mut self)
+        ensures { self.new ≡ record self.old { course = ended_course Ending.Killed self.old.course } }
+    {
+        self.end_as(Ending::Killed);
+    }
+
+    /// The session closes: a job that waits for an answer is aborted.
+    pub fn close(&mut self)
+        ensures { self.new ≡ closed_job self.old }
+    {
+        if self.waits() {
+            self.end_as(Ending::Aborted);
+        }
+    }
+
+    /// Ends the job without a call of the tree, and gives the part that stands.
+    pub fn give_up(self) -> Option<Path>
+        ensures { result ≡ part_of self.work }
+    {
+        let Run { id: _, work, course: _ } = self;
+        work.into_part()
+    }
+
+    fn go_on<T: Tree, P: PartTest>(&mut self, alloc: Global, tree: &mut T, parts: &P) -> Stepped
+        requires course { self.old.course ≡ Course.GoesOn }
+        ensures steps { StepsOn (λ path. P.is_free parts.now path ≡ true) self.old self.new result.did result.calls
+            (T.contents tree.old) (T.contents tree.new) (T.fault_count tree.old) (T.fault_count tree.new) }
+    {
+        let stepped = self.work.step(alloc, tree, parts);
+        self.course = after_report(&stepped.did);
+        stepped
+    }
+
+    fn skip(&mut self, alloc: Global, cause: Cause) -> Stepped
+        requires course { self.old.course ≡ Course.Skips cause }
+        ensures skips { SkipSteps cause self.old self.new result.did result.calls }
+    {
+        let did = self.work.skip(alloc, cause);
+        self.course = after_report(&did);
+        Stepped { did, calls: 0 }
+    }
+
+    fn end_as(&mut self, ending: Ending)
+        ensures { self.new ≡ record self.old { course = ended_course ending self.old.course } }
+    {
+        self.course = match self.course {
+            Course::Ends(first) => Course::Ends(first),
+            Course::GoesOn | Course::InTrouble(_) | Course::Skips(_) => Course::Ends(ending),
+        };
+    }
+}
+
+/// A job whose call was refused waits, else it goes on.
+fn after_report(did: &Did) -> Course
+    ensures { result ≡ course_after did.now }
+{
+    match did {
+        Did::Troubled(trouble) => Course::InTrouble(trouble.cause),
+        _ => Course::GoesOn,
+    }
+}
+
+/// The copy of one file.
+fn copy_of(alloc: Global, pairs: &Pairs, id: u32) -> Result<Work, NoMemory>
+    requires { IsSome (first_work id (Job.Copy pairs.now)) }
+    ensures { IfOk result (λ work. (first_work id (Job.Copy pairs.now) ≡ Some work) × IsGoing work) }
+{
+    let [pair] = pairs.0.as_slice() else {
+        unreachable!()
+    };
+    let Some(source_folder) = pair.source.parent(alloc)? else {
+        unreachable!()
+    };
+    let Some(folder) = pair.target.parent(alloc)? else {
+        unreachable!()
+    };
+    let source = pair.source.copy(alloc)?;
+    let target = pair.target.copy(alloc)?;
+    Ok(Work::Copy(FileCopy::new(
+        id,
+        source,
+        source_folder,
+        target,
+        folder,
+    )))
+}
+
+/// The deletion of one file.
+fn deletion_of(alloc: Global, paths: &Paths) -> Result<Work, NoMemory>
+    requires { IsSome (first_work 0 (Job.Delete paths.now)) }
+    ensures { IfOk result (λ work. (first_work 0 (Job.Delete paths.now) ≡ Some work) × IsGoing work) }
+{
+    let [path] = paths.as_slice() else {
+        unreachable!()
+    };
+    let Some(folder) = path.parent(alloc)? else {
+        unreachable!()
+    };
+    Ok(Work::Delete(Deletion::new(path.copy(alloc)?, folder)))
+}

@@ -1,0 +1,107 @@
+//! What a job does: it copies a file, or it deletes one. One machine for each.
+ghost use Rattle.std.specs.Prelude.{◌≡◌, option_map, true};
+ghost use Rattle.copy_move.specs.Jobs.{IsGoing, at_barrier, part_of, taken_anew as anew};
+ghost use Rattle.copy_move.specs.Steps.{WorkSkips, WorkSteps, WorkWindsUp};
+
+use crate::deletion::Deletion;
+use file_copy::{Cause, Did, Ending, FileCopy, PartTest, Stepped};
+use mc_text::Path;
+use std::alloc::Global;
+use tree_trait::Tree;
+
+/// The work of a job.
+#[derive(Debug, Drop)]
+pub enum Work {
+    Copy(FileCopy),
+    Delete(Deletion),
+}
+
+impl Work {
+    /// Does the next piece of work.
+    pub(crate) fn step<T: Tree, P: PartTest>(
+        &mut self,
+        alloc: Global,
+        tree: &mut T,
+        parts: &P,
+    ) -> Stepped
+        requires going { IsGoing self.old }
+        ensures steps { WorkSteps (λ path. P.is_free parts.now path ≡ true) self.old self.new result.did result.calls
+            (T.contents tree.old) (T.contents tree.new) (T.fault_count tree.old) (T.fault_count tree.new) }
+        ensures going { IsGoing self.new }
+    {
+        match self {
+            Work::Copy(copy) => copy.step(alloc, tree, parts),
+            Work::Delete(deletion) => deletion.step(alloc, tree),
+        }
+    }
+
+    /// The file is left as it is.
+    pub(crate) fn skip(&mut self, alloc: Global, cause: Cause) -> Did
+        requires going { IsGoing self.old }
+        ensures skips { WorkSkips cause self.old result self.new }
+        ensures going { IsGoing self.new }
+    {
+        match self {
+            Work::Copy(copy) => copy.skip(alloc, cause),
+            Work::Delete(deletion) => deletion.skip(alloc, cause),
+        }
+    }
+
+    /// What was refused is taken up once more.
+    pub(crate) fn retry(&mut self)
+        requires going { IsGoing self.old }
+        ensures anew { self.new ≡ anew self.old }
+        ensures going { IsGoing self.new }
+    {
+        match self {
+            Work::Copy(copy) => copy.retry(),
+            Work::Delete(_) => {}
+        }
+    }
+
+    /// Makes the next of the last steps.
+    pub(crate) fn wind_up<T: Tree>(
+        &mut self,
+        alloc: Global,
+        tree: &mut T,
+        ending: Ending,
+    ) -> Stepped
+        ensures { WorkWindsUp ending self.old self.new result.did result.calls
+            (T.contents tree.old) (T.contents tree.new) (T.fault_count tree.old) (T.fault_count tree.new) }
+    {
+        match self {
+            Work::Copy(copy) => copy.wind_up(alloc, tree, ending),
+            Work::Delete(deletion) => deletion.wind_up(alloc, tree, ending),
+        }
+    }
+
+    /// The part that stands.
+    pub(crate) fn part(&self) -> Option<&Path>
+        ensures { option_map (λ part. part.now) result ≡ part_of self.now }
+    {
+        match self {
+            Work::Copy(copy) => copy.part(),
+            Work::Delete(_) => None,
+        }
+    }
+
+    /// The part that stands, where the work is given up.
+    pub(crate) fn into_part(self) -> Option<Path>
+        ensures { result ≡ part_of self }
+    {
+        match self {
+            Work::Copy(copy) => copy.into_part(),
+            Work::Delete(_) => None,
+        }
+    }
+
+    /// Whether the next call is at a barrier, where nothing can be skipped.
+    pub(crate) fn is_at_barrier(&self) -> bool
+        ensures { result ≡ at_barrier self.now }
+    {
+        match self {
+            Work::Copy(copy) => copy.is_at_barrier(),
+            Work::Delete(deletion) => deletion.is_at_barrier(),
+        }
+    }
+}
