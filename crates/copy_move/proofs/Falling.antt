@@ -83,7 +83,8 @@ copy_falls old new (Placed path) (part, said, at, target, is) sound h =
 copy_falls old new (Cleaned part) (follows, at, is) sound h =
     below old new (Clean part follows) (record old { stage = after_clean follows }) at is (cleaned_below part follows old.folder)
 copy_falls old new Barrier (at, dirty, is) sound h =
-    below old new Decided (record old { folder = Synced }) at is (subst (λ f. copy_rank Decided Synced < copy_rank Decided f) (sym dirty) (omega arith))
+    subst (λ (n : Copying). copy_rank n.stage n.folder < copy_rank old.stage old.folder) (sym is)
+    (subst (λ s. copy_rank s Synced < copy_rank s old.folder) (sym at) (subst (λ f. copy_rank Decided Synced < copy_rank Decided f) (sym dirty) (omega arith)))
 copy_falls old new (Troubled trouble) (barrier, is) sound h =
     subst (λ (n : Copying). last_steps n.stage n.folder < copy_rank old.stage old.folder) (sym is)
     (let few = few_last old.stage old.folder in let more = more_left old.stage old.folder in omega (arith, few, more))

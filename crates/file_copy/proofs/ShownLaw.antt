@@ -13,7 +13,7 @@ use Rattle.tree_trait.proofs.Ending.{Performs-err}
 use Rattle.file_copy.specs.declared.report.Ending.{Ending}
 use Rattle.file_copy.specs.declared.report.Ending.TheVariants.{Finished, Aborted, Killed, NoMemory}
 use Rattle.file_copy.specs.declared.report.Did.{Did}
-use Rattle.file_copy.specs.declared.report.Did.TheVariants.{Began, Chunk, Placed, Skipped, Cleaned, Barrier, Troubled, Ended}
+use Rattle.file_copy.specs.declared.report.Did.TheVariants.{Began, Chunk, Placed, Removed, Skipped, Cleaned, Barrier, Troubled, Ended}
 use Rattle.file_copy.specs.declared.stage.Next.{Next}
 use Rattle.file_copy.specs.declared.stage.Next.TheVariants as next
 use Rattle.file_copy.specs.declared.stage.Stage.{Stage}
@@ -40,6 +40,7 @@ unplaced_view [] at v none q = refl
 unplaced_view (Step (Began part) ∷ older) at v none q = unplaced_view older at v none q
 unplaced_view (Step (Chunk count) ∷ older) at v none q = unplaced_view older at v none q
 unplaced_view (Step (Placed path) ∷ older) at v none q = absurd (none tt)
+unplaced_view (Step (Removed path) ∷ older) at v none q = unplaced_view older at v none q
 unplaced_view (Step (Skipped path cause) ∷ older) at v none q = unplaced_view older at v none q
 unplaced_view (Step (Cleaned part) ∷ older) at v none q = unplaced_view older at v none q
 unplaced_view (Step Barrier ∷ older) at v none q = unplaced_view older at v none q
@@ -73,6 +74,7 @@ step_part older (Ended Finished part) old new tells h = stage_of _ new tells.3 �
 step_part older (Ended Aborted part) old new tells h = absurd tells
 step_part older (Ended Killed part) old new tells h = absurd tells
 step_part older (Ended NoMemory part) old new tells h = absurd tells
+step_part older (Removed path) old new tells h = absurd tells
 step_part older (Skipped path cause) old new tells h = absurd tells
 
 skipped_part : (stage : Stage) → part_at (skipped stage) ≡ part_at stage
@@ -115,6 +117,7 @@ last_part older ending (Ended how part) old new winds h = stage_of _ new winds.4
 last_part older ending (Began part) old new winds h = absurd winds
 last_part older ending (Chunk count) old new winds h = absurd winds
 last_part older ending (Placed path) old new winds h = absurd winds
+last_part older ending (Removed path) old new winds h = absurd winds
 last_part older ending (Skipped path cause) old new winds h = absurd winds
 last_part older ending (Troubled trouble) old new winds h = absurd winds
 
@@ -127,6 +130,7 @@ step_names older (Ended NoMemory part) old new tells h = absurd tells
 step_names older (Began part) old new tells h = tt
 step_names older (Chunk count) old new tells h = tt
 step_names older (Placed path) old new tells h = tt
+step_names older (Removed path) old new tells h = tt
 step_names older (Skipped path cause) old new tells h = tt
 step_names older (Cleaned part) old new tells h = tt
 step_names older Barrier old new tells h = tt
@@ -144,6 +148,7 @@ last_names older ending (Ended how part) old new winds h = winds.3 ∙ (left_par
 last_names older ending (Began part) old new winds h = tt
 last_names older ending (Chunk count) old new winds h = tt
 last_names older ending (Placed path) old new winds h = tt
+last_names older ending (Removed path) old new winds h = tt
 last_names older ending (Skipped path cause) old new winds h = tt
 last_names older ending (Cleaned part) old new winds h = tt
 last_names older ending Barrier old new winds h = tt
@@ -203,6 +208,7 @@ module _ (start : Start) where
   last_shows older ending (Began part) old new log after at shown winds calls = absurd winds
   last_shows older ending (Chunk count) old new log after at shown winds calls = absurd winds
   last_shows older ending (Placed path) old new log after at shown winds calls = absurd winds
+  last_shows older ending (Removed path) old new log after at shown winds calls = absurd winds
   last_shows older ending (Skipped path cause) old new log after at shown winds calls = absurd winds
   last_shows older ending (Troubled trouble) old new log after at shown winds calls = absurd winds
 
@@ -234,6 +240,7 @@ module _ (before : CallLog) (shape : IsTree (current before)) (settled : all_set
       (unplaced_view older (places_at start) (visible_tree (current before)) (not_before older path old c mid (at_turn older old mid reach) may.0 may.1 leads.0))
   placed_view (Step (Began part) ∷ older) c log (old, mid, reach, may, leads) has q = placed_view older old mid reach has q
   placed_view (Step (Chunk count) ∷ older) c log (old, mid, reach, may, leads) has q = placed_view older old mid reach has q
+  placed_view (Step (Removed path) ∷ older) c log (old, mid, reach, may, leads) has q = placed_view older old mid reach has q
   placed_view (Step (Skipped path cause) ∷ older) c log (old, mid, reach, may, leads) has q = placed_view older old mid reach has q
   placed_view (Step (Cleaned part) ∷ older) c log (old, mid, reach, may, leads) has q = placed_view older old mid reach has q
   placed_view (Step Barrier ∷ older) c log (old, mid, reach, may, leads) has q = placed_view older old mid reach has q

@@ -12,7 +12,7 @@ use Rattle.tree_trait.specs.Answers.{Performs}
 use Rattle.file_copy.specs.declared.report.Cause.{Cause}
 use Rattle.file_copy.specs.declared.report.Cause.TheVariants as cause
 use Rattle.file_copy.specs.declared.report.Did.{Did}
-use Rattle.file_copy.specs.declared.report.Did.TheVariants.{Began, Chunk, Placed, Skipped, Cleaned, Barrier, Troubled, Ended}
+use Rattle.file_copy.specs.declared.report.Did.TheVariants.{Began, Chunk, Placed, Removed, Skipped, Cleaned, Barrier, Troubled, Ended}
 use Rattle.file_copy.specs.declared.stage.Said.{Said}
 use Rattle.file_copy.specs.declared.stage.Stage.{Stage}
 use Rattle.file_copy.specs.declared.stage.Stage.TheVariants.{Begin, Fill, Clean, Left, Decided}
@@ -128,6 +128,7 @@ twin_wind c (Ended how part) log twin after same h = (twin, unchanged log twin a
 twin_wind c (Began part) log twin after same h = absurd h
 twin_wind c (Chunk count) log twin after same h = absurd h
 twin_wind c (Placed path) log twin after same h = absurd h
+twin_wind c (Removed path) log twin after same h = absurd h
 twin_wind c (Skipped path cause_is) log twin after same h = absurd h
 twin_wind c (Troubled trouble) log twin after same h = absurd h
 
@@ -186,6 +187,7 @@ module _ (unclaimed : Route → Type 0) where
   twin_step c (Cleaned part) new log twin after same h = twin_done (RemoveFile part ∷ []) log twin after same h
   twin_step c Barrier new log twin after same h = twin_done (SyncFolder (folder_of c.target) ∷ []) log twin after same h
   twin_step c (Troubled trouble) new log twin after same h = twin_trouble (places_of c) c.stage trouble.cause trouble.path log twin after same h
+  twin_step c (Removed path) new log twin after same h = absurd h
   twin_step c (Skipped path cause_is) new log twin after same h = (twin, unchanged log twin after same h, refl)
   twin_step c (Ended how part) new log twin after same h = (twin, unchanged log twin after same h, refl)
 
