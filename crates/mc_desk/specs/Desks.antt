@@ -1,6 +1,6 @@
 -- What a desk keeps: its history is a session over its tree, and the rest of it is what the history says.
-use Rattle.std.specs.Prelude.{◌≡◌, ◌⊎◌, ℕ, ◌+◌, ◌≤◌, Bool, true, false, MatchBool, is_some, if◌then◌else◌, List, [], ◌∷◌, ◌++◌, length, Option, Some, None, Result, Ok, Err}
-use Rattle.tree_trait.specs.FileSystem.{View}
+use Rattle.std.specs.Prelude.{◌≡◌, ◌⊎◌, ℕ, ◌+◌, ◌*◌, ◌≤◌, Bool, true, false, MatchBool, is_some, if◌then◌else◌, List, [], ◌∷◌, ◌++◌, length, Option, Some, None, Result, Ok, Err}
+use Rattle.std.specs.Option.{option_map}
 use Rattle.tree_trait.specs.Change.{CallLog}
 use Rattle.tree_trait.specs.Answers.{HasRisen}
 use Rattle.tree_trait.specs.declared.devices.SinkError.{SinkError}
@@ -8,8 +8,8 @@ use Rattle.tree_trait.specs.declared.devices.SinkError.TheVariants.{Fault, Memor
 use Rattle.key_screen.specs.declared.keys.Key.{Key as KeyType}
 use Rattle.key_screen.specs.DecodedKeys.{decoded_keys}
 use Rattle.copy_move.specs.declared.history.Entry.{Entry}
-use Rattle.copy_move.specs.Work.{LiveJob}
-use Rattle.copy_move.specs.Traces.{IsTracedTo}
+use Rattle.copy_move.specs.Jobs.{Running}
+use Rattle.copy_move.specs.Told.{told}
 use Rattle.mc_desk.specs.declared.desk.Due.{Due}
 use Rattle.mc_desk.specs.declared.desk.Due.TheVariants.{Nothing, First, Job}
 use Rattle.mc_desk.specs.declared.desk.DeskReply.{DeskReply}
@@ -18,14 +18,15 @@ use Rattle.mc_desk.specs.declared.desk.StepReply.{StepReply}
 use Rattle.mc_desk.specs.declared.desk.StepReply.TheVariants.{Ended, Idle}
 use Rattle.mc_desk.specs.Tallies.{Tally, tally, faults_in, keys_in}
 use Rattle.mc_desk.specs.Screens.{Screen}
-use Rattle.mc_desk.specs.Sessions.{IsSession, MayOpen, EndAsked}
+use Rattle.mc_desk.specs.Sessions.{IsSession, EndAsked}
 
--- what can be seen of a desk: its entries, the newest first, and how many more find room; the screen; what the history came
--- to; the bytes since the last key; and whether the end was asked for
+-- what can be seen of a desk: its entries, the newest first, and how many more find room; the screen; the live job; what the
+-- history came to; the bytes since the last key; and whether the end was asked for
 pub record Seen : Type 0 where
   pub newest : List Entry
   pub spare : ℕ
   pub screen : Screen
+  pub job : Option Running
   pub tally : Tally
   pub pending : List ℕ
   pub quit : Bool
@@ -37,26 +38,26 @@ awaited First = Some 0
 awaited (Job id) = Some id
 
 -- room that is kept: for the entry that closes, and for the end of a live job
-abbrev pub kept_room : Bool → Option LiveJob → ℕ
+abbrev pub kept_room : Bool → Option Running → ℕ
 kept_room closed job = (if closed then 0 else 1) + (if is_some job then 1 else 0)
 
 -- What is written down is a session over the tree, which was opened with the one contents, and so many faults, and has the
 -- other now, and the rest of the desk is what the history says.
 pub record IsWritten (opening contents : Option CallLog) (faults : ℕ) (desk : Seen) : Type 0 where
-  pub session : (tree : Option View) → MayOpen opening tree → IsSession tree faults desk.newest desk.screen
-  pub traced : IsTracedTo opening contents desk.newest
+  pub session : IsSession opening faults desk.newest desk.screen desk.job contents
   pub tally : desk.tally ≡ tally desk.newest
-  pub calls : desk.tally.calls ≤ length desk.newest
-  pub quit : desk.quit ≡ true → (tree : Option View) → MayOpen opening tree → EndAsked tree faults desk.newest
+  pub told : desk.tally.job ≡ option_map told desk.job
+  pub calls : desk.tally.calls ≤ 3 * length desk.newest
+  pub quit : desk.quit ≡ true → EndAsked opening faults desk.newest
 
--- What holds of a desk between two calls: besides, no confirmed deletion waits to be begun, a desk that lost a key is
--- closed, on a closed one nothing is to be looked at, and the room is there.
+-- What holds of a desk between two calls: besides, nothing that was asked for waits to be carried out, a desk that lost a key
+-- is closed, on a closed one nothing is to be looked at, and the room is there.
 pub record IsDesk (opening contents : Option CallLog) (faults : ℕ) (desk : Seen) : Type 0 where
   pub written : IsWritten opening contents faults desk
-  pub settled : desk.screen.confirmed ≡ None
+  pub settled : desk.screen.planned ≡ None
   pub lost : desk.tally.lost ≡ true → desk.tally.closed ≡ true
   pub shut : desk.tally.closed ≡ true → desk.tally.due ≡ None
-  pub room : kept_room desk.tally.closed desk.tally.job ≤ desk.spare
+  pub room : kept_room desk.tally.closed desk.job ≤ desk.spare
 
 -- whether a draw has failed by now: earlier, or this one
 abbrev pub failed_by : Bool → Result ℕ SinkError → Bool

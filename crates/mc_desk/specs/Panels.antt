@@ -46,6 +46,11 @@ read_again p names =
     let now : Shown = record p { names = names } in
     option_map_or (λ place. record now { cursor = rows_above p.folder + place }) (place_of names (current_name p)) (record now { cursor = min p.cursor (last_row now) })
 
+-- the panel with the names that were read, or as it was
+abbrev pub with_names : Option (List (List ℕ)) → Shown → Shown
+with_names None p = p
+with_names (Some names) p = read_again p names
+
 -- these are the names in a folder, as far as the tree can be seen, in byte order
 pub record ListsFolder (tree : Option View) (folder : Route) (names : List (List ℕ)) : Type 0 where
   pub order : IsAscending names

@@ -1,114 +1,239 @@
--- What a key or a look makes of the screen: the panel, and the box that asks whether to delete a file.
-use Rattle.std.specs.Prelude.{◌≡◌, ◌⊎◌, ℕ, Bool, true, false, ◌&&◌, ◌==◌, nat_le, MatchBool, ⊤, if◌then◌else◌, List, [], ◌∷◌, length, Option, Some, None}
-use Rattle.std.specs.Option.{option_map_or}
+-- What a key or a look makes of the screen: the two panels, and the box that stands over them.
+use Rattle.std.specs.Prelude.{◌≡◌, ◌≢◌, ◌⊎◌, ℕ, ◌<◌, Bool, true, false, ◌&&◌, ◌==◌, nat_le, is_none, MatchBool, ⊤, if◌then◌else◌, List, [], ◌∷◌, ◌++◌, length, IsSome, Option, Some, None}
+use Rattle.std.specs.Option.{option_map, option_map_or}
 use Rattle.mc_text.specs.Routes.{Route, spelled}
 use Rattle.tree_trait.specs.declared.calls.TreeError.{TreeError}
-use Rattle.tree_trait.specs.FileSystem.{Spot, View}
+use Rattle.tree_trait.specs.declared.calls.TreeError.TheVariants.{Missing}
+use Rattle.tree_trait.specs.FileSystem.{Spot, View, visible_tree}
 use Rattle.tree_trait.specs.Refusals.{file_kind}
-use Rattle.tree_trait.specs.Change.{CallLog}
+use Rattle.tree_trait.specs.Change.{CallLog, current}
 use Rattle.key_screen.specs.declared.keys.Key.{Key}
 use Rattle.key_screen.specs.declared.keys.Base.{Base}
-use Rattle.key_screen.specs.declared.keys.Base.TheVariants.{F, Down, Enter, Unknown}
+use Rattle.key_screen.specs.declared.keys.Base.TheVariants.{Char, F, Down, Enter, Escape, Unknown}
+use Rattle.file_copy.specs.declared.report.Trouble.{Trouble}
+use Rattle.copy_move.specs.declared.history.Answer.{Answer}
+use Rattle.copy_move.specs.declared.history.Answer.TheVariants.{Retry, Skip, SkipAll, Abort}
+use Rattle.copy_move.specs.declared.history.Job.{Job}
+use Rattle.copy_move.specs.declared.history.Job.TheVariants as plan
+use Rattle.copy_move.specs.declared.history.PlanError.TheVariants.{TargetThere, TargetTooLong}
 use Rattle.copy_move.specs.declared.history.Refusal.{Refusal}
-use Rattle.copy_move.specs.declared.history.Refusal.TheVariants.{Tree}
-use Rattle.tree_trait.specs.Calls.{Stat}
-use Rattle.copy_move.specs.Replay.{ShowsView}
-use Rattle.copy_move.specs.Traces.{IsRefusedWith}
-use Rattle.mc_desk.specs.Tallies.{is_fault}
-use Rattle.mc_desk.specs.declared.choice.Choice.{Choice}
-use Rattle.mc_desk.specs.declared.choice.Choice.TheVariants.{Nothing, Asks, Refused}
+use Rattle.copy_move.specs.declared.history.Refusal.TheVariants.{Tree, Plan}
+use Rattle.copy_move.specs.declared.work.Work.{Work}
+use Rattle.copy_move.specs.declared.run.Course.{Course}
+use Rattle.copy_move.specs.declared.run.Course.TheVariants.{GoesOn, InTrouble, Skips, Ends}
+use Rattle.copy_move.specs.Jobs.{Running, MayAnswer, at_barrier, passes_over, waits_on}
 use Rattle.mc_desk.specs.declared.asks.Ask.{Ask}
 use Rattle.mc_desk.specs.declared.asks.Ask.TheVariants as ask
-use Rattle.mc_desk.specs.declared.asks.Ask.TheVariants.{Delete, End}
-use Rattle.mc_desk.specs.Panels.{Shown, current_path, moved_down, read_again, ListsFolder}
+use Rattle.mc_desk.specs.declared.dialog.Dialog.{Dialog}
+use Rattle.mc_desk.specs.declared.dialog.Dialog.TheVariants as dialog
+use Rattle.mc_desk.specs.declared.reread.Reread.{Reread}
+use Rattle.mc_desk.specs.Panels.{Shown, current_path, moved_down, with_names, ListsFolder}
 
--- the panel, the file of which the box asks, and a file whose deletion was confirmed and is to be begun
+-- what stands over the panels: nothing, or a box that asks whether to delete a file, shows the mask or the target of a copy,
+-- or tells of a job's trouble
+pub data Box : Type 0 where
+  NoBox : Box
+  DeleteBox : (path : Route) → Box
+  MaskBox : (path : Route) → Box
+  TargetBox : (path : Route) → Box
+  TroubleBox : (trouble : Trouble) → Box
+
+-- what a key asked for and is to be carried out: a job is to be begun, or its trouble to be answered
+pub data Planned : Type 0 where
+  Begins : (plan : Job) → Planned
+  Answers : (answer : Answer) → Planned
+
+-- the left panel, in which the cursor is, the right one, the box, and what is to be carried out
 pub record Screen : Type 0 where
-  pub panel : Shown
-  pub asked : Option Route
-  pub confirmed : Option Route
+  pub left : Shown
+  pub right : Shown
+  pub over : Box
+  pub planned : Option Planned
 
--- a tree shows this view, if there is one
-abbrev pub Sees : Option CallLog → Option View → Type 0
-Sees contents None = ⊤
-Sees contents (Some view) = (log : CallLog) × (contents ≡ Some log) × ShowsView log view
+-- a box as it is seen
+abbrev pub seen_box : Dialog → Box
+seen_box dialog.Nothing = NoBox
+seen_box (dialog.Delete chosen) = DeleteBox chosen.path
+seen_box (dialog.SourceMask chosen) = MaskBox chosen.path
+seen_box (dialog.CopyTo chosen) = TargetBox chosen.path
+seen_box (dialog.Trouble trouble) = TroubleBox trouble
+
+-- what can be seen of a tree, where it tells
+abbrev pub sight : Option CallLog → Option View
+sight contents = option_map (λ (log : CallLog). visible_tree (current log)) contents
 
 -- a file stands there
 abbrev pub is_file_spot : Spot → Bool
 is_file_spot spot = option_map_or (λ v. file_kind v.kind) spot.value false
 
--- the box may ask of the thing at a path: exactly where a file stands there, as far as the tree can be seen
-abbrev pub MayAsk : Option View → Route → Option Route → Type 0
-MayAsk None path asked = (asked ≡ None) ⊎ (asked ≡ Some path)
-MayAsk (Some view) path asked = asked ≡ (if is_file_spot (view path) && nat_le (length (spelled path)) 4096 then Some path else None)
+-- a box may ask of the thing at a path: exactly where a file stands there, as far as the tree can be seen
+abbrev pub MayAsk : Option View → Route → Bool → Type 0
+MayAsk None path asks = ⊤
+MayAsk (Some view) path asks = asks ≡ (is_file_spot (view path) && nat_le (length (spelled path)) 4096)
 
--- the delete key opens the box on the thing under the cursor, if it is a file and no job is live
-abbrev pub Chooses : Option View → Bool → Option Route → List Refusal → Screen → Screen → Type 0
-Chooses tree true current refusals before after = (refusals ≡ []) × (after ≡ before)
-Chooses tree false None refusals before after = (refusals ≡ []) × (after ≡ before)
-Chooses tree false (Some path) [] before after = (asked : Option Route) × MayAsk tree path asked × (after ≡ record before { asked = asked })
-Chooses tree false (Some path) (refusal ∷ more) before after = (e : TreeError) × (refusal ∷ more ≡ Tree path e ∷ []) × (after ≡ before)
+-- the key that asks of the thing under the cursor opens its box, if that is a file and no job is live
+abbrev pub Chooses : (Route → Box) → Option View → Option Running → Option Route → List Refusal → Screen → Screen → Type 0
+Chooses box tree (Some job) current refusals before after = (refusals ≡ []) × (after ≡ before)
+Chooses box tree None None refusals before after = (refusals ≡ []) × (after ≡ before)
+Chooses box tree None (Some path) [] before after = (asks : Bool) × MayAsk tree path asks × (after ≡ (if asks then record before { over = box path } else before))
+Chooses box tree None (Some path) (refusal ∷ more) before after = (e : TreeError) × (refusal ∷ more ≡ Tree path e ∷ []) × (after ≡ before)
 
--- what choosing the thing under the cursor comes to: nothing, or the box asks of it, or a look at it was refused
-abbrev pub IsChoice : Option View → Option Route → Choice → Type 0
-IsChoice tree None choice = choice ≡ Nothing
-IsChoice tree (Some path) Nothing = MayAsk tree path None
-IsChoice tree (Some path) (Asks chosen) = MayAsk tree path (Some path) × (chosen.path ≡ path)
-IsChoice tree (Some path) (Refused refused e) = refused ≡ path
+-- the keys that shut a box
+abbrev pub is_cancel : Base → Bool
+is_cancel (F number) = number == 10
+is_cancel Escape = true
+is_cancel other = false
 
--- a key while the box asks: Enter confirms, F10 shuts the box, no other does anything
-abbrev pub in_box : Base → Route → Screen → Screen
-in_box Enter path before = record before { asked = None; confirmed = Some path }
-in_box (F number) path before = if number == 10 then record before { asked = None } else before
-in_box other path before = before
+abbrev pub shut_box : Base → Screen → Screen
+shut_box base before = if is_cancel base then record before { over = NoBox } else before
 
--- a key while no box asks: Down moves the cursor, F8 opens the box
-abbrev pub InPanel : Option View → Bool → Base → List Refusal → Screen → Screen → Type 0
-InPanel tree busy Down refusals before after = (refusals ≡ []) × (after ≡ record before { panel = moved_down before.panel })
-InPanel tree busy (F number) refusals before after =
-    MatchBool (number == 8) (Chooses tree busy (current_path before.panel) refusals before after) ((refusals ≡ []) × (after ≡ before))
-InPanel tree busy other refusals before after = (refusals ≡ []) × (after ≡ before)
+-- the plans of one file
+abbrev pub delete_plan : Route → Job
+delete_plan path = plan.Delete (path ∷ [])
 
--- what a key without meta makes of the screen; `busy` says that a job is live
-abbrev pub ByMode : Option Route → Option View → Bool → Base → List Refusal → Screen → Screen → Type 0
-ByMode None tree busy base refusals before after = InPanel tree busy base refusals before after
-ByMode (Some path) tree busy base refusals before after = (refusals ≡ []) × (after ≡ in_box base path before)
+abbrev pub copy_plan : Route → Route → Job
+copy_plan source target = plan.Copy (record { source = source; target = target } ∷ [])
+
+-- where a file comes that is copied into a folder: under its own name
+abbrev pub target_in : Route → Route → Route
+target_in folder [] = folder
+target_in folder (name ∷ from) = name ∷ folder
+
+-- Enter accepts what a box shows
+abbrev pub is_enter : Base → Bool
+is_enter Enter = true
+is_enter other = false
+
+-- and begins a job, if none is live
+abbrev pub confirms : Base → Option Running → Bool
+confirms base job = is_enter base && is_none job
+
+-- a key while the delete box asks
+abbrev pub in_delete_box : Base → Option Running → Route → Screen → Screen
+in_delete_box base job path before =
+    if confirms base job then record before { over = NoBox; planned = Some (Begins (delete_plan path)) } else shut_box base before
+
+-- a key while the source mask is shown
+abbrev pub in_mask_box : Base → Route → Screen → Screen
+in_mask_box base path before = if is_enter base then record before { over = TargetBox path } else shut_box base before
+
+-- a copy is refused: something stands at its target, the target's path is too long, or the look at it is refused
+abbrev pub CopyRefused : Option View → Route → Refusal → Type 0
+CopyRefused tree target (Plan (TargetThere there)) = (there ≡ target) × ((view : View) → tree ≡ Some view → IsSome (view target).value)
+CopyRefused tree target (Plan TargetTooLong) = 4096 < length (spelled target)
+CopyRefused tree target (Tree path e) = (path ≡ target) × (e ≢ Missing)
+
+-- the target is accepted: the copy is planned, or refused, and then the box stays
+abbrev pub PlansCopy : Option View → Route → Route → List Refusal → Screen → Screen → Type 0
+PlansCopy tree path target [] before after = after ≡ record before { over = NoBox; planned = Some (Begins (copy_plan path target)) }
+PlansCopy tree path target (refusal ∷ more) before after = CopyRefused tree target refusal × (more ≡ []) × (after ≡ before)
+
+-- a key while the target is shown
+abbrev pub InTargetBox : Option View → Base → Option Running → Route → List Refusal → Screen → Screen → Type 0
+InTargetBox tree base job path refusals before after =
+    MatchBool (confirms base job) (PlansCopy tree path (target_in before.right.folder path) refusals before after) ((refusals ≡ []) × (after ≡ shut_box base before))
+
+-- the letters of a trouble; Enter is the first of them
+abbrev pub letter_of : Base → Option Answer
+letter_of (Char letter) =
+    if letter == 114 then Some Retry else if letter == 115 then Some Skip else if letter == 97 then Some SkipAll else if letter == 98 then Some Abort else None
+letter_of Enter = Some Retry
+letter_of base = None
+
+-- a job's trouble can be answered so
+abbrev pub can_answer : Option Running → Answer → Bool
+can_answer None answer = false
+can_answer (Some job) answer = waits_on job.course && (if passes_over answer then (if at_barrier job.work then false else true) else true)
+
+-- a key while a trouble is shown: a letter that can answer it does
+abbrev pub answered_box : Option Running → Option Answer → Base → Screen → Screen
+answered_box job None base before = shut_box base before
+answered_box job (Some answer) base before = if can_answer job answer then record before { over = NoBox; planned = Some (Answers answer) } else before
+
+abbrev pub in_trouble_box : Option Running → Base → Screen → Screen
+in_trouble_box job base before = answered_box job (letter_of base) base before
+
+-- a key while no box is open: Down moves the cursor, F5 and F8 open their boxes
+abbrev pub InPanel : Option View → Option Running → Base → List Refusal → Screen → Screen → Type 0
+InPanel tree job Down refusals before after = (refusals ≡ []) × (after ≡ record before { left = moved_down before.left })
+InPanel tree job (F number) refusals before after =
+    MatchBool (number == 5) (Chooses MaskBox tree job (current_path before.left) refusals before after)
+    (MatchBool (number == 8) (Chooses DeleteBox tree job (current_path before.left) refusals before after) ((refusals ≡ []) × (after ≡ before)))
+InPanel tree job other refusals before after = (refusals ≡ []) × (after ≡ before)
+
+-- what a key without meta makes of the screen, by what is open; the job is the live one
+abbrev pub ByBox : Box → Option View → Option Running → Base → List Refusal → Screen → Screen → Type 0
+ByBox NoBox tree job base refusals before after = InPanel tree job base refusals before after
+ByBox (DeleteBox path) tree job base refusals before after = (refusals ≡ []) × (after ≡ in_delete_box base job path before)
+ByBox (MaskBox path) tree job base refusals before after = (refusals ≡ []) × (after ≡ in_mask_box base path before)
+ByBox (TargetBox path) tree job base refusals before after = InTargetBox tree base job path refusals before after
+ByBox (TroubleBox trouble) tree job base refusals before after = (refusals ≡ []) × (after ≡ in_trouble_box job base before)
 
 -- what a key makes of the screen; one with meta is none of those that are known here
 abbrev pub plain_base : Key → Base
 plain_base key = if key.meta then Unknown else key.base
 
-abbrev pub KeyLeads : Option View → Bool → Key → List Refusal → Screen → Screen → Type 0
-KeyLeads tree busy key refusals before after = ByMode before.asked tree busy (plain_base key) refusals before after
+abbrev pub KeyLeads : Option View → Option Running → Key → List Refusal → Screen → Screen → Type 0
+KeyLeads tree job key refusals before after = ByBox before.over tree job (plain_base key) refusals before after
 
--- What a look makes of the screen. After a job's end, not yet taken up, it reads the panel again.
-abbrev pub LookLeads : Option View → Bool → List Refusal → Screen → Screen → Type 0
-LookLeads tree false refusals before after = (refusals ≡ []) × (after ≡ before)
-LookLeads tree true [] before after =
-    (names : List (List ℕ)) × ListsFolder tree before.panel.folder names × (after ≡ record before { panel = read_again before.panel names })
-LookLeads tree true (refusal ∷ more) before after = (e : TreeError) × (refusal ∷ more ≡ Tree before.panel.folder e ∷ []) × (after ≡ before)
+-- a refusal, if there is one
+abbrev pub listed : Option Refusal → List Refusal
+listed None = []
+listed (Some refusal) = refusal ∷ []
 
--- at the opening the panel lists its folder, the cursor on the first row
+-- what reading a panel's folder again comes to: after a job's end its names, or its refusal
+abbrev pub IsReread : Option View → Bool → Route → Reread → Type 0
+IsReread tree false folder r = (r.names ≡ None) × (r.refused ≡ None)
+IsReread tree true folder r =
+    ((names : List (List ℕ)) × ListsFolder tree folder names × (r.names ≡ Some names) × (r.refused ≡ None))
+    ⊎ ((e : TreeError) × (r.names ≡ None) × (r.refused ≡ Some (Tree folder e)))
+
+-- the trouble of a job that waits, as it is shown
+abbrev pub ShowsCourse : Course → Work → Option Trouble → Type 0
+ShowsCourse (InTrouble cause) work shown = (path : Option Route) × (shown ≡ Some (record { cause = cause; path = path; barrier = at_barrier work }))
+ShowsCourse GoesOn work shown = shown ≡ None
+ShowsCourse (Skips cause) work shown = shown ≡ None
+ShowsCourse (Ends ending) work shown = shown ≡ None
+
+abbrev pub ShowsTrouble : Option Running → Option Trouble → Type 0
+ShowsTrouble None shown = shown ≡ None
+ShowsTrouble (Some job) shown = ShowsCourse job.course job.work shown
+
+-- a trouble's box stands over all
+abbrev pub with_trouble : Option Trouble → Box → Box
+with_trouble None before = before
+with_trouble (Some trouble) before = TroubleBox trouble
+
+-- What a look makes of the screen. After a job's end, not yet taken up, it reads each panel again; the trouble of a job that
+-- waits gets its box.
+pub record LookLeads (tree : Option View) (job : Option Running) (unseen : Bool) (refusals : List Refusal) (before after : Screen) : Type 0 where
+  pub left : Reread
+  pub right : Reread
+  pub trouble : Option Trouble
+  pub left_is : IsReread tree unseen before.left.folder left
+  pub right_is : IsReread tree unseen before.right.folder right
+  pub shown : ShowsTrouble job trouble
+  pub refused : refusals ≡ listed left.refused ++ listed right.refused
+  pub after_is : after ≡ record before { left = with_names left.names before.left; right = with_names right.names before.right; over = with_trouble trouble before.over }
+
+-- at the opening each panel lists its folder, the cursor on the first row
 pub record IsOpening (tree : Option View) (screen : Screen) : Type 0 where
-  pub lists : ListsFolder tree screen.panel.folder screen.panel.names
-  pub cursor : screen.panel.cursor ≡ 0
-  pub asked : screen.asked ≡ None
-  pub confirmed : screen.confirmed ≡ None
+  pub left : ListsFolder tree screen.left.folder screen.left.names
+  pub right : ListsFolder tree screen.right.folder screen.right.names
+  pub cursors : (screen.left.cursor ≡ 0) × (screen.right.cursor ≡ 0)
+  pub over : screen.over ≡ NoBox
+  pub planned : screen.planned ≡ None
 
--- the screen once what a key asked is noted: a deletion that was confirmed is to be begun
+-- A job is begun under the next number, while none is live; the trouble of one that waits is answered as it may be.
+abbrev pub WellAsked : ℕ → Option Running → Ask → Type 0
+WellAsked next job (ask.Begin confirmed) = (confirmed.run.id ≡ next) × (job ≡ None)
+WellAsked next job (ask.Answer answer) = (live : Running) × (job ≡ Some live) × MayAnswer live answer
+WellAsked next job ask.Nothing = ⊤
+WellAsked next job ask.End = ⊤
+
+-- the screen once what a key asked is noted
 abbrev pub with_ask : Ask → Screen → Screen
-with_ask (Delete confirmed) screen = record screen { confirmed = Some confirmed.path }
+with_ask (ask.Begin confirmed) screen = record screen { planned = Some (Begins confirmed.plan) }
+with_ask (ask.Answer answer) screen = record screen { planned = Some (Answers answer) }
 with_ask ask.Nothing screen = screen
-with_ask End screen = screen
-
--- what a choice says of the tree's calls: a look at the thing was refused, with its cause
-abbrev pub ChoiceCalls : CallLog → Choice → Type 0
-ChoiceCalls log Nothing = ⊤
-ChoiceCalls log (Asks chosen) = ⊤
-ChoiceCalls log (Refused path e) = IsRefusedWith log (Stat path) e
-
--- the look at the thing met a fault
-abbrev pub is_faulty : Choice → Bool
-is_faulty Nothing = false
-is_faulty (Asks chosen) = false
-is_faulty (Refused path e) = is_fault e
+with_ask ask.End screen = screen

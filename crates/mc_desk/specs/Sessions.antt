@@ -1,22 +1,22 @@
--- A session, as its history tells it: each entry follows from those before it. Histories stand newest first here.
-use Rattle.std.specs.Prelude.{◌≡◌, ◌⊎◌, ℕ, ◌+◌, ◌-◌, ◌^◌, ◌≤◌, min, true, false, is_some, ⊤, List, [], ◌∷◌, Option, Some, None}
-use Rattle.std.specs.Option.{option_map}
+-- A session, as its history tells it: each entry follows from those before it, and from the tree as it stands then. Histories
+-- stand newest first here.
+use Rattle.std.specs.Prelude.{◌≡◌, ◌⊎◌, ℕ, ◌+◌, ◌^◌, ◌≤◌, min, true, false, ⊤, List, [], ◌∷◌, IsSome, Option, Some, None}
 use Rattle.mc_text.specs.Routes.{Route}
-use Rattle.tree_trait.specs.FileSystem.{View, visible_tree}
-use Rattle.tree_trait.specs.Change.{CallLog, current}
-use Rattle.tree_trait.specs.Shape.{IsTree}
+use Rattle.tree_trait.specs.FileSystem.{View}
+use Rattle.tree_trait.specs.Change.{CallLog}
 use Rattle.tree_trait.specs.Answers.{HasRisen}
 use Rattle.key_screen.specs.declared.keys.Base.TheVariants.{F}
+use Rattle.file_copy.specs.CopySteps.{IsFault}
 use Rattle.copy_move.specs.declared.history.Event.{Event}
-use Rattle.copy_move.specs.declared.history.Event.TheVariants.{Key, Look, Began, Step, Closed}
-use Rattle.copy_move.specs.declared.history.Job.TheVariants.{Delete}
+use Rattle.copy_move.specs.declared.history.Event.TheVariants.{Key, Look, Began, Order, Step, Closed}
+use Rattle.copy_move.specs.declared.history.JobOrder.TheVariants.{Answered}
 use Rattle.copy_move.specs.declared.history.Entry.{Entry}
-use Rattle.copy_move.specs.Work.{LiveJob, IsAllowedStep}
-use Rattle.copy_move.specs.Steps.{IsFault}
-use Rattle.copy_move.specs.Replay.{replayed_tree}
+use Rattle.copy_move.specs.Jobs.{Running, MayAnswer, first_work}
+use Rattle.copy_move.specs.Told.{IsAllowedStep}
+use Rattle.copy_move.specs.Traces.{Follows}
 use Rattle.copy_move.specs.Crashes.{calls_in}
 use Rattle.mc_desk.specs.Tallies.{Tally, tally, most_calls, has_fault, faults_in}
-use Rattle.mc_desk.specs.Screens.{Screen, plain_base, KeyLeads, LookLeads, IsOpening}
+use Rattle.mc_desk.specs.Screens.{Screen, NoBox, Begins, Answers, plain_base, sight, KeyLeads, LookLeads, IsOpening}
 
 -- no key is worked in a closed session, where something is to be looked at, or after one was lost
 pub record TakesKey (t : Tally) : Type 0 where
@@ -24,17 +24,21 @@ pub record TakesKey (t : Tally) : Type 0 where
   pub looked : t.due ≡ None
   pub unlost : t.lost ≡ false
 
--- What an event makes of the screen. Directly after the key that confirmed a deletion, and nowhere else, a job is begun
--- that deletes just that file. Its number is one more than the last one's, as far as numbers go. A step is one that the live
--- job may make.
+-- What an event makes of the screen. Directly after the key that confirmed a job, and nowhere else, it is begun as it was
+-- planned, while no other is live; its number is one more than the last one's, as far as numbers go. Directly after the key
+-- that answers a trouble the live job is ordered so. A step is one that the live job may make.
 abbrev pub EventLeads : Option View → Tally → Event → Screen → Screen → Type 0
 EventLeads tree t (Key key now refusals true) before after = TakesKey t × (after ≡ before)
-EventLeads tree t (Key key now refusals false) before after = TakesKey t × KeyLeads tree (is_some t.job) key refusals before after
-EventLeads tree t (Look refusals) before after = (t.closed ≡ false) × LookLeads tree t.unseen refusals before after
+EventLeads tree t (Key key now refusals false) before after = TakesKey t × KeyLeads tree t.job key refusals before after
+EventLeads tree t (Look refusals) before after = (t.closed ≡ false) × LookLeads tree t.job t.unseen refusals before after
 EventLeads tree t (Began id plan background) before after =
-    (path : Route) × (before.confirmed ≡ Some path) × (plan ≡ Delete (path ∷ [])) × (background ≡ false) × (id ≡ min (t.last + 1) (2 ^ 32 - 1)) × (after ≡ record before { confirmed = None })
+    (before.planned ≡ Some (Begins plan)) × (t.job ≡ None) × IsSome (first_work id plan) × (background ≡ false)
+    × (id ≡ min (t.last + 1) (2 ^ 32 - 1)) × (after ≡ record before { planned = None })
+EventLeads tree t (Order id (Answered answer)) before after =
+    (before.planned ≡ Some (Answers answer)) × ((live : Running) × (t.job ≡ Some live) × (id ≡ live.id) × MayAnswer live answer)
+    × (after ≡ record before { planned = None })
 EventLeads tree t (Step id did) before after =
-    (after ≡ before) × ((live : LiveJob) × (t.job ≡ Some live) × (id ≡ live.id) × IsAllowedStep live did)
+    (after ≡ before) × ((live : Running) × (t.job ≡ Some live) × (id ≡ live.id) × IsAllowedStep live did)
 EventLeads tree t Closed before after = after ≡ before
 
 -- an event tells of a fault of the tree
@@ -42,29 +46,46 @@ abbrev pub TellsFault : Event → Type 0
 TellsFault (Key key now refusals lost) = has_fault refusals ≡ true
 TellsFault (Look refusals) = has_fault refusals ≡ true
 TellsFault (Began id plan background) = ⊥
+TellsFault (Order id order) = ⊥
 TellsFault (Step id did) = IsFault did
 TellsFault Closed = ⊥
 
--- nothing that was confirmed waits to be begun, but where it is begun
+-- nothing that was asked for waits to be carried out, but where it is
 abbrev pub IsTimely : Event → Screen → Type 0
 IsTimely (Began id plan background) before = ⊤
-IsTimely event before = before.confirmed ≡ None
+IsTimely (Order id order) before = ⊤
+IsTimely event before = before.planned ≡ None
 
--- The counts of an entry. The tree's faults don't fall, and rise where the entry tells of one. Only a step makes a changing
--- call, and at most one.
+-- The counts of an entry. The tree's faults don't fall, and rise where the entry tells of one. Only a step makes changing
+-- calls, and at most three.
 pub record Counts (failed made : ℕ) (e : Entry) : Type 0 where
   pub later : failed ≤ e.faults
   pub fault : TellsFault e.what → HasRisen failed e.faults
   pub calls : made ≤ e.calls
   pub most : e.calls ≤ made + most_calls e.what
 
--- These entries are a session that opened on this tree, which had failed so often then, and has come to this screen. Where
--- the tree isn't known, nothing is said of what it holds.
-abbrev pub IsSession : Option View → ℕ → List Entry → Screen → Type 0
-IsSession tree opening [] screen = IsOpening tree screen
-IsSession tree opening (e ∷ older) screen =
-    (before : Screen) × IsSession tree opening older before × IsTimely e.what before × Counts (faults_in opening older) (calls_in older) e
-    × EventLeads (option_map (λ view. replayed_tree view older) tree) (tally older) e.what before screen
+-- What an entry says of the tree, where it tells what it holds: it goes on telling, and the entry leads from the log and the
+-- live job so far to these. A tree that told nothing never does.
+abbrev pub Traces : Option CallLog → Entry → List Entry → Option Running → Option CallLog → Option Running → Option CallLog → Type 0
+Traces None e older was before job contents = contents ≡ None
+Traces (Some opening) e older was before job contents =
+    (log : CallLog) × (now : CallLog) × (before ≡ Some log) × (contents ≡ Some now) × Follows opening e older was log job now
+
+-- An entry after older ones: from the screen, the live job and the tree that these came to, to others.
+pub record Enters (opening : Option CallLog) (faults : ℕ) (e : Entry) (older : List Entry) (before : Screen) (was : Option Running) (stood : Option CallLog)
+    (screen : Screen) (job : Option Running) (contents : Option CallLog) : Type 0 where
+  pub timely : IsTimely e.what before
+  pub counts : Counts (faults_in faults older) (calls_in older) e
+  pub leads : EventLeads (sight stood) (tally older) e.what before screen
+  pub traced : Traces opening e older was stood job contents
+
+-- These entries are a session over a tree that had these contents at the opening, and had failed so often then; it has come to
+-- this screen, this live job and these contents.
+abbrev pub IsSession : Option CallLog → ℕ → List Entry → Screen → Option Running → Option CallLog → Type 0
+IsSession opening faults [] screen job contents = IsOpening (sight opening) screen × (job ≡ None) × (contents ≡ opening)
+IsSession opening faults (e ∷ older) screen job contents =
+    (before : Screen) × (was : Option Running) × (stood : Option CallLog) × IsSession opening faults older before was stood
+    × Enters opening faults e older before was stood screen job contents
 
 -- the key asks for the end
 abbrev pub IsQuitKey : Event → Type 0
@@ -72,16 +93,13 @@ IsQuitKey (Key key now refusals false) = plain_base key ≡ F 10
 IsQuitKey event = ⊥
 
 -- the end was asked for: by F10 while no box was open
-abbrev pub EndAsked : Option View → ℕ → List Entry → Type 0
-EndAsked tree opening [] = ⊥
-EndAsked tree opening (e ∷ older) =
-    (IsQuitKey e.what × ((before : Screen) × IsSession tree opening older before × (before.asked ≡ None))) ⊎ EndAsked tree opening older
+abbrev pub EndAsked : Option CallLog → ℕ → List Entry → Type 0
+EndAsked opening faults [] = ⊥
+EndAsked opening faults (e ∷ older) =
+    (IsQuitKey e.what × ((before : Screen) × (was : Option Running) × (stood : Option CallLog) × IsSession opening faults older before was stood × (before.over ≡ NoBox)))
+    ⊎ EndAsked opening faults older
 
--- A view that the opening may have had: that of its files, where the tree tells them and they were a tree. Or none.
-abbrev pub MayOpen : Option CallLog → Option View → Type 0
-MayOpen opening None = ⊤
-MayOpen opening (Some view) = (before : CallLog) × (opening ≡ Some before) × IsTree (current before) × (view ≡ visible_tree (current before))
-
--- these entries are a session in this folder, and nothing that was confirmed was left undone
-abbrev pub EndsSession : Option View → ℕ → List Entry → Route → Type 0
-EndsSession tree opening newest folder = (screen : Screen) × (screen.panel.folder ≡ folder) × (screen.confirmed ≡ None) × IsSession tree opening newest screen
+-- these entries are a session in these folders, no job is live at its end, and nothing that was asked for was left undone
+abbrev pub EndsSession : Option CallLog → ℕ → List Entry → Option CallLog → Route → Route → Type 0
+EndsSession opening faults newest contents left right =
+    (screen : Screen) × (screen.left.folder ≡ left) × (screen.right.folder ≡ right) × (screen.planned ≡ None) × IsSession opening faults newest screen None contents

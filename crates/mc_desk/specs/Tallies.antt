@@ -3,16 +3,14 @@ use Rattle.std.specs.Prelude.{ℕ, Bool, true, false, ◌||◌, if◌then◌else
 use Rattle.key_screen.specs.declared.keys.Key.{Key as KeyType}
 use Rattle.tree_trait.specs.declared.calls.TreeError.{TreeError}
 use Rattle.tree_trait.specs.declared.calls.TreeError.TheVariants.{Fault}
-use Rattle.copy_move.specs.declared.deletion.Course.{Course}
-use Rattle.copy_move.specs.declared.deletion.Course.TheVariants.{GoesOn, InTrouble, Aborts}
-use Rattle.copy_move.specs.declared.history.Did.TheVariants.{Ended}
+use Rattle.file_copy.specs.declared.report.Did.TheVariants.{Ended}
 use Rattle.copy_move.specs.declared.history.Event.{Event}
-use Rattle.copy_move.specs.declared.history.Event.TheVariants.{Key, Look, Began, Step, Closed}
-use Rattle.copy_move.specs.declared.history.Job.TheVariants.{Delete}
+use Rattle.copy_move.specs.declared.history.Event.TheVariants.{Key, Look, Began, Order, Step, Closed}
 use Rattle.copy_move.specs.declared.history.Entry.{Entry}
 use Rattle.copy_move.specs.declared.history.Refusal.{Refusal}
-use Rattle.copy_move.specs.declared.history.Refusal.TheVariants.{Tree}
-use Rattle.copy_move.specs.Work.{LiveJob, live_job, last_id, is_closed, closes, if_closed, after_event, id_after}
+use Rattle.copy_move.specs.declared.history.Refusal.TheVariants.{Tree, Plan}
+use Rattle.copy_move.specs.Jobs.{Running, waits_on}
+use Rattle.copy_move.specs.Told.{live_job, last_id, is_closed, closes, if_closed, after_event, id_after}
 use Rattle.copy_move.specs.Crashes.{calls_in}
 
 -- a job has ended, and no look has taken it up
@@ -26,22 +24,17 @@ end_unseen [] = false
 end_unseen (e ∷ older) = end_unseen_event e.what (end_unseen older)
 
 -- a live job that waits for nothing can be stepped
-abbrev pub is_working : Course → Bool
-is_working GoesOn = true
-is_working InTrouble = false
-is_working Aborts = true
-
-abbrev pub can_step : Option LiveJob → Bool
+abbrev pub can_step : Option Running → Bool
 can_step None = false
-can_step (Some job) = is_working job.course
+can_step (Some job) = if waits_on job.course then false else true
 
--- What is to be looked at before the next key: the opening frame, which has the number 0; or the job that was begun, until a
--- look finds that it can't be stepped.
-abbrev pub due_after : Event → Option LiveJob → Option ℕ → Option ℕ
+-- What is to be looked at before the next key: the opening frame, which has the number 0; or the job that was begun or
+-- answered, until a look finds that it can't be stepped.
+abbrev pub due_after : Event → Option Running → Option ℕ → Option ℕ
 due_after (Key key now refusals lost) job before = before
 due_after (Look refusals) job before = if can_step job then before else None
-due_after (Began id (Delete []) background) job before = before
-due_after (Began id (Delete (path ∷ more)) background) job before = Some id
+due_after (Began id plan background) job before = Some id
+due_after (Order id order) job before = Some id
 due_after (Step id did) job before = before
 due_after Closed job before = None
 
@@ -54,6 +47,7 @@ abbrev pub loses : Event → Bool
 loses (Key key now refusals lost) = lost
 loses (Look refusals) = false
 loses (Began id plan background) = false
+loses (Order id order) = false
 loses (Step id did) = false
 loses Closed = false
 
@@ -66,10 +60,10 @@ abbrev pub faults_in : ℕ → List Entry → ℕ
 faults_in opening [] = opening
 faults_in opening (e ∷ older) = e.faults
 
--- what a history comes to: the live job and the last one's number; whether a job's end waits for a look, whether the session
+-- what a history comes to: the live job as it tells it, and the last one's number; whether a job's end waits for a look, whether the session
 -- is closed, what is to be looked at before the next key, and whether a key was lost; and the changing calls
 pub record Tally : Type 0 where
-  pub job : Option LiveJob
+  pub job : Option Running
   pub last : ℕ
   pub unseen : Bool
   pub closed : Bool
@@ -105,7 +99,8 @@ abbrev pub most_calls : Event → ℕ
 most_calls (Key key now refusals lost) = 0
 most_calls (Look refusals) = 0
 most_calls (Began id plan background) = 0
-most_calls (Step id did) = 1
+most_calls (Order id order) = 0
+most_calls (Step id did) = 3
 most_calls Closed = 0
 
 -- the tree failed at a call that was refused
@@ -116,12 +111,14 @@ is_fault e = false
 abbrev pub has_fault : List Refusal → Bool
 has_fault [] = false
 has_fault (Tree path e ∷ more) = is_fault e || has_fault more
+has_fault (Plan error ∷ more) = has_fault more
 
 -- the keys of a history, the first one first
 abbrev pub keys_of : Event → List KeyType
 keys_of (Key key now refusals lost) = key ∷ []
 keys_of (Look refusals) = []
 keys_of (Began id plan background) = []
+keys_of (Order id order) = []
 keys_of (Step id did) = []
 keys_of Closed = []
 

@@ -1,29 +1,30 @@
 //! What a key asks of the desk.
-ghost use Rattle.std.specs.Prelude.{◌≡◌, ◌∷◌, [], Some};
-ghost use Rattle.mc_text.specs.Routes.{parent_of};
+ghost use Rattle.std.specs.Prelude.{◌≡◌, Some, option_map};
+ghost use Rattle.copy_move.specs.Jobs.{first_work};
+ghost use Rattle.copy_move.specs.Told.{running};
 
-use copy_move::Refusals;
-use mc_text::{Path, Paths};
+use copy_move::{Answer, Job, Refusals, Run};
 
-/// A deletion that was confirmed: its plan, the file, and the folder that holds it.
+/// A job that was confirmed: its plan, and the job as it starts.
 #[derive(Debug, Drop)]
 pub struct Confirmed {
-    pub plan: Paths,
-    pub path: Path,
-    pub folder: Path,
-    ghost within: { parent_of path ≡ Some folder },
-    ghost planned: { plan ≡ path ∷ [] },
+    pub plan: Job,
+    pub run: Run,
+    ghost started: { option_map (running run.id) (first_work run.id plan) ≡ Some run },
 }
 
 /// What a key asks.
 #[derive(Debug, Drop)]
 pub enum Ask {
     Nothing,
-    Delete(Confirmed),
+    /// A job is to be begun.
+    Begin(Confirmed),
+    /// The live job's trouble is answered.
+    Answer(Answer),
     End,
 }
 
-/// What a key asks, and the calls that were refused to it.
+/// What a key asks, and what was refused to it.
 #[derive(Debug, Drop)]
 pub struct KeyAct {
     pub ask: Ask,

@@ -1,25 +1,35 @@
 //! The look at the thing under the cursor.
-ghost use Rattle.std.specs.Prelude.{◌≡◌, ◌≤◌, true, Option, IfOk};
-ghost use Rattle.tree_trait.specs.FileSystem.{View};
+ghost use Rattle.std.specs.Prelude.{◌≡◌, ◌≤◌, true, IfOk};
 ghost use Rattle.tree_trait.specs.Answers.{IfKnown, HasRisen};
 ghost use Rattle.mc_desk.specs.Panels.{current_path};
-ghost use Rattle.mc_desk.specs.Screens.{Sees, IsChoice, ChoiceCalls, is_faulty};
+ghost use Rattle.mc_desk.specs.Screens.{sight};
+ghost use Rattle.mc_desk.specs.Choices.{IsChoice, ChoiceCalls, is_faulty};
 
-use crate::choice::{Choice, Chosen};
+use crate::dialog::Chosen;
 use crate::panel::Panel;
 use mc_text::{Kind, NoMemory, Path, PathError};
 use std::alloc::Global;
 use tree_trait::{Tree, TreeError};
 
+/// What choosing the thing under the cursor comes to.
+#[derive(Debug, Drop)]
+pub enum Choice {
+    /// It is no file, or it can't be reached.
+    Nothing,
+    /// A file.
+    File(Chosen),
+    /// A look at it was refused.
+    Refused(Path, TreeError),
+}
+
 /// Looks at the thing under the cursor.
 pub fn choose<T: Tree>(alloc: Global, tree: &mut T, panel: &Panel) -> Result<Choice, NoMemory>
-    ensures chosen { IfOk result (λ choice. (o : Option View) → Sees (T.contents tree.old) o → IsChoice o (current_path panel.now) choice) }
+    ensures chosen { IfOk result (IsChoice (sight (T.contents tree.old)) (current_path panel.now)) }
     ensures called { IfKnown (T.contents tree.old) (λ log. IfOk result (ChoiceCalls log)) }
     ensures fault { IfOk result (λ choice. is_faulty choice ≡ true → HasRisen (T.fault_count tree.old) (T.fault_count tree.new)) }
     ensures same { T.contents tree.new ≡ T.contents tree.old }
     ensures later { T.fault_count tree.old ≤ T.fault_count tree.new }
 {
-    let folder = panel.folder().copy(alloc)?;
     let path = match panel.current_path(alloc) {
         Ok(Some(path)) => path,
         Ok(None) => return Ok(Choice::Nothing),
@@ -28,7 +38,7 @@ pub fn choose<T: Tree>(alloc: Global, tree: &mut T, panel: &Panel) -> Result<Cho
     };
     match tree.stat(alloc, &path) {
         Ok(meta) => match meta.kind {
-            Kind::File => Ok(Choice::Asks(Chosen { path, folder })),
+            Kind::File => Ok(Choice::File(Chosen { path })),
             Kind::Folder | Kind::Link | Kind::Other => Ok(Choice::Nothing),
         },
         Err(TreeError::Memory) => Err(NoMemory),

@@ -1,22 +1,22 @@
-//! The opening of a session: the folder is listed, and room is made for the entry that will close it.
-ghost use Rattle.std.specs.Prelude.{◌≡◌, ◌≤◌, Err, IfOk};
+//! The opening of a session: the folders are listed, and room is made for the entry that will close it.
+ghost use Rattle.std.specs.Prelude.{◌≡◌, ◌≤◌, true, IfErr, IfOk};
 ghost use Rattle.tree_trait.specs.Change.{current};
 ghost use Rattle.tree_trait.specs.Answers.{IfKnown, HasRisen};
-ghost use Rattle.mc_desk.specs.Starts.{IsOpened, Starts};
+ghost use Rattle.mc_desk.specs.Starts.{IsOpened, Starts, is_start_fault, start_error};
 
 use crate::log::Log;
 use crate::panel::Panel;
-use crate::starts::StartError;
+use crate::starts::{Side, Start, StartError};
 use crate::ui::Ui;
-use mc_text::{NoMemory, Path};
+use mc_text::NoMemory;
 use std::alloc::Global;
-use tree_trait::{Children, Tree, TreeError};
+use tree_trait::{Tree, TreeError};
 
-/// The screen of a folder, with no box open, and an empty log.
-pub fn open<T: Tree>(alloc: Global, tree: &mut T, folder: Path) -> Result<(Ui, Log), StartError>
-    ensures opened { IfOk result (λ parts. IsOpened (T.contents tree.old) folder parts.0 parts.1) }
-    ensures cause { IfKnown (T.contents tree.old) (λ log. Starts (current log) folder result) }
-    ensures fault { result ≡ Err (StartError.Tree TreeError.Fault) → HasRisen (T.fault_count tree.old) (T.fault_count tree.new) }
+/// The screen of two folders, with no box open, and an empty log. The left one is listed first.
+pub fn open<T: Tree>(alloc: Global, tree: &mut T, start: Start) -> Result<(Ui, Log), StartError>
+    ensures opened { IfOk result (λ parts. IsOpened (T.contents tree.old) start.left start.right parts.0 parts.1) }
+    ensures cause { IfKnown (T.contents tree.old) (λ log. Starts (current log) start.left start.right result) }
+    ensures fault { IfErr result (λ error. is_start_fault error ≡ true → HasRisen (T.fault_count tree.old) (T.fault_count tree.new)) }
     ensures same { T.contents tree.new ≡ T.contents tree.old }
     ensures later { T.fault_count tree.old ≤ T.fault_count tree.new }
 {
@@ -24,12 +24,26 @@ pub fn open<T: Tree>(alloc: Global, tree: &mut T, folder: Path) -> Result<(Ui, L
         Ok(log) => log,
         Err(NoMemory) => return Err(StartError::Memory),
     };
-    match tree.list(alloc, &folder) {
-        Ok(children) => {
-            let Children { names, unnamed: _ } = children;
-            Ok((Ui::new(Panel::new(folder, names)), log))
-        }
-        Err(TreeError::Memory) => Err(StartError::Memory),
-        Err(error) => Err(StartError::Tree(error)),
+    let Start { left, right } = start;
+    let left_names = match tree.list(alloc, &left) {
+        Ok(children) => children.names,
+        Err(error) => return Err(refused(Side::Left, error)),
+    };
+    let right_names = match tree.list(alloc, &right) {
+        Ok(children) => children.names,
+        Err(error) => return Err(refused(Side::Right, error)),
+    };
+    let left_panel = Panel::new(left, left_names);
+    let right_panel = Panel::new(right, right_names);
+    Ok((Ui::new(left_panel, right_panel), log))
+}
+
+/// Why a folder can't be listed.
+fn refused(side: Side, error: TreeError) -> StartError
+    ensures { result ≡ start_error side error }
+{
+    match error {
+        TreeError::Memory => StartError::Memory,
+        error => StartError::Tree(side, error),
     }
 }

@@ -3,17 +3,26 @@ use mc_text::Path;
 use thiserror::Error;
 use tree_trait::TreeError;
 
-/// What a session starts with: the folder of its panel.
+/// What a session starts with: the folders of its two panels.
 #[derive(Debug, Drop)]
 pub struct Start {
-    pub folder: Path,
+    pub left: Path,
+    pub right: Path,
+}
+
+/// A panel.
+#[derive(Clone, Copy, Debug, Drop, PartialEq, Eq)]
+pub enum Side {
+    Left,
+    Right,
 }
 
 /// Why a session did not start.
 #[derive(Clone, Copy, Debug, Drop, Error, PartialEq, Eq)]
 pub enum StartError {
-    #[error("{0}")]
-    Tree(TreeError),
+    /// The folder of this panel can't be listed.
+    #[error("{1}")]
+    Tree(Side, TreeError),
     #[error("out of memory")]
     Memory,
 }

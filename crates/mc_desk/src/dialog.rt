@@ -1,0 +1,27 @@
+//! The box that stands over the panels.
+ghost use Rattle.std.specs.Prelude.{◌≡◌, true, is_some};
+ghost use Rattle.mc_text.specs.Routes.{parent_of};
+
+use file_copy::Trouble;
+use mc_text::Path;
+
+/// A file that was chosen. It lies in a folder.
+#[derive(Debug, Drop)]
+pub struct Chosen {
+    pub path: Path,
+    ghost within: { is_some (parent_of path) ≡ true },
+}
+
+/// What stands over the panels.
+#[derive(Debug, Drop)]
+pub enum Dialog {
+    Nothing,
+    /// Asks whether to delete this file.
+    Delete(Chosen),
+    /// Shows which names of the source are copied, of a copy of this file.
+    SourceMask(Chosen),
+    /// Shows where this file is to be copied to.
+    CopyTo(Chosen),
+    /// Tells of a job's trouble, and takes an answer.
+    Trouble(Trouble),
+}
