@@ -54,9 +54,10 @@ module _ (start : Start) where
     pub count : length start.tree.nodes ≤ length x.nodes
     pub old : (j : ℕ) → j < length start.tree.nodes → node x j ≡ node start.tree j
     pub names : (h : ℕ) (m : List ℕ) → Led x h m
+    pub mounts : x.mounts ≡ start.tree.mounts
 
   pub beside_itself : IsBeside start.tree
-  beside_itself = record { count = omega arith; old = λ j below. refl; names = λ h m. inl refl }
+  beside_itself = record { count = omega arith; old = λ j below. refl; names = λ h m. inl refl; mounts = refl }
 
   -- a change of new nodes, or of names that led nowhere
   abbrev pub IsOwn : Change → Type 0
@@ -99,7 +100,7 @@ module _ (start : Start) where
   count_more x made b = let count = b.count in omega (arith, count, length-append x.nodes (made ∷ []))
 
   pub beside_made : (x : FileSystem) (made : Node) → IsBeside x → IsBeside (let y : FileSystem = record x { nodes = x.nodes ++ made ∷ [] } in y)
-  beside_made x made b = record { count = count_more x made b; old = old_more x made b; names = λ h m. led_still x (record x { nodes = x.nodes ++ made ∷ [] }) h m refl (b.names h m) }
+  beside_made x made b = record { count = count_more x made b; old = old_more x made b; names = λ h m. led_still x (record x { nodes = x.nodes ++ made ∷ [] }) h m refl (b.names h m); mounts = b.mounts }
 
   -- a new node is another
   pub beside_set : (x : FileSystem) (i : ℕ) (n : Node) → length start.tree.nodes ≤ i → IsBeside x → IsBeside (let y : FileSystem = record x { nodes = slice_set x.nodes i n } in y)
@@ -107,6 +108,7 @@ module _ (start : Start) where
     count = let count = b.count in omega (arith, count, length-set x.nodes i n);
     old = λ j below. set_other x.nodes j i n (λ e. absurd (omega (arith, below, past, e))) ∙ b.old j below;
     names = λ h m. led_still x (record x { nodes = slice_set x.nodes i n }) h m refl (b.names h m);
+    mounts = b.mounts;
   }
 
   pub beside_change : (x : FileSystem) (c : Change) → IsOwn c → IsBeside x → IsBeside (after_change x c)
@@ -115,6 +117,7 @@ module _ (start : Start) where
     count = count_more x made b;
     old = old_more x made b;
     names = led_edited x (after_change x (Makes f name made)) f name (Some (length x.nodes)) (λ h m. refl) (inr (own.0, own.1, own.2, (length x.nodes, refl, b.count))) b.names;
+    mounts = b.mounts;
   }
   beside_change x (Moves f from g name i r) own b = record {
     count = b.count;
@@ -123,11 +126,13 @@ module _ (start : Start) where
         led_edited (record x { names = edit f from None ∷ x.names }) (after_change x (Moves f from g name i r)) g name (Some i) (λ h m. refl)
         (inr (own.1, own.2, own.3, (i, refl, own.4)))
         (led_edited x (record x { names = edit f from None ∷ x.names }) f from None (λ h m. refl) (inl own.0) b.names);
+    mounts = b.mounts;
   }
   beside_change x (Removes f name i) own b = record {
     count = b.count;
     old = b.old;
     names = led_edited x (after_change x (Removes f name i)) f name None (λ h m. refl) (inl own) b.names;
+    mounts = b.mounts;
   }
   beside_change x (Sets i mode) own b = beside_set x i (record (node x i) { mode = mode }) own b
   beside_change x (Writes i bytes mtime) own b = beside_set x i (record (node x i) { bytes = bytes; mtime = mtime }) own b

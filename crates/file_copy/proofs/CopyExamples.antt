@@ -6,7 +6,7 @@ use Rattle.mc_text.specs.Routes.{Route}
 use Rattle.tree_trait.specs.declared.file_system.Node.{Node}
 use Rattle.tree_trait.specs.declared.file_system.FileSystem.{FileSystem}
 use Rattle.tree_trait.specs.declared.file_system.Mount.{Mount}
-use Rattle.tree_trait.specs.FileSystem.{node, starts_mount, value, value_at}
+use Rattle.tree_trait.specs.FileSystem.{node, starts_mount, value, value_at, visible_tree}
 use Rattle.tree_trait.specs.Refusals.{is_folder}
 use Rattle.std.proofs.lemmas.Bool.{cases_Bool, both_ways, eqb-true}
 use Rattle.tree_trait.specs.Shape.{IsTree}
@@ -15,16 +15,18 @@ use Rattle.tree_trait.specs.CrashImages.{IsCrashImage, all_settled}
 use Rattle.std.specs.Str.{bytes_eq}
 use Rattle.std.proofs.lemmas.Slice.Eq.{bytes_eq-Decides}
 use Rattle.tree_trait.proofs.Kept.{tree_made}
-use Rattle.file_copy.specs.declared.report.Ending.TheVariants.{Finished}
+use Rattle.file_copy.specs.declared.report.Ending.TheVariants.{Finished, Aborted}
 use Rattle.file_copy.specs.declared.report.Did.TheVariants.{Began, Chunk, Placed, Barrier, Ended}
 use Rattle.file_copy.specs.declared.stage.Said.{Said}
 use Rattle.file_copy.specs.declared.stage.Stage.TheVariants.{Fill, Decided}
 use Rattle.file_copy.specs.declared.stage.FolderState.TheVariants.{Synced, Dirty}
 use Rattle.file_copy.specs.Copying.{Places, places, copying, begun}
 use Rattle.file_copy.specs.PartNames.{part_name, part_path, IsFirstFree}
-use Rattle.file_copy.specs.CopyCrashes.{Turn, Step, Reaches}
+use Rattle.file_copy.specs.CopyCrashes.{Turn, Step, LastStep, Reaches}
+use Rattle.file_copy.specs.CopyShows.{standing, spot}
 use Rattle.file_copy.proofs.CrashLaw.{copy_law}
 use Rattle.file_copy.proofs.FinishedLaw.{finished_law}
+use Rattle.file_copy.proofs.ShownLaw.{shown_law}
 
 abbrev folder : Node
 folder = record { kind = Folder; bytes = []; mode = 0o755; mtime = pos 0; unnamed = 0 }
@@ -166,6 +168,17 @@ none_or_whole count image few left =
 
 none_yet : (image : FileSystem) × IsCrashImage (log (making ∷ filling ∷ Syncs 2 ∷ moving ∷ [])) 4 image × (value_at image here.target ≡ None)
 none_yet = (current (log (making ∷ filling ∷ [])), inl (inl (inl (inr (refl, (current (log (making ∷ filling ∷ [])), refl, refl))))), refl)
+
+-- the tree shows the target as soon as it is placed
+placed_seen : visible_tree (current (log (making ∷ filling ∷ Syncs 2 ∷ moving ∷ []))) here.target ≡ spot (Some (value (file (7 ∷ 8 ∷ []))))
+placed_seen =
+    let seen =
+    (shown_law unclaimed 5 here.source here.target (copying here Decided Dirty) (log []) (log (making ∷ filling ∷ Syncs 2 ∷ moving ∷ [])) placed_turns small_tree (λ e. cc) placed_reached).0 in
+    seen.shows here.target (λ e. cc)
+
+-- a part that could not be removed stands after the end too
+left_turns : standing (LastStep Aborted (Ended Aborted (Some (part_path here 0))) ∷ LastStep Aborted Barrier ∷ Step (Began (part_path here 0)) ∷ []) ≡ Some (part_path here 0)
+left_turns = refl
 
 -- when it is finished the target is there for good
 stays : all_settled (making ∷ filling ∷ Syncs 2 ∷ moving ∷ Syncs 0 ∷ []) ≡ true

@@ -81,7 +81,7 @@ module _ (unclaimed : Route → Type 0) (start : Start) where
           stands = record {
             state = (
               subst (λ q. IsFilling start after q said 0) (sym calls.2.1)
-                  (making_fills start log after k said st.0 calls.0 is_said free.apart (one_done log _ after calls.2.3)),
+                  (making_fills start log after k said st.0 calls.0 is_said free.apart free.unread (one_done log _ after calls.2.3)),
               st.1,
             );
             synced = refl;

@@ -19,7 +19,7 @@ use Rattle.file_copy.proofs.SyncTails.{folder_tail}
 
 module _ (start : Start) where
   -- a path shows what it showed at the start, or is that of the name that leads elsewhere
-  run_value : (log : CallLog) (placed : Bool) (tail : ℕ → List Change) (odd : Option (List ℕ)) → Run start log placed tail odd → (path : Route)
+  pub run_value : (log : CallLog) (placed : Bool) (tail : ℕ → List Change) (odd : Option (List ℕ)) → Run start log placed tail odd → (path : Route)
       → (value_at (current log) path ≡ value_at start.tree path) ⊎ ((m : List ℕ) × (path ≡ m ∷ start.folder) × (odd ≡ Some m))
   run_value log placed tail odd run path =
       elim (beside_value start (current log) (run.images (current log) (all_there log.opening log.changes)).0 path) [

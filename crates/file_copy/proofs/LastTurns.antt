@@ -19,10 +19,10 @@ use Rattle.file_copy.proofs.CopyAnswers.{one_done, quiet_so, removing, some_log}
 use Rattle.file_copy.proofs.CopyStates.{IsAt, IsSomeRun, StandsBy, StateAt, copy_at, free_run, some_nothing, some_tried, state_run}
 use Rattle.file_copy.proofs.FilledParts.{IsStanding, filling_stands}
 
-some_route : (a b : Route) → (let o : Option Route = Some a in o) ≡ Some b → a ≡ b
+pub some_route : (a b : Route) → (let o : Option Route = Some a in o) ≡ Some b → a ≡ b
 some_route a b h = cc
 
-no_route : (a : Route) → (let o : Option Route = Some a in o) ≡ None → ⊥
+pub no_route : (a : Route) → (let o : Option Route = Some a in o) ≡ None → ⊥
 no_route a h = cc
 
 given_up_none : (stage : Stage) → removable (given_up stage) ≡ None
@@ -41,7 +41,7 @@ let_go_none Decided h = refl
 
 module _ (start : Start) where
   -- the part that a last step removes stands
-  part_stands : (Has : Type 0) (stage : Stage) (troubled : Bool) (log : CallLog) (part : Route) → StateAt start Has stage troubled log → removable stage ≡ Some part
+  pub part_stands : (Has : Type 0) (stage : Stage) (troubled : Bool) (log : CallLog) (part : Route) → StateAt start Has stage troubled log → removable stage ≡ Some part
       → IsStanding start log part
   part_stands Has Begin troubled log part st h = absurd (no_route part (sym h))
   part_stands Has (Fill p said done) false log part st h =

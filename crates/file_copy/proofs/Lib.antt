@@ -16,6 +16,9 @@ pub mod PermittedCalls
 pub mod PlacedParts
 pub mod Placing
 pub mod Runs
+pub mod ShownLaw
+pub mod ShownTrees
 pub mod Stepping
 pub mod SyncTails
 pub mod Tries
+pub mod TwinLogs

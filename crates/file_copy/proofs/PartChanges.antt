@@ -2,6 +2,7 @@
 use Rattle.std.proofs.Common.{◌≡◌, ℕ, ℤ, ◌<◌, ◌≤◌, zero, suc, true, false, not, List, [], ◌∷◌, ◌++◌, length, refl, sym, ◌∙◌, ap, subst, inl, inr, ◌⊎◌, Option, Some, None, cond, arith}
 use Rattle.std.specs.Prelude.{unwrap_or, slice_get, slice_set}
 use Rattle.std.proofs.lemmas.Bool.{cases_Bool, cond-true, cond-false, false_from_ne_true}
+use Rattle.mc_text.specs.declared.kind.Kind.TheVariants.{File}
 use Rattle.tree_trait.specs.declared.file_system.Node.{Node}
 use Rattle.tree_trait.specs.declared.file_system.FileSystem.{FileSystem}
 use Rattle.tree_trait.specs.FileSystem.{lookup, find, node, no_node}
@@ -38,6 +39,7 @@ module _ (start : Start) where
     pub holds : is_folder (node start.tree h) ≡ true
     pub part : (k : ℕ) × (p ≡ part_name start.job k)
     pub apart : p ≡ start.name → ⊥
+    pub unread : (p ∷ start.folder) ≡ start.source → ⊥
     pub clear : lookup start.tree.names h start.name ≡ None
     pub was : lookup start.tree.names h p ≡ None
     pub past : length start.tree.nodes ≤ i
@@ -46,6 +48,7 @@ module _ (start : Start) where
   pub record Stands (log : CallLog) (p : List ℕ) (h i : ℕ) (tail : ℕ → List Change) : Type 0 where
     pub place : IsPlace p h i
     pub leads : lookup (current log).names h p ≡ Some i
+    pub file : (node (current log) i).kind ≡ File
     pub run : Run start log false tail (Some p)
 
   pub one_some : (a b : ℕ) → (let o : Option ℕ = Some a in o) ≡ Some b → a ≡ b
@@ -82,8 +85,8 @@ module _ (start : Start) where
 
   -- a part is made
   module _ (log : CallLog) (free : IsFreeLog log) (p : List ℕ) (h : ℕ) (made : Node) (folder : find start.tree start.folder ≡ Some h) (holds : is_folder (node (current log) h) ≡ true)
-      (part : (k : ℕ) × (p ≡ part_name start.job k)) (apart : p ≡ start.name → ⊥) (none : lookup (current log).names h p ≡ None)
-      (clear : lookup start.tree.names h start.name ≡ None) where
+      (part : (k : ℕ) × (p ≡ part_name start.job k)) (apart : p ≡ start.name → ⊥) (unread : (p ∷ start.folder) ≡ start.source → ⊥) (none : lookup (current log).names h p ≡ None)
+      (clear : lookup start.tree.names h start.name ≡ None) (is_file : made.kind ≡ File) where
     beside : IsBeside start (current log)
     beside = (here log folder_tail None free).0
 
@@ -96,15 +99,20 @@ module _ (start : Start) where
       holds = subst (λ n. is_folder n ≡ true) (beside.old h (found_there start (current log) beside start.folder h folder)) holds;
       part = part;
       apart = apart;
+      unread = unread;
       clear = clear;
       was = was_none;
       past = beside.count;
     }
 
+    pub made_node : node (current (with_change log (Makes h p made))) (length (current log).nodes) ≡ made
+    made_node = ap (λ (x : FileSystem). node x (length (current log).nodes)) (current_with log (Makes h p made)) ∙ at_end (current log).nodes made
+
     pub made_stands : Stands (with_change log (Makes h p made)) p h (length (current log).nodes) (part_tail (length (current log).nodes))
     made_stands = record {
       place = place_made;
       leads = ap (λ (x : FileSystem). lookup x.names h p) (current_with log (Makes h p made)) ∙ cond-true _ _ _ (same_name-self h p);
+      file = ap (λ (n : Node). n.kind) made_node ∙ is_file;
       run =
           run_change start log false false folder_tail (part_tail (length (current log).nodes)) None (Some p) (Makes h p made) free (folder, inr part, was_none)
           (λ x y left t how. stays x y (Makes h p made) (λ g at. cond-false _ _ _ (off_of h p g apart) ∙ t g at) t how)
@@ -114,15 +122,13 @@ module _ (start : Start) where
           (made_settles h p made (length (current log).nodes) log.changes (free.settles h folder)));
     }
 
-    pub made_node : node (current (with_change log (Makes h p made))) (length (current log).nodes) ≡ made
-    made_node = ap (λ (x : FileSystem). node x (length (current log).nodes)) (current_with log (Makes h p made)) ∙ at_end (current log).nodes made
-
   -- while a part stands
   module _ (log : CallLog) (p : List ℕ) (h i : ℕ) where
     pub stands_nothing : (tail : ℕ → List Change) → Stands log p h i tail → Stands (with_change log Nothing) p h i tail
     stands_nothing tail st = record {
       place = st.place;
       leads = ap (λ (x : FileSystem). lookup x.names h p) (current_with log Nothing) ∙ st.leads;
+      file = ap (λ (x : FileSystem). (node x i).kind) (current_with log Nothing) ∙ st.file;
       run = run_nothing start log false tail (Some p) st.run;
     }
 
@@ -132,6 +138,7 @@ module _ (start : Start) where
         record {
           place = st.place;
           leads = st.leads;
+          file = st.file;
           run = record {
             safe = run.safe;
             tree = run.tree;
@@ -170,6 +177,9 @@ module _ (start : Start) where
       below = let run = st.run in let tree = run.tree in tree.there h p i st.leads
 
       -- it is written
+      pub written_node : (bytes : List ℕ) (mtime : ℤ) → node (current (with_change log (Writes i bytes mtime))) i ≡ record (node (current log) i) { bytes = bytes; mtime = mtime }
+      written_node bytes mtime = ap (λ (x : FileSystem). node x i) (current_with log (Writes i bytes mtime)) ∙ set_here (current log).nodes i _ below
+
       pub writes_stands : (bytes : List ℕ) (mtime : ℤ) → Stands (with_change log (Writes i bytes mtime)) p h i (part_tail i)
       writes_stands bytes mtime =
           let run = st.run in
@@ -177,16 +187,17 @@ module _ (start : Start) where
           record {
             place = place;
             leads = ap (λ (x : FileSystem). lookup x.names h p) (current_with log (Writes i bytes mtime)) ∙ st.leads;
+            file = ap (λ (n : Node). n.kind) (written_node bytes mtime) ∙ st.file;
             run =
                 run_change start log false false (part_tail i) (part_tail i) (Some p) (Some p) (Writes i bytes mtime) run place.past
                 (λ x y left t how. stays x y (Writes i bytes mtime) t t how) (tree_set (current log) i _ run.tree refl) run.names
                 (λ g at. settles_more (Writes i bytes mtime) (part_tail i g) log.changes (ap not (part_settles i g)) (run.settles g at));
           }
 
-      pub written_node : (bytes : List ℕ) (mtime : ℤ) → node (current (with_change log (Writes i bytes mtime))) i ≡ record (node (current log) i) { bytes = bytes; mtime = mtime }
-      written_node bytes mtime = ap (λ (x : FileSystem). node x i) (current_with log (Writes i bytes mtime)) ∙ set_here (current log).nodes i _ below
-
       -- its mode is set
+      pub set_node : (mode : ℕ) → node (current (with_change log (Sets i mode))) i ≡ record (node (current log) i) { mode = mode }
+      set_node mode = ap (λ (x : FileSystem). node x i) (current_with log (Sets i mode)) ∙ set_here (current log).nodes i _ below
+
       pub sets_stands : (mode : ℕ) → Stands (with_change log (Sets i mode)) p h i (part_tail i)
       sets_stands mode =
           let run = st.run in
@@ -194,29 +205,28 @@ module _ (start : Start) where
           record {
             place = place;
             leads = ap (λ (x : FileSystem). lookup x.names h p) (current_with log (Sets i mode)) ∙ st.leads;
+            file = ap (λ (n : Node). n.kind) (set_node mode) ∙ st.file;
             run =
                 run_change start log false false (part_tail i) (part_tail i) (Some p) (Some p) (Sets i mode) run place.past
                 (λ x y left t how. stays x y (Sets i mode) t t how) (tree_set (current log) i _ run.tree refl) run.names
                 (λ g at. settles_more (Sets i mode) (part_tail i g) log.changes (ap not (part_settles i g)) (run.settles g at));
           }
 
-      pub set_node : (mode : ℕ) → node (current (with_change log (Sets i mode))) i ≡ record (node (current log) i) { mode = mode }
-      set_node mode = ap (λ (x : FileSystem). node x i) (current_with log (Sets i mode)) ∙ set_here (current log).nodes i _ below
-
       -- it is synced
+      pub synced_node : node (current (with_change log (Syncs i))) i ≡ node (current log) i
+      synced_node = ap (λ (x : FileSystem). node x i) (current_with log (Syncs i))
+
       pub synced_stands : Stands (with_change log (Syncs i)) p h i folder_tail
       synced_stands =
           let run = st.run in
           record {
             place = st.place;
             leads = ap (λ (x : FileSystem). lookup x.names h p) (current_with log (Syncs i)) ∙ st.leads;
+            file = ap (λ (n : Node). n.kind) synced_node ∙ st.file;
             run =
                 run_change start log false false (part_tail i) folder_tail (Some p) (Some p) (Syncs i) run tt
                 (λ x y left t how. elim how [ inl same ↦ subst (TargetIs start false) (sym same) t | inr same ↦ subst (TargetIs start false) (sym same) t ]) run.tree run.names run.settles;
           }
-
-      pub synced_node : node (current (with_change log (Syncs i))) i ≡ node (current log) i
-      synced_node = ap (λ (x : FileSystem). node x i) (current_with log (Syncs i))
 
       pub synced_clean : is_clean i (log.changes ++ Syncs i ∷ []) ≡ true
       synced_clean = clean_synced i log.changes

@@ -42,16 +42,16 @@ module _ (start : Start) where
 
   -- the part is made, with no bytes
   pub making_fills : (log after : CallLog) (k : ℕ) (said : Said) → IsFreeLog start log → IsReady (current log) (places_at start) → IsSaid (current log) start.source said
-      → ((part_name start.job k ∷ start.folder) ≡ start.name ∷ start.folder → ⊥) → IsDoneCall log (MakeFile (part_name start.job k ∷ start.folder) (part_mode (node (current log) (found (current log) start.source)).mode)) after
+      → ((part_name start.job k ∷ start.folder) ≡ start.name ∷ start.folder → ⊥) → ((part_name start.job k ∷ start.folder) ≡ start.source → ⊥) → IsDoneCall log (MakeFile (part_name start.job k ∷ start.folder) (part_mode (node (current log) (found (current log) start.source)).mode)) after
       → IsFilling start after (part_name start.job k ∷ start.folder) said 0
-  making_fills log after k said free ready is_said apart d = record {
+  making_fills log after k said free ready is_said apart unread d = record {
     p = part_name start.job k;
     h = found (current log) start.folder;
     i = length (current log).nodes;
     n = found (current log) start.source;
     path = refl;
     stands = subst (λ l. Stands start l (part_name start.job k) (found (current log) start.folder) (length (current log).nodes) (part_tail (length (current log).nodes))) (sym d.is)
-        (made_stands start log free (part_name start.job k) (found (current log) start.folder) made at m.holds (k, refl) apart_names m.none clear);
+        (made_stands start log free (part_name start.job k) (found (current log) start.folder) made at m.holds (k, refl) apart_names unread m.none clear refl);
     from = record {
       found = source_at;
       file = ap (λ (n : Node). n.kind) (sym node_is) ∙ ready.file;
@@ -61,7 +61,7 @@ module _ (start : Start) where
     few = omega arith;
     holds = subst (λ n. Holds n [] (part_mode said.mode))
         (sym (ap (λ (l : CallLog). node (current l) (length (current log).nodes)) d.is
-        ∙ made_node start log free (part_name start.job k) (found (current log) start.folder) made at m.holds (k, refl) apart_names m.none clear))
+        ∙ made_node start log free (part_name start.job k) (found (current log) start.folder) made at m.holds (k, refl) apart_names unread m.none clear refl))
         (record { kind = refl; bytes_are = refl; mode_is = ap part_mode (sym is_said.mode); unnamed = refl });
   }
     where

@@ -3,6 +3,7 @@ pub mod Chunks
 pub mod Copying
 pub mod CopyCalls
 pub mod CopyCrashes
+pub mod CopyShows
 pub mod CopySteps
 pub mod LastSteps
 pub mod Looking

@@ -16,7 +16,7 @@ mod winding;
 mod work;
 
 pub use copy::{FileCopy, Stepped};
-pub use laws::{what_a_crash_leaves_of_a_copy, what_a_finished_copy_leaves};
+pub use laws::{what_a_copy_shows, what_a_crash_leaves_of_a_copy, what_a_finished_copy_leaves};
 pub use part_name::PartTest;
 pub use report::{Cause, Did, Ending, Trouble};
 pub use stage::{FolderState, Next, Said, Stage};

@@ -1,0 +1,152 @@
+-- A step of a deletion is one call of the tree, with its answer.
+use Rattle.std.proofs.Common.{◌≡◌, ℕ, ◌≤◌, true, false, [], ◌∷◌, length, length-append, refl, sym, ◌∙◌, ap, subst, Option, Some, None, Result, Ok, Err, arith}
+use Rattle.mc_text.specs.Routes.{Route, parent_of}
+use Rattle.tree_trait.specs.declared.calls.TreeError.{TreeError}
+use Rattle.tree_trait.specs.declared.calls.TreeError.TheVariants as refused
+use Rattle.tree_trait.specs.Calls.{Call, RemoveFile, SyncFolder}
+use Rattle.tree_trait.specs.Change.{Change, CallLog, with_change}
+use Rattle.tree_trait.specs.Answers.{IfKnown, HasRisen, Performs}
+use Rattle.file_copy.specs.declared.report.Cause.TheVariants.{Tree}
+use Rattle.file_copy.specs.declared.report.Trouble.{Trouble}
+use Rattle.file_copy.specs.declared.report.Ending.{Ending}
+use Rattle.file_copy.specs.declared.report.Did.{Did}
+use Rattle.file_copy.specs.declared.report.Did.TheVariants.{Removed, Barrier, Troubled}
+use Rattle.file_copy.specs.CallRuns.{HasMore}
+use Rattle.copy_move.specs.declared.deletion.Stage.TheVariants.{Remove, Sync, Finish}
+use Rattle.copy_move.specs.Deletions.{Deleting, Answers, IsTroubleAt, calls_for, call_of, cause_of, trouble_at}
+use Rattle.copy_move.specs.DeletionSteps.{DeletionStep, LastDeletionStep}
+
+-- only a fault is called one
+pub fault-cause : (e : TreeError) → cause_of e ≡ Tree refused.Fault → e ≡ refused.Fault
+fault-cause refused.Memory h = cc
+fault-cause e h = cc
+
+pub err_is : {T : Type 0} (e : TreeError) → e ≡ refused.Fault → (let r : Result T TreeError = Err e in r) ≡ Err refused.Fault
+err_is e h = ap Err h
+
+-- the sync's trouble names the folder of the path
+sync_trouble : (path folder : Route) → parent_of path ≡ Some folder → (e : TreeError) → IsTroubleAt Sync path (trouble_at e folder true)
+sync_trouble [] folder h e = absurd cc
+sync_trouble (name ∷ up) folder h e = (e, ap (λ q. trouble_at e q true) (let same : up ≡ folder = cc in sym same))
+
+pub sync_at : (d : Deleting) (folder : Route) (e : TreeError) → parent_of d.path ≡ Some folder → d.stage ≡ Sync → IsTroubleAt d.stage d.path (trouble_at e folder true)
+sync_at d folder e within stage = subst (λ s. IsTroubleAt s d.path (trouble_at e folder true)) (sym stage) (sync_trouble d.path folder within e)
+
+-- the removal's trouble names the path
+pub remove_at : (d : Deleting) (e : TreeError) → d.stage ≡ Remove → IsTroubleAt d.stage d.path (trouble_at e d.path false)
+remove_at d e stage = subst (λ s. IsTroubleAt s d.path (trouble_at e d.path false)) (sym stage) (e, refl)
+
+-- the folder of the file is the one that is synced
+pub sync_call : (path folder : Route) → parent_of path ≡ Some folder → call_of Sync path ≡ Some (SyncFolder folder)
+sync_call [] folder h = absurd cc
+sync_call (name ∷ up) folder h = let same : up ≡ folder = cc in ap (λ q. Some (SyncFolder q)) same
+
+-- one change more, or none where there was no memory
+one_more : (log : CallLog) (c : Change) (now : CallLog) → (let o : Option CallLog = Some (with_change log c) in o) ≡ Some now → HasMore log 1 now
+one_more log c now h =
+    let is : with_change log c ≡ now = cc in
+    ap (λ (l : CallLog). length l.changes) (sym is) ∙ length-append log.changes (c ∷ [])
+
+no_more : (log now : CallLog) → (let o : Option CallLog = Some log in o) ≡ Some now → HasMore log 0 now
+no_more log now h = let is : log ≡ now = cc in let same = ap (λ (l : CallLog). length l.changes) (sym is) in omega (arith, same)
+
+pub counts_call : (log now : CallLog) (call : Call) (answer : Result (Unit {0}) TreeError) (after : Option CallLog) → Performs {A = Unit {0}} log call answer after → after ≡ Some now
+    → HasMore log (calls_for answer) now
+counts_call log now call (Ok done) after h is = one_more log _ now (sym h.1.1 ∙ is)
+counts_call log now call (Err refused.Memory) after h is = no_more log now (sym h ∙ is)
+counts_call log now call (Err refused.Fault) after h is = one_more log _ now (sym h.1.1 ∙ is)
+counts_call log now call (Err e) after h is = one_more log _ now (sym h.1 ∙ is)
+
+few_calls : (answer : Result (Unit {0}) TreeError) → calls_for answer ≤ 1
+few_calls (Ok done) = omega arith
+few_calls (Err refused.Memory) = omega arith
+few_calls (Err e) = omega arith
+
+module _ (old new : Deleting) (before after : Option CallLog) (faults faults_after : ℕ) where
+  -- the call that a deletion makes, where its tree is known
+  abbrev Called : Call → Result (Unit {0}) TreeError → Type 0
+  Called call answer = IfKnown before (λ log. Performs {A = Unit {0}} log call answer after)
+
+  counted : (call : Call) (answer : Result (Unit {0}) TreeError) (calls : ℕ) → calls ≡ calls_for answer → Called call answer → IfKnown before (λ log. IfKnown after (HasMore log calls))
+  counted call answer calls count called log known now is = subst (λ n. HasMore log n now) (sym count) (counts_call log now call answer after (called log known) is)
+
+  -- no call was made
+  none_counted : (calls : ℕ) → calls ≡ 0 → after ≡ before → IfKnown before (λ log. IfKnown after (HasMore log calls))
+  none_counted calls count same log known now is = subst (λ n. HasMore log n now) (sym count) (no_more log now (sym known ∙ (sym same ∙ is)))
+
+  -- the file is gone
+  pub steps_removed : (did : Did) (calls : ℕ) → did ≡ Removed old.path → calls ≡ 1 → old.stage ≡ Remove → new ≡ record old { stage = Sync }
+      → Called (RemoveFile old.path) (Ok tt) → (before ≡ None → after ≡ None) → faults ≤ faults_after
+      → DeletionStep old new did calls before after faults faults_after
+  steps_removed did calls is count stage new_is called unknown later =
+      subst (λ d. DeletionStep old new d calls before after faults faults_after) (sym is) record {
+        tells = (stage, refl, new_is);
+        called = called;
+        counted = counted (RemoveFile old.path) (Ok tt) calls count called;
+        few = omega (arith, count);
+        unknown = unknown;
+        later = later;
+        fault = λ h. absurd h;
+      }
+
+  -- the folder is on the disk
+  pub steps_synced : (did : Did) (calls : ℕ) (folder : Route) → did ≡ Barrier → calls ≡ 1 → old.stage ≡ Sync → parent_of old.path ≡ Some folder
+      → new ≡ record old { stage = Finish } → Called (SyncFolder folder) (Ok tt) → (before ≡ None → after ≡ None) → faults ≤ faults_after
+      → DeletionStep old new did calls before after faults faults_after
+  steps_synced did calls folder is count stage within new_is called unknown later =
+      subst (λ d. DeletionStep old new d calls before after faults faults_after) (sym is) record {
+        tells = (stage, new_is);
+        called = λ log known. subst (λ call. Answers log call (Ok tt) after) (sym (sync_call old.path folder within)) (called log known);
+        counted = counted (SyncFolder folder) (Ok tt) calls count called;
+        few = omega (arith, count);
+        unknown = unknown;
+        later = later;
+        fault = λ h. absurd h;
+      }
+
+  -- the last sync was tried
+  pub steps_tried : (ending : Ending) (did : Did) (calls : ℕ) (folder : Route) (answer : Result (Unit {0}) TreeError) → did ≡ Barrier → calls ≡ calls_for answer → old.stage ≡ Sync
+      → parent_of old.path ≡ Some folder → new ≡ record old { stage = Finish } → Called (SyncFolder folder) answer → (before ≡ None → after ≡ None) → faults ≤ faults_after
+      → LastDeletionStep ending old new did calls before after faults faults_after
+  steps_tried ending did calls folder answer is count stage within new_is called unknown later =
+      subst (λ d. LastDeletionStep ending old new d calls before after faults faults_after) (sym is) record {
+        tells = (stage, new_is);
+        called = λ log known. (answer, subst (λ call. Answers log call answer after) (sym (sync_call old.path folder within)) (called log known));
+        counted = counted (SyncFolder folder) answer calls count called;
+        few = let most = few_calls answer in omega (arith, count, most);
+        unknown = unknown;
+        later = later;
+      }
+
+  module _ (did : Did) (calls : ℕ) (t : Trouble) (is : did ≡ Troubled t) (at : IsTroubleAt old.stage old.path t) (new_is : new ≡ old)
+      (unknown : before ≡ None → after ≡ None) (later : faults ≤ faults_after) (fault : t.cause ≡ Tree refused.Fault → HasRisen faults faults_after) where
+    -- the call was refused
+    pub steps_refused : (call : Call) (e : TreeError) → calls ≡ calls_for (Err e) → call_of old.stage old.path ≡ Some call → t.cause ≡ cause_of e → Called call (Err e)
+        → DeletionStep old new did calls before after faults faults_after
+    steps_refused call e count next cause called =
+        subst (λ d. DeletionStep old new d calls before after faults faults_after) (sym is) record {
+          tells = (at, new_is);
+          called = λ log known. (e, cause, subst (λ o. Answers log o (Err e) after) (sym next) (called log known));
+          counted = counted call (Err e) calls count called;
+          few = let most = few_calls (Err e) in omega (arith, count, most);
+          unknown = unknown;
+          later = later;
+          fault = fault;
+        }
+
+    -- there was no memory, and no call was made
+    pub steps_unmade : calls ≡ 0 → t.cause ≡ cause_of refused.Memory → after ≡ before → DeletionStep old new did calls before after faults faults_after
+    steps_unmade count cause same =
+        subst (λ d. DeletionStep old new d calls before after faults faults_after) (sym is) record {
+          tells = (at, new_is);
+          called = λ log known. (refused.Memory, cause, unmade (call_of old.stage old.path) log (same ∙ known));
+          counted = none_counted calls count same;
+          few = omega (arith, count);
+          unknown = unknown;
+          later = later;
+          fault = fault;
+        }
+      where
+        unmade : (call : Option Call) (log : CallLog) → after ≡ Some log → Answers log call (Err refused.Memory) after
+        unmade None log h = h
+        unmade (Some call) log h = h

@@ -1,0 +1,171 @@
+-- Each step of a job leaves fewer steps to be made.
+use Rattle.std.proofs.Common.{◌≡◌, ℕ, ◌+◌, ◌-◌, ◌<◌, ◌≤◌, false, true, [], ◌∷◌, sym, subst, ap, ◌∙◌, inl, inr, Option, Some, None, arith}
+use Rattle.std.specs.Prelude.{◌^◌}
+use Rattle.mc_text.specs.Routes.{Route}
+use Rattle.file_copy.specs.declared.report.Ending.{Ending}
+use Rattle.file_copy.specs.declared.report.Ending.TheVariants.{Finished, Aborted, Killed, NoMemory}
+use Rattle.file_copy.specs.declared.report.Did.{Did}
+use Rattle.file_copy.specs.declared.report.Did.TheVariants.{Began, Chunk, Placed, Removed, Skipped, Cleaned, Barrier, Troubled, Ended}
+use Rattle.file_copy.specs.declared.stage.Stage.{Stage}
+use Rattle.file_copy.specs.declared.stage.Stage.TheVariants.{Begin, Fill, Clean, Left, Decided}
+use Rattle.file_copy.specs.declared.stage.Next.TheVariants as next
+use Rattle.file_copy.specs.declared.stage.FolderState.{FolderState}
+use Rattle.file_copy.specs.declared.stage.FolderState.TheVariants.{Synced, Dirty}
+use Rattle.file_copy.specs.Copying.{Copying, IsSound, Tells, after_clean}
+use Rattle.file_copy.specs.Copying as copying
+use Rattle.file_copy.specs.LastSteps.{GoesDown, Winds, last_steps}
+use Rattle.copy_move.specs.declared.deletion.Stage.{Stage as DeletionStage}
+use Rattle.copy_move.specs.declared.deletion.Stage.TheVariants as deletion
+use Rattle.copy_move.specs.declared.work.Work.{Work}
+use Rattle.copy_move.specs.declared.work.Work.TheVariants.{Copy, Delete}
+use Rattle.copy_move.specs.Deletions.{Deleting}
+use Rattle.copy_move.specs.Deletions as deletions
+use Rattle.copy_move.specs.Jobs.{course_after, ends, skipped}
+use Rattle.copy_move.specs.Ranks.{copy_rank, deletion_rank, last_deletion_steps, last_rank, rank_on, work_rank}
+
+begins_below : (most size : ℕ) → size ≤ most → (size - 0) + 7 < most + 8
+begins_below most size fits = omega (arith, fits)
+
+some_more : (most : ℕ) → 3 < most + 8
+some_more most = omega arith
+
+some_more_yet : (most : ℕ) → 3 < most + 9
+some_more_yet most = omega arith
+
+one_less : (most : ℕ) → most + 8 < most + 9
+one_less most = omega arith
+
+-- the last steps of a copy are at most three
+few_last : (stage : Stage) (folder : FolderState) → last_steps stage folder ≤ 3
+few_last (Fill part said done) folder = omega arith
+few_last (Clean part follows) folder = omega arith
+few_last Begin Dirty = omega arith
+few_last Begin Synced = omega arith
+few_last (Left part) Dirty = omega arith
+few_last (Left part) Synced = omega arith
+few_last Decided Dirty = omega arith
+few_last Decided Synced = omega arith
+
+-- and a copy that goes on has more
+more_left : (stage : Stage) (folder : FolderState) → 3 < copy_rank stage folder
+more_left Begin folder = some_more (2 ^ 63)
+more_left (Fill part said done) folder = omega arith
+more_left (Clean part next.Begin) folder = some_more_yet (2 ^ 63)
+more_left (Clean part next.Decided) folder = omega arith
+more_left (Left part) folder = omega arith
+more_left Decided Dirty = omega arith
+more_left Decided Synced = omega arith
+
+decided_low : (folder : FolderState) → copy_rank Decided folder ≤ 5
+decided_low Dirty = omega arith
+decided_low Synced = omega arith
+
+-- a copy at this stage has more steps than another
+abbrev Below : Copying → Stage → FolderState → Type 0
+Below new stage folder = copy_rank new.stage new.folder < copy_rank stage folder
+
+below : (old new : Copying) (stage : Stage) (is : Copying) → old.stage ≡ stage → new ≡ is → Below is stage old.folder → Below new old.stage old.folder
+below old new stage is at new_is low = subst (λ s. Below new s old.folder) (sym at) (subst (λ n. Below n stage old.folder) (sym new_is) low)
+
+cleaned_below : (part : Route) (follows : _) (folder : FolderState) → copy_rank (after_clean follows) folder < copy_rank (Clean part follows) folder
+cleaned_below part next.Begin folder = one_less (2 ^ 63)
+cleaned_below part next.Decided folder = let low = decided_low folder in omega (arith, low)
+
+pub copy_falls : (old new : Copying) (did : Did) → Tells old did new → IsSound new.stage new.folder → ends did ≡ false → rank_on (course_after did) (Copy new) < work_rank (Copy old)
+copy_falls old new (Began part) t sound h =
+    let said = t.1.0 in
+    let range = subst (λ (n : Copying). IsSound n.stage n.folder) t.1.1 sound in
+    below old new Begin (record old { stage = Fill part said 0; folder = Dirty }) t.0 t.1.1 (begins_below (2 ^ 63) said.size range.1)
+copy_falls old new (Chunk count) (part, said, done, at, some, few, within, is) sound h =
+    below old new (Fill part said done) (record old { stage = Fill part said (done + count) }) at is (omega (arith, some, within))
+copy_falls old new (Placed path) (part, said, at, target, is) sound h =
+    below old new (Fill part said said.size) (record old { stage = Decided }) at is (let low = decided_low old.folder in omega (arith, low))
+copy_falls old new (Cleaned part) (follows, at, is) sound h =
+    below old new (Clean part follows) (record old { stage = after_clean follows }) at is (cleaned_below part follows old.folder)
+copy_falls old new Barrier (at, dirty, is) sound h =
+    subst (λ (n : Copying). copy_rank n.stage n.folder < copy_rank old.stage old.folder) (sym is)
+    (subst (λ s. copy_rank s Synced < copy_rank s old.folder) (sym at) (subst (λ f. copy_rank Decided Synced < copy_rank Decided f) (sym dirty) (omega arith)))
+copy_falls old new (Troubled trouble) (barrier, is) sound h =
+    subst (λ (n : Copying). last_steps n.stage n.folder < copy_rank old.stage old.folder) (sym is)
+    (let few = few_last old.stage old.folder in let more = more_left old.stage old.folder in omega (arith, few, more))
+copy_falls old new (Ended Finished part) t sound h = absurd cc
+copy_falls old new (Ended Aborted part) t sound h = absurd t
+copy_falls old new (Ended Killed part) t sound h = absurd t
+copy_falls old new (Ended NoMemory part) t sound h = absurd t
+copy_falls old new (Removed path) t sound h = absurd t
+copy_falls old new (Skipped path cause) t sound h = absurd t
+
+pub deletion_falls : (old new : Deleting) (did : Did) → deletions.Tells old did new → ends did ≡ false → rank_on (course_after did) (Delete new) < work_rank (Delete old)
+deletion_falls old new (Removed path) (at, gone, is) h =
+    subst (λ (n : Deleting). deletion_rank n.stage < deletion_rank old.stage) (sym is) (subst (λ s. 5 < deletion_rank s) (sym at) (omega arith))
+deletion_falls old new Barrier (at, is) h =
+    subst (λ (n : Deleting). deletion_rank n.stage < deletion_rank old.stage) (sym is) (subst (λ s. 4 < deletion_rank s) (sym at) (omega arith))
+deletion_falls old new (Troubled trouble) (at, is) h =
+    subst (λ (n : Deleting). last_deletion_steps n.stage < deletion_rank old.stage) (sym is) (tried_low old.stage)
+  where
+    tried_low : (stage : DeletionStage) → last_deletion_steps stage < deletion_rank stage
+    tried_low deletion.Remove = omega arith
+    tried_low deletion.Sync = omega arith
+    tried_low deletion.Finish = omega arith
+    tried_low deletion.PassedOver = omega arith
+deletion_falls old new (Ended Finished part) t h = absurd cc
+deletion_falls old new (Ended Aborted part) t h = absurd t
+deletion_falls old new (Ended Killed part) t h = absurd t
+deletion_falls old new (Ended NoMemory part) t h = absurd t
+deletion_falls old new (Began part) t h = absurd t
+deletion_falls old new (Chunk count) t h = absurd t
+deletion_falls old new (Placed path) t h = absurd t
+deletion_falls old new (Skipped path cause) t h = absurd t
+deletion_falls old new (Cleaned part) t h = absurd t
+
+-- what the fall of a copy's last steps says of each report but the end
+pub last_copy_falls : (ending : Ending) (old new : Copying) (did : Did) → Winds ending old did new → GoesDown did old new → ends did ≡ false → last_rank (Copy new) < last_rank (Copy old)
+last_copy_falls ending old new (Ended how part) w falls h = absurd cc
+last_copy_falls ending old new (Cleaned part) w falls h = falls
+last_copy_falls ending old new Barrier w falls h = falls
+last_copy_falls ending old new (Began part) w falls h = absurd w
+last_copy_falls ending old new (Chunk count) w falls h = absurd w
+last_copy_falls ending old new (Placed path) w falls h = absurd w
+last_copy_falls ending old new (Removed path) w falls h = absurd w
+last_copy_falls ending old new (Skipped path cause) w falls h = absurd w
+last_copy_falls ending old new (Troubled trouble) w falls h = absurd w
+
+pub last_deletion_falls : (ending : Ending) (old new : Deleting) (did : Did) → deletions.Winds ending old did new → ends did ≡ false → last_rank (Delete new) < last_rank (Delete old)
+last_deletion_falls ending old new Barrier (at, is) h =
+    subst (λ (n : Deleting). last_deletion_steps n.stage < last_deletion_steps old.stage) (sym is) (subst (λ s. 1 < last_deletion_steps s) (sym at) (omega arith))
+last_deletion_falls ending old new (Ended how part) w h = absurd cc
+last_deletion_falls ending old new (Began part) w h = absurd w
+last_deletion_falls ending old new (Chunk count) w h = absurd w
+last_deletion_falls ending old new (Placed path) w h = absurd w
+last_deletion_falls ending old new (Removed path) w h = absurd w
+last_deletion_falls ending old new (Skipped path cause) w h = absurd w
+last_deletion_falls ending old new (Cleaned part) w h = absurd w
+last_deletion_falls ending old new (Troubled trouble) w h = absurd w
+
+-- a job that passed over its file has few steps left
+pub passing_falls : (work : Work) → work_rank (skipped work) < 10
+passing_falls (Copy c) = few_skipped c.stage c.folder
+  where
+    few_skipped : (stage : Stage) (folder : FolderState) → copy_rank (copying.skipped stage) folder < 10
+    few_skipped Begin folder = let low = decided_low folder in omega (arith, low)
+    few_skipped (Fill part said done) folder = omega arith
+    few_skipped (Clean part follows) folder = omega arith
+    few_skipped (Left part) folder = omega arith
+    few_skipped Decided folder = let low = decided_low folder in omega (arith, low)
+passing_falls (Delete d) = few_passed d.stage
+  where
+    few_passed : (stage : DeletionStage) → deletion_rank (deletions.skipped stage) < 10
+    few_passed deletion.Remove = omega arith
+    few_passed deletion.Sync = omega arith
+    few_passed deletion.Finish = omega arith
+    few_passed deletion.PassedOver = omega arith
+
+pub waiting_falls : (work : Work) → last_rank work < 10
+waiting_falls (Copy c) = let few = few_last c.stage c.folder in omega (arith, few)
+waiting_falls (Delete d) = few_tries d.stage
+  where
+    few_tries : (stage : DeletionStage) → last_deletion_steps stage < 10
+    few_tries deletion.Remove = omega arith
+    few_tries deletion.Sync = omega arith
+    few_tries deletion.Finish = omega arith
+    few_tries deletion.PassedOver = omega arith

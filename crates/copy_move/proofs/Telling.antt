@@ -1,0 +1,225 @@
+-- The live job of a trace is, as its history tells it, the live job of the history.
+use Rattle.std.proofs.Common.{◌≡◌, ℕ, Bool, true, false, List, [], ◌∷◌, refl, sym, ap, subst, ◌∙◌, inl, inr, Option, Some, None}
+use Rattle.std.specs.Prelude.{if◌then◌else◌, is_some, ◌&&◌}
+use Rattle.std.specs.Option.{option_map}
+use Rattle.mc_text.specs.Routes.{Route, parent_of}
+use Rattle.tree_trait.specs.Change.{CallLog}
+use Rattle.file_copy.specs.declared.report.Cause.{Cause}
+use Rattle.file_copy.specs.declared.report.Ending.{Ending}
+use Rattle.file_copy.specs.declared.report.Ending.TheVariants.{Finished, Aborted, Killed, NoMemory}
+use Rattle.file_copy.specs.declared.report.Did.{Did}
+use Rattle.file_copy.specs.declared.report.Did.TheVariants.{Began, Chunk, Placed, Removed, Skipped, Cleaned, Barrier, Troubled, Ended}
+use Rattle.file_copy.specs.declared.stage.Next.{Next}
+use Rattle.file_copy.specs.declared.stage.Next.TheVariants as next
+use Rattle.file_copy.specs.declared.stage.Stage.{Stage}
+use Rattle.file_copy.specs.declared.stage.Stage.TheVariants as at
+use Rattle.file_copy.specs.declared.stage.FolderState.{FolderState}
+use Rattle.file_copy.specs.declared.stage.FolderState.TheVariants.{Synced, Dirty}
+use Rattle.file_copy.specs.Copying.{Copying, Tells, after_clean}
+use Rattle.file_copy.specs.Copying as copying
+use Rattle.file_copy.specs.LastSteps.{Winds, given_up, removable}
+use Rattle.copy_move.specs.declared.history.Job.{Job}
+use Rattle.copy_move.specs.declared.history.Job.TheVariants as plan
+use Rattle.copy_move.specs.declared.history.Answer.{Answer}
+use Rattle.copy_move.specs.declared.history.Answer.TheVariants.{Retry, Skip, SkipAll, Abort}
+use Rattle.copy_move.specs.declared.history.Event.{Event}
+use Rattle.copy_move.specs.declared.history.Event.TheVariants.{Key, Look, Order, Step, Closed}
+use Rattle.copy_move.specs.declared.history.Event.TheVariants as event
+use Rattle.copy_move.specs.declared.history.JobOrder.TheVariants.{Answered}
+use Rattle.copy_move.specs.declared.history.Entry.{Entry}
+use Rattle.copy_move.specs.declared.deletion.Stage.TheVariants as deletion
+use Rattle.copy_move.specs.declared.work.Work.{Work}
+use Rattle.copy_move.specs.declared.work.Work.TheVariants.{Copy, Delete}
+use Rattle.copy_move.specs.declared.run.Course.{Course}
+use Rattle.copy_move.specs.declared.run.Course.TheVariants.{GoesOn, InTrouble, Skips, Ends}
+use Rattle.copy_move.specs.Deletions.{Deleting}
+use Rattle.copy_move.specs.Deletions as deletions
+use Rattle.copy_move.specs.Jobs.{Running, JobTells, TellsOn, WorkTells, WorkWinds, answered, answered_on, closed_job, copies, course_after, deletes, ends, first_work, skipped, taken_anew}
+use Rattle.copy_move.specs.Told.{after_event, after_step, cleaned, if_closed, is_closed, live_job, placed, removed, running, stage_told, synced, told, with_part, work_told}
+use Rattle.copy_move.specs.Traces.{EventLeads, StepLeads, IsTraced}
+
+-- a job, by its parts
+abbrev job_of : ℕ → Work → Course → Running
+job_of id work course = record { id = id; work = work; course = course }
+
+given_up_told : (stage : Stage) → given_up (stage_told stage) ≡ stage_told (given_up stage)
+given_up_told (at.Fill part said done) = refl
+given_up_told at.Begin = refl
+given_up_told (at.Clean part follows) = refl
+given_up_told (at.Left part) = refl
+given_up_told at.Decided = refl
+
+skipped_stage_told : (stage : Stage) → copying.skipped (stage_told stage) ≡ stage_told (copying.skipped stage)
+skipped_stage_told (at.Fill part said done) = refl
+skipped_stage_told at.Begin = refl
+skipped_stage_told (at.Clean part follows) = refl
+skipped_stage_told (at.Left part) = refl
+skipped_stage_told at.Decided = refl
+
+skipped_told : (work : Work) → skipped (work_told work) ≡ work_told (skipped work)
+skipped_told (Copy c) = ap (λ stage. Copy (record c { stage = stage })) (skipped_stage_told c.stage)
+skipped_told (Delete d) = refl
+
+anew_stage_told : (stage : Stage) → copying.taken_anew (stage_told stage) ≡ stage_told (copying.taken_anew stage)
+anew_stage_told (at.Fill part said done) = refl
+anew_stage_told at.Begin = refl
+anew_stage_told (at.Clean part follows) = refl
+anew_stage_told (at.Left part) = refl
+anew_stage_told at.Decided = refl
+
+anew_told : (work : Work) → taken_anew (work_told work) ≡ work_told (taken_anew work)
+anew_told (Copy c) = ap (λ stage. Copy (record c { stage = stage })) (anew_stage_told c.stage)
+anew_told (Delete d) = refl
+
+cleaned_told : (id : ℕ) (c : Copying) (part : Route) (follows : Next) → after_step (Cleaned part) (told (job_of id (Copy (record c { stage = at.Clean part follows })) GoesOn))
+    ≡ Some (told (job_of id (Copy (record c { stage = after_clean follows })) GoesOn))
+cleaned_told id c part next.Begin = refl
+cleaned_told id c part next.Decided = refl
+
+-- a copy that goes on, step by step
+copy_told : (id : ℕ) (old new : Copying) (did : Did) → Tells old did new → ends did ≡ false
+    → after_step did (told (job_of id (Copy old) GoesOn)) ≡ Some (told (job_of id (Copy new) (course_after did)))
+copy_told id old new (Began part) (from, (said, is)) h = rw is refl
+copy_told id old new (Chunk count) (part, said, done, from, some, few, within, is) h = rw is (rw from refl)
+copy_told id old new (Placed path) (part, said, from, target, is) h = rw is refl
+copy_told id old new (Cleaned part) (follows, from, is) h = rw is (rw from (cleaned_told id old part follows))
+copy_told id old new Barrier (from, dirty, is) h = rw is (rw from refl)
+copy_told id old new (Troubled trouble) (barrier, is) h = rw is refl
+copy_told id old new (Ended Finished part) t h = absurd cc
+copy_told id old new (Ended Aborted part) t h = absurd t
+copy_told id old new (Ended Killed part) t h = absurd t
+copy_told id old new (Ended NoMemory part) t h = absurd t
+copy_told id old new (Removed path) t h = absurd t
+copy_told id old new (Skipped path cause) t h = absurd t
+
+-- a deletion that goes on
+deletion_told : (id : ℕ) (old new : Deleting) (did : Did) → deletions.Tells old did new → ends did ≡ false
+    → after_step did (told (job_of id (Delete old) GoesOn)) ≡ Some (told (job_of id (Delete new) (course_after did)))
+deletion_told id old new (Removed path) (from, gone, is) h = rw is refl
+deletion_told id old new Barrier (from, is) h = rw is refl
+deletion_told id old new (Troubled trouble) (where_is, is) h = rw is refl
+deletion_told id old new (Ended Finished part) t h = absurd cc
+deletion_told id old new (Ended Aborted part) t h = absurd t
+deletion_told id old new (Ended Killed part) t h = absurd t
+deletion_told id old new (Ended NoMemory part) t h = absurd t
+deletion_told id old new (Began part) t h = absurd t
+deletion_told id old new (Chunk count) t h = absurd t
+deletion_told id old new (Placed path) t h = absurd t
+deletion_told id old new (Skipped path cause) t h = absurd t
+deletion_told id old new (Cleaned part) t h = absurd t
+
+-- the last steps
+copy_winds : (id : ℕ) (ending : Ending) (old new : Copying) (did : Did) → Winds ending old did new → ends did ≡ false
+    → after_step did (told (job_of id (Copy old) (Ends ending))) ≡ Some (told (job_of id (Copy new) (Ends ending)))
+copy_winds id ending old new (Cleaned part) (stood, is) h = rw is refl
+copy_winds id ending old new Barrier (dirty, is) h = rw is (ap (λ stage. Some (job_of id (Copy (record old { stage = stage; folder = Synced })) (Ends ending))) (given_up_told old.stage))
+copy_winds id ending old new (Ended how part) t h = absurd cc
+copy_winds id ending old new (Began part) t h = absurd t
+copy_winds id ending old new (Chunk count) t h = absurd t
+copy_winds id ending old new (Placed path) t h = absurd t
+copy_winds id ending old new (Removed path) t h = absurd t
+copy_winds id ending old new (Skipped path cause) t h = absurd t
+copy_winds id ending old new (Troubled trouble) t h = absurd t
+
+deletion_winds : (id : ℕ) (ending : Ending) (old new : Deleting) (did : Did) → deletions.Winds ending old did new → ends did ≡ false
+    → after_step did (told (job_of id (Delete old) (Ends ending))) ≡ Some (told (job_of id (Delete new) (Ends ending)))
+deletion_winds id ending old new Barrier (from, is) h = rw is refl
+deletion_winds id ending old new (Ended how part) t h = absurd cc
+deletion_winds id ending old new (Began part) t h = absurd t
+deletion_winds id ending old new (Chunk count) t h = absurd t
+deletion_winds id ending old new (Placed path) t h = absurd t
+deletion_winds id ending old new (Removed path) t h = absurd t
+deletion_winds id ending old new (Skipped path cause) t h = absurd t
+deletion_winds id ending old new (Cleaned part) t h = absurd t
+deletion_winds id ending old new (Troubled trouble) t h = absurd t
+
+goes_told : (id : ℕ) (old new : Work) (did : Did) → WorkTells old did new → ends did ≡ false
+    → after_step did (told (job_of id old GoesOn)) ≡ Some (told (job_of id new (course_after did)))
+goes_told id (Copy c) (Copy new) did t h = copy_told id c new did t h
+goes_told id (Copy c) (Delete new) did t h = absurd t
+goes_told id (Delete d) (Copy new) did t h = absurd t
+goes_told id (Delete d) (Delete new) did t h = deletion_told id d new did t h
+
+winds_told : (id : ℕ) (ending : Ending) (old new : Work) (did : Did) → WorkWinds ending old did new → ends did ≡ false
+    → after_step did (told (job_of id old (Ends ending))) ≡ Some (told (job_of id new (Ends ending)))
+winds_told id ending (Copy c) (Copy new) did t h = copy_winds id ending c new did t h
+winds_told id ending (Copy c) (Delete new) did t h = absurd t
+winds_told id ending (Delete d) (Copy new) did t h = absurd t
+winds_told id ending (Delete d) (Delete new) did t h = deletion_winds id ending d new did t h
+
+told_on : (course : Course) (id : ℕ) (work : Work) (new : Running) (did : Did) → TellsOn course (job_of id work course) did new → ends did ≡ false
+    → after_step did (told (job_of id work course)) ≡ Some (told new)
+told_on GoesOn id work new did (after, tells, is) h = rw is (goes_told id work after did tells h)
+told_on (InTrouble cause) id work new did t h = absurd t
+told_on (Skips cause) id work new did (inl skips) h = rw (skips.0, skips.1) (ap (λ w. Some (job_of id w GoesOn)) (skipped_told work))
+told_on (Skips cause) id work new did (inr waits) h = rw (waits.0, waits.1) refl
+told_on (Ends ending) id work new did (after, tells, is) h = rw is (winds_told id ending work after did tells h)
+
+-- what a history tells of a job follows its steps
+pub told_follows : (job new : Running) (did : Did) → JobTells job did new → ends did ≡ false → after_step did (told job) ≡ Some (told new)
+told_follows job new did t h = told_on job.course job.id job.work new did t h
+
+-- after an end there is none
+step_told : (job new : Running) (did : Did) → JobTells job did new → option_map told (if ends did then None else Some new) ≡ after_step did (told job)
+step_told job new (Began part) t = sym (told_follows job new (Began part) t refl)
+step_told job new (Chunk count) t = sym (told_follows job new (Chunk count) t refl)
+step_told job new (Placed path) t = sym (told_follows job new (Placed path) t refl)
+step_told job new (Removed path) t = sym (told_follows job new (Removed path) t refl)
+step_told job new (Skipped path cause) t = sym (told_follows job new (Skipped path cause) t refl)
+step_told job new (Cleaned part) t = sym (told_follows job new (Cleaned part) t refl)
+step_told job new Barrier t = sym (told_follows job new Barrier t refl)
+step_told job new (Troubled trouble) t = sym (told_follows job new (Troubled trouble) t refl)
+step_told job new (Ended ending part) t = refl
+
+-- an answer, and the beginning of a job, are told whole
+pub answered_told : (answer : Answer) (job : Running) → told (answered answer job) ≡ answered answer (told job)
+answered_told answer job = answers job.course answer
+  where
+    answers : (course : Course) (answer : Answer) → told (answered_on course answer (job_of job.id job.work course)) ≡ answered_on course answer (told (job_of job.id job.work course))
+    answers (InTrouble cause) Retry = ap (λ w. job_of job.id w GoesOn) (sym (anew_told job.work))
+    answers (InTrouble cause) Skip = refl
+    answers (InTrouble cause) SkipAll = refl
+    answers (InTrouble cause) Abort = refl
+    answers GoesOn answer = refl
+    answers (Skips cause) answer = refl
+    answers (Ends ending) answer = refl
+
+began_if : (id : ℕ) (b : Bool) (work : Work) → work_told work ≡ work → option_map told (option_map (running id) (if b then Some work else None)) ≡ option_map (running id) (if b then Some work else None)
+began_if id true work same = ap (λ w. Some (running id w)) same
+began_if id false work same = refl
+
+pub began_told : (id : ℕ) (plan : Job) → option_map told (option_map (running id) (first_work id plan)) ≡ option_map (running id) (first_work id plan)
+began_told id (plan.Delete []) = refl
+began_told id (plan.Delete (path ∷ [])) = began_if id (is_some (parent_of path)) (deletes path) refl
+began_told id (plan.Delete (path ∷ more ∷ paths)) = refl
+began_told id (plan.Copy []) = refl
+began_told id (plan.Copy (pair ∷ [])) = began_if id (is_some (parent_of pair.source) && is_some (parent_of pair.target)) (copies id pair.source pair.target) refl
+began_told id (plan.Copy (pair ∷ more ∷ pairs)) = refl
+
+event_told : (was : Option Running) (what : Event) (after : Option Running) (log now : CallLog) → EventLeads was what after log now → option_map told after ≡ after_event what (option_map told was)
+event_told None (Step id did) after log now h = absurd h
+event_told (Some job) (Step id did) after log now (inl (new, tells, calls, is)) = ap (option_map told) is ∙ step_told job new did tells
+event_told (Some job) (Step id did) after log now (inr (is, none, same)) = ap (option_map told) none ∙ sym (ap (λ d. after_step d (told job)) is)
+event_told None (Key key time refusals lost) after log now h = ap (option_map told) h.0
+event_told (Some job) (Key key time refusals lost) after log now h = ap (option_map told) h.0
+event_told None (Look refusals) after log now h = ap (option_map told) h.0
+event_told (Some job) (Look refusals) after log now h = ap (option_map told) h.0
+event_told None (event.Began id plan background) after log now h = ap (option_map told) h.0 ∙ began_told id plan
+event_told (Some job) (event.Began id plan background) after log now h = ap (option_map told) h.0 ∙ began_told id plan
+event_told None (Order id (Answered answer)) after log now h = ap (option_map told) h.0
+event_told (Some job) (Order id (Answered answer)) after log now h = ap (option_map told) h.0 ∙ ap Some (answered_told answer job)
+event_told None Closed after log now h = ap (option_map told) h.0
+event_told (Some job) Closed after log now h = ap (option_map told) h.0
+
+pub closed_told : (closed : Bool) (job : Option Running) → option_map told (if_closed closed job) ≡ if_closed closed (option_map told job)
+closed_told true None = refl
+closed_told true (Some job) = refl
+closed_told false job = refl
+
+-- the live job of a trace is the one of the history
+pub traced_told : (opening now : CallLog) (newest : List Entry) (job : Option Running) → IsTraced opening newest job now → option_map told job ≡ live_job newest
+traced_told opening now [] job h = ap (option_map told) h.0
+traced_told opening now (e ∷ older) job (was, before, traced, follows) =
+    ap (option_map told) follows.job_is
+    ∙ (closed_told (is_closed (e ∷ older)) follows.after
+    ∙ ap (if_closed (is_closed (e ∷ older))) (event_told was e.what follows.after before now follows.leads ∙ ap (after_event e.what) (traced_told opening before older was traced)))
