@@ -14,6 +14,7 @@ use Rattle.tree_trait.specs.Answers.{Performs}
 use Rattle.tree_trait.proofs.Settled.{after_changes-append}
 use Rattle.tree_trait.proofs.Finding.{same_name-self}
 use Rattle.tree_trait.proofs.Ending.{IsQuiet, Performs-err}
+use Rattle.file_copy.proofs.CopyAnswers.{some_log}
 use Rattle.copy_move.specs.declared.deletion.Stage.{Stage}
 use Rattle.copy_move.specs.declared.deletion.Stage.TheVariants.{Remove, Sync, Finish, PassedOver}
 use Rattle.copy_move.specs.Deletions.{call_of, Answers}
@@ -34,9 +35,6 @@ adds_current s cs log now a is =
     ap (after_changes now.opening) a.changes
     ∙ (ap (λ o. after_changes o (log.changes ++ a.more)) a.opening
     ∙ (after_changes-append log.opening log.changes a.more ∙ (ap (λ x. after_changes x a.more) is ∙ sym (after_changes-append s cs a.more))))
-
-pub some_log : (x y : CallLog) → (let o : Option CallLog = Some x in o) ≡ Some y → x ≡ y
-some_log x y h = cc
 
 pub adds_nothing : (s : FileSystem) (log now : CallLog) → now ≡ log → Adds s log now
 adds_nothing s log now same = record {

@@ -11,6 +11,7 @@ use Rattle.file_copy.specs.declared.report.Ending.TheVariants.{NoMemory}
 use Rattle.file_copy.specs.declared.report.Did.{Did}
 use Rattle.file_copy.specs.declared.report.Did.TheVariants.{Began, Chunk, Placed, Removed, Skipped, Cleaned, Barrier, Troubled, Ended}
 use Rattle.file_copy.specs.Stops.{no_memory_of}
+use Rattle.file_copy.proofs.CopyAnswers.{some_log}
 use Rattle.copy_move.specs.declared.history.Job.TheVariants as plan
 use Rattle.copy_move.specs.declared.history.Answer.{Answer}
 use Rattle.copy_move.specs.declared.history.Answer.TheVariants.{Retry, Skip, SkipAll, Abort}
@@ -25,9 +26,10 @@ use Rattle.copy_move.specs.declared.run.Course.{Course}
 use Rattle.copy_move.specs.declared.run.Course.TheVariants.{GoesOn, InTrouble, Skips, Ends}
 use Rattle.copy_move.specs.Deletions.{Deleting, Tells, Winds, DeletionCalls, LastCalls, at_barrier, skipped}
 use Rattle.copy_move.specs.Jobs.{Running, JobTells, WorkTells, WorkWinds, JobCalls, answered, course_after, deletes, ends, first_work}
-use Rattle.copy_move.specs.Told.{after_step, after_event, if_closed, is_closed, live_job, running}
+use Rattle.copy_move.specs.Told.{after_step, after_event, if_closed, is_closed, live_job, running, told, work_told}
 use Rattle.copy_move.specs.Replay.{DeletesEvent, OnlyDeletes}
-use Rattle.copy_move.specs.Traces.{IsUnclaimed, StepLeads, EventLeads, IsTraced}
+use Rattle.copy_move.specs.Traces.{IsUnclaimed, StepLeads, IsTraced}
+use Rattle.copy_move.proofs.Telling.{traced_told}
 
 abbrev pub IsDeletion : Work → Type 0
 IsDeletion (Delete d) = ⊤
@@ -58,9 +60,6 @@ DeletionLeads id d (Ends ending) did after log now =
 abbrev pub DeletionStep : ℕ → Deleting → Course → Did → Option Running → CallLog → CallLog → Type 0
 DeletionStep id d course did after log now =
     DeletionLeads id d course did after log now ⊎ ((did ≡ Ended NoMemory None) × (after ≡ None) × (now ≡ log))
-
-some_log : (x y : CallLog) → (let o : Option CallLog = Some x in o) ≡ Some y → x ≡ y
-some_log x y h = cc
 
 tells_deletion : (d : Deleting) (did : Did) (work : Work) → WorkTells (Delete d) did work → (new : Deleting) × (work ≡ Delete new) × Tells d did new
 tells_deletion d did (Delete new) h = (new, refl, h)
@@ -182,32 +181,20 @@ leads_told id d (Skips cause) did after log now (same, inl skips) = subst (λ x.
 leads_told id d (Skips cause) did after log now (same, inr trouble) = subst (λ x. after ≡ after_step x (deletion id d (Skips cause))) (sym trouble.0) trouble.1
 leads_told id d (Ends ending) did after log now h = winds_told id d ending did after h.0 h.1 h.3
 
-step_told : (id : ℕ) (work : Work) (course : Course) (did : Did) (after : Option Running) (log now : CallLog) → IsDeletion work
-    → StepLeads (record { id = id; work = work; course = course }) did after log now → after ≡ after_step did (record { id = id; work = work; course = course })
-step_told id (Copy c) course did after log now only h = absurd only
-step_told id (Delete d) course did after log now only h =
-    elim (deletion_step id d course did after log now h) [
-      | inl leads ↦ leads_told id d course did after log now leads
-      | inr none ↦ subst (λ x. after ≡ after_step x (deletion id d course)) (sym none.0) none.1
-    ]
+-- a history tells a deletion whole
+told_whole : (id : ℕ) (work : Work) (course : Course) → IsDeletion (work_told work) → told (record { id = id; work = work; course = course }) ≡ record { id = id; work = work; course = course }
+told_whole id (Copy c) course only = absurd only
+told_whole id (Delete d) course only = refl
 
-event_told : (job : Option Running) (what : Event) (after : Option Running) (log now : CallLog) → JobDeletes job → EventLeads job what after log now → after ≡ after_event what job
-event_told None (Step id did) after log now only h = absurd h
-event_told (Some job) (Step id did) after log now only h = step_told job.id job.work job.course did after log now only h
-event_told job (Key key time refusals lost) after log now only h = h.0
-event_told job (Look refusals) after log now only h = h.0
-event_told job (event.Began id plan background) after log now only h = h.0
-event_told job (Order id order) after log now only h = h.0
-event_told job Closed after log now only h = h.0
+told_same : (job : Option Running) → JobDeletes (option_map told job) → option_map told job ≡ job
+told_same None only = refl
+told_same (Some job) only = ap Some (told_whole job.id job.work job.course only)
 
 -- the job of such a session is the one that its history tells
 pub traced_live : (opening now : CallLog) (newest : List Entry) (job : Option Running) → OnlyDeletes newest → IsTraced opening newest job now → job ≡ live_job newest
-traced_live opening now [] job only h = h.0
-traced_live opening now (e ∷ older) job only (was, before, older_traced, follows) =
-    let was_is : was ≡ live_job older = traced_live opening before older was only.0 older_traced in
-    let deleting : JobDeletes was = subst JobDeletes (sym was_is) (live_deletes older only.0) in
-    follows.job_is
-    ∙ ap (if_closed (is_closed (e ∷ older))) (event_told was e.what follows.after before now deleting follows.leads ∙ ap (after_event e.what) was_is)
+traced_live opening now newest job only h =
+    let is : option_map told job ≡ live_job newest = traced_told opening now newest job h in
+    sym (told_same job (subst JobDeletes (sym is) (live_deletes newest only))) ∙ is
 
 pub traced_deletes : (opening now : CallLog) (newest : List Entry) (job : Option Running) → OnlyDeletes newest → IsTraced opening newest job now → JobDeletes job
 traced_deletes opening now newest job only h = subst JobDeletes (sym (traced_live opening now newest job only h)) (live_deletes newest only)

@@ -9,6 +9,7 @@ use Rattle.tree_trait.specs.Change.{Change, Syncs, CallLog, current, after_chang
 use Rattle.tree_trait.specs.CrashImages.{Among}
 use Rattle.tree_trait.proofs.Settled.{after_changes-append}
 use Rattle.tree_trait.proofs.Walking.{removable}
+use Rattle.file_copy.proofs.CopyAnswers.{some_log}
 use Rattle.file_copy.specs.declared.report.Ending.{Ending}
 use Rattle.file_copy.specs.declared.report.Ending.TheVariants.{Finished, Aborted, Killed, NoMemory}
 use Rattle.file_copy.specs.declared.report.Did.{Did}
@@ -35,7 +36,7 @@ use Rattle.copy_move.proofs.OnlyDeletions.{DeletionLeads, DeletionStep, deletion
 use Rattle.copy_move.proofs.Shows.{ShowsDeletions, traced_shows}
 use Rattle.copy_move.proofs.Taking.{AllTake, all_take-append, Lacks, lacks_image, all_there}
 use Rattle.copy_move.proofs.Gone.{IsGone, IsOrdered, JobProgress, Progress, WorkProgress, answered_progress, begun_progress, closed_progress, gone_more, gone_synced, is_ending, job_progress_more, progress_course, progress_more, skipped_progress}
-use Rattle.copy_move.proofs.Adding.{Adds, adds_current, some_log, adds_nothing, adds_not_done, adds_sync, adds_sync_tried, adds_removal, path_removed}
+use Rattle.copy_move.proofs.Adding.{Adds, adds_current, adds_nothing, adds_not_done, adds_sync, adds_sync_tried, adds_removal, path_removed}
 
 -- an event added to the log, and left the live job so far
 pub record Turned (s : FileSystem) (cs : List Change) (log now : CallLog) (job : Option Running) : Type 0 where

@@ -13,6 +13,7 @@ use Rattle.tree_trait.proofs.Walking.{removable}
 use Rattle.tree_trait.proofs.Kept.{tree_removed}
 use Rattle.tree_trait.proofs.Ending.{IsQuiet, Performs-err}
 use Rattle.tree_trait.proofs.Visible.{removal_shows}
+use Rattle.file_copy.proofs.CopyAnswers.{some_log}
 use Rattle.file_copy.specs.declared.report.Ending.{Ending}
 use Rattle.file_copy.specs.declared.report.Did.{Did}
 use Rattle.file_copy.specs.declared.report.Did.TheVariants.{Began, Chunk, Placed, Removed, Skipped, Cleaned, Barrier, Troubled, Ended}
@@ -57,13 +58,10 @@ still log now opening same = record {
 pub unchanged : (log now : CallLog) → now ≡ log → Turns log same_view now
 unchanged log now same = still log now (ap (λ (l : CallLog). l.opening) same) (ap current same)
 
-some_same : (x y : CallLog) → (let o : Option CallLog = Some x in o) ≡ Some y → x ≡ y
-some_same x y h = cc
-
 -- a call that was refused
 quiet : (log now : CallLog) → IsQuiet log (Some now) → Turns log same_view now
 quiet log now q =
-    let is = some_same now q.after q.tells in
+    let is = some_log now q.after q.tells in
     elim q.how [
       | inl e ↦ unchanged log now (is ∙ e)
       | inr e ↦ still log now (ap (λ (l : CallLog). l.opening) (is ∙ e)) (ap current (is ∙ e) ∙ current-with log Nothing)
@@ -98,23 +96,23 @@ removed log now path time permits is = record {
 -- a job's next call, refused
 not_done : (stage : Stage) (path : Route) (e : TreeError) (log now : CallLog) → Answers log (call_of stage path) (Err e) (Some now) → Turns log same_view now
 not_done Remove path e log now h = refused_call log now (RemoveFile path) (λ s left. refl) e h
-not_done Sync [] e log now h = unchanged log now (some_same now log h)
+not_done Sync [] e log now h = unchanged log now (some_log now log h)
 not_done Sync (name ∷ folder) e log now h = refused_call log now (SyncFolder folder) (λ s left. refl) e h
-not_done Finish path e log now h = unchanged log now (some_same now log h)
-not_done PassedOver path e log now h = unchanged log now (some_same now log h)
+not_done Finish path e log now h = unchanged log now (some_log now log h)
+not_done PassedOver path e log now h = unchanged log now (some_log now log h)
 
 -- a job's sync, whatever it answered
 sync_tried : (path : Route) (answer : Result (Unit {0}) TreeError) (log now : CallLog) → Answers log (call_of Sync path) answer (Some now) → Turns log same_view now
-sync_tried [] answer log now h = unchanged log now (some_same now log h)
-sync_tried (name ∷ folder) (Ok done) log now h = synced log now folder h.1.0 (some_same now _ h.1.1)
+sync_tried [] answer log now h = unchanged log now (some_log now log h)
+sync_tried (name ∷ folder) (Ok done) log now h = synced log now folder h.1.0 (some_log now _ h.1.1)
 sync_tried (name ∷ folder) (Err e) log now h = refused_call log now (SyncFolder folder) (λ s left. refl) e h
 
 -- a step of a deletion
 goes_on_turns : (job : Running) (d : Deleting) (did : Did) (log now : CallLog) → DeletionCalls d did log (Some now) → Turns log (replayed_step did job) now
-goes_on_turns job d (Removed path) log now h = removed log now path h.1.0 h.0 (some_same now _ h.1.1)
+goes_on_turns job d (Removed path) log now h = removed log now path h.1.0 h.0 (some_log now _ h.1.1)
 goes_on_turns job d Barrier log now h = sync_tried d.path (Ok tt) log now h
 goes_on_turns job d (Troubled trouble) log now h = not_done d.stage d.path h.0 log now h.2
-goes_on_turns job d (Ended ending part) log now h = unchanged log now (some_same now log h)
+goes_on_turns job d (Ended ending part) log now h = unchanged log now (some_log now log h)
 goes_on_turns job d (Began part) log now h = absurd h
 goes_on_turns job d (Chunk count) log now h = absurd h
 goes_on_turns job d (Placed path) log now h = absurd h
@@ -123,7 +121,7 @@ goes_on_turns job d (Cleaned part) log now h = absurd h
 
 winds_turns : (job : Running) (d : Deleting) (did : Did) (log now : CallLog) → LastCalls d did log (Some now) → Turns log (replayed_step did job) now
 winds_turns job d Barrier log now h = sync_tried d.path h.0 log now h.1
-winds_turns job d (Ended ending part) log now h = unchanged log now (some_same now log h)
+winds_turns job d (Ended ending part) log now h = unchanged log now (some_log now log h)
 winds_turns job d (Began part) log now h = absurd h
 winds_turns job d (Chunk count) log now h = absurd h
 winds_turns job d (Placed path) log now h = absurd h
