@@ -1,5 +1,5 @@
 -- What a session that only deletes did to its tree: each change took a file away, and a finished file is gone for good.
-use Rattle.std.proofs.Common.{◌≡◌, ◌≢◌, ℕ, Bool, true, false, List, [], ◌∷◌, ◌++◌, append_assoc, refl, sym, ◌∙◌, ap, subst, inl, inr, Option, Some, None, Ok}
+use Rattle.std.proofs.Common.{◌≡◌, ℕ, false, List, [], ◌∷◌, ◌++◌, append_assoc, refl, sym, ◌∙◌, ap, subst, inl, inr, Option, Some, None, Ok}
 use Rattle.std.proofs.lemmas.List.{append-nil}
 use Rattle.mc_text.specs.Routes.{Route}
 use Rattle.tree_trait.specs.declared.file_system.FileSystem.{FileSystem}
@@ -26,9 +26,9 @@ use Rattle.copy_move.specs.declared.work.Work.{Work}
 use Rattle.copy_move.specs.declared.work.Work.TheVariants.{Copy, Delete}
 use Rattle.copy_move.specs.declared.run.Course.{Course}
 use Rattle.copy_move.specs.declared.run.Course.TheVariants.{GoesOn, InTrouble, Skips, Ends}
-use Rattle.copy_move.specs.Deletions.{Deleting, Answers, DeletionCalls, LastCalls, Tells, Winds, call_of}
+use Rattle.copy_move.specs.Deletions.{Deleting, Answers, DeletionCalls, LastCalls, Tells, call_of}
 use Rattle.copy_move.specs.Jobs.{Running}
-use Rattle.copy_move.specs.Told.{after_event, after_step, is_closed, live_job}
+use Rattle.copy_move.specs.Told.{after_step, is_closed, live_job}
 use Rattle.copy_move.specs.Replay.{DeletesEvent, OnlyDeletes}
 use Rattle.copy_move.specs.Traces.{EventLeads, IsTraced, StepLeads}
 use Rattle.copy_move.specs.Crashes.{finished_at, finished_by, finished_files}

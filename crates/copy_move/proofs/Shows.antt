@@ -1,5 +1,5 @@
 -- What the calls that a history tells of make of the tree that can be seen, in a session that only deletes.
-use Rattle.std.proofs.Common.{◌≡◌, ℕ, ℤ, true, List, [], ◌∷◌, refl, sym, ◌∙◌, ap, subst, inl, inr, Option, Some, None, Result, Ok, Err}
+use Rattle.std.proofs.Common.{◌≡◌, ℕ, ℤ, List, [], ◌∷◌, refl, sym, ◌∙◌, ap, subst, inl, inr, Option, Some, None, Result, Ok, Err}
 use Rattle.mc_text.specs.Routes.{Route}
 use Rattle.tree_trait.specs.declared.calls.TreeError.{TreeError}
 use Rattle.tree_trait.specs.Calls.{Call, RemoveFile, SyncFolder}
@@ -14,7 +14,6 @@ use Rattle.tree_trait.proofs.Kept.{tree_removed}
 use Rattle.tree_trait.proofs.Ending.{IsQuiet, Performs-err}
 use Rattle.tree_trait.proofs.Visible.{removal_shows}
 use Rattle.file_copy.proofs.CopyAnswers.{some_log}
-use Rattle.file_copy.specs.declared.report.Ending.{Ending}
 use Rattle.file_copy.specs.declared.report.Did.{Did}
 use Rattle.file_copy.specs.declared.report.Did.TheVariants.{Began, Chunk, Placed, Removed, Skipped, Cleaned, Barrier, Troubled, Ended}
 use Rattle.copy_move.specs.declared.history.Event.{Event}
@@ -27,10 +26,9 @@ use Rattle.copy_move.specs.declared.work.Work.{Work}
 use Rattle.copy_move.specs.declared.work.Work.TheVariants.{Copy, Delete}
 use Rattle.copy_move.specs.declared.run.Course.{Course}
 use Rattle.copy_move.specs.declared.run.Course.TheVariants.{GoesOn, InTrouble, Skips, Ends}
-use Rattle.copy_move.specs.Deletions.{Deleting, Tells, Winds, Answers, DeletionCalls, LastCalls, call_of}
+use Rattle.copy_move.specs.Deletions.{Deleting, Answers, DeletionCalls, LastCalls, call_of}
 use Rattle.copy_move.specs.Jobs.{Running}
-use Rattle.copy_move.specs.Told.{live_job}
-use Rattle.copy_move.specs.Replay.{OnlyDeletes, placed_view, replayed_step, replayed_event, replayed_tree, Replays}
+use Rattle.copy_move.specs.Replay.{OnlyDeletes, replayed_step, replayed_event, replayed_tree, Replays}
 use Rattle.copy_move.specs.Traces.{StepLeads, EventLeads, IsTraced}
 use Rattle.copy_move.proofs.OnlyDeletions.{JobDeletes, IsDeletion, DeletionLeads, deletion, deletion_step, traced_live, traced_deletes}
 
