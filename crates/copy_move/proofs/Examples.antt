@@ -1,5 +1,5 @@
 -- Small sessions: what the law says of them, and what it can't say.
-use Rattle.std.proofs.Common.{◌≡◌, ℕ, pos, true, false, List, [], ◌∷◌, refl, sym, inl, inr, true≢false, Option, Some, None, Err, arith}
+use Rattle.std.proofs.Common.{◌≡◌, ℕ, pos, true, false, List, [], ◌∷◌, refl, sym, inl, inr, true≢false, Some, None, Err, arith}
 use Rattle.mc_text.specs.declared.kind.Kind.TheVariants.{File, Folder}
 use Rattle.mc_text.specs.Routes.{Route}
 use Rattle.tree_trait.specs.declared.file_system.Node.{Node}

@@ -1,5 +1,5 @@
 -- A tree that tells what it holds goes on telling at each step of a job.
-use Rattle.std.proofs.Common.{◌≡◌, List, [], ◌∷◌, take, refl, inl, inr, Option, Some, None, Result, Ok, Err}
+use Rattle.std.proofs.Common.{◌≡◌, List, [], ◌∷◌, take, inl, inr, Option, Some, None, Result, Ok, Err}
 use Rattle.mc_text.specs.Routes.{Route}
 use Rattle.tree_trait.specs.declared.calls.TreeError.{TreeError}
 use Rattle.tree_trait.specs.declared.calls.TreeError.TheVariants as refused
@@ -12,9 +12,9 @@ use Rattle.file_copy.specs.declared.report.Did.{Did}
 use Rattle.file_copy.specs.declared.report.Did.TheVariants.{Began, Chunk, Placed, Removed, Skipped, Cleaned, Barrier, Troubled, Ended}
 use Rattle.file_copy.specs.declared.stage.Stage.{Stage}
 use Rattle.file_copy.specs.declared.stage.Stage.TheVariants.{Begin, Fill, Clean, Left, Decided}
-use Rattle.file_copy.specs.CallRuns.{AllDone, RunStops, StopsAt}
+use Rattle.file_copy.specs.CallRuns.{RunStops, StopsAt}
 use Rattle.file_copy.specs.Copying.{Copying, Places, folder_of, places_of}
-use Rattle.file_copy.specs.CopyCalls.{CopyCalls, CopyStops, making, placing, writing, next_bytes}
+use Rattle.file_copy.specs.CopyCalls.{CopyCalls, CopyStops, making, placing, writing}
 use Rattle.file_copy.specs.LastSteps.{SyncTried, WindCalls, removable}
 use Rattle.file_copy.proofs.Runs.{all_some}
 use Rattle.copy_move.specs.declared.deletion.Stage.TheVariants.{Sync}
