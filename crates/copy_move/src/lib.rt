@@ -13,5 +13,6 @@ pub use history::{
     Answer, AnswerError, Entries, Entry, Event, History, Job, JobOrder, Pair, Pairs, PlanError,
     Refusal, Refusals, is_end, trouble_of,
 };
+pub use laws::what_a_crash_leaves_of_deletions;
 pub use run::{Course, Run};
 pub use work::Work;

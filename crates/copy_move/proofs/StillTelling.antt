@@ -1,0 +1,135 @@
+-- A tree that tells what it holds goes on telling at each step of a job.
+use Rattle.std.proofs.Common.{◌≡◌, List, [], ◌∷◌, take, inl, inr, Option, Some, None, Result, Ok, Err}
+use Rattle.mc_text.specs.Routes.{Route}
+use Rattle.tree_trait.specs.declared.calls.TreeError.{TreeError}
+use Rattle.tree_trait.specs.declared.calls.TreeError.TheVariants as refused
+use Rattle.tree_trait.specs.Calls.{Call, RemoveFile, SyncFolder}
+use Rattle.tree_trait.specs.Change.{CallLog, current}
+use Rattle.tree_trait.specs.Answers.{Performs}
+use Rattle.file_copy.specs.declared.report.Cause.{Cause}
+use Rattle.file_copy.specs.declared.report.Cause.TheVariants.{Tree, TargetKind, SpecialSource, PartTaken, TooLong, Changed, Memory}
+use Rattle.file_copy.specs.declared.report.Did.{Did}
+use Rattle.file_copy.specs.declared.report.Did.TheVariants.{Began, Chunk, Placed, Removed, Skipped, Cleaned, Barrier, Troubled, Ended}
+use Rattle.file_copy.specs.declared.stage.Stage.{Stage}
+use Rattle.file_copy.specs.declared.stage.Stage.TheVariants.{Begin, Fill, Clean, Left, Decided}
+use Rattle.file_copy.specs.CallRuns.{RunStops, StopsAt}
+use Rattle.file_copy.specs.Copying.{Copying, Places, folder_of, places_of}
+use Rattle.file_copy.specs.CopyCalls.{CopyCalls, CopyStops, making, placing, writing}
+use Rattle.file_copy.specs.LastSteps.{SyncTried, WindCalls, removable}
+use Rattle.file_copy.proofs.Runs.{all_some}
+use Rattle.copy_move.specs.declared.deletion.Stage.TheVariants.{Sync}
+use Rattle.copy_move.specs.declared.work.Work.{Work}
+use Rattle.copy_move.specs.declared.work.Work.TheVariants.{Copy, Delete}
+use Rattle.copy_move.specs.declared.run.Course.{Course}
+use Rattle.copy_move.specs.declared.run.Course.TheVariants.{GoesOn, InTrouble, Skips, Ends}
+use Rattle.copy_move.specs.Deletions.{Answers, Deleting, DeletionCalls, LastCalls, call_of}
+use Rattle.copy_move.specs.Jobs.{CallsOn, JobCalls, Running, WorkCalls, WorkLastCalls}
+
+abbrev pub StillTells : Option CallLog → Type 0
+StillTells after = (now : CallLog) × (after ≡ Some now)
+
+performs_tells : (log : CallLog) (call : Call) (answer : Result (Unit {0}) TreeError) (after : Option CallLog) → Performs {A = Unit {0}} log call answer after → StillTells after
+performs_tells log call (Ok done) after h = (_, h.1.1)
+performs_tells log call (Err refused.Fault) after h = (_, h.1.1)
+performs_tells log call (Err refused.Memory) after h = (log, h)
+performs_tells log call (Err e) after h = (_, h.1)
+
+call_tells : (log : CallLog) (call : Option Call) (answer : Result (Unit {0}) TreeError) (after : Option CallLog) → Answers log call answer after → StillTells after
+call_tells log None answer after h = (log, h)
+call_tells log (Some call) answer after h = performs_tells log call answer after h
+
+-- a deletion
+deletion_tells : (d : Deleting) (did : Did) (log : CallLog) (after : Option CallLog) → DeletionCalls d did log after → StillTells after
+deletion_tells d (Removed path) log after h = call_tells log (Some (RemoveFile path)) (Ok tt) after h
+deletion_tells d Barrier log after h = call_tells log (call_of Sync d.path) (Ok tt) after h
+deletion_tells d (Troubled trouble) log after h = call_tells log (call_of d.stage d.path) (Err h.0) after h.2
+deletion_tells d (Ended ending part) log after h = (log, h)
+deletion_tells d (Began part) log after h = absurd h
+deletion_tells d (Chunk count) log after h = absurd h
+deletion_tells d (Placed path) log after h = absurd h
+deletion_tells d (Skipped path cause) log after h = absurd h
+deletion_tells d (Cleaned part) log after h = absurd h
+
+last_tells : (d : Deleting) (did : Did) (log : CallLog) (after : Option CallLog) → LastCalls d did log after → StillTells after
+last_tells d Barrier log after h = call_tells log (call_of Sync d.path) h.0 after h.1
+last_tells d (Ended ending part) log after h = (log, h)
+last_tells d (Began part) log after h = absurd h
+last_tells d (Chunk count) log after h = absurd h
+last_tells d (Placed path) log after h = absurd h
+last_tells d (Removed path) log after h = absurd h
+last_tells d (Skipped path cause) log after h = absurd h
+last_tells d (Cleaned part) log after h = absurd h
+last_tells d (Troubled trouble) log after h = absurd h
+
+-- calls in a row that stop
+stops_tell : (log : CallLog) (calls : List Call) (call : Call) (e : TreeError) (after : Option CallLog) → StopsAt log calls call e after → StillTells after
+stops_tell log [] call e after h = absurd h
+stops_tell log (first ∷ more) call e after (inl last) = performs_tells log first (Err e) after last.1
+stops_tell log (first ∷ more) call e after (inr later) = stops_tell later.0 more call e after later.2
+
+run_tells : (calls : List Call) (cause : Cause) (path : Option Route) (log : CallLog) (after : Option CallLog) → RunStops calls cause path log after → StillTells after
+run_tells calls (Tree e) path log after h = stops_tell log calls h.0 e after h.2
+run_tells calls Memory path log after h = all_some (take h.1.0 calls) log after h.1.2
+run_tells calls (TargetKind kind) path log after h = absurd h
+run_tells calls SpecialSource path log after h = absurd h
+run_tells calls PartTaken path log after h = absurd h
+run_tells calls TooLong path log after h = absurd h
+run_tells calls (Changed said got) path log after h = absurd h
+
+-- a copy
+trouble_tells : (unclaimed : Route → Type 0) (p : Places) (stage : Stage) (cause : Cause) (path : Option Route) (log : CallLog) (after : Option CallLog) → CopyStops unclaimed p stage cause path log after
+    → StillTells after
+trouble_tells unclaimed p Begin cause path log after (inl looks) = (log, looks.1)
+trouble_tells unclaimed p Begin cause path log after (inr (inl names)) = (log, names.2)
+trouble_tells unclaimed p Begin cause path log after (inr (inr made)) = run_tells (making (current log) p made.0 ∷ []) cause path log after made.3
+trouble_tells unclaimed p (Fill part said done) cause path log after (inl (fewer, inl read)) = (log, read.1)
+trouble_tells unclaimed p (Fill part said done) cause path log after (inl (fewer, inr write)) = run_tells (writing (current log) p part said done ∷ []) cause path log after write
+trouble_tells unclaimed p (Fill part said done) cause path log after (inr full) = run_tells (placing said.mode part p.target) cause path log after full.1
+trouble_tells unclaimed p (Clean part follows) cause path log after h = run_tells (RemoveFile part ∷ []) cause path log after h
+trouble_tells unclaimed p (Left part) cause path log after h = absurd h
+trouble_tells unclaimed p Decided cause path log after h = run_tells (SyncFolder (folder_of p.target) ∷ []) cause path log after h
+
+copy_tells : (unclaimed : Route → Type 0) (c : Copying) (did : Did) (new : Copying) (log : CallLog) (after : Option CallLog) → CopyCalls unclaimed c did new log after → StillTells after
+copy_tells unclaimed c (Began part) new log after h = all_some (making (current log) (places_of c) h.2.0 ∷ []) log after h.2.3
+copy_tells unclaimed c (Chunk count) new log after h = all_some (writing (current log) (places_of c) h.0 h.1 h.2 ∷ []) log after h.5
+copy_tells unclaimed c (Placed path) new log after h = all_some (placing h.1.mode h.0 c.target) log after h.3
+copy_tells unclaimed c (Cleaned part) new log after h = all_some (RemoveFile part ∷ []) log after h
+copy_tells unclaimed c Barrier new log after h = all_some (SyncFolder (folder_of c.target) ∷ []) log after h
+copy_tells unclaimed c (Troubled trouble) new log after h = trouble_tells unclaimed (places_of c) c.stage trouble.cause trouble.path log after h
+copy_tells unclaimed c (Removed path) new log after h = absurd h
+copy_tells unclaimed c (Skipped path cause) new log after h = (log, h)
+copy_tells unclaimed c (Ended ending part) new log after h = (log, h)
+
+sync_tells : (c : Copying) (part : Option Route) (log : CallLog) (after : Option CallLog) → SyncTried c part log after → StillTells after
+sync_tells c None log after h = performs_tells log (SyncFolder (folder_of c.target)) h.0 after h.1
+sync_tells c (Some part) log after h = performs_tells h.1 (SyncFolder (folder_of c.target)) h.3.0 after h.3.1
+
+wind_tells : (c : Copying) (did : Did) (log : CallLog) (after : Option CallLog) → WindCalls c did log after → StillTells after
+wind_tells c (Cleaned path) log after h = all_some (RemoveFile path ∷ []) log after h
+wind_tells c Barrier log after h = sync_tells c (removable c.stage) log after h
+wind_tells c (Ended how part) log after h = (log, h)
+wind_tells c (Began part) log after h = absurd h
+wind_tells c (Chunk count) log after h = absurd h
+wind_tells c (Placed path) log after h = absurd h
+wind_tells c (Removed path) log after h = absurd h
+wind_tells c (Skipped path cause) log after h = absurd h
+wind_tells c (Troubled trouble) log after h = absurd h
+
+-- any job
+work_tells : (unclaimed : Route → Type 0) (work : Work) (did : Did) (new : Work) (log : CallLog) (after : Option CallLog) → WorkCalls unclaimed work did new log after → StillTells after
+work_tells unclaimed (Copy c) did (Copy new) log after h = copy_tells unclaimed c did new log after h
+work_tells unclaimed (Copy c) did (Delete new) log after h = absurd h
+work_tells unclaimed (Delete d) did new log after h = deletion_tells d did log after h
+
+last_work_tells : (work : Work) (did : Did) (log : CallLog) (after : Option CallLog) → WorkLastCalls work did log after → StillTells after
+last_work_tells (Copy c) did log after h = wind_tells c did log after h
+last_work_tells (Delete d) did log after h = last_tells d did log after h
+
+calls_tell : (unclaimed : Route → Type 0) (course : Course) (job : Running) (did : Did) (new : Running) (log : CallLog) (after : Option CallLog) → CallsOn unclaimed course job did new log after → StillTells after
+calls_tell unclaimed GoesOn job did new log after h = work_tells unclaimed job.work did new.work log after h
+calls_tell unclaimed (InTrouble cause) job did new log after h = absurd h
+calls_tell unclaimed (Skips cause) job did new log after h = (log, h)
+calls_tell unclaimed (Ends ending) job did new log after h = last_work_tells job.work did log after h
+
+pub step_tells : (unclaimed : Route → Type 0) (job : Running) (did : Did) (new : Running) (log : CallLog) (after : Option CallLog) → JobCalls unclaimed job did new log after → StillTells after
+step_tells unclaimed job did new log after h = calls_tell unclaimed job.course job did new log after h
