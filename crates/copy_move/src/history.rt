@@ -1,8 +1,9 @@
 //! What a session writes down of itself: an entry for each key, each look, each job begun, each order to one and each step
 //! of one.
-use file_copy::{Cause, Did};
+use file_copy::Did;
 use key_screen::Key;
 use mc_text::{Path, Paths};
+use std::alloc::Global;
 use std::marker::Model;
 use tree_trait::TreeError;
 
@@ -165,10 +166,13 @@ pub fn is_end(did: &Did) -> bool
     matches!(did, Did::Ended { .. })
 }
 
-/// The cause of the trouble that a report tells of, and whether it stands at a barrier.
-pub fn trouble_of(did: &Did) -> Option<Cause> {
+/// The path at which a report says that a job is stuck; none where there is no memory for it.
+pub fn stuck_at(alloc: Global, did: &Did) -> Option<Path> {
     match did {
-        Did::Troubled(trouble) => Some(trouble.cause),
+        Did::Troubled(trouble) => match &trouble.path {
+            None => None,
+            Some(path) => path.copy(alloc).ok(),
+        },
         _ => None,
     }
 }

@@ -11,7 +11,7 @@ pub use deletion::{Deletion, Stage};
 pub use file_copy::{Cause, Did, Ending, PartTest, Stepped, Trouble};
 pub use history::{
     Answer, AnswerError, Entries, Entry, Event, History, Job, JobOrder, Pair, Pairs, PlanError,
-    Refusal, Refusals, is_end, trouble_of,
+    Refusal, Refusals, is_end, stuck_at,
 };
 pub use laws::what_a_crash_leaves_of_deletions;
 pub use run::{Course, Run};

@@ -1,14 +1,14 @@
 //! A job that is worked, step by step: it does its work, waits in a trouble for an answer, and makes its last steps where it
 //! is to end early.
 ghost use Rattle.std.specs.Prelude.{◌≡◌, Err, IfOk, IsSome, OnErr, OnOk, Some, false, option_map, true};
-ghost use Rattle.copy_move.specs.Jobs.{IsGoing, MayAnswer, answered, at_barrier, closed_job, course_after, ended_course, first_work, part_of, passes_over, waits_on};
+ghost use Rattle.copy_move.specs.Jobs.{IsGoing, MayAnswer, answered, at_barrier, closed_job, course_after, ended_course, first_work, part_of, passes_over, trouble_on, waits_on};
 ghost use Rattle.copy_move.specs.Steps.{SkipSteps, StepsOn};
 ghost use Rattle.copy_move.specs.Told.{running};
 
 use crate::deletion::Deletion;
 use crate::history::{Answer, AnswerError, Job, Pairs};
 use crate::work::Work;
-use file_copy::{Cause, Did, Ending, FileCopy, PartTest, Stepped};
+use file_copy::{Cause, Did, Ending, FileCopy, PartTest, Stepped, Trouble};
 use mc_text::{NoMemory, Path, Paths};
 use std::alloc::Global;
 use std::marker::Model;
@@ -48,6 +48,7 @@ impl Run {
     /// Starts a job of one file, which isn't the root.
     pub fn start(alloc: Global, job: &Job, id: u32) -> Result<Run, NoMemory>
         requires sound { IsSome (first_work id job.now) }
+        ensures id { IfOk result (λ run. run.id ≡ id) }
         ensures started { IfOk result (λ run. option_map (running id) (first_work id job.now) ≡ Some run) }
     {
         let work = match job {
@@ -80,6 +81,20 @@ impl Run {
         ensures { result ≡ at_barrier self.now.work }
     {
         self.work.is_at_barrier()
+    }
+
+    /// The trouble in which the job waits, with the path at which it stands.
+    pub fn trouble(&self, path: Option<Path>) -> Option<Trouble>
+        ensures { result ≡ trouble_on self.now.course self.now.work path }
+    {
+        match self.course {
+            Course::InTrouble(cause) => Some(Trouble {
+                cause,
+                path,
+                barrier: self.work.is_at_barrier(),
+            }),
+            Course::GoesOn | Course::Skips(_) | Course::Ends(_) => None,
+        }
     }
 
     /// The part that stands.

@@ -1,14 +1,19 @@
--- What choosing the thing under the cursor comes to.
-use Rattle.std.specs.Prelude.{◌≡◌, Bool, true, false, ⊤, Option, Some, None}
+-- What choosing the thing under the cursor comes to, and what planning a copy does.
+use Rattle.std.specs.Prelude.{◌≡◌, ◌≢◌, ℕ, Bool, true, false, ⊤, [], ◌∷◌, Option, Some, None}
 use Rattle.mc_text.specs.Routes.{Route}
+use Rattle.tree_trait.specs.declared.calls.TreeError.{TreeError}
+use Rattle.tree_trait.specs.declared.calls.TreeError.TheVariants.{Missing, Memory}
 use Rattle.tree_trait.specs.FileSystem.{View}
 use Rattle.tree_trait.specs.Calls.{Stat}
 use Rattle.tree_trait.specs.Change.{CallLog}
-use Rattle.copy_move.specs.Traces.{IsRefusedWith}
+use Rattle.copy_move.specs.declared.history.Refusal.TheVariants.{Tree}
+use Rattle.copy_move.specs.Traces.{HasCause, IsRefusedWith}
 use Rattle.mc_desk.specs.declared.choosing.Choice.{Choice}
 use Rattle.mc_desk.specs.declared.choosing.Choice.TheVariants.{Nothing, File, Refused}
-use Rattle.mc_desk.specs.Screens.{MayAsk}
-use Rattle.mc_desk.specs.Tallies.{is_fault}
+use Rattle.mc_desk.specs.declared.copying.CopyPlan.{CopyPlan}
+use Rattle.mc_desk.specs.declared.copying.CopyPlan.TheVariants.{Begins, Refuses}
+use Rattle.mc_desk.specs.Screens.{CopyRefused, MayAsk, copy_plan}
+use Rattle.mc_desk.specs.Tallies.{has_fault, is_fault}
 
 -- it is nothing that a box may ask of, or a file, or a look at it was refused
 abbrev pub IsChoice : Option View → Option Route → Choice → Type 0
@@ -28,3 +33,23 @@ abbrev pub is_faulty : Choice → Bool
 is_faulty Nothing = false
 is_faulty (File chosen) = false
 is_faulty (Refused path e) = is_fault e
+
+-- what planning a copy comes to: it is begun as it was planned, under the next number, or it is refused
+abbrev pub PlanLeads : Option View → ℕ → Route → Route → CopyPlan → Type 0
+PlanLeads tree next path target (Begins confirmed) = (confirmed.plan ≡ copy_plan path target) × (confirmed.run.id ≡ next)
+PlanLeads tree next path target (Refuses refusal) = CopyRefused tree target refusal
+
+-- what it says of the tree's calls
+abbrev pub PlanCalls : CallLog → CopyPlan → Type 0
+PlanCalls log (Begins confirmed) = ⊤
+PlanCalls log (Refuses refusal) = HasCause Stat log refusal
+
+-- the look at the target met a fault
+abbrev pub has_plan_fault : CopyPlan → Bool
+has_plan_fault (Begins confirmed) = false
+has_plan_fault (Refuses refusal) = has_fault (refusal ∷ [])
+
+-- what comes of a look at the target that was refused so
+abbrev pub AfterLook : TreeError → ℕ → Route → Route → CopyPlan → Type 0
+AfterLook e next path target (Begins confirmed) = (e ≡ Missing) × (confirmed.plan ≡ copy_plan path target) × (confirmed.run.id ≡ next)
+AfterLook e next path target (Refuses refusal) = (refusal ≡ Tree target e) × (e ≢ Missing) × (e ≢ Memory)

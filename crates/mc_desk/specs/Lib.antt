@@ -1,3 +1,4 @@
+pub mod Choices
 pub mod Desks
 pub mod Logs
 pub mod Panels

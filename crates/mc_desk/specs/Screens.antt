@@ -18,14 +18,13 @@ use Rattle.copy_move.specs.declared.history.Job.TheVariants as plan
 use Rattle.copy_move.specs.declared.history.PlanError.TheVariants.{TargetThere, TargetTooLong}
 use Rattle.copy_move.specs.declared.history.Refusal.{Refusal}
 use Rattle.copy_move.specs.declared.history.Refusal.TheVariants.{Tree, Plan}
-use Rattle.copy_move.specs.declared.work.Work.{Work}
-use Rattle.copy_move.specs.declared.run.Course.{Course}
-use Rattle.copy_move.specs.declared.run.Course.TheVariants.{GoesOn, InTrouble, Skips, Ends}
-use Rattle.copy_move.specs.Jobs.{Running, MayAnswer, at_barrier, passes_over, waits_on}
+use Rattle.copy_move.specs.Jobs.{Running, MayAnswer, at_barrier, passes_over, trouble_on, waits_on}
 use Rattle.mc_desk.specs.declared.asks.Ask.{Ask}
 use Rattle.mc_desk.specs.declared.asks.Ask.TheVariants as ask
 use Rattle.mc_desk.specs.declared.dialog.Dialog.{Dialog}
 use Rattle.mc_desk.specs.declared.dialog.Dialog.TheVariants as dialog
+use Rattle.mc_desk.specs.declared.ui.panel_keys.Opens.{Opens}
+use Rattle.mc_desk.specs.declared.ui.panel_keys.Opens.TheVariants as opens
 use Rattle.mc_desk.specs.declared.reread.Reread.{Reread}
 use Rattle.mc_desk.specs.Panels.{Shown, current_path, moved_down, with_names, ListsFolder}
 
@@ -70,6 +69,11 @@ is_file_spot spot = option_map_or (λ v. file_kind v.kind) spot.value false
 abbrev pub MayAsk : Option View → Route → Bool → Type 0
 MayAsk None path asks = ⊤
 MayAsk (Some view) path asks = asks ≡ (is_file_spot (view path) && nat_le (length (spelled path)) 4096)
+
+-- the box that such a key opens
+abbrev pub box_of : Opens → Route → Box
+box_of opens.Delete path = DeleteBox path
+box_of opens.SourceMask path = MaskBox path
 
 -- the key that asks of the thing under the cursor opens its box, if that is a file and no job is live
 abbrev pub Chooses : (Route → Box) → Option View → Option Running → Option Route → List Refusal → Screen → Screen → Type 0
@@ -188,33 +192,32 @@ IsReread tree true folder r =
     ((names : List (List ℕ)) × ListsFolder tree folder names × (r.names ≡ Some names) × (r.refused ≡ None))
     ⊎ ((e : TreeError) × (r.names ≡ None) × (r.refused ≡ Some (Tree folder e)))
 
--- the trouble of a job that waits, as it is shown
-abbrev pub ShowsCourse : Course → Work → Option Trouble → Type 0
-ShowsCourse (InTrouble cause) work shown = (path : Option Route) × (shown ≡ Some (record { cause = cause; path = path; barrier = at_barrier work }))
-ShowsCourse GoesOn work shown = shown ≡ None
-ShowsCourse (Skips cause) work shown = shown ≡ None
-ShowsCourse (Ends ending) work shown = shown ≡ None
-
+-- the trouble of a job that waits, as it is shown, at some path
 abbrev pub ShowsTrouble : Option Running → Option Trouble → Type 0
 ShowsTrouble None shown = shown ≡ None
-ShowsTrouble (Some job) shown = ShowsCourse job.course job.work shown
+ShowsTrouble (Some job) shown = (path : Option Route) × (shown ≡ trouble_on job.course job.work path)
 
 -- a trouble's box stands over all
 abbrev pub with_trouble : Option Trouble → Box → Box
 with_trouble None before = before
 with_trouble (Some trouble) before = TroubleBox trouble
 
--- What a look makes of the screen. After a job's end, not yet taken up, it reads each panel again; the trouble of a job that
--- waits gets its box.
-pub record LookLeads (tree : Option View) (job : Option Running) (unseen : Bool) (refusals : List Refusal) (before after : Screen) : Type 0 where
+-- a look reads each panel again, after a job's end that was not taken up, and shows the trouble that there is
+pub record LooksAgain (tree : Option View) (unseen : Bool) (trouble : Option Trouble) (refusals : List Refusal) (before after : Screen) : Type 0 where
   pub left : Reread
   pub right : Reread
-  pub trouble : Option Trouble
   pub left_is : IsReread tree unseen before.left.folder left
   pub right_is : IsReread tree unseen before.right.folder right
-  pub shown : ShowsTrouble job trouble
   pub refused : refusals ≡ listed left.refused ++ listed right.refused
   pub after_is : after ≡ record before { left = with_names left.names before.left; right = with_names right.names before.right; over = with_trouble trouble before.over }
+
+-- What a look makes of the screen: it takes up what the live job did. The trouble of one that waits gets its box.
+abbrev pub LookLeads : Option View → Option Running → Bool → List Refusal → Screen → Screen → Type 0
+LookLeads tree job unseen refusals before after = (trouble : Option Trouble) × ShowsTrouble job trouble × LooksAgain tree unseen trouble refusals before after
+
+-- the panels show the same folders
+abbrev pub SameFolders : Screen → Screen → Type 0
+SameFolders before after = (after.left.folder ≡ before.left.folder) × (after.right.folder ≡ before.right.folder)
 
 -- at the opening each panel lists its folder, the cursor on the first row
 pub record IsOpening (tree : Option View) (screen : Screen) : Type 0 where

@@ -1,10 +1,9 @@
-//! The plans of jobs that a box confirms.
-ghost use Rattle.std.specs.Prelude.{◌≡◌, ◌≤◌, true, IfOk};
-ghost use Rattle.tree_trait.specs.Calls.{Stat};
+//! The plans of the jobs that a box confirms.
+ghost use Rattle.std.specs.Prelude.{◌≡◌, ◌≢◌, ◌<◌, ◌≤◌, true, IfErr, IfOk, is_some, length};
+ghost use Rattle.mc_text.specs.Routes.{parent_of, spelled};
 ghost use Rattle.tree_trait.specs.Answers.{IfKnown, HasRisen};
-ghost use Rattle.copy_move.specs.Traces.{HasCause};
-ghost use Rattle.mc_desk.specs.Screens.{CopyRefused, copy_plan, delete_plan, sight, target_in};
-ghost use Rattle.mc_desk.specs.Choices.{PlanCalls, PlanLeads, LooksFree, has_plan_fault};
+ghost use Rattle.mc_desk.specs.Screens.{copy_plan, delete_plan, sight, target_in};
+ghost use Rattle.mc_desk.specs.Choices.{AfterLook, PlanCalls, PlanLeads, has_plan_fault};
 
 use crate::asks::Confirmed;
 use crate::dialog::Chosen;
@@ -17,10 +16,10 @@ use tree_trait::{Tree, TreeError};
 #[derive(Debug, Drop)]
 pub enum CopyPlan {
     Begins(Confirmed),
-    Refused(Refusal),
+    Refuses(Refusal),
 }
 
-/// Plans the copy of a file into a folder under its own name, where nothing stands.
+/// Plans the copy of a file into a folder under its own name, if nothing stands there.
 pub fn plan_copy<T: Tree>(
     alloc: Global,
     tree: &mut T,
@@ -36,18 +35,71 @@ pub fn plan_copy<T: Tree>(
 {
     let target = match target_of(alloc, &chosen.path, folder) {
         Ok(target) => target,
-        Err(PathError::TooLong(_)) => {
-            return Ok(CopyPlan::Refused(Refusal::Plan(PlanError::TargetTooLong)));
-        }
-        Err(_) => return Err(NoMemory),
+        Err(PathError::Memory) => return Err(NoMemory),
+        Err(_) => return Ok(CopyPlan::Refuses(Refusal::Plan(PlanError::TargetTooLong))),
     };
     match tree.stat(alloc, &target) {
-        Ok(_) => Ok(CopyPlan::Refused(Refusal::Plan(PlanError::TargetThere(
-            target,
-        )))),
-        Err(error) => match look_refused(error) {
-            Some(error) => Ok(CopyPlan::Refused(Refusal::Tree(target, error))),
-            None => ...
-        },
+        Ok(_) => Ok(CopyPlan::Refuses(Refusal::Plan(PlanError::TargetThere(target)))),
+        Err(error) => after_look(alloc, chosen, target, next, error),
     }
+}
+
+/// Where a file comes that is copied into a folder.
+fn target_of(alloc: Global, path: &Path, folder: &Path) -> Result<Path, PathError>
+    ensures target { IfOk result (λ target. target ≡ target_in folder.now path.now) }
+    ensures too_long { IfErr result (λ e. e ≢ PathError.Memory → 4096 < length (spelled (target_in folder.now path.now))) }
+{
+    match path.names() {
+        [] => Ok(folder.copy(alloc)?),
+        [.., last] => folder.join(alloc, last),
+    }
+}
+
+/// Begins the copy where the look at its target was refused because nothing is there.
+fn after_look(
+    alloc: Global,
+    chosen: &Chosen,
+    target: Path,
+    next: u32,
+    error: TreeError,
+) -> Result<CopyPlan, NoMemory>
+    requires within { is_some (parent_of target) ≡ true }
+    ensures { IfOk result (AfterLook error next chosen.now.path target) }
+{
+    match error {
+        TreeError::Missing => Ok(CopyPlan::Begins(begin_copy(alloc, chosen, target, next)?)),
+        TreeError::Memory => Err(NoMemory),
+        error => Ok(CopyPlan::Refuses(Refusal::Tree(target, error))),
+    }
+}
+
+/// The copy of a file, as it starts.
+fn begin_copy(
+    alloc: Global,
+    chosen: &Chosen,
+    target: Path,
+    next: u32,
+) -> Result<Confirmed, NoMemory>
+    requires within { is_some (parent_of target) ≡ true }
+    ensures planned { IfOk result (λ confirmed. confirmed.plan ≡ copy_plan chosen.now.path target) }
+    ensures numbered { IfOk result (λ confirmed. confirmed.run.id ≡ next) }
+{
+    let source = chosen.path.copy(alloc)?;
+    let mut pairs = Vec::new(alloc);
+    pairs.push(Pair { source, target })?;
+    let plan = Job::Copy(Pairs(pairs));
+    let run = Run::start(alloc, &plan, next)?;
+    Ok(Confirmed { plan, run })
+}
+
+/// The deletion of a file, as it starts.
+pub fn begin_deletion(alloc: Global, chosen: &Chosen, next: u32) -> Result<Confirmed, NoMemory>
+    ensures planned { IfOk result (λ confirmed. confirmed.plan ≡ delete_plan chosen.now.path) }
+    ensures numbered { IfOk result (λ confirmed. confirmed.run.id ≡ next) }
+{
+    let mut paths = Paths::new(alloc);
+    paths.push(chosen.path.copy(alloc)?)?;
+    let plan = Job::Delete(paths);
+    let run = Run::start(alloc, &plan, next)?;
+    Ok(Confirmed { plan, run })
 }

@@ -1,10 +1,10 @@
 //! The desk: the devices of a session, its screen, its job and its history. Every call leaves it whole.
-ghost use Rattle.std.specs.Prelude.{◌≡◌, ◌≤◌, false, [], IfOk, IfErr, OnOk, Some, None};
+ghost use Rattle.std.specs.Prelude.{◌≡◌, ◌≤◌, false, true, [], IfOk, IfErr, OnOk, Some, None};
 ghost use Rattle.tree_trait.specs.Calls.{ListFolder};
 ghost use Rattle.tree_trait.specs.Refusals.{refusal_of};
 ghost use Rattle.tree_trait.specs.Change.{current};
 ghost use Rattle.tree_trait.specs.Answers.{IfKnown, HasRisen};
-ghost use Rattle.mc_desk.specs.Starts.{IsStartCause};
+ghost use Rattle.mc_desk.specs.Starts.{IsStartCause, is_start_fault};
 
 mod keys;
 mod steps;
@@ -14,12 +14,13 @@ use crate::opening::open;
 use crate::starts::{Start, StartError};
 use crate::tag::Tag;
 use crate::ui::Ui;
-use copy_move::{Deletion, History};
+use copy_move::{History, Run};
 use key_screen::KeyReader;
 use std::alloc::Global;
 use std::marker::{Model, PhantomData};
 use thiserror::Error;
-use tree_trait::{Sink, Spawner, Tree, TreeError};
+use mc_text::Path;
+use tree_trait::{Sink, Spawner, Tree};
 
 /// A start that was refused gives the devices back.
 #[derive(Drop)]
@@ -85,13 +86,13 @@ pub struct Desk<N: Tag, T: Tree, S: Sink, P: Spawner> {
     spawner: P,
     keys: KeyReader,
     ui: Ui,
-    job: Option<Deletion>,
+    job: Option<Run>,
     log: Log,
     last_id: u32,
     calls: u64,
     shown: u128,
     unseen: bool,
-    trouble: Option<TreeError>,
+    stuck_at: Option<Path>,
     due: Due,
     closed: bool,
     quit: bool,
@@ -101,6 +102,8 @@ pub struct Desk<N: Tag, T: Tree, S: Sink, P: Spawner> {
 }
 
 impl<N: Tag, T: Tree, S: Sink, P: Spawner> Model for Desk<N, T, S, P> {
+    ghost use Rattle.std.specs.Option.{option_map};
+    ghost use Rattle.copy_move.specs.Told.{told};
     ghost use Rattle.mc_desk.specs.Desks.{Seen, KeepsDesk, awaited};
 
     ghost Value = { Seen };
@@ -109,8 +112,9 @@ impl<N: Tag, T: Tree, S: Sink, P: Spawner> Model for Desk<N, T, S, P> {
       newest = d.log.newest;
       spare = d.log.spare;
       screen = d.ui;
+      job = d.job;
       tally = record {
-        job = d.job;
+        job = option_map told d.job;
         last = d.last_id;
         unseen = d.unseen;
         closed = d.closed;
@@ -126,8 +130,9 @@ impl<N: Tag, T: Tree, S: Sink, P: Spawner> Model for Desk<N, T, S, P> {
       newest = d.log.newest;
       spare = d.log.spare;
       screen = d.ui;
+      job = d.job;
       tally = record {
-        job = d.job;
+        job = option_map told d.job;
         last = d.last_id;
         unseen = d.unseen;
         closed = d.closed;
@@ -141,8 +146,8 @@ impl<N: Tag, T: Tree, S: Sink, P: Spawner> Model for Desk<N, T, S, P> {
 }
 
 impl<N: Tag, T: Tree, S: Sink, P: Spawner> Desk<N, T, S, P> {
-    /// Opens a session in a folder. It is refused as `list` of that folder is, or for want of memory; the tree is as it
-    /// was then.
+    /// Opens a session in two folders. It is refused as `list` of the first is that can't be listed, or for want of memory;
+    /// the tree is as it was then.
     pub fn begin(
         alloc: Global,
         start: Start,
@@ -153,17 +158,19 @@ impl<N: Tag, T: Tree, S: Sink, P: Spawner> Desk<N, T, S, P> {
         requires opening { T.contents tree ≡ N.opening }
         requires faults { N.tree_faults ≤ T.fault_count tree }
         requires sink { N.sink_faults ≤ S.fault_count screen }
-        ensures opened { IfOk result (λ desk. (desk.newest ≡ []) × (desk.screen.panel.folder ≡ start.folder)) }
+        ensures opened { IfOk result (λ desk. desk.newest ≡ []) }
+        ensures left { IfOk result (λ desk. desk.screen.left.folder ≡ start.left) }
+        ensures right { IfOk result (λ desk. desk.screen.right.folder ≡ start.right) }
         ensures fresh { IfOk result (λ desk. (desk.pending ≡ []) × (desk.tally.closed ≡ false)) }
         ensures permitted { IfKnown (T.contents tree) (λ log.
-            OnOk result (refusal_of (current log) (ListFolder start.folder) ≡ None)) }
-        ensures cause { IfKnown (T.contents tree) (λ log. IfErr result (λ r. IsStartCause (current log) start.folder r.error)) }
-        ensures fault { IfErr result (λ r. r.error ≡ StartError.Tree TreeError.Fault → HasRisen (T.fault_count tree) (T.fault_count r.tree)) }
+            OnOk result ((refusal_of (current log) (ListFolder start.left) ≡ None) × (refusal_of (current log) (ListFolder start.right) ≡ None))) }
+        ensures cause { IfKnown (T.contents tree) (λ log. IfErr result (λ r. IsStartCause (current log) start.left start.right r.error)) }
+        ensures fault { IfErr result (λ r. is_start_fault r.error ≡ true → HasRisen (T.fault_count tree) (T.fault_count r.tree)) }
         ensures same { IfErr result (λ r. T.contents r.tree ≡ T.contents tree) }
         ensures same_screen { IfErr result (λ r. r.screen ≡ screen) }
     {
         let mut tree = tree;
-        match open(alloc, &mut tree, start.folder) {
+        match open(alloc, &mut tree, start) {
             Err(error) => Err(Refused {
                 error,
                 tree,
@@ -182,7 +189,7 @@ impl<N: Tag, T: Tree, S: Sink, P: Spawner> Desk<N, T, S, P> {
                 calls: 0,
                 shown: 0,
                 unseen: false,
-                trouble: None,
+                stuck_at: None,
                 due: Due::First,
                 closed: false,
                 quit: false,

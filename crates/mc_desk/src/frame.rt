@@ -2,14 +2,23 @@
 ghost use Rattle.std.specs.Prelude.{◌≡◌, ◌≤◌, ◌<◌, Err, IfOk};
 ghost use Rattle.tree_trait.specs.Answers.{HasRisen};
 
-use crate::causes::cause_text;
+use crate::causes::write_cause;
+use crate::dialog::{Chosen, Dialog};
+use crate::panel::Panel;
 use crate::ui::Ui;
-use mc_text::NoMemory;
+use file_copy::Trouble;
+use mc_text::{NoMemory, Path, drawn, fit};
 use std::alloc::Global;
 use tree_trait::{Sink, SinkError};
 
-/// How many rows of the panel are shown.
+/// How many rows of a panel are shown.
 const SHOWN_ROWS: usize = 18;
+
+/// How many columns a panel has. The right one begins a column behind the left.
+const PANEL_COLUMNS: usize = 39;
+
+/// The first column of the right panel.
+const RIGHT_COLUMN: usize = 41;
 
 /// Draws the whole screen. A refused call has put a front of the bytes. The answer is how many bytes they are.
 pub fn draw<S: Sink>(alloc: Global, screen: &mut S, ui: &Ui) -> Result<usize, SinkError>
@@ -27,47 +36,120 @@ pub fn draw<S: Sink>(alloc: Global, screen: &mut S, ui: &Ui) -> Result<usize, Si
 /// The bytes of a screen.
 fn frame_of(alloc: Global, ui: &Ui) -> Result<String, NoMemory> {
     let mut frame = String::from_str(alloc, "\x1b[2J")?;
-    let panel = ui.panel();
-    let above = panel.rows_above();
-    let first = panel.cursor().saturating_sub(SHOWN_ROWS - 1);
-    for line in 0..SHOWN_ROWS {
-        let row = first.saturating_add(line);
-        if row < above {
-            write_row(&mut frame, line, "..", row == panel.cursor())?;
-        } else if let Some(name) = panel.names().get(row - above) {
-            write_row(&mut frame, line, name.text(), row == panel.cursor())?;
-        }
-    }
-    if let Some(path) = ui.asked() {
-        write_row(&mut frame, SHOWN_ROWS, "Delete? Enter or F10:", false)?;
-        if let Some(name) = path.last() {
-            write_row(&mut frame, SHOWN_ROWS + 1, name, false)?;
-        }
-    }
+    write_panel(alloc, &mut frame, ui.left(), 1, true)?;
+    write_panel(alloc, &mut frame, ui.right(), RIGHT_COLUMN, false)?;
+    write_dialog(alloc, &mut frame, ui)?;
     if let Some(news) = ui.news() {
-        write_row(&mut frame, SHOWN_ROWS, cause_text(news), false)?;
+        write_row(alloc, &mut frame, SHOWN_ROWS + 4, news)?;
     }
     Ok(frame)
 }
 
-/// Places a row, counted from 0, and writes it; a control character shows as `?`.
-fn write_row(
+/// The rows of a panel. Its current row is shown where the cursor is in it.
+fn write_panel(
+    alloc: Global,
     frame: &mut String,
-    line: usize,
-    text: &str,
+    panel: &Panel,
+    column: usize,
+    has_cursor: bool,
+) -> Result<(), NoMemory> {
+    let above = panel.rows_above();
+    let first = panel.cursor().saturating_sub(SHOWN_ROWS - 1);
+    for line in 0..SHOWN_ROWS {
+        let row = first.saturating_add(line);
+        let name = if row < above {
+            Some("..")
+        } else {
+            name_at(panel, row - above)
+        };
+        if let Some(name) = name {
+            place(frame, line, column)?;
+            write_name(alloc, frame, name, has_cursor && row == panel.cursor())?;
+        }
+    }
+    Ok(())
+}
+
+/// The name in this place of a panel.
+fn name_at(panel: &Panel, place: usize) -> Option<&str> {
+    match panel.names().get(place) {
+        None => None,
+        Some(name) => Some(name.text()),
+    }
+}
+
+/// What the box says.
+fn write_dialog(alloc: Global, frame: &mut String, ui: &Ui) -> Result<(), NoMemory> {
+    match ui.dialog() {
+        Dialog::Nothing => Ok(()),
+        Dialog::Delete(chosen) => {
+            write_row(alloc, frame, SHOWN_ROWS, "Delete? Enter or F10:")?;
+            write_last(alloc, frame, &chosen.path)
+        }
+        Dialog::SourceMask(_) => {
+            write_row(alloc, frame, SHOWN_ROWS, "Source mask? Enter or F10:")?;
+            write_row(alloc, frame, SHOWN_ROWS + 1, "*")
+        }
+        Dialog::CopyTo(_) => {
+            write_row(alloc, frame, SHOWN_ROWS, "Copy to? Enter or F10:")?;
+            let folder = ui.right().folder().text(alloc)?;
+            write_row(alloc, frame, SHOWN_ROWS + 1, folder.0.as_str())
+        }
+        Dialog::Trouble(trouble) => write_trouble(alloc, frame, trouble),
+    }
+}
+
+/// A trouble: its cause, its path, and the letters that answer it.
+fn write_trouble(alloc: Global, frame: &mut String, trouble: &Trouble) -> Result<(), NoMemory> {
+    let mut cause = String::new(alloc);
+    write_cause(&mut cause, trouble.cause)?;
+    write_row(alloc, frame, SHOWN_ROWS, cause.as_str())?;
+    if let Some(path) = &trouble.path {
+        let text = path.text(alloc)?;
+        write_row(alloc, frame, SHOWN_ROWS + 1, text.0.as_str())?;
+    }
+    let letters = if trouble.barrier {
+        "r Retry  b Abort"
+    } else {
+        "r Retry  s Skip  a Skip all  b Abort"
+    };
+    write_row(alloc, frame, SHOWN_ROWS + 2, letters)
+}
+
+/// The last name of a path, below the box's question.
+fn write_last(alloc: Global, frame: &mut String, path: &Path) -> Result<(), NoMemory> {
+    match path.last() {
+        None => Ok(()),
+        Some(name) => write_row(alloc, frame, SHOWN_ROWS + 1, name),
+    }
+}
+
+/// Places the next text: lines are counted from 0, columns from 1.
+fn place(frame: &mut String, line: usize, column: usize) -> Result<(), NoMemory> {
+    write!(frame, "\x1b[{};{}H", line.saturating_add(1), column)?;
+    Ok(())
+}
+
+/// Writes a row over the whole width.
+fn write_row(alloc: Global, frame: &mut String, line: usize, text: &str) -> Result<(), NoMemory> {
+    place(frame, line, 1)?;
+    frame.push_str(drawn(alloc, text)?.0.as_str())?;
+    Ok(())
+}
+
+/// Writes a name in the columns of its panel; the current one in reverse.
+fn write_name(
+    alloc: Global,
+    frame: &mut String,
+    name: &str,
     is_current: bool,
 ) -> Result<(), NoMemory> {
-    write!(frame, "\x1b[{};1H", line.saturating_add(1))?;
+    let shown = drawn(alloc, name)?;
+    let fitted = fit(alloc, shown.0.as_str(), PANEL_COLUMNS)?;
     if is_current {
         frame.push_str("\x1b[7m")?;
     }
-    for character in text.chars() {
-        frame.push(if character.is_control() {
-            '?'
-        } else {
-            character
-        })?;
-    }
+    frame.push_str(fitted.0.as_str())?;
     if is_current {
         frame.push_str("\x1b[0m")?;
     }

@@ -1,7 +1,7 @@
 //! The panel: the names in one folder, and a cursor on one of its rows.
 ghost use Rattle.std.specs.Prelude.{◌≡◌, ◌≢◌, ◌<◌, ◌≤◌, IfOk, IfErr, IfSome, Some, length, option_map};
 ghost use Rattle.mc_text.specs.Routes.{spelled};
-ghost use Rattle.mc_desk.specs.Panels.{Shown, rows_above, last_row, current_name, current_path, moved_down, place_of, read_again};
+ghost use Rattle.mc_desk.specs.Panels.{Shown, rows_above, last_row, current_name, current_path, moved_down, place_of, read_again, with_names};
 
 use mc_text::{Name, Names, NoMemory, Path, PathError};
 use std::alloc::Global;
@@ -100,6 +100,15 @@ impl Panel {
         match place {
             Some(place) => self.cursor = above + place,
             None => self.cursor = self.cursor.min(self.last_row()),
+        }
+    }
+
+    /// Takes names that were read, if there are any.
+    pub fn take_names(&mut self, names: Option<Names>)
+        ensures { self.new ≡ with_names names self.old }
+    {
+        if let Some(names) = names {
+            self.read_again(names);
         }
     }
 

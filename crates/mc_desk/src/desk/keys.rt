@@ -1,7 +1,7 @@
 //! Keys and looks: what a desk does for its user.
 ghost use Rattle.std.specs.Prelude.{◌≡◌, ◌≢◌, ◌+◌, ◌≤◌, ◌∷◌, ◌++◌, [], ℕ, List, true, false, if◌then◌else◌, IsTrue, IfOk, OnOk, Ok, Err, Some, None};
-ghost use Rattle.copy_move.specs.Work.{IsReady};
-ghost use Rattle.mc_desk.specs.Screens.{plain_base};
+ghost use Rattle.copy_move.specs.Told.{IsReady};
+ghost use Rattle.mc_desk.specs.Screens.{SameFolders, ShowsTrouble, plain_base};
 ghost use Rattle.mc_desk.specs.Tallies.{can_step, keys_in};
 ghost use Rattle.mc_desk.specs.Desks.{failed_by, awaited, HasTaken, TakesByte, KeepsKeys};
 
@@ -10,9 +10,10 @@ use super::{Desk, DeskError, DeskReply, Due};
 use crate::asks::{Ask, Confirmed, KeyAct};
 use crate::frame::draw;
 use crate::tag::Tag;
-use copy_move::{Deletion, Entry, Event, Job, Refusals};
+use copy_move::{Entry, Event, JobOrder, Refusals, Run, Trouble};
 use key_screen::{Base, Fed, Key};
 use std::alloc::Global;
+use mc_text::Path;
 use tree_trait::{Sink, SinkError, Spawner, Tree};
 
 impl<N: Tag, T: Tree, S: Sink, P: Spawner> Desk<N, T, S, P> {
@@ -21,7 +22,7 @@ impl<N: Tag, T: Tree, S: Sink, P: Spawner> Desk<N, T, S, P> {
     /// takes no byte and answers `Quit`.
     pub fn byte(&mut self, alloc: Global, byte: u8, now: u64) -> Result<DeskReply, DeskError>
         requires looked { self.old.tally.due ≡ None }
-        ensures folder { self.new.screen.panel.folder ≡ self.old.screen.panel.folder }
+        ensures folders { SameFolders self.old.screen self.new.screen }
         ensures keys { (bytes : List ℕ) → HasTaken bytes self.old → TakesByte result bytes byte self.old self.new }
         ensures unclosed { OnOk result (self.new.tally.closed ≡ self.old.tally.closed) }
         ensures quit { result ≡ Ok DeskReply.Quit → self.old.tally.closed ≡ false → self.new.quit ≡ true }
@@ -48,7 +49,7 @@ impl<N: Tag, T: Tree, S: Sink, P: Spawner> Desk<N, T, S, P> {
 
     /// Takes up what the job did, and draws. After the job's end the panel is read again. A closed desk stays as it is.
     pub fn look(&mut self, alloc: Global) -> Result<(), DeskError>
-        ensures folder { self.new.screen.panel.folder ≡ self.old.screen.panel.folder }
+        ensures folders { SameFolders self.old.screen self.new.screen }
         ensures keys { KeepsKeys self.old self.new }
         ensures looked { OnOk result (can_step self.old.tally.job ≡ false → self.new.tally.due ≡ None) }
         ensures unclosed { OnOk result (self.new.tally.closed ≡ self.old.tally.closed) }
@@ -59,10 +60,13 @@ impl<N: Tag, T: Tree, S: Sink, P: Spawner> Desk<N, T, S, P> {
         if self.log.reserve(3).is_err() {
             return Err(DeskError::Memory);
         }
-        let Ok(refusals) = self.ui.look(alloc, &mut self.tree, self.unseen) else {
+        let trouble = shown_trouble(&self.job, self.stuck_at.take());
+        let Ok(refusals) = self
+            .ui
+            .look(alloc, &mut self.tree, self.unseen, trouble)
+        else {
             return Err(DeskError::Memory);
         };
-        self.ui.tell(self.trouble.take());
         let drawn = draw(alloc, &mut self.screen, &self.ui);
         self.shown = after_draw(self.shown, &drawn);
         self.failed = failed_by(self.failed, &drawn);
@@ -108,7 +112,7 @@ impl<N: Tag, T: Tree, S: Sink, P: Spawner> Desk<N, T, S, P> {
         requires unclosed { self.old.tally.closed ≡ false }
         requires looked { self.old.tally.due ≡ None }
         requires room { 4 ≤ self.old.spare }
-        ensures folder { self.new.screen.panel.folder ≡ self.old.screen.panel.folder }
+        ensures folders { SameFolders self.old.screen self.new.screen }
         ensures keys { keys_in self.new.newest ≡ keys_in self.old.newest ++ key ∷ [] }
         ensures pending { self.new.pending ≡ self.old.pending }
         ensures unclosed { OnOk result (self.new.tally.closed ≡ false) }
@@ -116,7 +120,11 @@ impl<N: Tag, T: Tree, S: Sink, P: Spawner> Desk<N, T, S, P> {
         ensures room { OnOk result (self.old.spare ≤ self.new.spare + 2) }
         ensures quit { result ≡ Ok DeskReply.Quit → self.new.quit ≡ true }
     {
-        let Ok(act) = self.ui.key(alloc, &mut self.tree, self.job.is_some(), key) else {
+        let id = self.last_id.saturating_add(1);
+        let Ok(act) = self
+            .ui
+            .key(alloc, &mut self.tree, self.job.as_ref(), id, key)
+        else {
             return self.lose_key(alloc, key, now);
         };
         let KeyAct { ask, refusals } = act;
@@ -141,9 +149,8 @@ impl<N: Tag, T: Tree, S: Sink, P: Spawner> Desk<N, T, S, P> {
                 self.quit = true;
                 self.finish(drawn, DeskReply::Quit)
             }
-            Ask::Delete(confirmed) => {
-                let Confirmed { plan, path, folder } = confirmed;
-                let id = self.last_id.saturating_add(1);
+            Ask::Begin(confirmed) => {
+                let Confirmed { plan, run } = confirmed;
                 self.log.note(Entry {
                     seat: 0,
                     calls: self.calls,
@@ -151,13 +158,35 @@ impl<N: Tag, T: Tree, S: Sink, P: Spawner> Desk<N, T, S, P> {
                     shown: 0,
                     what: Event::Began {
                         job: id,
-                        plan: Job::Delete(plan),
+                        plan,
                         background: false,
                     },
                 });
                 self.log.count_job();
-                self.job = Some(Deletion::new(id, path, folder));
+                self.job = Some(run);
                 self.last_id = id;
+                self.due = Due::Job(id);
+                self.finish(drawn, DeskReply::Wait(id))
+            }
+            Ask::Answer(answer) => {
+                let Some(mut job) = self.job.take() else {
+                    unreachable!()
+                };
+                let id = job.id();
+                if job.answer(answer).is_err() {
+                    unreachable!()
+                }
+                self.log.note(Entry {
+                    seat: 0,
+                    calls: self.calls,
+                    faults: self.tree.faults(),
+                    shown: 0,
+                    what: Event::Order {
+                        job: id,
+                        order: JobOrder::Answered(answer),
+                    },
+                });
+                self.job = Some(job);
                 self.due = Due::Job(id);
                 self.finish(drawn, DeskReply::Wait(id))
             }
@@ -256,12 +285,22 @@ fn after_look(due: Due, can_step: bool) -> Due
 }
 
 /// Whether there is a job, and it waits for nothing.
-fn can_step(job: &Option<Deletion>) -> bool
+fn can_step(job: &Option<Run>) -> bool
     ensures { result ≡ can_step job.now }
 {
     match job {
         None => false,
         Some(job) => !job.waits(),
+    }
+}
+
+/// The trouble of a job that waits, as it is shown, with the path at which it stands.
+fn shown_trouble(job: &Option<Run>, path: Option<Path>) -> Option<Trouble>
+    ensures { ShowsTrouble job.now result }
+{
+    match job {
+        None => None,
+        Some(job) => job.trouble(path),
     }
 }
 

@@ -1,18 +1,21 @@
 //! Steps of the job, and the end of a session.
 ghost use Rattle.std.specs.Prelude.{◌≡◌, ◌<◌, Bool, true, Option, Some, None, IsSome, ◌||◌, reverse, if◌then◌else◌};
 ghost use Rattle.std.specs.Option.{option_map};
-ghost use Rattle.tree_trait.specs.FileSystem.{View};
-ghost use Rattle.copy_move.specs.Work.{closed_job, if_closed, steps_left, live_job, IsReady};
+ghost use Rattle.copy_move.specs.Jobs.{closed_job, part_of};
+ghost use Rattle.copy_move.specs.Ranks.{rank};
+ghost use Rattle.copy_move.specs.Told.{if_closed, live_job, IsReady};
 ghost use Rattle.copy_move.specs.Replay.{IsReplayed};
 ghost use Rattle.copy_move.specs.Traces.{IsTracedTo};
-ghost use Rattle.mc_desk.specs.Sessions.{MayOpen, EndsSession, EndAsked};
+ghost use Rattle.mc_desk.specs.Sessions.{EndsSession, EndAsked};
 ghost use Rattle.mc_desk.specs.Tallies.{can_step, keys_in, has_lost};
 ghost use Rattle.mc_desk.specs.Desks.{Blames, KeepsKeys, idle_reply};
 
 use super::{Desk, Due, Ended, StepReply};
 use crate::tag::Tag;
-use copy_move::{Deletion, Did, Ending, Entry, Event, Stepped};
+use copy_move::{Did, Ending, Entry, Event, Run, Stepped, is_end, stuck_at};
 use std::alloc::Global;
+use crate::claims::NoClaims;
+use mc_text::Path;
 use tree_trait::{Sink, Spawner, Tree};
 
 impl<N: Tag, T: Tree, S: Sink, P: Spawner> Desk<N, T, S, P> {
@@ -41,9 +44,8 @@ impl<N: Tag, T: Tree, S: Sink, P: Spawner> Desk<N, T, S, P> {
         ensures same { (self.new.tally.closed ≡ self.old.tally.closed) × (self.new.tally.due ≡ self.old.tally.due) }
         ensures quit { self.new.quit ≡ self.old.quit }
         ensures reply { result ≡ (if can_step self.old.tally.job then StepReply.Did else idle_reply self.old.tally.closed) }
-        ensures nearer { self.old.tally.closed ≡ true → IsSome self.old.tally.job
-            → steps_left self.new.tally.job < steps_left self.old.tally.job }
-        ensures worked { IsReady self.old.tally.job → steps_left self.new.tally.job < steps_left self.old.tally.job }
+        ensures nearer { self.old.tally.closed ≡ true → IsSome self.old.job → rank self.new.job < rank self.old.job }
+        ensures worked { IsReady self.old.job → rank self.new.job < rank self.old.job }
     {
         let Some(mut job) = self.job.take() else {
             return idle(self.closed);
@@ -61,16 +63,16 @@ impl<N: Tag, T: Tree, S: Sink, P: Spawner> Desk<N, T, S, P> {
                 shown: 0,
                 what: Event::Step {
                     job: id,
-                    did: ended_without_memory(),
+                    did: ended_without_memory(job.give_up()),
                 },
             });
             self.unseen = true;
             return StepReply::Did;
         }
-        let Stepped { did, calls } = job.step(alloc, &mut self.tree);
+        let Stepped { did, calls } = job.step(alloc, &mut self.tree, &NoClaims);
         self.calls = self.calls.saturating_add(calls);
-        let ended = did.is_end();
-        self.trouble = did.trouble();
+        let ended = is_end(&did);
+        self.stuck_at = stuck_at(alloc, &did);
         self.log.note(Entry {
             seat,
             calls: self.calls,
@@ -85,15 +87,14 @@ impl<N: Tag, T: Tree, S: Sink, P: Spawner> Desk<N, T, S, P> {
 
     /// Ends the session: the desk is closed, and its job stepped to the end.
     pub fn end(self, alloc: Global) -> Ended<T, S, P>
-        ensures session { (tree : Option View) → MayOpen N.opening tree
-            → EndsSession tree N.tree_faults (reverse result.history.entries) self.screen.panel.folder }
-        ensures traced { IsTracedTo N.opening (T.contents result.tree) (reverse result.history.entries) }
+        ensures session { EndsSession N.opening N.tree_faults (reverse result.history.entries) (T.contents result.tree)
+            self.screen.left.folder self.screen.right.folder }
+        ensures traced { IsTracedTo N.opening (T.contents result.tree) (reverse result.history.entries) None }
         ensures replayed { IsReplayed N.opening (T.contents result.tree) (reverse result.history.entries) }
         ensures idle { live_job (reverse result.history.entries) ≡ None }
         ensures keys { keys_in (reverse result.history.entries) ≡ keys_in self.newest }
         ensures lost { result.lost ≡ has_lost (reverse result.history.entries) }
-        ensures quit { self.quit ≡ true → (tree : Option View) → MayOpen N.opening tree
-            → EndAsked tree N.tree_faults (reverse result.history.entries) }
+        ensures quit { self.quit ≡ true → EndAsked N.opening N.tree_faults (reverse result.history.entries) }
         ensures screen { Blames result.failed N.sink_faults (S.fault_count result.screen) }
     {
         let mut desk = self;
@@ -113,7 +114,7 @@ impl<N: Tag, T: Tree, S: Sink, P: Spawner> Desk<N, T, S, P> {
             calls: _,
             shown: _,
             unseen: _,
-            trouble: _,
+            stuck_at: _,
             due: _,
             closed: _,
             quit,
@@ -150,12 +151,12 @@ fn either(one: bool, other: bool) -> bool
     one || other
 }
 
-fn ended_without_memory() -> Did
-    ensures { result ≡ Did.Ended Ending.NoMemory None }
+fn ended_without_memory(part: Option<Path>) -> Did
+    ensures { result ≡ Did.Ended Ending.NoMemory part }
 {
     Did::Ended {
         ending: Ending::NoMemory,
-        part: None,
+        part,
     }
 }
 
@@ -173,7 +174,7 @@ pub(super) fn closing(calls: u64, faults: u64) -> Entry
 }
 
 /// The job of a session that closes.
-pub(super) fn closed(job: Option<Deletion>) -> Option<Deletion>
+pub(super) fn closed(job: Option<Run>) -> Option<Run>
     ensures { result ≡ option_map closed_job job }
 {
     match job {
@@ -186,7 +187,7 @@ pub(super) fn closed(job: Option<Deletion>) -> Option<Deletion>
 }
 
 /// What is left of a job after a step: nothing after its end, and in a closed session no job waits.
-fn left(job: Deletion, ended: bool, is_closed: bool) -> Option<Deletion>
+fn left(job: Run, ended: bool, is_closed: bool) -> Option<Run>
     ensures { result ≡ if_closed is_closed (if ended then None else Some job) }
 {
     if ended {

@@ -1,17 +1,19 @@
 //! Keys while a box is open. Its dialog was taken out, and is put back where the box stays.
-ghost use Rattle.std.specs.Prelude.{◌≡◌, ◌≢◌, ◌&&◌, ◌∷◌, ◌≤◌, [], true, None, Some, OnErr, IfOk, if◌then◌else◌, is_none, option_map};
+ghost use Rattle.std.specs.Prelude.{◌≡◌, ◌≢◌, ◌≤◌, ℕ, [], false, true, None, Some, OnErr, IfOk, if◌then◌else◌, option_map};
 ghost use Rattle.tree_trait.specs.Calls.{Stat};
 ghost use Rattle.tree_trait.specs.Answers.{IfKnown, HasRisen};
 ghost use Rattle.copy_move.specs.Told.{told};
 ghost use Rattle.copy_move.specs.Traces.{AreRefused};
 ghost use Rattle.mc_desk.specs.Tallies.{has_fault};
-ghost use Rattle.mc_desk.specs.Screens.{DeleteBox, InTargetBox, MaskBox, NoBox, TargetBox, TroubleBox, WellAsked, can_answer as may_answer, confirms as does_confirm, copy_plan, delete_plan, in_delete_box, in_mask_box, in_trouble_box, is_cancel as does_cancel, is_enter as is_enter_key, letter_of as answer_of, seen_box, sight, target_in, with_ask};
+ghost use Rattle.key_screen.specs.declared.keys.Base.{Base as BaseType};
+ghost use Rattle.copy_move.specs.Jobs.{passes_over};
+ghost use Rattle.mc_desk.specs.Screens.{DeleteBox, InTargetBox, MaskBox, NoBox, PlansCopy, TargetBox, TroubleBox, WellAsked, answered_box, can_answer as may_answer, confirms as does_confirm, copy_plan, delete_plan, in_delete_box, in_mask_box, in_trouble_box, is_cancel as does_cancel, is_enter as is_enter_key, letter_of as answer_of, seen_box, sight, target_in, with_ask};
 
 use super::Ui;
 use super::panel_keys::{asks, nothing, one_refusal};
-use crate::asks::{Ask, Confirmed, KeyAct};
+use crate::asks::{Ask, KeyAct};
 use crate::causes::refusal_text;
-use crate::copying::{CopyPlan, begin_copy, begin_deletion, plan_copy};
+use crate::copying::{CopyPlan, begin_deletion, plan_copy};
 use crate::dialog::{Chosen, Dialog};
 use copy_move::{Answer, Run};
 use file_copy::Trouble;
@@ -128,7 +130,7 @@ impl Ui {
         let planned = plan_copy(alloc, tree, &chosen, self.right.folder(), next);
         match planned {
             Ok(CopyPlan::Begins(confirmed)) => Ok(asks(alloc, Ask::Begin(confirmed))),
-            Ok(CopyPlan::Refused(refusal)) => {
+            Ok(CopyPlan::Refuses(refusal)) => {
                 self.dialog = Dialog::CopyTo(chosen);
                 let text = refusal_text(&refusal);
                 let refusals = one_refusal(alloc, refusal)?;
