@@ -160,7 +160,7 @@ pub told_follows : (job new : Running) (did : Did) → JobTells job did new → 
 told_follows job new did t h = told_on job.course job.id job.work new did t h
 
 -- after an end there is none
-step_told : (job new : Running) (did : Did) → JobTells job did new → option_map told (if ends did then None else Some new) ≡ after_step did (told job)
+pub step_told : (job new : Running) (did : Did) → JobTells job did new → option_map told (if ends did then None else Some new) ≡ after_step did (told job)
 step_told job new (Began part) t = sym (told_follows job new (Began part) t refl)
 step_told job new (Chunk count) t = sym (told_follows job new (Chunk count) t refl)
 step_told job new (Placed path) t = sym (told_follows job new (Placed path) t refl)

@@ -26,7 +26,7 @@ pub use dialog::{Chosen, Dialog};
 pub use frame::draw;
 pub use log::Log;
 pub use panel::Panel;
-pub use reread::{Reread, reread};
+pub use reread::{Reread, list_again};
 pub use starts::{Side, Start, StartError};
 pub use tag::Tag;
 pub use ui::Ui;

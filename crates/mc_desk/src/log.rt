@@ -6,6 +6,9 @@ use mc_text::NoMemory;
 use std::alloc::Global;
 use std::marker::Model;
 
+/// The most entries of a history: no machine has memory for more, and so no count of theirs passes its last value.
+const MOST_ENTRIES: usize = 1 << 56;
+
 /// The entries so far. Contracts see them newest first, and how many more find room.
 #[derive(Debug, Drop)]
 pub struct Log {
@@ -37,13 +40,16 @@ impl Log {
         })
     }
 
-    /// Makes room for this many more.
+    /// Makes room for this many more. There is none where the history would have more than 2^56 entries.
     pub fn reserve(&mut self, count: usize) -> Result<(), NoMemory>
         ensures same { self.new.newest ≡ self.old.newest }
         ensures room { OnOk result (count ≤ self.new.spare) }
-        ensures bounded { OnOk result (length self.new.newest + count ≤ 2 ^ 64 - 1) }
+        ensures bounded { OnOk result (length self.new.newest + count ≤ 2 ^ 56) }
         ensures kept { self.old.spare ≤ self.new.spare }
     {
+        if self.entries.len().saturating_add(count) > MOST_ENTRIES {
+            return Err(NoMemory);
+        }
         self.entries.reserve(count)?;
         Ok(())
     }

@@ -19,7 +19,7 @@ pub struct Reread {
 }
 
 /// Reads a folder again, if a job has ended that no look has taken up.
-pub fn reread<T: Tree>(
+pub fn list_again<T: Tree>(
     alloc: Global,
     tree: &mut T,
     folder: &Path,

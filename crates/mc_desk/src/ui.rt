@@ -6,6 +6,7 @@ ghost use Rattle.copy_move.specs.Jobs.{Running};
 ghost use Rattle.copy_move.specs.Told.{told};
 ghost use Rattle.copy_move.specs.Traces.{AreRefused};
 ghost use Rattle.mc_desk.specs.Tallies.{has_fault};
+ghost use Rattle.mc_desk.specs.declared.asks.Ask.{Ask};
 ghost use Rattle.mc_desk.specs.Screens.{Box, ByBox, IsReread, KeyLeads, LooksAgain, NoBox, TroubleBox, WellAsked, listed, plain_base, seen_box, sight, with_ask, with_trouble};
 ghost use Rattle.mc_desk.specs.Panels.{with_names};
 
@@ -16,7 +17,7 @@ use crate::asks::KeyAct;
 use crate::causes::refusal_text;
 use crate::dialog::Dialog;
 use crate::panel::Panel;
-use crate::reread::{Reread, reread};
+use crate::reread::{Reread, list_again};
 use copy_move::{Refusal, Refusals, Run};
 use file_copy::Trouble;
 use key_screen::{Base, Key};
@@ -89,14 +90,14 @@ impl Ui {
         &mut self,
         alloc: Global,
         tree: &mut T,
-        job: Option<&Run>,
+        job: &Option<Run>,
         next: u32,
         key: Key,
     ) -> Result<KeyAct, NoMemory>
-        ensures leads { IfOk result (λ act. KeyLeads (sight (T.contents tree.old)) (option_map (λ run. told run.now) job)
+        ensures leads { IfOk result (λ act. KeyLeads (sight (T.contents tree.old)) (option_map told job.now)
             key act.refusals self.old (with_ask act.ask self.new)) }
         ensures ends { IfOk result (λ act. act.ask ≡ Ask.End ↔ ((plain_base key ≡ Base.F 10) × (self.old.over ≡ NoBox))) }
-        ensures asked { IfOk result (λ act. WellAsked next (option_map (λ run. run.now) job) act.ask) }
+        ensures asked { IfOk result (λ act. WellAsked next job.now act.ask) }
         ensures called { IfKnown (T.contents tree.old) (λ log. IfOk result (λ act. AreRefused Stat log act.refusals)) }
         ensures fault { IfOk result (λ act. has_fault act.refusals ≡ true → HasRisen (T.fault_count tree.old) (T.fault_count tree.new)) }
         ensures left { self.new.left.folder ≡ self.old.left.folder }
@@ -136,8 +137,8 @@ impl Ui {
         ensures later { T.fault_count tree.old ≤ T.fault_count tree.new }
     {
         let _news = &self.news;
-        let left = reread(alloc, tree, self.left.folder(), unseen)?;
-        let right = reread(alloc, tree, self.right.folder(), unseen)?;
+        let left = list_again(alloc, tree, self.left.folder(), unseen)?;
+        let right = list_again(alloc, tree, self.right.folder(), unseen)?;
         let Reread {
             names: left_names,
             refused: left_refused,

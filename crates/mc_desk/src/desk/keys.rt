@@ -123,7 +123,7 @@ impl<N: Tag, T: Tree, S: Sink, P: Spawner> Desk<N, T, S, P> {
         let id = self.last_id.saturating_add(1);
         let Ok(act) = self
             .ui
-            .key(alloc, &mut self.tree, self.job.as_ref(), id, key)
+            .key(alloc, &mut self.tree, &self.job, id, key)
         else {
             return self.lose_key(alloc, key, now);
         };

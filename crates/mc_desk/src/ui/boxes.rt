@@ -28,15 +28,15 @@ impl Ui {
         &mut self,
         alloc: Global,
         chosen: Chosen,
-        job: Option<&Run>,
+        job: &Option<Run>,
         next: u32,
         base: Base,
     ) -> Result<KeyAct, NoMemory>
         requires clear { self.old.over ≡ NoBox }
         ensures leads { IfOk result (λ act. with_ask act.ask self.new
-            ≡ in_delete_box base (option_map (λ run. told run.now) job) chosen.path (record self.old { over = DeleteBox chosen.path })) }
+            ≡ in_delete_box base (option_map told job.now) chosen.path (record self.old { over = DeleteBox chosen.path })) }
         ensures refusals { IfOk result (λ act. act.refusals ≡ []) }
-        ensures asked { IfOk result (λ act. WellAsked next (option_map (λ run. run.now) job) act.ask) }
+        ensures asked { IfOk result (λ act. WellAsked next job.now act.ask) }
         ensures stays { IfOk result (λ act. act.ask ≢ Ask.End) }
         ensures left { self.new.left ≡ self.old.left }
         ensures right { self.new.right ≡ self.old.right }
@@ -78,14 +78,14 @@ impl Ui {
         alloc: Global,
         tree: &mut T,
         chosen: Chosen,
-        job: Option<&Run>,
+        job: &Option<Run>,
         next: u32,
         base: Base,
     ) -> Result<KeyAct, NoMemory>
         requires clear { self.old.over ≡ NoBox }
-        ensures leads { IfOk result (λ act. InTargetBox (sight (T.contents tree.old)) base (option_map (λ run. told run.now) job) chosen.path
+        ensures leads { IfOk result (λ act. InTargetBox (sight (T.contents tree.old)) base (option_map told job.now) chosen.path
             act.refusals (record self.old { over = TargetBox chosen.path }) (with_ask act.ask self.new)) }
-        ensures asked { IfOk result (λ act. WellAsked next (option_map (λ run. run.now) job) act.ask) }
+        ensures asked { IfOk result (λ act. WellAsked next job.now act.ask) }
         ensures stays { IfOk result (λ act. act.ask ≢ Ask.End) }
         ensures called { IfKnown (T.contents tree.old) (λ log. IfOk result (λ act. AreRefused Stat log act.refusals)) }
         ensures fault { IfOk result (λ act. has_fault act.refusals ≡ true → HasRisen (T.fault_count tree.old) (T.fault_count tree.new)) }
@@ -152,14 +152,14 @@ impl Ui {
         &mut self,
         alloc: Global,
         trouble: Trouble,
-        job: Option<&Run>,
+        job: &Option<Run>,
         base: Base,
     ) -> KeyAct
         requires clear { self.old.over ≡ NoBox }
         ensures leads { with_ask result.ask self.new
-            ≡ in_trouble_box (option_map (λ run. told run.now) job) base (record self.old { over = TroubleBox trouble }) }
+            ≡ in_trouble_box (option_map told job.now) base (record self.old { over = TroubleBox trouble }) }
         ensures refusals { result.refusals ≡ [] }
-        ensures asked { (next : ℕ) → WellAsked next (option_map (λ run. run.now) job) result.ask }
+        ensures asked { (next : ℕ) → WellAsked next job.now result.ask }
         ensures stays { result.ask ≢ Ask.End }
         ensures left { self.new.left ≡ self.old.left }
         ensures right { self.new.right ≡ self.old.right }
@@ -180,14 +180,14 @@ impl Ui {
         &mut self,
         alloc: Global,
         trouble: Trouble,
-        job: Option<&Run>,
+        job: &Option<Run>,
         answer: Answer,
     ) -> KeyAct
         requires clear { self.old.over ≡ NoBox }
         ensures leads { (base : BaseType) → with_ask result.ask self.new
-            ≡ answered_box (option_map (λ run. told run.now) job) (Some answer) base (record self.old { over = TroubleBox trouble }) }
+            ≡ answered_box (option_map told job.now) (Some answer) base (record self.old { over = TroubleBox trouble }) }
         ensures refusals { result.refusals ≡ [] }
-        ensures asked { (next : ℕ) → WellAsked next (option_map (λ run. run.now) job) result.ask }
+        ensures asked { (next : ℕ) → WellAsked next job.now result.ask }
         ensures stays { result.ask ≢ Ask.End }
         ensures left { self.new.left ≡ self.old.left }
         ensures right { self.new.right ≡ self.old.right }
@@ -231,8 +231,8 @@ fn is_enter(base: Base) -> bool
 }
 
 /// Whether a key begins the job of its box: Enter, where none is live.
-fn confirms(base: Base, job: Option<&Run>) -> bool
-    ensures { result ≡ does_confirm base (option_map (λ run. told run.now) job) }
+fn confirms(base: Base, job: &Option<Run>) -> bool
+    ensures { result ≡ does_confirm base (option_map told job.now) }
 {
     is_enter(base) && job.is_none()
 }
@@ -252,8 +252,8 @@ fn letter_of(base: Base) -> Option<Answer>
 }
 
 /// Whether the job's trouble can be answered so.
-fn can_answer(job: Option<&Run>, answer: Answer) -> bool
-    ensures { result ≡ may_answer (option_map (λ run. told run.now) job) answer }
+fn can_answer(job: &Option<Run>, answer: Answer) -> bool
+    ensures { result ≡ may_answer (option_map told job.now) answer }
 {
     match job {
         None => false,

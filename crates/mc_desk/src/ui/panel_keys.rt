@@ -31,14 +31,14 @@ impl Ui {
         &mut self,
         alloc: Global,
         tree: &mut T,
-        job: Option<&Run>,
+        job: &Option<Run>,
         base: Base,
     ) -> Result<KeyAct, NoMemory>
         requires clear { self.old.over ≡ NoBox }
-        ensures leads { IfOk result (λ act. InPanel (sight (T.contents tree.old)) (option_map (λ run. told run.now) job)
+        ensures leads { IfOk result (λ act. InPanel (sight (T.contents tree.old)) (option_map told job.now)
             base act.refusals self.old (with_ask act.ask self.new)) }
         ensures ends { IfOk result (λ act. act.ask ≡ Ask.End ↔ (base ≡ Base.F 10)) }
-        ensures asked { IfOk result (λ act. (next : ℕ) → WellAsked next (option_map (λ run. run.now) job) act.ask) }
+        ensures asked { IfOk result (λ act. (next : ℕ) → WellAsked next job.now act.ask) }
         ensures called { IfKnown (T.contents tree.old) (λ log. IfOk result (λ act. AreRefused Stat log act.refusals)) }
         ensures fault { IfOk result (λ act. has_fault act.refusals ≡ true → HasRisen (T.fault_count tree.old) (T.fault_count tree.new)) }
         ensures left { self.new.left.folder ≡ self.old.left.folder }
@@ -66,11 +66,11 @@ impl Ui {
         &mut self,
         alloc: Global,
         tree: &mut T,
-        job: Option<&Run>,
+        job: &Option<Run>,
         opens: Opens,
     ) -> Result<KeyAct, NoMemory>
         requires clear { self.old.over ≡ NoBox }
-        ensures leads { IfOk result (λ act. Chooses (box_of opens) (sight (T.contents tree.old)) (option_map (λ run. told run.now) job)
+        ensures leads { IfOk result (λ act. Chooses (box_of opens) (sight (T.contents tree.old)) (option_map told job.now)
             (current_path self.old.left) act.refusals self.old self.new) }
         ensures asks { IfOk result (λ act. act.ask ≡ Ask.Nothing) }
         ensures called { IfKnown (T.contents tree.old) (λ log. IfOk result (λ act. AreRefused Stat log act.refusals)) }

@@ -1,0 +1,140 @@
+-- One entry more is a session still.
+use Rattle.std.proofs.Common.{◌≡◌, ◌⊎◌, ℕ, ◌+◌, ◌*◌, ◌≤◌, true, false, ◌||◌, List, [], ◌∷◌, length, refl, sym, ◌∙◌, ap, subst, inl, inr, Option, Some, None, arith}
+use Rattle.std.specs.Option.{option_map}
+use Rattle.mc_text.specs.Routes.{Route}
+use Rattle.tree_trait.specs.Change.{CallLog}
+use Rattle.tree_trait.specs.Answers.{IfKnown}
+use Rattle.copy_move.specs.declared.history.Entry.{Entry}
+use Rattle.copy_move.specs.declared.history.Event.{Event}
+use Rattle.copy_move.specs.declared.history.Event.TheVariants.{Key, Look, Began, Order, Step, Closed}
+use Rattle.copy_move.specs.Jobs.{Running}
+use Rattle.copy_move.specs.Told.{told, closes, if_closed, is_closed}
+use Rattle.copy_move.specs.Crashes.{calls_in}
+use Rattle.copy_move.specs.Traces.{Follows, IsTraced, IsTracedTo}
+use Rattle.copy_move.specs.Traces as traces
+use Rattle.mc_desk.specs.Logs.{Logged}
+use Rattle.mc_desk.specs.Screens.{Screen, NoBox, sight}
+use Rattle.mc_desk.specs.Tallies.{Tally, tally, after_entry, most_calls, faults_in}
+use Rattle.mc_desk.specs.Sessions.{IsSession, Enters, Traces, EventLeads, IsTimely, Counts, IsQuitKey, EndAsked}
+use Rattle.mc_desk.specs.Starts.{IsOpened}
+use Rattle.mc_desk.specs.Desks.{Seen, IsWritten, IsDesk}
+
+-- a desk on which nothing happened yet
+abbrev pub fresh : Tally
+fresh = record { job = None; last = 0; unseen = false; closed = false; due = Some 0; lost = false; calls = 0 }
+
+pub kept_opening : (opening contents : Option CallLog) (faults : ℕ) (left right : Route) (screen : Screen) (log : Logged) (pending : List ℕ) → contents ≡ opening → IsOpened contents left right screen log
+    → IsDesk opening contents faults (record { newest = log.newest; spare = log.spare; screen = screen; job = None; tally = fresh; pending = pending; quit = false })
+kept_opening opening contents faults left right screen log pending same opened = record {
+  written = record {
+    session = subst (λ es. IsSession opening faults es screen None contents) (sym opened.empty)
+        (subst (λ o. IsSession o faults [] screen None contents) same (opened.opening, refl, refl));
+    tally = ap tally (sym opened.empty);
+    told = refl;
+    calls = omega arith;
+    quit = λ asked. absurd cc;
+  };
+  settled = opened.opening.planned;
+  lost = λ lost. absurd cc;
+  shut = λ closed. absurd cc;
+  room = let h = opened.room in omega (arith, h);
+}
+
+-- what an entry says of the tree and of the live job, where the tree tells
+abbrev pub Leads : Option CallLog → Option CallLog → Seen → Seen → Entry → Type 0
+Leads contents contents_after old new e =
+    IfKnown contents (λ log. (now : CallLog) × (after : Option Running) × (contents_after ≡ Some now) × traces.EventLeads old.job e.what after log now
+        × (new.job ≡ if_closed (closes e.what || old.tally.closed) after) × (length now.changes + old.tally.calls ≡ length log.changes + e.calls))
+
+-- an entry that may follow: what it makes of the desk, of the screen and of the tree
+pub record Adds (contents contents_after : Option CallLog) (faults : ℕ) (old new : Seen) (e : Entry) : Type 0 where
+  pub more : new.newest ≡ e ∷ old.newest
+  pub tally : new.tally ≡ after_entry e old.tally
+  pub told : new.tally.job ≡ option_map told new.job
+  pub timely : IsTimely e.what old.screen
+  pub counts : Counts (faults_in faults old.newest) old.tally.calls e
+  pub leads : EventLeads (sight contents) old.tally e.what old.screen new.screen
+  pub traced : Leads contents contents_after old new e
+  pub unknown : contents ≡ None → contents_after ≡ None
+  pub quit : new.quit ≡ true → (old.quit ≡ true) ⊎ (IsQuitKey e.what × (old.screen.over ≡ NoBox))
+
+-- a tree that told nothing at the opening never does
+still_none : (faults : ℕ) (newest : List Entry) (screen : Screen) (job : Option Running) (contents : Option CallLog) → IsSession None faults newest screen job contents → contents ≡ None
+still_none faults [] screen job contents h = h.2
+still_none faults (e ∷ older) screen job contents (before, was, stood, session, enters) = enters.traced
+
+-- a session is a trace of its tree's calls
+pub session_traced : (opening : CallLog) (faults : ℕ) (newest : List Entry) (screen : Screen) (job : Option Running) (contents : Option CallLog) → IsSession (Some opening) faults newest screen job contents
+    → (now : CallLog) × (contents ≡ Some now) × IsTraced opening newest job now
+session_traced opening faults [] screen job contents (opens, none, same) = (opening, same, (none, refl))
+session_traced opening faults (e ∷ older) screen job contents (before, was, stood, session, enters) =
+    let had = session_traced opening faults older before was stood session in
+    let t = enters.traced in
+    let log_is : had.0 ≡ t.0 = let both : Some had.0 ≡ Some t.0 = sym had.1 ∙ t.2 in cc in
+    (t.1, t.3, (was, t.0, subst (λ l. IsTraced opening older was l) log_is had.2, t.4))
+
+pub session_traced_to : (opening : Option CallLog) (faults : ℕ) (newest : List Entry) (screen : Screen) (job : Option Running) (contents : Option CallLog) → IsSession opening faults newest screen job contents
+    → IsTracedTo opening contents newest job
+session_traced_to None faults newest screen job contents h = still_none faults newest screen job contents h
+session_traced_to (Some opening) faults newest screen job contents h = session_traced opening faults newest screen job contents h
+
+traced_length : (opening now : CallLog) (newest : List Entry) (job : Option Running) → IsTraced opening newest job now → length now.changes ≡ length opening.changes + calls_in newest
+traced_length opening now [] job h = let same = ap (λ (l : CallLog). length l.changes) h.1 in omega (arith, same)
+traced_length opening now (e ∷ older) job h = h.3.counts
+
+module _ (faults : ℕ) (old new : Seen) (e : Entry) where
+  traced_more : (opening contents contents_after : Option CallLog) → IsWritten opening contents faults old → Adds contents contents_after faults old new e
+      → Traces opening e old.newest old.job contents new.job contents_after
+  traced_more None contents contents_after written adds = adds.unknown (still_none faults old.newest old.screen old.job contents written.session)
+  traced_more (Some opening) contents contents_after written adds =
+      let had = session_traced opening faults old.newest old.screen old.job contents written.session in
+      let t = adds.traced had.0 had.1 in
+      let closed : old.tally.closed ≡ is_closed old.newest = ap (λ (t : Tally). t.closed) written.tally in
+      let calls : old.tally.calls ≡ calls_in old.newest = ap (λ (t : Tally). t.calls) written.tally in
+      let counted = t.5 in
+      let long = traced_length opening had.0 old.newest old.job had.2 in
+      (had.0, t.0, had.1, t.2, record {
+        after = t.1;
+        leads = t.3;
+        job_is = t.4 ∙ ap (λ b. if_closed (closes e.what || b) t.1) closed;
+        counts = omega (arith, counted, calls, long);
+      })
+
+  three_calls : (what : Event) → most_calls what ≤ 3
+  three_calls (Key key now refusals lost) = omega arith
+  three_calls (Look refusals) = omega arith
+  three_calls (Began id plan background) = omega arith
+  three_calls (Order id order) = omega arith
+  three_calls (Step id did) = omega arith
+  three_calls Closed = omega arith
+
+  pub written_more : (opening contents contents_after : Option CallLog) → IsWritten opening contents faults old → Adds contents contents_after faults old new e → IsWritten opening contents_after faults new
+  written_more opening contents contents_after written adds = record {
+    session = subst (λ es. IsSession opening faults es new.screen new.job contents_after) (sym adds.more) (
+      old.screen,
+      old.job,
+      contents,
+      written.session,
+      record {
+        timely = adds.timely;
+        counts = subst (λ n. Counts (faults_in faults old.newest) n e) (ap (λ (t : Tally). t.calls) written.tally) adds.counts;
+        leads = subst (λ t. EventLeads (sight contents) t e.what old.screen new.screen) written.tally adds.leads;
+        traced = traced_more opening contents contents_after written adds;
+      },
+    );
+    tally = adds.tally ∙ (ap (after_entry e) written.tally ∙ ap tally (sym adds.more));
+    told = adds.told;
+    calls =
+        let is : new.tally.calls ≡ e.calls = ap (λ (t : Tally). t.calls) adds.tally in
+        let three = three_calls e.what in
+        let most = adds.counts.most in
+        let had = written.calls in
+        let size : length new.newest ≡ length old.newest + 1 = ap length adds.more ∙ omega arith in
+        omega (arith, is, three, most, had, size);
+    quit = λ asked.
+        subst (λ es. EndAsked opening faults es) (sym adds.more) (
+        elim (adds.quit asked) [
+          | inl before ↦ inr (written.quit before)
+          | inr now ↦ inl (now.0, (old.screen, old.job, contents, written.session, now.1))
+        ]);
+  }

@@ -1,0 +1,7 @@
+-- Something stands at the target.
+use Rattle.mc_desk.proofs.Sights.{stands}
+use Rattle.mc_desk.proofs.copying.plan_copy.Goals as goal
+
+pub returns-in-Ok-stat-clause-leads : goal.returns-in-Ok-stat-clause-leads
+returns-in-Ok-stat-clause-leads g c =
+    (c.in-Ok.ensures.target, stands (g.T.Tree.contents c.args.tree.now) c.in-Ok.target _ c.in-Ok-stat.field-0 c.in-Ok.ensures.target c.in-Ok-stat.ensures.answer)
