@@ -13,6 +13,6 @@ pub use history::{
     Answer, AnswerError, Entries, Entry, Event, History, Job, JobOrder, Pair, Pairs, PlanError,
     Refusal, Refusals, is_end, stuck_at,
 };
-pub use laws::what_a_crash_leaves_of_deletions;
+pub use laws::{what_a_crash_leaves_of_deletions, what_a_crash_leaves_of_plain_sessions};
 pub use run::{Course, Run};
 pub use work::Work;
