@@ -173,9 +173,9 @@ impl<N: Tag, T: Tree, S: Sink, P: Spawner> Desk<N, T, S, P> {
                     unreachable!()
                 };
                 let id = job.id();
-                if job.answer(answer).is_err() {
+                let Ok(()) = job.answer(answer) else {
                     unreachable!()
-                }
+                };
                 self.log.note(Entry {
                     seat: 0,
                     calls: self.calls,

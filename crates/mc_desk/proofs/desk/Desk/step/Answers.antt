@@ -3,6 +3,8 @@ use Rattle.std.proofs.Common.{rules, ◌≡◌, ◌+◌, ◌-◌, ◌^◌, ◌�
 use Rattle.std.specs.Prelude.{if◌then◌else◌}
 use Rattle.std.specs.Option.{option_map}
 use Rattle.std.proofs.lemmas.Bool.{both_ways}
+use Rattle.file_copy.specs.declared.report.Did.TheVariants.{Ended}
+use Rattle.file_copy.specs.declared.report.Ending.TheVariants.{NoMemory}
 use Rattle.copy_move.specs.declared.history.Event.TheVariants.{Step}
 use Rattle.copy_move.specs.Jobs.{Running, ends, waits_on}
 use Rattle.copy_move.specs.Ranks.{rank}
@@ -33,7 +35,7 @@ invariant_of-self-then-is_err g c =
       desk = desk_gave_up _ _ _ _ _ c.args.seat count c.in-Some.job c.give_up.result c.self.invariant.desk is ready c.give_up.ensures (omega (arith, counted, had))
           (c.note.ensures.added ∙ (ap (λ n. entry c.args.seat inside.calls count 0 (Step n c.ended_without_memory.result) ∷ c.reserve.new.self.newest) c.id-id.ensures
           ∙ (ap (λ d. entry c.args.seat inside.calls count 0 (Step c.in-Some.job.id d) ∷ c.reserve.new.self.newest) c.ended_without_memory.ensures
-          ∙ ap (λ es. entry c.args.seat inside.calls count 0 (Step c.in-Some.job.id _) ∷ es) c.reserve.ensures.same)))
+          ∙ ap (λ es. entry c.args.seat inside.calls count 0 (Step c.in-Some.job.id (Ended NoMemory c.give_up.result)) ∷ es) c.reserve.ensures.same)))
           none
           (ap (λ j. let t : Tally = record { job = option_map told j; last = inside.last_id; unseen = true; closed = inside.closed; due = awaited inside.due; lost = inside.lost; calls = inside.calls } in t) none)
           refl refl (room_left inside.closed inside.job c.in-Some.job inside.log.spare c.reserve.new.self.spare c.note.new.self.spare is c.self.invariant.desk.room c.reserve.ensures.kept c.note.ensures.room);

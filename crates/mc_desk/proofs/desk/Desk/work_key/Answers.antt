@@ -87,8 +87,8 @@ invariant_of-self-in-Answer g c =
     let well : WellAsked c.saturating_add-id.result c.self.inside.job c.in-Ok.act.ask = c.in-Ok.ensures.asked in
     let asked = subst (λ a. WellAsked c.saturating_add-id.result c.self.inside.job a) c.in-Answer.is well in
     let job : c.self.inside.job ≡ Some c.in-Some.job = sym c.take.ensures.value ∙ c.in-Some.is in
-    let may : MayAnswer c.in-Some.job c.in-Answer.answer = asked_live _ _ _ c.in-Some.job job asked in
-    let new : c.answer.new.self ≡ answered c.in-Answer.answer c.in-Some.job = search rules in
+    let may : MayAnswer c.in-Some.job c.in-Answer.answer = asked_live c.saturating_add-id.result c.self.inside.job c.in-Answer.answer c.in-Some.job job asked in
+    let new : c.answer.new.self ≡ answered c.in-Answer.answer c.in-Some.job = c.in-Ok-answer.ensures.taken in
     let inside = c.self.inside in
     let unclosed : inside.closed ≡ false = ap (λ (d : Seen). d.tally.closed) c.self.view_is ∙ c.requires.unclosed in
     let looked : awaited inside.due ≡ None = ap (λ (d : Seen). d.tally.due) c.self.view_is ∙ c.requires.looked in
@@ -121,8 +121,8 @@ returns-in-Begin-clause-looked g c = go c.finish-in-Begin.result
         c.in-Ok.ensures.leads (ap (λ (a : Ask). (with_ask a c.key.new.self).planned) c.in-Begin.is))
     go (Err error) = tt
 
-pub returns-else-is_err-clause-looked : goal.returns-else-is_err-clause-looked
-returns-else-is_err-clause-looked g c = go c.finish-in-Answer.result
+pub returns-in-Ok-answer-clause-looked : goal.returns-in-Ok-answer-clause-looked
+returns-in-Ok-answer-clause-looked g c = go c.finish-in-Answer.result
   where
     go : (r : Result DeskReply DeskError) → OnOk r (plain_base c.args.key ≡ Unknown → c.finish-in-Answer.new.self.tally.due ≡ None)
     go (Ok reply) = λ unknown.
