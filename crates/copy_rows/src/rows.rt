@@ -5,6 +5,7 @@ use crate::scene::{FOLDER, Original, SOURCE, TARGET, plant, take_names};
 use crate::telling::{Answer, copy_lines};
 use anyhow::Result;
 use mc_text::Path;
+use mem_tree::MemTree;
 use std::alloc::Global;
 use tree_trait::Tree;
 
@@ -92,15 +93,33 @@ fn add(more: Vec<String>, lines: &mut Vec<String>) -> Result<()> {
 /// The steps of a copy, what it leaves, and its images.
 fn row_lines(alloc: Global, row: Row) -> Result<Vec<String>> {
     let original = Original::new(alloc, row.size, row.mode)?;
-    let mut tree = plant(alloc, &original, row.room)?;
+    let mut tree = planted(alloc, &row, &original)?;
+    let mut lines = copied_lines(alloc, &mut tree, row.title, &original, row.answer)?;
+    lines.push(images_line(alloc, &tree, &original)?)?;
+    Ok(lines)
+}
+
+/// The tree that a row begins with.
+fn planted(alloc: Global, row: &Row, original: &Original) -> Result<MemTree> {
+    let mut tree = plant(alloc, original, row.room)?;
     if let Some(number) = row.fault {
         tree.fail_calls(alloc, &[number])?;
     }
+    Ok(tree)
+}
+
+/// The title, the steps of a copy, and what it leaves.
+fn copied_lines<T: Tree>(
+    alloc: Global,
+    tree: &mut T,
+    title: &str,
+    original: &Original,
+    answer: Answer,
+) -> Result<Vec<String>> {
     let mut lines = Vec::new(alloc);
-    lines.push(String::from_str(alloc, row.title)?)?;
-    add(copy_lines(alloc, &mut tree, row.answer)?, &mut lines)?;
-    lines.push(left_line(alloc, &mut tree, &original)?)?;
-    lines.push(images_line(alloc, &tree, &original)?)?;
+    lines.push(String::from_str(alloc, title)?)?;
+    add(copy_lines(alloc, tree, answer)?, &mut lines)?;
+    lines.push(left_line(alloc, tree, original)?)?;
     Ok(lines)
 }
 
@@ -122,35 +141,58 @@ fn names_in_folder<T: Tree>(alloc: Global, tree: &mut T) -> Result<usize> {
 
 /// A copy where all names of a part are taken.
 fn taken_lines(alloc: Global) -> Result<Vec<String>> {
+    let title = "all names of a part are taken";
     let original = Original::new(alloc, 5, 0o644)?;
     let mut tree = plant(alloc, &original, None)?;
     take_names(alloc, &mut tree, 1000)?;
     let before = tree.calls();
-    let mut lines = Vec::new(alloc);
-    lines.push(String::from_str(alloc, "all names of a part are taken")?)?;
-    add(copy_lines(alloc, &mut tree, Answer::Skip)?, &mut lines)?;
-    lines.push(left_line(alloc, &mut tree, &original)?)?;
-    let made = tree.calls().saturating_sub(before);
-    lines.push(format!(in alloc; "  changing calls in all: {made}")?)?;
+    let mut lines = copied_lines(alloc, &mut tree, title, &original, Answer::Skip)?;
+    lines.push(calls_line(alloc, &tree, before)?)?;
     Ok(lines)
+}
+
+/// How many changing calls were made since there were so many.
+fn calls_line(alloc: Global, tree: &MemTree, before: u64) -> Result<String> {
+    let made = tree.calls().saturating_sub(before);
+    Ok(format!(in alloc; "  changing calls in all: {made}")?)
+}
+
+/// A copy that is made wrong.
+#[derive(Clone, Copy)]
+enum Wrong {
+    WithoutPart,
+    WithoutSync,
 }
 
 /// Two copies that are made wrong, so that it is seen that their images are told from safe ones.
 fn torn_lines(alloc: Global) -> Result<Vec<String>> {
     let original = Original::new(alloc, 5, 0o644)?;
     let mut lines = Vec::new(alloc);
-    let mut tree = plant(alloc, &original, None)?;
-    copy_without_part(alloc, &mut tree, original.bytes.as_slice())?;
-    lines.push(String::from_str(alloc, "wrong: a copy without a part")?)?;
-    lines.push(images_line(alloc, &tree, &original)?)?;
-    let mut tree = plant(alloc, &original, None)?;
-    copy_without_sync(alloc, &mut tree, original.bytes.as_slice())?;
-    lines.push(String::from_str(
-        alloc,
-        "wrong: a part that is not synced before it is renamed",
-    )?)?;
-    lines.push(images_line(alloc, &tree, &original)?)?;
+    for (title, wrong) in [
+        ("wrong: a copy without a part", Wrong::WithoutPart),
+        (
+            "wrong: a part that is not synced before it is renamed",
+            Wrong::WithoutSync,
+        ),
+    ] {
+        lines.push(String::from_str(alloc, title)?)?;
+        lines.push(wrong_line(alloc, &original, wrong)?)?;
+    }
     Ok(lines)
+}
+
+/// The images of a wrong copy.
+fn wrong_line(alloc: Global, original: &Original, wrong: Wrong) -> Result<String> {
+    let mut tree = plant(alloc, original, None)?;
+    copy_wrong(alloc, &mut tree, original.bytes.as_slice(), wrong)?;
+    images_line(alloc, &tree, original)
+}
+
+fn copy_wrong<T: Tree>(alloc: Global, tree: &mut T, bytes: &[u8], wrong: Wrong) -> Result<()> {
+    match wrong {
+        Wrong::WithoutPart => copy_without_part(alloc, tree, bytes),
+        Wrong::WithoutSync => copy_without_sync(alloc, tree, bytes),
+    }
 }
 
 fn copy_without_part<T: Tree>(alloc: Global, tree: &mut T, bytes: &[u8]) -> Result<()> {

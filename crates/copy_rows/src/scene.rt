@@ -1,5 +1,5 @@
 //! The trees that the rows begin with.
-ghost use Rattle.std.specs.Prelude.{◌≡◌, ◌≤◌, [], IfOk};
+ghost use Rattle.std.specs.Prelude.{◌≡◌, ◌<◌, [], length};
 
 use anyhow::{Result, bail};
 use mc_text::Path;
@@ -38,15 +38,27 @@ impl Original {
 /// bytes.
 pub fn plant(alloc: Global, original: &Original, room: Option<u64>) -> Result<MemTree> {
     let mut tree = MemTree::new(alloc, 0)?;
+    put_target_folder(alloc, &mut tree, room)?;
+    put_source(alloc, &mut tree, original)?;
+    Ok(tree)
+}
+
+fn put_target_folder(alloc: Global, tree: &mut MemTree, room: Option<u64>) -> Result<()>
+    requires unused { tree.old.log.changes ≡ [] }
+    requires few { length tree.old.log.opening.mounts < 1000 }
+    ensures unused { tree.new.log.changes ≡ [] }
+{
     let folder = Path::parse(alloc, FOLDER)?;
     match room {
         Some(room) => {
             tree.mount(alloc, &folder, room)?;
+            Ok(())
         }
-        None => tree.put_folder(alloc, &folder, 0o755, 0)?,
+        None => {
+            tree.put_folder(alloc, &folder, 0o755, 0)?;
+            Ok(())
+        }
     }
-    put_source(alloc, &mut tree, original)?;
-    Ok(tree)
 }
 
 fn put_source(alloc: Global, tree: &mut MemTree, original: &Original) -> Result<()>

@@ -4,7 +4,7 @@ ghost use Rattle.file_copy.specs.LastSteps.{left_at};
 
 use crate::scene::{SOURCE, TARGET};
 use anyhow::{Result, bail};
-use file_copy::{Did, Ending, FileCopy, PartTest, Stepped, Trouble};
+use file_copy::{Cause, Did, Ending, FileCopy, PartTest, Stepped, Trouble};
 use mc_text::Path;
 use std::alloc::Global;
 use std::convert::AsStr;
@@ -88,9 +88,17 @@ fn step<T: Tree>(
 {
     let stepped = copy.step(alloc, tree, &AllFree);
     lines.push(step_line(alloc, &stepped)?)?;
-    match stepped.did {
-        Did::Troubled(trouble) => answer_trouble(alloc, copy, trouble, answer, lines),
-        did => Ok(after(&did, answer)),
+    match cause_of(&stepped.did) {
+        Some(cause) => answer_trouble(alloc, copy, cause, answer, lines),
+        None => Ok(after(&stepped.did, answer)),
+    }
+}
+
+/// Why a copy stands in trouble, if it does.
+fn cause_of(did: &Did) -> Option<Cause> {
+    match did {
+        Did::Troubled(trouble) => Some(trouble.cause),
+        _ => None,
     }
 }
 
@@ -106,7 +114,7 @@ fn after(did: &Did, answer: Answer) -> Then {
 fn answer_trouble(
     alloc: Global,
     copy: &mut FileCopy,
-    trouble: Trouble,
+    cause: Cause,
     answer: Answer,
     lines: &mut Vec<String>,
 ) -> Result<Then>
@@ -115,7 +123,7 @@ fn answer_trouble(
 {
     match answer {
         Answer::Skip => {
-            let did = copy.skip(alloc, trouble.cause);
+            let did = copy.skip(alloc, cause);
             lines.push(format!(in alloc; "  skip: {}", told(alloc, &did)?)?)?;
             Ok(Then::Step)
         }
