@@ -1,5 +1,5 @@
 -- What a run promises, from what its session does, or where none began.
-use Rattle.std.proofs.Common.{◌≡◌, ◌⊎◌, ℕ, true, List, [], refl, sym, ◌∙◌, ap, subst, inl, inr, Option, Some, None, IsSome}
+use Rattle.std.proofs.Common.{◌≡◌, ◌≢◌, ◌⊎◌, ℕ, true, List, [], refl, sym, ◌∙◌, ap, subst, inl, inr, Option, Some, None, IsSome}
 use Rattle.tree_trait.specs.Calls.{ListFolder}
 use Rattle.tree_trait.specs.Refusals.{refusal_of}
 use Rattle.tree_trait.specs.Change.{CallLog, current}
@@ -10,8 +10,10 @@ use Rattle.copy_move.specs.Replay.{IsReplayed}
 use Rattle.copy_move.proofs.Crashed.{deletions_law}
 use Rattle.copy_move.proofs.PlainMoments.{plain_law}
 use Rattle.copy_move.proofs.ReplayedTo.{replayed_to}
+use Rattle.mc_text.specs.Routes.{Route}
 use Rattle.mc_desk.specs.declared.starts.Start.{Start}
-use Rattle.mc_main.specs.Headline.{IsPlainlySafeRun, IsSafeRun, IsStatusOr, MayRefuseStart, IsComplete}
+use Rattle.mc_desk.specs.Sessions.{EndsSession}
+use Rattle.mc_main.specs.Headline.{IsPlainlySafeRun, IsRun, IsSafeRun, IsStatusOr, MayRefuseStart, IsComplete}
 
 -- the trace of a tree that tells
 told_trace : (o contents : Option CallLog) (newest : List Entry) (opening now : CallLog) → o ≡ Some opening → contents ≡ Some now → IsTracedTo o contents newest None → IsTraced opening newest None now
@@ -62,3 +64,17 @@ refused_start log (Some folders) status faults faults_after keys screen start is
     some_none : {A : Type 0} (x : Option A) → x ≡ None → IsSome x → ⊥
     some_none x none some = cc
 
+
+-- what was written down is a session in the folders that the words name
+pub run_in : (o told : Option CallLog) (faults told_faults : ℕ) (folders : Option Start) (start : Start) (status : ℕ) (newest : List Entry) (contents : Option CallLog) (left right : Route)
+    → o ≡ told → told_faults ≡ faults → folders ≡ Some start → left ≡ start.left → right ≡ start.right → EndsSession told told_faults newest contents left right → status ≢ 1 → status ≢ 2
+    → IsRun o faults folders status newest contents
+run_in o told faults told_faults folders start status newest contents left right same counted named at_left at_right ends not_usage not_start =
+    inl (
+      start,
+      named,
+      subst (λ x. EndsSession x faults newest contents start.left start.right) (sym same) (subst (λ n. EndsSession told n newest contents start.left start.right) counted
+          (subst (λ l. EndsSession told told_faults newest contents l start.right) at_left (subst (λ r. EndsSession told told_faults newest contents left r) at_right ends))),
+      not_usage,
+      not_start,
+    )

@@ -3,7 +3,7 @@ use Rattle.std.proofs.Common.{rules, reverse, ◌≡◌, ◌∙◌, sym, subst, 
 use Rattle.copy_move.specs.Traces.{IsTracedTo}
 use Rattle.mc_main.specs.Headline.{MayRefuseStart, folders_in}
 use Rattle.mc_main.proofs.Taking.{reads_none}
-use Rattle.mc_main.proofs.Runs.{safe_to, plainly_safe_to, traced_none, not_zero, refused_start}
+use Rattle.mc_main.proofs.Runs.{safe_to, plainly_safe_to, run_in, traced_none, not_zero, refused_start}
 use Rattle.mc_main.proofs.run.mc_run.Goals as goal
 
 pub returns-in-Err-Usage-clause-safe : goal.returns-in-Err-Usage-clause-safe
@@ -45,3 +45,8 @@ returns-in-Ok-begin-clause-plainly_safe g c =
 
 pub returns-in-Err-clause-plainly_safe : goal.returns-in-Err-clause-plainly_safe
 returns-in-Err-clause-plainly_safe g c = plainly_safe_to _ _ _ (traced_none _ _ (reverse c.refuse_start.result.history.entries) (ap reverse c.refuse_start.ensures.empty) (ap g.T.Tree.contents c.refuse_start.ensures.tree ∙ c.in-Err.ensures.same))
+
+pub returns-in-Ok-begin-clause-session : goal.returns-in-Ok-begin-clause-session
+returns-in-Ok-begin-clause-session g c =
+    run_in _ _ _ _ _ c.in-Ok.start c.run_desk.result.status _ _ _ _ c.requires.opening c.requires.faults c.in-Ok.ensures.read c.in-Ok-begin.ensures.left c.in-Ok-begin.ensures.right c.run_desk.ensures.session
+    c.run_desk.ensures.not_usage c.run_desk.ensures.not_start
