@@ -9,6 +9,7 @@ import select
 import shutil
 import signal
 import stat
+import subprocess
 import sys
 import tempfile
 import termios
@@ -122,6 +123,23 @@ def check_copies(program, base, check):
     check("its copy can be aborted", status == 0 and os.listdir(target) == [])
     status, _, _ = run(program, [source, target], COPY + [F10, F10], largest=70000)
     check("its box can be shut, and the end aborts", status == 0 and os.listdir(target) == [])
+
+    taken = [f".mc.1.{number}.part" for number in range(1000)]
+    for name in taken:
+        make_file(os.path.join(target, name), 0, 0o600)
+    status, written, _ = run(program, [source, target], COPY + [b"s", F10])
+    check("with no free part name a copy is skipped", status == 0 and sorted(os.listdir(target)) == sorted(taken) and b"no free part name" in written)
+
+    small = os.path.join(base, "small")
+    os.mkdir(small)
+    if subprocess.run(["mount", "-t", "tmpfs", "-o", "size=64k", "tmpfs", small], stderr=subprocess.DEVNULL).returncode != 0:
+        print("no mount of its own could be made: a full one was not tried")
+        return
+    try:
+        status, written, _ = run(program, [source, small], COPY + [b"s", F10])
+        check("on a full mount a copy is skipped", status == 0 and os.listdir(small) == [] and b"no space left" in written)
+    finally:
+        subprocess.run(["umount", small], check=True)
 
 
 def main():
