@@ -1,7 +1,8 @@
 //! The history as it is written: entries are added in room that was made before, so that nothing is half written down.
 ghost use Rattle.std.specs.Prelude.{◌≡◌, ◌+◌, ◌-◌, ◌^◌, ◌≤◌, ◌<◌, [], ◌∷◌, length, IfOk, OnOk, OnErr, reverse};
+ghost use Rattle.mc_desk.specs.Logs.{begun_by, jobs_begun};
 
-use copy_move::{Entries, Entry, History};
+use copy_move::{Entries, Entry, Event, History};
 use mc_text::NoMemory;
 use std::alloc::Global;
 use std::marker::Model;
@@ -13,7 +14,6 @@ const MOST_ENTRIES: usize = 1 << 56;
 #[derive(Debug, Drop)]
 pub struct Log {
     entries: Vec<Entry>,
-    started: u64,
 }
 
 impl Model for Log {
@@ -36,7 +36,6 @@ impl Log {
     {
         Ok(Log {
             entries: Vec::with_capacity(alloc, 1)?,
-            started: 0,
         })
     }
 
@@ -63,21 +62,38 @@ impl Log {
         let _added = self.entries.push(entry);
     }
 
-    /// Counts one job more.
-    pub fn count_job(&mut self)
-        ensures { self.new ≡ self.old }
-    {
-        self.started = self.started.saturating_add(1);
-    }
-
     /// The history. The newest entry comes last there.
     pub fn into_history(self) -> History
-        ensures { reverse result.entries ≡ self.newest }
+        ensures entries { reverse result.entries ≡ self.newest }
+        ensures started { result.started ≡ jobs_begun result.entries }
     {
-        let Log { entries, started } = self;
+        let Log { entries } = self;
         History {
-            started,
+            started: jobs_begun(entries.as_slice()),
             entries: Entries(entries),
         }
+    }
+}
+
+/// How many jobs these entries began.
+fn jobs_begun(entries: &[Entry]) -> u64
+    ensures { result ≡ jobs_begun entries.now }
+{
+    let mut count: u64 = 0;
+    let mut left = entries;
+    while let Some((entry, more)) = left.split_first() {
+        count += begun_by(&entry.what);
+        left = more;
+    }
+    count
+}
+
+/// One, if an entry began a job.
+fn begun_by(what: &Event) -> u64
+    ensures { result ≡ begun_by what.now }
+{
+    match what {
+        Event::Began { .. } => 1,
+        _ => 0,
     }
 }

@@ -4,6 +4,7 @@ ghost use Rattle.tree_trait.specs.Answers.{IfKnown, HasRisen};
 ghost use Rattle.copy_move.specs.Told.{live_job};
 ghost use Rattle.copy_move.specs.Replay.{IsReplayed};
 ghost use Rattle.copy_move.specs.Traces.{IsTracedTo};
+ghost use Rattle.mc_desk.specs.Logs.{jobs_begun};
 ghost use Rattle.mc_desk.specs.Tallies.{has_lost};
 ghost use Rattle.mc_desk.specs.Sessions.{EndAsked, EndsSession};
 ghost use Rattle.mc_main.specs.Headline.{IsStatusOr, IsStatusOf, ReadsKeys};
@@ -30,6 +31,7 @@ pub fn run_desk<N: Tag, T: Tree, K: Source, S: Sink, P: Spawner, C: Clock>(
     ensures traced { IsTracedTo N.opening (T.contents result.tree) (reverse result.history.entries) None }
     ensures replayed { IsReplayed N.opening (T.contents result.tree) (reverse result.history.entries) }
     ensures idle { live_job (reverse result.history.entries) ≡ None }
+    ensures counted { result.history.started ≡ jobs_begun result.history.entries }
     ensures keys { IfKnown (K.left keys.old) (λ bytes. ReadsKeys bytes result.status
         (EndAsked N.opening N.tree_faults (reverse result.history.entries)) (reverse result.history.entries)) }
     ensures lost { has_lost (reverse result.history.entries) ≡ true → result.status ≡ 5 }
@@ -86,6 +88,7 @@ pub fn refuse<T, S: Sink, P>(
     ensures screen { status ≢ 4 → result.status ≡ 4 → HasRisen (S.fault_count screen) (S.fault_count result.screen) }
     ensures tree { result.tree ≡ tree }
     ensures empty { result.history.entries ≡ [] }
+    ensures counted { result.history.started ≡ 0 }
 {
     let mut screen = screen;
     let status = match screen.put(alloc, line.as_bytes()) {
@@ -107,6 +110,7 @@ pub fn refuse_start<T, S: Sink, P>(
     ensures screen { result.status ≡ 4 → HasRisen (S.fault_count refused.screen) (S.fault_count result.screen) }
     ensures tree { result.tree ≡ refused.tree }
     ensures empty { result.history.entries ≡ [] }
+    ensures counted { result.history.started ≡ 0 }
 {
     let Refused {
         error,
@@ -161,6 +165,7 @@ pub fn without_session<T, S, P>(
     ensures tree { result.tree ≡ tree }
     ensures screen { result.screen ≡ screen }
     ensures empty { result.history.entries ≡ [] }
+    ensures counted { result.history.started ≡ 0 }
 {
     Outcome {
         status,

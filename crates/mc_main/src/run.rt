@@ -4,6 +4,7 @@ ghost use Rattle.tree_trait.specs.Answers.{IfKnown, HasRisen};
 ghost use Rattle.copy_move.specs.Told.{live_job};
 ghost use Rattle.copy_move.specs.Replay.{IsReplayed};
 ghost use Rattle.copy_move.specs.Traces.{IsTracedTo};
+ghost use Rattle.mc_desk.specs.Logs.{jobs_begun};
 ghost use Rattle.mc_desk.specs.Tallies.{has_lost};
 ghost use Rattle.mc_desk.specs.Sessions.{EndAsked};
 ghost use Rattle.mc_main.specs.Headline.{folders_in, IsStatusOr, MayRefuseStart, RefusesStart, IsRun, ReadsKeys, IsSafeRun, IsPlainlySafeRun, IsComplete};
@@ -73,6 +74,7 @@ pub fn mc_run<N: Tag, T: Tree, K: Source, S: Sink, P: Spawner, C: Clock, G: Gate
     ensures session { IsRun (T.contents tree) (T.fault_count tree) (folders_in words.now) result.status
         (reverse result.history.entries) (T.contents result.tree) }
     ensures idle { live_job (reverse result.history.entries) ≡ None }
+    ensures counted { result.history.started ≡ jobs_begun result.history.entries }
 
     // The keys are those of the bytes that were taken. At status 0 F10 was reached, or all bytes were taken.
     ensures keys { IfKnown (K.left keys.old) (λ bytes. ReadsKeys bytes result.status

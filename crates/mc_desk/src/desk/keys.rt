@@ -162,7 +162,6 @@ impl<N: Tag, T: Tree, S: Sink, P: Spawner> Desk<N, T, S, P> {
                         background: false,
                     },
                 });
-                self.log.count_job();
                 self.job = Some(run);
                 self.last_id = id;
                 self.due = Due::Job(id);

@@ -9,6 +9,7 @@ ghost use Rattle.copy_move.specs.Traces.{IsTracedTo};
 ghost use Rattle.mc_desk.specs.Sessions.{EndsSession, EndAsked};
 ghost use Rattle.mc_desk.specs.Tallies.{can_step, keys_in, has_lost};
 ghost use Rattle.mc_desk.specs.Desks.{Blames, KeepsKeys, idle_reply};
+ghost use Rattle.mc_desk.specs.Logs.{jobs_begun};
 
 use super::{Desk, Due, Ended, StepReply};
 use crate::tag::Tag;
@@ -92,6 +93,7 @@ impl<N: Tag, T: Tree, S: Sink, P: Spawner> Desk<N, T, S, P> {
         ensures traced { IsTracedTo N.opening (T.contents result.tree) (reverse result.history.entries) None }
         ensures replayed { IsReplayed N.opening (T.contents result.tree) (reverse result.history.entries) }
         ensures idle { live_job (reverse result.history.entries) ≡ None }
+        ensures counted { result.history.started ≡ jobs_begun result.history.entries }
         ensures keys { keys_in (reverse result.history.entries) ≡ keys_in self.newest }
         ensures lost { result.lost ≡ has_lost (reverse result.history.entries) }
         ensures quit { self.quit ≡ true → EndAsked N.opening N.tree_faults (reverse result.history.entries) }

@@ -11,7 +11,7 @@ use Rattle.mc_desk.proofs.desk.Desk.end.Goals as goal
 pub returns-clause-replayed : goal.returns-clause-replayed
 returns-clause-replayed g c =
     let desk = c.desk.inside in
-    subst (λ es. IsReplayed g.N.Tag.opening (g.T.Tree.contents desk.tree) es) (sym c.into_history.ensures)
+    subst (λ es. IsReplayed g.N.Tag.opening (g.T.Tree.contents desk.tree) es) (sym c.into_history.ensures.entries)
     (replayed_to g.N.Tag.opening (g.T.Tree.contents desk.tree) desk.log.newest desk.job
     (session_traced_to g.N.Tag.opening g.N.Tag.tree_faults desk.log.newest desk.ui desk.job (g.T.Tree.contents desk.tree) c.desk.invariant.desk.written.session))
 
@@ -19,7 +19,7 @@ pub returns-clause-traced : goal.returns-clause-traced
 returns-clause-traced g c =
     let desk = c.desk.inside in
     let none : desk.job ≡ None = search rules in
-    subst (λ es. IsTracedTo g.N.Tag.opening (g.T.Tree.contents desk.tree) es None) (sym c.into_history.ensures)
+    subst (λ es. IsTracedTo g.N.Tag.opening (g.T.Tree.contents desk.tree) es None) (sym c.into_history.ensures.entries)
     (subst (λ j. IsTracedTo g.N.Tag.opening (g.T.Tree.contents desk.tree) desk.log.newest j) none
     (session_traced_to g.N.Tag.opening g.N.Tag.tree_faults desk.log.newest desk.ui desk.job (g.T.Tree.contents desk.tree) c.desk.invariant.desk.written.session))
 
@@ -33,6 +33,6 @@ returns-clause-session g c =
       ap (λ (s : Screen). s.left.folder) screen,
       ap (λ (s : Screen). s.right.folder) screen,
       c.desk.invariant.desk.settled,
-      subst (λ es. IsSession g.N.Tag.opening g.N.Tag.tree_faults es desk.ui None (g.T.Tree.contents desk.tree)) (sym c.into_history.ensures)
+      subst (λ es. IsSession g.N.Tag.opening g.N.Tag.tree_faults es desk.ui None (g.T.Tree.contents desk.tree)) (sym c.into_history.ensures.entries)
           (subst (λ j. IsSession g.N.Tag.opening g.N.Tag.tree_faults desk.log.newest desk.ui j (g.T.Tree.contents desk.tree)) none c.desk.invariant.desk.written.session),
     )

@@ -8,7 +8,6 @@ use Rattle.key_screen.specs.declared.keys.Base.TheVariants.{Unknown}
 use Rattle.mc_desk.specs.declared.asks.Ask.{Ask}
 use Rattle.mc_desk.specs.declared.desk.DeskReply.{DeskReply}
 use Rattle.mc_desk.specs.declared.desk.DeskError.{DeskError}
-use Rattle.mc_desk.specs.Logs.{Logged}
 use Rattle.mc_desk.specs.Tallies.{Tally}
 use Rattle.mc_desk.specs.Screens.{Begins, Answers, Screen, WellAsked, with_ask, plain_base}
 use Rattle.mc_desk.specs.Desks.{Seen, Blames, awaited}
@@ -68,14 +67,14 @@ invariant_of-self-in-Begin g c =
     let counted = c.faults.ensures in
     let had = c.self.invariant.counted in
     let later = c.key.ensures.later in
-    let room : 2 ≤ c.count_job.new.self.spare = search rules in
+    let room : 2 ≤ c.note-in-Begin.new.self.spare = search rules in
     record {
       desk = desk_began g.N.Tag.opening (g.T.Tree.contents inside.tree) (g.T.Tree.contents c.key.new.tree) g.N.Tag.tree_faults _ _ count c.after_draw-self-inside.result c.args.key c.args.now c.self.invariant.desk
           unclosed looked c.key.ensures.same (omega (arith, counted, had, later)) c.in-Ok.act.refusals c.in-Ok.act.ask
           (λ h. let risen = c.in-Ok.ensures.fault h in omega (arith, counted, had, risen)) c.in-Ok.ensures.called c.in-Ok.ensures.leads c.key.ensures.settled room refl
           c.in-Begin.confirmed c.saturating_add-id.result c.faults-in-Begin.result c.in-Begin.is asked.0 asked.1 c.in-Begin.confirmed.started
-          (ap (λ (l : Logged). l.newest) c.count_job.ensures ∙ (c.note-in-Begin.ensures.added
-          ∙ ap (λ es. entry 0 inside.calls c.faults-in-Begin.result 0 (Began c.saturating_add-id.result c.in-Begin.confirmed.plan false) ∷ es) c.note.ensures.added))
+          (c.note-in-Begin.ensures.added
+          ∙ ap (λ es. entry 0 inside.calls c.faults-in-Begin.result 0 (Began c.saturating_add-id.result c.in-Begin.confirmed.plan false) ∷ es) c.note.ensures.added)
           (let again = c.faults-in-Begin.ensures in omega (arith, counted, again)) c.saturating_add-id.ensures refl refl refl;
       counted = search rules;
       screen = subst (λ b. Blames b g.N.Tag.sink_faults (g.S.Sink.fault_count c.draw-drawn.new.screen)) (sym c.failed_by-self-inside.ensures)
