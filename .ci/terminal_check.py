@@ -4,14 +4,19 @@ Usage: terminal_check.py PROGRAM. Needs the standard library of Python 3 alone.
 """
 import os
 import pty
+import resource
 import select
 import shutil
+import signal
+import stat
+import subprocess
 import sys
 import tempfile
 import termios
 import time
 
-DOWN, F8, F10, ENTER = b"\x1b[B", b"\x1b[19~", b"\x1b[21~", b"\r"
+DOWN, F5, F8, F10, ENTER = b"\x1b[B", b"\x1b[15~", b"\x1b[19~", b"\x1b[21~", b"\r"
+COPY = [DOWN, F5, ENTER, ENTER]
 USAGE = b"usage: mc [-b] [-V] [-h] [-P FILE] [-v FILE | -e FILE | --drill N | DIR1 [DIR2]]"
 PATIENCE = 20.0
 
@@ -31,10 +36,11 @@ def is_sane(terminal):
     return bool(modes & termios.ICANON) and bool(modes & termios.ECHO)
 
 
-def run(program, words, keys):
+def run(program, words, keys, largest=None):
     """Runs the program on a terminal of its own; each key is sent once the screen has been quiet for a moment.
 
-    Answers the exit status, what was written, and whether the terminal was left sane.
+    Answers the exit status, what was written, and whether the terminal was left sane. With `largest` no file of the program
+    may have more bytes than that.
     """
     ours, theirs = pty.openpty()
     child = os.fork()
@@ -43,6 +49,9 @@ def run(program, words, keys):
         os.setsid()
         for stream in (0, 1, 2):
             os.dup2(theirs, stream)
+        if largest is not None:
+            signal.signal(signal.SIGXFSZ, signal.SIG_IGN)
+            resource.setrlimit(resource.RLIMIT_FSIZE, (largest, largest))
         os.execv(program, [program] + words)
     written, status, waiting = b"", None, list(keys)
     end = time.monotonic() + PATIENCE
@@ -66,6 +75,71 @@ def run(program, words, keys):
     os.close(ours)
     os.close(theirs)
     return status, written, sane
+
+
+def make_file(path, size, mode):
+    with open(path, "wb") as file:
+        file.write(bytes(i % 251 for i in range(size)))
+    os.chmod(path, mode)
+
+
+def facts(path):
+    """The bytes and the mode of a file, or none where it isn't there."""
+    if not os.path.exists(path):
+        return None
+    with open(path, "rb") as file:
+        return file.read(), stat.S_IMODE(os.stat(path).st_mode)
+
+
+def check_copies(program, base, check):
+    """Copies by keys on real files."""
+    for size, mode in [(0, 0o640), (65536, 0o644), (65537, 0o640), (5, 0o444)]:
+        source, target = (os.path.join(base, f"{side}{size}") for side in "st")
+        os.mkdir(source)
+        os.mkdir(target)
+        make_file(os.path.join(source, "x"), size, mode)
+        before = facts(os.path.join(source, "x"))
+        status, _, sane = run(program, [source, target], COPY + [F10])
+        what = f"a file of {size} bytes and mode {mode:o}"
+        check(f"{what} is copied", status == 0 and sane and facts(os.path.join(target, "x")) == before)
+        check(f"{what} stays, and no part does", facts(os.path.join(source, "x")) == before and os.listdir(target) == ["x"])
+
+    source, target = os.path.join(base, "s"), os.path.join(base, "t")
+    os.mkdir(source)
+    os.mkdir(target)
+    make_file(os.path.join(source, "x"), 9, 0o640)
+    make_file(os.path.join(target, "x"), 3, 0o600)
+    old = facts(os.path.join(target, "x"))
+    status, written, _ = run(program, [source, target], COPY + [F10, F10])
+    check("what is there is not overwritten", status == 0 and facts(os.path.join(target, "x")) == old and b"already there" in written)
+    status, written, _ = run(program, [source], COPY + [F10, F10])
+    check("no file is copied onto itself", status == 0 and os.listdir(source) == ["x"] and b"already there" in written)
+
+    os.remove(os.path.join(target, "x"))
+    make_file(os.path.join(source, "x"), 100000, 0o640)
+    status, written, _ = run(program, [source, target], COPY + [b"s", F10], largest=70000)
+    check("a file that can't be written is skipped", status == 0 and os.listdir(target) == [] and b"r Retry  s Skip" in written)
+    status, _, _ = run(program, [source, target], COPY + [b"b", F10], largest=70000)
+    check("its copy can be aborted", status == 0 and os.listdir(target) == [])
+    status, _, _ = run(program, [source, target], COPY + [F10, F10], largest=70000)
+    check("its box can be shut, and the end aborts", status == 0 and os.listdir(target) == [])
+
+    taken = [f".mc.1.{number}.part" for number in range(1000)]
+    for name in taken:
+        make_file(os.path.join(target, name), 0, 0o600)
+    status, written, _ = run(program, [source, target], COPY + [b"s", F10])
+    check("with no free part name a copy is skipped", status == 0 and sorted(os.listdir(target)) == sorted(taken) and b"no free part name" in written)
+
+    small = os.path.join(base, "small")
+    os.mkdir(small)
+    if subprocess.run(["mount", "-t", "tmpfs", "-o", "size=64k", "tmpfs", small], stderr=subprocess.DEVNULL).returncode != 0:
+        print("no mount of its own could be made: a full one was not tried")
+        return
+    try:
+        status, written, _ = run(program, [source, small], COPY + [b"s", F10])
+        check("on a full mount a copy is skipped", status == 0 and os.listdir(small) == [] and b"no space left" in written)
+    finally:
+        subprocess.run(["umount", small], check=True)
 
 
 def main():
@@ -99,6 +173,8 @@ def main():
         status, _, _ = run(program, [os.path.join(base, "b")], [DOWN, F8, ENTER, F10])
         check("a folder is not deleted", status == 0 and os.path.isdir(os.path.join(base, "b", "d")))
 
+        check_copies(program, base, check)
+
         for words, want, line in [
             ([os.path.join(base, "nowhere")], 2, b"no such file or folder"),
             (["/nowhere"], 2, b"mc: /nowhere: no such file or folder"),
@@ -106,7 +182,9 @@ def main():
             ([], 1, USAGE),
             (["-v", "a"], 1, USAGE),
             (["relative"], 1, USAGE),
-            ([folder, folder], 1, USAGE),
+            ([folder, folder, folder], 1, USAGE),
+            ([folder, "relative"], 1, USAGE),
+            ([folder, "/nowhere"], 2, b"mc: /nowhere: no such file or folder"),
             ([b"/\xff".decode("utf-8", "surrogateescape")], 1, USAGE),
         ]:
             if words and words[0].endswith("/file"):

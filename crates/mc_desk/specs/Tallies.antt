@@ -1,5 +1,6 @@
 -- What a history comes to: the live job, what is due, and what was counted. Histories stand newest first here.
 use Rattle.std.specs.Prelude.{ℕ, Bool, true, false, ◌||◌, if◌then◌else◌, List, [], ◌∷◌, ◌++◌, Option, Some, None}
+use Rattle.std.specs.Option.{option_map}
 use Rattle.key_screen.specs.declared.keys.Key.{Key as KeyType}
 use Rattle.tree_trait.specs.declared.calls.TreeError.{TreeError}
 use Rattle.tree_trait.specs.declared.calls.TreeError.TheVariants.{Fault}
@@ -34,7 +35,7 @@ abbrev pub due_after : Event → Option Running → Option ℕ → Option ℕ
 due_after (Key key now refusals lost) job before = before
 due_after (Look refusals) job before = if can_step job then before else None
 due_after (Began id plan background) job before = Some id
-due_after (Order id order) job before = Some id
+due_after (Order id order) job before = option_map (λ (live : Running). live.id) job
 due_after (Step id did) job before = before
 due_after Closed job before = None
 

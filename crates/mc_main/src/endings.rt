@@ -1,18 +1,17 @@
 //! How a run ends: after its session, or before one began.
 ghost use Rattle.std.specs.Prelude.{◌≡◌, ◌≢◌, ◌≤◌, [], true, false, Option, None, reverse};
 ghost use Rattle.tree_trait.specs.Answers.{IfKnown, HasRisen};
-ghost use Rattle.tree_trait.specs.FileSystem.{View};
-ghost use Rattle.copy_move.specs.Work.{live_job};
+ghost use Rattle.copy_move.specs.Told.{live_job};
 ghost use Rattle.copy_move.specs.Replay.{IsReplayed};
 ghost use Rattle.copy_move.specs.Traces.{IsTracedTo};
 ghost use Rattle.mc_desk.specs.Tallies.{has_lost};
-ghost use Rattle.mc_desk.specs.Sessions.{MayOpen, EndsSession};
-ghost use Rattle.mc_main.specs.Headline.{IsStatusOr, IsStatusOf, ReadsKeys, IsQuit};
+ghost use Rattle.mc_desk.specs.Sessions.{EndAsked, EndsSession};
+ghost use Rattle.mc_main.specs.Headline.{IsStatusOr, IsStatusOf, ReadsKeys};
 
 use crate::outcome::Outcome;
 use crate::session::{SessionEnd, run_session};
 use copy_move::{Entries, History};
-use mc_desk::{Desk, Ended, Refused, StartError, Tag, cause_text};
+use mc_desk::{Desk, Ended, Refused, Side, StartError, Tag, cause_text};
 use mc_text::{NoMemory, Text};
 use std::alloc::Global;
 use tree_trait::{Clock, Sink, SinkError, Source, Spawner, Tree, TreeError};
@@ -26,13 +25,13 @@ pub fn run_desk<N: Tag, T: Tree, K: Source, S: Sink, P: Spawner, C: Clock>(
 ) -> Outcome<T, S, P>
     requires fresh { (desk.newest ≡ []) × (desk.pending ≡ []) }
     requires unclosed { desk.tally.closed ≡ false }
-    ensures session { (view : Option View) → MayOpen N.opening view
-        → EndsSession view N.tree_faults (reverse result.history.entries) desk.screen.panel.folder }
-    ensures traced { IsTracedTo N.opening (T.contents result.tree) (reverse result.history.entries) }
+    ensures session { EndsSession N.opening N.tree_faults (reverse result.history.entries) (T.contents result.tree)
+        desk.screen.left.folder desk.screen.right.folder }
+    ensures traced { IsTracedTo N.opening (T.contents result.tree) (reverse result.history.entries) None }
     ensures replayed { IsReplayed N.opening (T.contents result.tree) (reverse result.history.entries) }
     ensures idle { live_job (reverse result.history.entries) ≡ None }
     ensures keys { IfKnown (K.left keys.old) (λ bytes. ReadsKeys bytes result.status
-        (IsQuit N.opening N.tree_faults (reverse result.history.entries)) (reverse result.history.entries)) }
+        (EndAsked N.opening N.tree_faults (reverse result.history.entries)) (reverse result.history.entries)) }
     ensures lost { has_lost (reverse result.history.entries) ≡ true → result.status ≡ 5 }
     ensures statuses { result.status ≤ 5 }
     ensures not_usage { result.status ≢ 1 }
@@ -117,7 +116,7 @@ pub fn refuse_start<T, S: Sink, P>(
     } = refused;
     match error {
         StartError::Memory => without_session(alloc, 5, tree, screen, spawner),
-        StartError::Tree(error) => match start_line(alloc, words, error) {
+        StartError::Tree(side, error) => match start_line(alloc, words, side, error) {
             Ok(line) => refuse(alloc, 2, line.as_str(), tree, screen, spawner),
             Err(NoMemory) => without_session(alloc, 5, tree, screen, spawner),
         },
@@ -125,15 +124,29 @@ pub fn refuse_start<T, S: Sink, P>(
 }
 
 /// The line for a folder that was refused.
-fn start_line(alloc: Global, words: &[Text], error: TreeError) -> Result<String, NoMemory> {
+fn start_line(
+    alloc: Global,
+    words: &[Text],
+    side: Side,
+    error: TreeError,
+) -> Result<String, NoMemory> {
     let mut line = String::from_str(alloc, "mc: ")?;
-    for word in words {
+    if let Some(word) = word_of(words, side) {
         line.push_str(word.0.as_str())?;
         line.push_str(": ")?;
     }
     line.push_str(cause_text(error))?;
     line.push('\n')?;
     Ok(line)
+}
+
+/// The word that names the folder of a panel.
+fn word_of(words: &[Text], side: Side) -> Option<&Text> {
+    match (words, side) {
+        ([_, second, ..], Side::Right) => Some(second),
+        ([first, ..], _) => Some(first),
+        ([], _) => None,
+    }
 }
 
 /// A run in which no session began.

@@ -1,18 +1,17 @@
 //! One run of the file manager over its devices.
 ghost use Rattle.std.specs.Prelude.{◌≡◌, ◌⊎◌, ◌≤◌, true, Option, None, reverse};
-ghost use Rattle.tree_trait.specs.FileSystem.{View};
 ghost use Rattle.tree_trait.specs.Answers.{IfKnown, HasRisen};
-ghost use Rattle.copy_move.specs.Work.{live_job};
+ghost use Rattle.copy_move.specs.Told.{live_job};
 ghost use Rattle.copy_move.specs.Replay.{IsReplayed};
 ghost use Rattle.copy_move.specs.Traces.{IsTracedTo};
 ghost use Rattle.mc_desk.specs.Tallies.{has_lost};
-ghost use Rattle.mc_desk.specs.Sessions.{MayOpen};
-ghost use Rattle.mc_main.specs.Headline.{folder_in, IsStatusOr, MayRefuseStart, RefusesStart, IsRun, IsQuit, ReadsKeys, IsSafeRun, IsComplete};
+ghost use Rattle.mc_desk.specs.Sessions.{EndAsked};
+ghost use Rattle.mc_main.specs.Headline.{folders_in, IsStatusOr, MayRefuseStart, RefusesStart, IsRun, ReadsKeys, IsSafeRun, IsPlainlySafeRun, IsComplete};
 
 use crate::endings::{refuse, refuse_start, run_desk, without_session};
 use crate::outcome::Outcome;
 use crate::words::{USAGE, WordsError, read_words};
-use mc_desk::{Desk, Start, Tag};
+use mc_desk::{Desk, Tag};
 use mc_text::Text;
 use std::alloc::Global;
 use tree_trait::{Clock, Sink, Source, Spawner, Tree};
@@ -35,7 +34,7 @@ pub trait Gate {
 
 /// Runs the file manager: reads the words, opens the session, works its keys and steps its jobs, and ends it.
 ///
-/// The status is 0 at the quit key or the end of the keys, 1 where the words can't be read, 2 where the folder is refused, 3
+/// The status is 0 at the quit key or the end of the keys, 1 where the words can't be read, 2 where a folder is refused, 3
 /// where the keyboard failed, 4 where the screen did, and 5 for want of memory. For 1 and 2 one line is printed.
 pub fn mc_run<N: Tag, T: Tree, K: Source, S: Sink, P: Spawner, C: Clock, G: Gate>(
     alloc: Global,
@@ -53,47 +52,54 @@ pub fn mc_run<N: Tag, T: Tree, K: Source, S: Sink, P: Spawner, C: Clock, G: Gate
     requires faults { N.tree_faults ≡ T.fault_count tree }
     requires sink { N.sink_faults ≡ S.fault_count screen }
 
-    // A crash at any moment, inside a call too, leaves each file whole or gone; but for the file that is being deleted, and
-    // those whose removal was not brought onto the disk before their job ended, all is as the history tells; and a file
-    // whose deletion was finished is gone.
+    // Where the run only deletes, a crash at any moment, inside a call too, leaves each file whole or gone; but for the file
+    // that is being deleted, and those whose removal was not brought onto the disk before their job ended, all is as the
+    // history tells; and a file whose deletion was finished is gone.
     ensures safe { IfKnown (T.contents tree) (λ opening. IfKnown (T.contents result.tree) (λ now.
         IsSafeRun opening now (reverse result.history.entries))) }
 
-    // The tree is what the history makes of the opening, each entry of a step is a call of the tree with its answer, and the
-    // history is a session: a job is begun directly after each confirmed deletion, and deletes the file that was chosen; no
-    // key is taken where a step or a look is due. A tree that tells what it holds is handed back telling it.
-    ensures traced { IsTracedTo (T.contents tree) (T.contents result.tree) (reverse result.history.entries) }
+    // Where each job was begun when those before it were finished, copies too, a crash at any moment leaves each path as it
+    // was when the last job was begun, but for that job's own parts, and for the one path that it works on, which may be as
+    // the finished job makes it: a target has the source's bytes and mode, a deleted file is gone.
+    ensures plainly_safe { IfKnown (T.contents tree) (λ opening. IfKnown (T.contents result.tree) (λ now.
+        IsPlainlySafeRun opening now (reverse result.history.entries))) }
+
+    // The history is a session: a job is begun directly after the key that confirmed it, as it was planned; its trouble is
+    // answered directly after the key that answers it; no key is taken where a step or a look is due. Each entry of a step is
+    // a piece of the job's work with the calls that belong to it, and the tree is what the history makes of the opening. A
+    // tree that tells what it holds is handed back telling it.
+    ensures traced { IsTracedTo (T.contents tree) (T.contents result.tree) (reverse result.history.entries) None }
     ensures replayed { IsReplayed (T.contents tree) (T.contents result.tree) (reverse result.history.entries) }
-    ensures session { (view : Option View) → MayOpen (T.contents tree) view
-        → IsRun view (T.fault_count tree) (folder_in words.now) result.status (reverse result.history.entries) }
+    ensures session { IsRun (T.contents tree) (T.fault_count tree) (folders_in words.now) result.status
+        (reverse result.history.entries) (T.contents result.tree) }
     ensures idle { live_job (reverse result.history.entries) ≡ None }
 
     // The keys are those of the bytes that were taken. At status 0 F10 was reached, or all bytes were taken.
     ensures keys { IfKnown (K.left keys.old) (λ bytes. ReadsKeys bytes result.status
-        (IsQuit (T.contents tree) (T.fault_count tree) (reverse result.history.entries)) (reverse result.history.entries)) }
+        (EndAsked (T.contents tree) (T.fault_count tree) (reverse result.history.entries)) (reverse result.history.entries)) }
     ensures lost { has_lost (reverse result.history.entries) ≡ true → result.status ≡ 5 }
 
     // Statuses 1 and 2.
-    ensures usage { result.status ≡ 1 → folder_in words.now ≡ None }
-    ensures refuses_words { folder_in words.now ≡ None → IsStatusOr 1 result.status }
+    ensures usage { result.status ≡ 1 → folders_in words.now ≡ None }
+    ensures refuses_words { folders_in words.now ≡ None → IsStatusOr 1 result.status }
     ensures start { result.status ≡ 2 → IfKnown (T.contents tree) (λ log.
-        MayRefuseStart log (folder_in words.now) (T.fault_count tree) (T.fault_count result.tree)) }
-    ensures refuses_start { IfKnown (T.contents tree) (λ log. RefusesStart log (folder_in words.now) result.status) }
+        MayRefuseStart log (folders_in words.now) (T.fault_count tree) (T.fault_count result.tree)) }
+    ensures refuses_start { IfKnown (T.contents tree) (λ log. RefusesStart log (folders_in words.now) result.status) }
 
     // Statuses 3 and 4: only where the device's count of faults has risen. There are no others.
     ensures keyboard { result.status ≡ 3 → HasRisen (K.fault_count keys.old) (K.fault_count keys.new) }
     ensures screen { result.status ≡ 4 → HasRisen (S.fault_count screen) (S.fault_count result.screen) }
-    ensures complete { IfKnown (T.contents tree) (λ log. IsComplete log (folder_in words.now) result.status
+    ensures complete { IfKnown (T.contents tree) (λ log. IsComplete log (folders_in words.now) result.status
         (HasRisen (T.fault_count tree) (T.fault_count result.tree)
         ⊎ (HasRisen (K.fault_count keys.old) (K.fault_count keys.new) ⊎ HasRisen (S.fault_count screen) (S.fault_count result.screen)))) }
     ensures statuses { result.status ≤ 5 }
 {
-    let folder = match read_words(alloc, words) {
-        Ok(folder) => folder,
+    let start = match read_words(alloc, words) {
+        Ok(start) => start,
         Err(WordsError::Usage) => return refuse(alloc, 1, USAGE, tree, screen, spawner),
         Err(WordsError::Memory) => return without_session(alloc, 5, tree, screen, spawner),
     };
-    match Desk::<N, T, S, P>::begin(alloc, Start { folder }, tree, screen, spawner) {
+    match Desk::<N, T, S, P>::begin(alloc, start, tree, screen, spawner) {
         Ok(desk) => run_desk(alloc, desk, keys, clock),
         Err(refused) => refuse_start(alloc, words, refused),
     }

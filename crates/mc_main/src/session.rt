@@ -2,6 +2,7 @@
 ghost use Rattle.std.specs.Prelude.{◌≡◌, ◌⊎◌, [], true, false, None, OnOk};
 ghost use Rattle.tree_trait.specs.Answers.{HasRisen, HasCause, IfKnown};
 ghost use Rattle.mc_desk.specs.Desks.{KeepsKeys};
+ghost use Rattle.mc_desk.specs.Screens.{SameFolders};
 ghost use Rattle.mc_main.specs.Headline.{HasRead, TakesOne};
 
 use mc_desk::{Desk, DeskError, DeskReply, Tag};
@@ -29,7 +30,7 @@ pub fn run_session<N: Tag, T: Tree, K: Source, S: Sink, P: Spawner, C: Clock>(
 ) -> SessionEnd
     requires fresh { (desk.old.newest ≡ []) × (desk.old.pending ≡ []) }
     requires unclosed { desk.old.tally.closed ≡ false }
-    ensures folder { desk.new.screen.panel.folder ≡ desk.old.screen.panel.folder }
+    ensures folders { SameFolders desk.old.screen desk.new.screen }
     ensures keys_failed { result ≡ SessionEnd.KeysFailed → HasRisen (K.fault_count keys.old) (K.fault_count keys.new) }
     ensures read { IfKnown (K.left keys.old) (λ bytes. HasRead bytes result desk.new) }
     ensures quit { result ≡ SessionEnd.Quit → desk.new.quit ≡ true }
@@ -70,7 +71,7 @@ fn work_due<N: Tag, T: Tree, S: Sink, P: Spawner>(
     alloc: Global,
     desk: &mut Desk<N, T, S, P>,
 ) -> Result<(), DeskError>
-    ensures folder { desk.new.screen.panel.folder ≡ desk.old.screen.panel.folder }
+    ensures folders { SameFolders desk.old.screen desk.new.screen }
     ensures keys { KeepsKeys desk.old desk.new }
     ensures unclosed { OnOk result (desk.new.tally.closed ≡ desk.old.tally.closed) }
     ensures looked { OnOk result (desk.new.tally.due ≡ None) }

@@ -12,6 +12,8 @@ use tree_trait::{Tree, TreeError};
 
 const DOWN: &str = "\x1b[B";
 
+const F5: &str = "\x1b[15~";
+
 const F8: &str = "\x1b[19~";
 
 const F10: &str = "\x1b[21~";
@@ -134,12 +136,11 @@ fn lines_are_printed(rt: HostRuntime) -> Result<(), Fail> {
 fn run_mute(
     alloc: Global,
     tree: MemTree,
+    words: &[Text],
     keys: &str,
     source_fails: Option<u64>,
     screen_fails: Option<u64>,
 ) -> Result<Outcome<Mute<MemTree>, Mute<MemSink>, Mute<FakeSpawner>>, Fail> {
-    let mut words = Vec::new(alloc);
-    words.push(Text::from_str(alloc, "/a")?)?;
     let mut source = Mute::new(MemSource::new(
         Bytes::from_slice(alloc, keys.as_bytes())?,
         source_fails,
@@ -154,7 +155,7 @@ fn run_mute(
         Open,
     >(
         alloc,
-        words.as_slice(),
+        words,
         &env(alloc),
         Mute::new(tree),
         Mute::new(MemSink::new(alloc, screen_fails)),
@@ -165,8 +166,18 @@ fn run_mute(
     ))
 }
 
-/// The reports of the steps of a history, one letter each: removed, barrier, denied, another trouble, finished, aborted, or
-/// another end.
+/// One word, or two.
+fn words_of(alloc: Global, first: &str, second: Option<&str>) -> Result<Vec<Text>, Fail> {
+    let mut words = Vec::new(alloc);
+    words.push(Text::from_str(alloc, first)?)?;
+    if let Some(second) = second {
+        words.push(Text::from_str(alloc, second)?)?;
+    }
+    Ok(words)
+}
+
+/// The reports of the steps of a history, one letter each: a new part, a chunk, placed, removed, skipped, cleaned, barrier,
+/// denied, another trouble, finished, aborted, or another end.
 fn steps_of(alloc: Global, history: &History) -> Result<String, Fail> {
     let mut letters = String::new(alloc);
     for entry in history.entries.0.iter() {
@@ -179,7 +190,12 @@ fn steps_of(alloc: Global, history: &History) -> Result<String, Fail> {
 
 fn letter_of(did: &Did) -> char {
     match did {
+        Did::Began(_) => 'n',
+        Did::Chunk(_) => 'c',
+        Did::Placed(_) => 'p',
         Did::Removed(_) => 'r',
+        Did::Skipped(_, _) => 's',
+        Did::Cleaned(_) => 'e',
         Did::Barrier => 'b',
         Did::Troubled(trouble) => match trouble.cause {
             Cause::Tree(TreeError::Denied) => 'd',
@@ -188,7 +204,7 @@ fn letter_of(did: &Did) -> char {
         Did::Ended { ending, part: _ } => match ending {
             Ending::Finished => 'f',
             Ending::Aborted => 'a',
-            Ending::NoMemory => 'm',
+            Ending::Killed | Ending::NoMemory => 'm',
         },
     }
 }
@@ -198,8 +214,9 @@ fn silent_devices_serve_as_well(rt: HostRuntime) -> Result<(), Fail> {
     let alloc = rt.alloc();
     let file = Path::parse(alloc, "/a/x")?;
     let keys = format!(in alloc; "{DOWN}{F8}\r{F10}")?;
+    let words = words_of(alloc, "/a", None)?;
     let tree = small_tree(alloc)?;
-    let outcome = run_mute(alloc, tree, keys.as_str(), None, None)?;
+    let outcome = run_mute(alloc, tree, words.as_slice(), keys.as_str(), None, None)?;
     assert_eq!(rt; outcome.status, 0);
     // Look, Down, F8, Enter, Began, Removed, Barrier, Ended, Look, F10, Closed.
     assert_eq!(rt; outcome.history.entries.0.len(), 11);
@@ -216,8 +233,16 @@ fn status_and_bytes(
     screen_fails: Option<u64>,
 ) -> Result<(u8, Bytes), Fail> {
     let keys = format!(in alloc; "{DOWN}{F10}")?;
+    let words = words_of(alloc, "/a", None)?;
     let tree = small_tree(alloc)?;
-    let outcome = run_mute(alloc, tree, keys.as_str(), source_fails, screen_fails)?;
+    let outcome = run_mute(
+        alloc,
+        tree,
+        words.as_slice(),
+        keys.as_str(),
+        source_fails,
+        screen_fails,
+    )?;
     let bytes = Bytes::from_slice(alloc, outcome.screen.inner().bytes())?;
     Ok((outcome.status, bytes))
 }
@@ -250,10 +275,71 @@ fn a_folder_that_may_not_be_changed_keeps_its_file(rt: HostRuntime) -> Result<()
     let alloc = rt.alloc();
     let file = Path::parse(alloc, "/a/x")?;
     let keys = format!(in alloc; "{DOWN}{F8}\r{F10}")?;
-    let outcome = run_mute(alloc, fixed_tree(alloc)?, keys.as_str(), None, None)?;
+    let words = words_of(alloc, "/a", None)?;
+    let tree = fixed_tree(alloc)?;
+    let outcome = run_mute(alloc, tree, words.as_slice(), keys.as_str(), None, None)?;
     assert_eq!(rt; outcome.status, 0);
     assert_eq!(rt; steps_of(alloc, &outcome.history)?.as_str(), "da");
     let mut tree = outcome.tree.into_inner();
     assert!(rt; tree.stat(alloc, &file).is_ok());
+    Ok(())
+}
+
+/// A root with the folder `/s`, in it the file `x` of mode 0o640, which holds `hi`, and the folder `/t` on a mount of its own.
+fn copy_tree(alloc: Global, room: u64) -> Result<MemTree, Fail> {
+    let folder = Path::parse(alloc, "/s")?;
+    let file = Path::parse(alloc, "/s/x")?;
+    let target = Path::parse(alloc, "/t")?;
+    let mut tree = MemTree::new(alloc, 0)?;
+    tree.mount(alloc, &target, room)?;
+    tree.put_folder(alloc, &folder, 0o755, 0)?;
+    tree.put_file(alloc, &file, 0o640, 0, b"hi")?;
+    Ok(tree)
+}
+
+/// The steps of a run over such a tree, and the size and the mode of what stands at the target.
+fn copied(
+    alloc: Global,
+    room: u64,
+    keys: &str,
+) -> Result<(String, Option<(u64, u16)>), Fail> {
+    let words = words_of(alloc, "/s", Some("/t"))?;
+    let target = Path::parse(alloc, "/t/x")?;
+    let tree = copy_tree(alloc, room)?;
+    let outcome = run_mute(alloc, tree, words.as_slice(), keys, None, None)?;
+    let steps = steps_of(alloc, &outcome.history)?;
+    let mut tree = outcome.tree.into_inner();
+    let there = match tree.stat(alloc, &target) {
+        Ok(meta) => Some((meta.size, meta.mode)),
+        Err(_) => None,
+    };
+    Ok((steps, there))
+}
+
+#[test]
+fn a_file_is_copied_by_keys(rt: HostRuntime) -> Result<(), Fail> {
+    let alloc = rt.alloc();
+    let copy = format!(in alloc; "{DOWN}{F5}\r\r")?;
+    let quit = format!(in alloc; "{copy}{F10}")?;
+    let twice = format!(in alloc; "{copy}{copy}{F10}{F10}")?;
+    let shut_mask = format!(in alloc; "{DOWN}{F5}{F10}{F10}")?;
+    let shut_target = format!(in alloc; "{DOWN}{F5}\r{F10}{F10}")?;
+    let skip = format!(in alloc; "{copy}s{F10}")?;
+    let abort = format!(in alloc; "{copy}b{F10}")?;
+    let retry = format!(in alloc; "{copy}r{F10}{F10}")?;
+    for (room, keys, steps, there) in [
+        (9, quit.as_str(), "ncpbf", Some((2, 0o640))),
+        (9, twice.as_str(), "ncpbf", Some((2, 0o640))),
+        (9, shut_mask.as_str(), "", None),
+        (9, shut_target.as_str(), "", None),
+        (1, quit.as_str(), "nteba", None),
+        (1, skip.as_str(), "ntsebf", None),
+        (1, abort.as_str(), "nteba", None),
+        (1, retry.as_str(), "ntenteba", None),
+    ] {
+        let (did, stands) = copied(alloc, room, keys)?;
+        assert_eq!(rt; did.as_str(), steps, "{room} {keys:?}");
+        assert_eq!(rt; stands, there, "{room} {keys:?}");
+    }
     Ok(())
 }

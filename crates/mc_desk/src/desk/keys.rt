@@ -98,7 +98,7 @@ impl<N: Tag, T: Tree, S: Sink, P: Spawner> Desk<N, T, S, P> {
 
     /// Whether this job is live and can be stepped.
     pub fn is_ready(&self, job: u32) -> bool
-        ensures ready { IsTrue result → IsReady self.now.tally.job }
+        ensures ready { IsTrue result → IsReady self.now.job }
         ensures due { self.now.tally.due ≡ Some job → result ≡ can_step self.now.tally.job }
     {
         match &self.job {
@@ -173,9 +173,9 @@ impl<N: Tag, T: Tree, S: Sink, P: Spawner> Desk<N, T, S, P> {
                     unreachable!()
                 };
                 let id = job.id();
-                if job.answer(answer).is_err() {
+                let Ok(()) = job.answer(answer) else {
                     unreachable!()
-                }
+                };
                 self.log.note(Entry {
                     seat: 0,
                     calls: self.calls,

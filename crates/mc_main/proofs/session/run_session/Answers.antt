@@ -36,7 +36,7 @@ loop-preserved g c =
     let unclosed : c.byte.new.self.tally.closed ≡ false = search rules in
     let had = c.loop.invariant.2 in
     let later = c.take_byte.ensures.cause.later in (
-      c.byte.ensures.folder ∙ (c.work_due.ensures.folder ∙ c.loop.invariant.0),
+      (c.byte.ensures.folders.0 ∙ (c.work_due.ensures.folders.0 ∙ c.loop.invariant.0.0), c.byte.ensures.folders.1 ∙ (c.work_due.ensures.folders.1 ∙ c.loop.invariant.0.1)),
       unclosed,
       omega (arith, had, later),
       λ bytes known.

@@ -1,0 +1,265 @@
+-- The entries of a desk, one kind at a time: each may follow.
+use Rattle.std.proofs.Common.{◌≡◌, ◌⊎◌, ℕ, ◌+◌, ◌-◌, ◌^◌, ◌≤◌, min, Bool, true, false, ◌||◌, List, [], ◌∷◌, length, refl, sym, ◌∙◌, ap, subst, inl, inr, IsSome, Option, Some, None, arith}
+use Rattle.std.specs.Prelude.{if◌then◌else◌, option_and_then}
+use Rattle.std.specs.Option.{option_map}
+use Rattle.key_screen.specs.declared.keys.Key.{Key as KeyType}
+use Rattle.key_screen.specs.declared.keys.Base.TheVariants.{F}
+use Rattle.mc_text.specs.Routes.{Route}
+use Rattle.tree_trait.specs.Calls.{Stat, ListFolder}
+use Rattle.tree_trait.specs.Change.{CallLog}
+use Rattle.tree_trait.specs.Answers.{IfKnown, HasRisen}
+use Rattle.file_copy.specs.declared.report.Did.{Did}
+use Rattle.file_copy.specs.declared.report.Did.TheVariants.{Began as BeganPart, Chunk, Placed, Removed, Skipped, Cleaned, Barrier, Troubled, Ended}
+use Rattle.file_copy.specs.declared.report.Ending.TheVariants.{NoMemory}
+use Rattle.copy_move.specs.declared.history.Entry.{Entry}
+use Rattle.copy_move.specs.declared.history.Event.{Event}
+use Rattle.copy_move.specs.declared.history.Event.TheVariants.{Key, Look, Began, Order, Step, Closed}
+use Rattle.copy_move.specs.declared.history.JobOrder.TheVariants.{Answered}
+use Rattle.copy_move.specs.declared.history.Answer.{Answer}
+use Rattle.copy_move.specs.declared.history.Job.{Job}
+use Rattle.copy_move.specs.declared.history.Refusal.{Refusal}
+use Rattle.copy_move.specs.Jobs.{Running, MayAnswer, answered, closed_job, ends, first_work, part_of, waits_on}
+use Rattle.copy_move.specs.Told.{IsAllowedStep, after_step, if_closed, running, told}
+use Rattle.copy_move.specs.Steps.{StepsOn}
+use Rattle.copy_move.specs.Traces.{AreRefused, IsUnclaimed}
+use Rattle.copy_move.specs.Traces as traces
+use Rattle.copy_move.proofs.StillTelling.{step_tells}
+use Rattle.copy_move.proofs.Telling.{answered_told, began_told, closed_told, step_told}
+use Rattle.mc_desk.specs.Screens.{Screen, NoBox, Begins, Answers, KeyLeads, LookLeads, plain_base, sight}
+use Rattle.mc_desk.specs.Tallies.{Tally, faults_in, can_step, end_unseen_event, has_fault}
+use Rattle.mc_desk.specs.Desks.{Seen}
+use Rattle.mc_desk.proofs.Answering.{may_answer_told, part_told, waits_told}
+use Rattle.mc_desk.proofs.Keeping.{Adds, Leads}
+
+abbrev pub entry : ℕ → ℕ → ℕ → ℕ → Event → Entry
+entry seat calls faults shown what = record { seat = seat; calls = calls; faults = faults; shown = shown; what = what }
+
+-- what is open stays as it is where a session is not closed
+open_tally : (t : Tally) → t.closed ≡ false → t ≡ (let r : Tally = record t { job = if_closed t.closed t.job } in r)
+open_tally t unclosed = ap (λ b. let r : Tally = record t { job = if_closed b t.job } in r) (sym unclosed)
+
+open_job : (closed : Bool) (job : Option Running) → closed ≡ false → job ≡ if_closed closed job
+open_job closed job unclosed = ap (λ b. if_closed b job) (sym unclosed)
+
+module _ (contents contents_after : Option CallLog) (same : contents_after ≡ contents) where
+  same_log : (log now : CallLog) → contents ≡ Some log → contents_after ≡ Some now → now ≡ log
+  same_log log now known is = let both : Some now ≡ Some log = sym is ∙ (same ∙ known) in cc
+
+  still_unknown : contents ≡ None → contents_after ≡ None
+  still_unknown none = same ∙ none
+
+  -- an entry that makes no changing call
+  leads_on : (old new : Seen) (e : Entry) (after : Option Running) → e.calls ≡ old.tally.calls → ((log : CallLog) → contents ≡ Some log → traces.EventLeads old.job e.what after log log)
+      → new.job ≡ if_closed (Rattle.copy_move.specs.Told.closes e.what || old.tally.closed) after → Leads contents contents_after old new e
+  leads_on old new e after calls leads job log known = (log, after, same ∙ known, leads log known, job, (let l : length log.changes ≡ length log.changes = refl in omega (arith, calls)))
+
+module _ (contents contents_after : Option CallLog) (faults : ℕ) (old new : Seen) (seat count shown : ℕ) where
+  -- a key that was worked
+  pub adds_key : (key : KeyType) (now : ℕ) (refusals : List Refusal) → new.newest ≡ entry seat old.tally.calls count shown (Key key now refusals false) ∷ old.newest → new.tally ≡ old.tally → new.job ≡ old.job
+      → new.tally.job ≡ option_map told new.job → old.tally.closed ≡ false → old.tally.due ≡ None → old.tally.lost ≡ false → old.screen.planned ≡ None → contents_after ≡ contents
+      → faults_in faults old.newest ≤ count → (has_fault refusals ≡ true → HasRisen (faults_in faults old.newest) count) → IfKnown contents (λ log. AreRefused Stat log refusals)
+      → KeyLeads (sight contents) old.tally.job key refusals old.screen new.screen
+      → (new.quit ≡ true → (old.quit ≡ true) ⊎ ((plain_base key ≡ F 10) × (old.screen.over ≡ NoBox)))
+      → Adds contents contents_after faults old new (entry seat old.tally.calls count shown (Key key now refusals false))
+  adds_key key now refusals more tally job tells unclosed looked unlost settled same later fault refused leads quit = record {
+    more = more;
+    tally = tally ∙ open_tally old.tally unclosed;
+    told = tells;
+    timely = settled;
+    counts = record { later = later; fault = fault; calls = omega arith; most = omega arith };
+    leads = (record { unclosed = unclosed; looked = looked; unlost = unlost }, leads);
+    traced = leads_on contents contents_after same old new (entry seat old.tally.calls count shown (Key key now refusals false)) old.job refl (λ log known. (refl, refl, refused log known)) (job ∙ open_job old.tally.closed old.job unclosed);
+    unknown = still_unknown contents contents_after same;
+    quit = quit;
+  }
+
+  -- a key that was lost
+  pub adds_lost : (key : KeyType) (now : ℕ) → new.newest ≡ entry seat old.tally.calls count shown (Key key now [] true) ∷ old.newest
+      → new.tally ≡ record old.tally { lost = true } → new.job ≡ old.job → new.tally.job ≡ option_map told new.job
+      → old.tally.closed ≡ false → old.tally.due ≡ None → old.tally.lost ≡ false → old.screen.planned ≡ None → contents_after ≡ contents
+      → faults_in faults old.newest ≤ count → new.screen ≡ old.screen → new.quit ≡ old.quit
+      → Adds contents contents_after faults old new (entry seat old.tally.calls count shown (Key key now [] true))
+  adds_lost key now more tally job tells unclosed looked unlost settled same later screen quit = record {
+    more = more;
+    tally = tally ∙ ap (λ b. let r : Tally = record old.tally { job = if_closed b old.tally.job; lost = true } in r) (sym unclosed);
+    told = tells;
+    timely = settled;
+    counts = record { later = later; fault = λ h. absurd cc; calls = omega arith; most = omega arith };
+    leads = (record { unclosed = unclosed; looked = looked; unlost = unlost }, screen);
+    traced = leads_on contents contents_after same old new (entry seat old.tally.calls count shown (Key key now [] true)) old.job refl (λ log known. (refl, refl, tt)) (job ∙ open_job old.tally.closed old.job unclosed);
+    unknown = still_unknown contents contents_after same;
+    quit = λ h. inl (sym quit ∙ h);
+  }
+
+  -- a look
+  pub adds_look : (refusals : List Refusal) → new.newest ≡ entry seat old.tally.calls count shown (Look refusals) ∷ old.newest
+      → new.tally ≡ record old.tally { unseen = false; due = if can_step old.tally.job then old.tally.due else None } → new.job ≡ old.job → new.tally.job ≡ option_map told new.job
+      → old.tally.closed ≡ false → old.screen.planned ≡ None → contents_after ≡ contents
+      → faults_in faults old.newest ≤ count → (has_fault refusals ≡ true → HasRisen (faults_in faults old.newest) count) → IfKnown contents (λ log. AreRefused ListFolder log refusals)
+      → LookLeads (sight contents) old.tally.job old.tally.unseen refusals old.screen new.screen → new.quit ≡ old.quit
+      → Adds contents contents_after faults old new (entry seat old.tally.calls count shown (Look refusals))
+  adds_look refusals more tally job tells unclosed settled same later fault refused leads quit = record {
+    more = more;
+    tally = tally
+        ∙ ap (λ b. let r : Tally = record old.tally { job = if_closed b old.tally.job; unseen = false; due = if can_step old.tally.job then old.tally.due else None } in r) (sym unclosed);
+    told = tells;
+    timely = settled;
+    counts = record { later = later; fault = fault; calls = omega arith; most = omega arith };
+    leads = (unclosed, leads);
+    traced = leads_on contents contents_after same old new (entry seat old.tally.calls count shown (Look refusals)) old.job refl (λ log known. (refl, refl, refused log known)) (job ∙ open_job old.tally.closed old.job unclosed);
+    unknown = still_unknown contents contents_after same;
+    quit = λ h. inl (sym quit ∙ h);
+  }
+
+  -- a job that was begun
+  pub adds_began : (id : ℕ) (plan : Job) (run : Running) → new.newest ≡ entry seat old.tally.calls count shown (Began id plan false) ∷ old.newest
+      → option_map (running id) (first_work id plan) ≡ Some run → new.job ≡ Some run → new.tally ≡ record old.tally { job = Some (told run); last = id; due = Some id }
+      → old.tally.closed ≡ false → old.tally.job ≡ None → old.screen.planned ≡ Some (Begins plan) → contents_after ≡ contents → faults_in faults old.newest ≤ count
+      → id ≡ min (old.tally.last + 1) (2 ^ 32 - 1) → new.screen ≡ record old.screen { planned = None } → new.quit ≡ old.quit
+      → Adds contents contents_after faults old new (entry seat old.tally.calls count shown (Began id plan false))
+  adds_began id plan run more started job tally unclosed idle planned same later id_is screen quit = record {
+    more = more;
+    tally = tally
+        ∙ (ap (λ j. let r : Tally = record old.tally { job = j; last = id; due = Some id } in r) begun
+        ∙ ap (λ b. let r : Tally = record old.tally { job = if_closed b (option_map (running id) (first_work id plan)); last = id; due = Some id } in r) (sym unclosed));
+    told = ap (λ (t : Tally). t.job) tally ∙ sym (ap (option_map told) job);
+    timely = tt;
+    counts = record { later = later; fault = λ h. absurd h; calls = omega arith; most = omega arith };
+    leads = (planned, idle, some_work (first_work id plan) started, refl, id_is, screen);
+    traced = leads_on contents contents_after same old new (entry seat old.tally.calls count shown (Began id plan false)) (Some run) refl (λ log known. (sym started, refl)) (job ∙ open_job old.tally.closed (Some run) unclosed);
+    unknown = still_unknown contents contents_after same;
+    quit = λ h. inl (sym quit ∙ h);
+  }
+    where
+      begun : Some (told run) ≡ option_map (running id) (first_work id plan)
+      begun = sym (ap (option_map told) started) ∙ began_told id plan
+
+      some_work : (work : Option Rattle.copy_move.specs.declared.work.Work.Work) → option_map (running id) work ≡ Some run → IsSome work
+      some_work None h = absurd cc
+      some_work (Some work) h = refl
+
+  -- a trouble that was answered
+  pub adds_order : (answer : Answer) (live : Running) → new.newest ≡ entry seat old.tally.calls count shown (Order live.id (Answered answer)) ∷ old.newest
+      → old.job ≡ Some live → MayAnswer live answer → old.tally.job ≡ option_map told old.job → new.job ≡ Some (answered answer live)
+      → new.tally ≡ record old.tally { job = Some (told (answered answer live)); due = Some live.id }
+      → old.tally.closed ≡ false → old.screen.planned ≡ Some (Answers answer) → contents_after ≡ contents → faults_in faults old.newest ≤ count
+      → new.screen ≡ record old.screen { planned = None } → new.quit ≡ old.quit
+      → Adds contents contents_after faults old new (entry seat old.tally.calls count shown (Order live.id (Answered answer)))
+  adds_order answer live more is may tells job tally unclosed planned same later screen quit = record {
+    more = more;
+    tally = tally
+        ∙ (ap (λ j. let r : Tally = record old.tally { job = j; due = Some live.id } in r) (ap Some (answered_told answer live) ∙ sym (ap (option_map (answered answer)) told_is))
+        ∙ (ap (λ d. let r : Tally = record old.tally { job = option_map (answered answer) old.tally.job; due = d } in r) (sym (ap (option_map (λ (j : Running). j.id)) told_is))
+        ∙ ap (λ b. let r : Tally = record old.tally { job = if_closed b (option_map (answered answer) old.tally.job); due = option_map (λ (j : Running). j.id) old.tally.job } in r) (sym unclosed)));
+    told = ap (λ (t : Tally). t.job) tally ∙ sym (ap (option_map told) job);
+    timely = tt;
+    counts = record { later = later; fault = λ h. absurd h; calls = omega arith; most = omega arith };
+    leads = (planned, (told live, told_is, refl, may_answer_told live answer may), screen);
+    traced = leads_on contents contents_after same old new (entry seat old.tally.calls count shown (Order live.id (Answered answer))) (Some (answered answer live)) refl
+        (λ log known. (sym (ap (option_map (answered answer)) is), refl)) (job ∙ open_job old.tally.closed (Some (answered answer live)) unclosed);
+    unknown = still_unknown contents contents_after same;
+    quit = λ h. inl (sym quit ∙ h);
+  }
+    where
+      told_is : old.tally.job ≡ Some (told live)
+      told_is = tells ∙ ap (option_map told) is
+
+  -- the end of keys
+  pub adds_closed : new.newest ≡ entry seat old.tally.calls count shown Closed ∷ old.newest
+      → new.tally ≡ record old.tally { job = option_map closed_job old.tally.job; closed = true; due = None } → new.job ≡ option_map closed_job old.job → new.tally.job ≡ option_map told new.job
+      → old.screen.planned ≡ None → contents_after ≡ contents → faults_in faults old.newest ≤ count → new.screen ≡ old.screen → new.quit ≡ old.quit
+      → Adds contents contents_after faults old new (entry seat old.tally.calls count shown Closed)
+  adds_closed more tally job tells settled same later screen quit = record {
+    more = more;
+    tally = tally;
+    told = tells;
+    timely = settled;
+    counts = record { later = later; fault = λ h. absurd h; calls = omega arith; most = omega arith };
+    leads = screen;
+    traced = leads_on contents contents_after same old new (entry seat old.tally.calls count shown Closed) old.job refl (λ log known. (refl, refl)) job;
+    unknown = still_unknown contents contents_after same;
+    quit = λ h. inl (sym quit ∙ h);
+  }
+
+  unseen_step : (id : ℕ) (did : Did) (b : Bool) → (ends did || b) ≡ end_unseen_event (Step id did) b
+  unseen_step id (BeganPart part) b = refl
+  unseen_step id (Chunk bytes) b = refl
+  unseen_step id (Placed path) b = refl
+  unseen_step id (Removed path) b = refl
+  unseen_step id (Skipped path cause) b = refl
+  unseen_step id (Cleaned part) b = refl
+  unseen_step id Barrier b = refl
+  unseen_step id (Troubled trouble) b = refl
+  unseen_step id (Ended ending part) b = refl
+
+  stepped_tally : (t : Tally) (job job' : Option Running) (unseen unseen' : Bool) (calls : ℕ) → job ≡ job' → unseen ≡ unseen'
+      → (let r : Tally = record t { job = job; unseen = unseen; calls = calls } in r) ≡ record t { job = job'; unseen = unseen'; calls = calls }
+  stepped_tally t job job' unseen unseen' calls p q =
+      ap (λ j. let r : Tally = record t { job = j; unseen = unseen; calls = calls } in r) p ∙ ap (λ u. let r : Tally = record t { job = job'; unseen = u; calls = calls } in r) q
+
+  -- a step of the job
+  pub adds_step : (live stepped : Running) (did : Did) (made calls before after : ℕ) → old.job ≡ Some live → old.tally.job ≡ option_map told old.job
+      → StepsOn IsUnclaimed live stepped did made contents contents_after before after → calls ≡ old.tally.calls + made
+      → new.newest ≡ entry seat calls count shown (Step live.id did) ∷ old.newest
+      → new.job ≡ if_closed old.tally.closed (if ends did then None else Some stepped)
+      → new.tally ≡ record old.tally { job = option_map told new.job; unseen = ends did || old.tally.unseen; calls = calls }
+      → old.screen.planned ≡ None → faults_in faults old.newest ≤ before → after ≡ count → new.screen ≡ old.screen → new.quit ≡ old.quit
+      → Adds contents contents_after faults old new (entry seat calls count shown (Step live.id did))
+  adds_step live stepped did made calls before after is tells steps calls_is more job tally settled had now screen quit = record {
+    more = more;
+    tally = tally ∙ stepped_tally old.tally _ _ _ _ calls
+        (ap (option_map told) job ∙ (closed_told old.tally.closed (if ends did then None else Some stepped)
+        ∙ ap (if_closed old.tally.closed) (step_told live stepped did steps.tells ∙ sym (ap (λ j. option_and_then (after_step did) j) told_is)))) (unseen_step live.id did old.tally.unseen);
+    told = ap (λ (t : Tally). t.job) tally;
+    timely = settled;
+    counts = record {
+      later = let l = steps.later in omega (arith, l, had, now);
+      fault = λ h. let risen = steps.fault h in omega (arith, risen, had, now);
+      calls = omega (arith, calls_is);
+      most = let few = steps.few in omega (arith, calls_is, few);
+    };
+    leads = (screen, (told live, told_is, refl, inl (live, stepped, refl, steps.tells)));
+    traced = λ log known.
+        let called = steps.called log known in
+        let known_after = step_tells IsUnclaimed live did stepped log contents_after called in
+        let counted = steps.counted log known known_after.0 known_after.1 in (
+          known_after.0,
+          (if ends did then None else Some stepped),
+          known_after.1,
+          subst (λ j. traces.EventLeads j (Step live.id did) (if ends did then None else Some stepped) log known_after.0) (sym is)
+              (inl (stepped, steps.tells, subst (λ o. Rattle.copy_move.specs.Jobs.JobCalls IsUnclaimed live did stepped log o) known_after.1 called, refl)),
+          job,
+          omega (arith, counted, calls_is),
+        );
+    unknown = steps.unknown;
+    quit = λ h. inl (sym quit ∙ h);
+  }
+    where
+      told_is : old.tally.job ≡ Some (told live)
+      told_is = tells ∙ ap (option_map told) is
+
+  -- the end of a job for want of memory
+  pub adds_given_up : (live : Running) (part : Option Route) → old.job ≡ Some live → old.tally.job ≡ option_map told old.job → waits_on live.course ≡ false → part ≡ part_of live.work
+      → new.newest ≡ entry seat old.tally.calls count shown (Step live.id (Ended NoMemory part)) ∷ old.newest
+      → new.job ≡ None → new.tally ≡ record old.tally { job = None; unseen = true }
+      → old.screen.planned ≡ None → contents_after ≡ contents → faults_in faults old.newest ≤ count → new.screen ≡ old.screen → new.quit ≡ old.quit
+      → Adds contents contents_after faults old new (entry seat old.tally.calls count shown (Step live.id (Ended NoMemory part)))
+  adds_given_up live part is tells ready part_is more job tally settled same later screen quit = record {
+    more = more;
+    tally = tally ∙ stepped_tally old.tally _ _ _ _ old.tally.calls (none_left old.tally.closed ∙ ap (if_closed old.tally.closed) (sym (ap (λ j. option_and_then (after_step (Ended NoMemory part)) j) told_is))) refl;
+    told = ap (λ (t : Tally). t.job) tally ∙ sym (ap (option_map told) job);
+    timely = settled;
+    counts = record { later = later; fault = λ h. absurd h; calls = omega arith; most = omega arith };
+    leads = (screen, (told live, told_is, refl, inr (waits_told live ∙ ready, ap (Ended NoMemory) (part_is ∙ sym (part_told live)))));
+    traced = leads_on contents contents_after same old new (entry seat old.tally.calls count shown (Step live.id (Ended NoMemory part))) None refl
+        (λ log known. subst (λ j. traces.EventLeads j (Step live.id (Ended NoMemory part)) None log log) (sym is) (inr (ap (Ended NoMemory) part_is, refl, refl))) (job ∙ none_left old.tally.closed);
+    unknown = still_unknown contents contents_after same;
+    quit = λ h. inl (sym quit ∙ h);
+  }
+    where
+      told_is : old.tally.job ≡ Some (told live)
+      told_is = tells ∙ ap (option_map told) is
+
+      none_left : (closed : Bool) → (let o : Option Running = None in o) ≡ if_closed closed None
+      none_left true = refl
+      none_left false = refl

@@ -1,0 +1,75 @@
+-- What is to be looked at is the live job, if there is one.
+use Rattle.std.proofs.Common.{◌≡◌, ℕ, Bool, true, false, List, [], ◌∷◌, refl, sym, ap, ◌∙◌, Option, Some, None}
+use Rattle.std.specs.Prelude.{option_and_then, if◌then◌else◌}
+use Rattle.std.specs.Option.{option_map}
+use Rattle.file_copy.specs.declared.report.Did.{Did}
+use Rattle.file_copy.specs.declared.report.Did.TheVariants.{Began as BeganPart, Chunk, Placed, Removed, Skipped, Cleaned, Barrier, Troubled, Ended}
+use Rattle.copy_move.specs.declared.history.Answer.{Answer}
+use Rattle.copy_move.specs.declared.history.Answer.TheVariants.{Retry, Skip, SkipAll, Abort}
+use Rattle.copy_move.specs.declared.history.Entry.{Entry}
+use Rattle.copy_move.specs.declared.history.Event.{Event}
+use Rattle.copy_move.specs.declared.history.Event.TheVariants.{Key, Look, Began, Order, Step, Closed}
+use Rattle.copy_move.specs.declared.history.JobOrder.TheVariants.{Answered}
+use Rattle.copy_move.specs.declared.work.Work.{Work}
+use Rattle.copy_move.specs.declared.run.Course.{Course}
+use Rattle.copy_move.specs.declared.run.Course.TheVariants.{GoesOn, InTrouble, Skips, Ends}
+use Rattle.copy_move.specs.Jobs.{Running, answered, answered_on, first_work}
+use Rattle.copy_move.specs.Told.{live_job, is_closed, if_closed, after_event, after_step, running}
+use Rattle.mc_desk.specs.Tallies.{due_in, due_after, can_step}
+
+-- the number of a job, if there is one, is this
+abbrev Numbered : ℕ → Option Running → Type 0
+Numbered n job = (live : Running) → job ≡ Some live → live.id ≡ n
+
+still_numbered : (n : ℕ) (b : Bool) (job : Option Running) → Numbered n job → Numbered n (if_closed b job)
+still_numbered n false job h = h
+still_numbered n true None h = λ live is. absurd cc
+still_numbered n true (Some job) h = λ live is. let same : job.id ≡ live.id = cc in sym same ∙ h job refl
+
+step_numbered : (n : ℕ) (did : Did) (job : Option Running) → Numbered n job → Numbered n (option_and_then (after_step did) job)
+step_numbered n did None h live is = absurd cc
+step_numbered n (BeganPart part) (Some job) h live is = let same : job.id ≡ live.id = cc in sym same ∙ h job refl
+step_numbered n (Chunk bytes) (Some job) h live is = let same : job.id ≡ live.id = cc in sym same ∙ h job refl
+step_numbered n (Placed path) (Some job) h live is = let same : job.id ≡ live.id = cc in sym same ∙ h job refl
+step_numbered n (Removed path) (Some job) h live is = let same : job.id ≡ live.id = cc in sym same ∙ h job refl
+step_numbered n (Skipped path cause) (Some job) h live is = let same : job.id ≡ live.id = cc in sym same ∙ h job refl
+step_numbered n (Cleaned part) (Some job) h live is = let same : job.id ≡ live.id = cc in sym same ∙ h job refl
+step_numbered n Barrier (Some job) h live is = let same : job.id ≡ live.id = cc in sym same ∙ h job refl
+step_numbered n (Troubled trouble) (Some job) h live is = let same : job.id ≡ live.id = cc in sym same ∙ h job refl
+step_numbered n (Ended ending part) (Some job) h live is = absurd cc
+
+answered_id : (answer : Answer) (course : Course) (job : Running) → (answered_on course answer job).id ≡ job.id
+answered_id Retry (InTrouble cause) job = refl
+answered_id Skip (InTrouble cause) job = refl
+answered_id SkipAll (InTrouble cause) job = refl
+answered_id Abort (InTrouble cause) job = refl
+answered_id answer GoesOn job = refl
+answered_id answer (Skips cause) job = refl
+answered_id answer (Ends ending) job = refl
+
+began_numbered : (n id : ℕ) (work : Option Work) → id ≡ n → Numbered n (option_map (running id) work)
+began_numbered n id None is live at = absurd cc
+began_numbered n id (Some work) is live at = let same : id ≡ live.id = cc in sym same ∙ is
+
+order_numbered : (n : ℕ) (answer : Answer) (job : Option Running) → option_map (λ (live : Running). live.id) job ≡ Some n → Numbered n (option_map (answered answer) job)
+order_numbered n answer None is live at = absurd cc
+order_numbered n answer (Some job) is live at =
+    let number : job.id ≡ n = cc in
+    let same : (answered answer job).id ≡ live.id = let e : answered answer job ≡ live = cc in ap (λ (j : Running). j.id) e in
+    sym same ∙ (answered_id answer job.course job ∙ number)
+
+event_numbered : (n : ℕ) (what : Event) (job : Option Running) (due : Option ℕ) → ((m : ℕ) → due ≡ Some m → Numbered m job) → due_after what job due ≡ Some n → Numbered n (after_event what job)
+event_numbered n (Key key now refusals lost) job due h is = h n is
+event_numbered n (Look refusals) job due h is = go (can_step job) is
+  where
+    go : (b : Bool) → (if b then due else None) ≡ Some n → Numbered n job
+    go true is = h n is
+    go false is = absurd cc
+event_numbered n (Began id plan background) job due h is = began_numbered n id (first_work id plan) (let number : id ≡ n = cc in number)
+event_numbered n (Order id (Answered answer)) job due h is = order_numbered n answer job is
+event_numbered n (Step id did) job due h is = step_numbered n did job (h n is)
+event_numbered n Closed job due h is = absurd cc
+
+pub due_is_live : (newest : List Entry) (n : ℕ) → due_in newest ≡ Some n → Numbered n (live_job newest)
+due_is_live [] n is = λ live at. absurd cc
+due_is_live (e ∷ older) n is = still_numbered n (is_closed (e ∷ older)) (after_event e.what (live_job older)) (event_numbered n e.what (live_job older) (due_in older) (due_is_live older) is)

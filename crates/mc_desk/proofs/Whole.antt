@@ -1,0 +1,259 @@
+-- The entries of a desk leave a whole desk.
+use Rattle.std.proofs.Common.{◌≡◌, ◌⊎◌, ℕ, ◌+◌, ◌-◌, ◌*◌, ◌^◌, ◌≤◌, min, Bool, true, false, ◌||◌, List, [], ◌∷◌, length, refl, sym, ◌∙◌, ap, subst, inl, Option, Some, None, arith}
+use Rattle.std.specs.Prelude.{if◌then◌else◌}
+use Rattle.std.specs.Option.{option_map}
+use Rattle.key_screen.specs.declared.keys.Key.{Key as KeyType}
+use Rattle.key_screen.specs.declared.keys.Base.TheVariants.{F, Unknown}
+use Rattle.mc_text.specs.Routes.{Route}
+use Rattle.tree_trait.specs.Calls.{Stat, ListFolder}
+use Rattle.tree_trait.specs.FileSystem.{View}
+use Rattle.tree_trait.specs.Change.{CallLog}
+use Rattle.tree_trait.specs.Answers.{IfKnown, HasRisen}
+use Rattle.file_copy.specs.declared.report.Did.{Did}
+use Rattle.file_copy.specs.declared.report.Did.TheVariants.{Ended}
+use Rattle.file_copy.specs.declared.report.Ending.TheVariants.{NoMemory}
+use Rattle.file_copy.specs.declared.report.Trouble.{Trouble}
+use Rattle.copy_move.specs.declared.history.Entry.{Entry}
+use Rattle.copy_move.specs.declared.history.Event.TheVariants.{Key, Look, Began, Order, Step, Closed}
+use Rattle.copy_move.specs.declared.history.JobOrder.TheVariants.{Answered}
+use Rattle.copy_move.specs.declared.history.Answer.{Answer}
+use Rattle.copy_move.specs.declared.history.Job.{Job}
+use Rattle.copy_move.specs.declared.history.Refusal.{Refusal}
+use Rattle.copy_move.specs.declared.run.Course.{Course}
+use Rattle.copy_move.specs.declared.run.Course.TheVariants.{GoesOn, InTrouble, Skips, Ends}
+use Rattle.copy_move.specs.Jobs.{Running, MayAnswer, answered, closed_course, closed_job, ends, first_work, part_of, waits_on}
+use Rattle.copy_move.specs.Told.{after_event, if_closed, is_closed, live_job, running, told}
+use Rattle.copy_move.specs.Steps.{StepsOn}
+use Rattle.copy_move.specs.Traces.{AreRefused, IsUnclaimed}
+use Rattle.mc_desk.specs.declared.asks.Ask.{Ask}
+use Rattle.mc_desk.specs.declared.asks.Ask.TheVariants as ask
+use Rattle.mc_desk.specs.declared.asks.Confirmed.{Confirmed}
+use Rattle.mc_desk.specs.Screens.{Box, Screen, NoBox, DeleteBox, MaskBox, TargetBox, TroubleBox, Planned, Begins, Answers, ByBox, KeyLeads, LookLeads, LooksAgain, ShowsTrouble, WellAsked, plain_base, sight, with_ask}
+use Rattle.mc_desk.specs.Tallies.{Tally, faults_in, can_step, has_fault}
+use Rattle.mc_desk.specs.Desks.{Seen, kept_room, IsWritten, IsDesk}
+use Rattle.mc_desk.proofs.Adding.{adds_began, adds_closed, adds_given_up, adds_key, adds_look, adds_lost, adds_order, adds_step, entry}
+use Rattle.mc_desk.proofs.Answering.{shows_told}
+use Rattle.mc_desk.proofs.Keeping.{written_more}
+
+-- two entries are room enough
+room_two : (closed : Bool) (job : Option Running) → kept_room closed job ≤ 2
+room_two true None = omega arith
+room_two true (Some job) = omega arith
+room_two false None = omega arith
+room_two false (Some job) = omega arith
+
+-- a written desk on which nothing waits is whole
+desk_of : (opening contents : Option CallLog) (faults : ℕ) (desk : Seen) → IsWritten opening contents faults desk → desk.screen.planned ≡ None → (desk.tally.lost ≡ true → desk.tally.closed ≡ true)
+    → (desk.tally.closed ≡ true → desk.tally.due ≡ None) → 2 ≤ desk.spare → IsDesk opening contents faults desk
+desk_of opening contents faults desk written settled lost shut room =
+    record { written = written; settled = settled; lost = lost; shut = shut; room = let two = room_two desk.tally.closed desk.job in omega (arith, two, room) }
+
+closed_waits : (course : Course) → waits_on (closed_course course) ≡ false
+closed_waits GoesOn = refl
+closed_waits (InTrouble cause) = refl
+closed_waits (Skips cause) = refl
+closed_waits (Ends ending) = refl
+
+never_waits : (job : Option Running) (live : Running) → if_closed true job ≡ Some live → waits_on live.course ≡ false
+never_waits None live is = absurd cc
+never_waits (Some job) live is = let same : closed_job job ≡ live = cc in sym (ap (λ (j : Running). waits_on j.course) same) ∙ closed_waits job.course
+
+-- a closed desk's job never waits
+pub closed_goes_on : (opening contents : Option CallLog) (faults : ℕ) (old : Seen) (live : Running) → IsDesk opening contents faults old → old.tally.closed ≡ true → old.job ≡ Some live → waits_on live.course ≡ false
+closed_goes_on opening contents faults old live desk closed is =
+    waits old.newest (sym (ap (λ (t : Tally). t.closed) desk.written.tally) ∙ closed)
+    (sym (ap (λ (t : Tally). t.job) desk.written.tally) ∙ (desk.written.told ∙ ap (option_map told) is))
+  where
+    waits : (newest : List Entry) → is_closed newest ≡ true → live_job newest ≡ Some (told live) → waits_on live.course ≡ false
+    waits [] shut at = absurd cc
+    waits (e ∷ older) shut at = never_waits (after_event e.what (live_job older)) (told live) (ap (λ b. if_closed b (after_event e.what (live_job older))) (sym shut) ∙ at)
+
+-- an open desk has lost no key
+unlost : (opening contents : Option CallLog) (faults : ℕ) (old : Seen) → IsDesk opening contents faults old → old.tally.closed ≡ false → old.tally.lost ≡ false
+unlost opening contents faults old desk unclosed = go old.tally.lost refl
+  where
+    go : (b : Bool) → old.tally.lost ≡ b → b ≡ false
+    go false is = refl
+    go true is = let shut = desk.lost is in cc
+
+cleared : (s : Screen) → s.planned ≡ None → s ≡ (let c : Screen = record s { planned = None } in c)
+cleared s h = ap (λ o. let c : Screen = record s { planned = o } in c) h
+
+last_room : (job : Option Running) → kept_room true job ≤ 1
+last_room None = omega arith
+last_room (Some job) = omega arith
+
+module _ (opening contents contents_after : Option CallLog) (faults : ℕ) (old new : Seen) (count shown : ℕ) (key : KeyType) (now : ℕ) (desk : IsDesk opening contents faults old)
+    (unclosed : old.tally.closed ≡ false) (looked : old.tally.due ≡ None) (same : contents_after ≡ contents) (later : faults_in faults old.newest ≤ count) where
+  -- a key that was lost, and the end of keys
+  pub desk_lost : new.newest ≡ entry 0 old.tally.calls count 0 Closed ∷ (entry 0 old.tally.calls count shown (Key key now [] true) ∷ old.newest)
+      → new.tally ≡ record old.tally { job = option_map closed_job old.tally.job; closed = true; due = None; lost = true } → new.job ≡ option_map closed_job old.job → new.tally.job ≡ option_map told new.job
+      → new.screen ≡ old.screen → new.quit ≡ old.quit → 1 ≤ new.spare
+      → IsDesk opening contents_after faults new
+  desk_lost more is job tells screen quit room = record {
+    written =
+        written_more faults mid new _ opening contents_after contents_after
+        (written_more faults old mid _ opening contents contents_after desk.written
+        (adds_lost contents contents_after faults old mid 0 count shown key now refl refl refl desk.written.told unclosed looked (unlost opening contents faults old desk unclosed) desk.settled same later refl refl))
+        (adds_closed contents_after contents_after faults mid new 0 count 0 more is job tells desk.settled refl (omega arith) screen quit);
+    settled = ap (λ (s : Screen). s.planned) screen ∙ desk.settled;
+    lost = λ h. ap (λ (t : Tally). t.closed) is;
+    shut = λ h. ap (λ (t : Tally). t.due) is;
+    room = let closed = ap (λ (t : Tally). t.closed) is in rw closed (let one = last_room new.job in omega (arith, one, room));
+  }
+    where
+      mid : Seen
+      mid = record old { newest = entry 0 old.tally.calls count shown (Key key now [] true) ∷ old.newest; tally = record old.tally { lost = true } }
+
+  module _ (refusals : List Refusal) (asked : Ask) (fault : has_fault refusals ≡ true → HasRisen (faults_in faults old.newest) count)
+      (refused : IfKnown contents (λ log. AreRefused Stat log refusals)) (leads : KeyLeads (sight contents) old.tally.job key refusals old.screen (with_ask asked new.screen))
+      (settled : new.screen.planned ≡ None) (room : 2 ≤ new.spare) (tells : new.tally.job ≡ option_map told new.job) where
+    -- a key that was worked
+    pub desk_keyed : new.newest ≡ entry 0 old.tally.calls count shown (Key key now refusals false) ∷ old.newest → new.tally ≡ old.tally → new.job ≡ old.job → with_ask asked new.screen ≡ new.screen
+        → (new.quit ≡ true → (old.quit ≡ true) ⊎ ((plain_base key ≡ F 10) × (old.screen.over ≡ NoBox))) → IsDesk opening contents_after faults new
+    desk_keyed more is job asks quit =
+        desk_of opening contents_after faults new
+        (written_more faults old new _ opening contents contents_after desk.written
+        (adds_key contents contents_after faults old new 0 count shown key now refusals more is job tells unclosed looked (unlost opening contents faults old desk unclosed) desk.settled same later fault refused
+        (subst (λ s. KeyLeads (sight contents) old.tally.job key refusals old.screen s) asks leads) quit))
+        settled (λ h. ap (λ (t : Tally). t.closed) is ∙ desk.lost (sym (ap (λ (t : Tally). t.lost) is) ∙ h))
+        (λ h. ap (λ (t : Tally). t.due) is ∙ desk.shut (sym (ap (λ (t : Tally). t.closed) is) ∙ h)) room
+
+    -- the key, on a screen on which what it asked is still to be carried out
+    abbrev keyed : Screen → Seen
+    keyed screen = record old { newest = entry 0 old.tally.calls count shown (Key key now refusals false) ∷ old.newest; screen = screen }
+
+    keyed_written : (screen : Screen) → with_ask asked new.screen ≡ screen → IsWritten opening contents_after faults (keyed screen)
+    keyed_written screen asks =
+        written_more faults old (keyed screen) _ opening contents contents_after desk.written
+        (adds_key contents contents_after faults old (keyed screen) 0 count shown key now refusals refl refl refl desk.written.told unclosed looked (unlost opening contents faults old desk unclosed) desk.settled same later fault
+        refused (subst (λ s. KeyLeads (sight contents) old.tally.job key refusals old.screen s) asks leads) (λ h. inl h))
+
+    -- a key that confirmed a job, and the job that it begins
+    pub desk_began : (confirmed : Confirmed) (id began_count : ℕ) → asked ≡ ask.Begin confirmed → confirmed.run.id ≡ id → old.job ≡ None
+        → option_map (running confirmed.run.id) (first_work confirmed.run.id confirmed.plan) ≡ Some confirmed.run
+        → new.newest ≡ entry 0 old.tally.calls began_count 0 (Began id confirmed.plan false) ∷ (entry 0 old.tally.calls count shown (Key key now refusals false) ∷ old.newest)
+        → count ≤ began_count → id ≡ min (old.tally.last + 1) (2 ^ 32 - 1) → new.job ≡ Some confirmed.run
+        → new.tally ≡ record old.tally { job = Some (told confirmed.run); last = id; due = Some id } → new.quit ≡ old.quit
+        → IsDesk opening contents_after faults new
+    desk_began confirmed id began_count asks number idle started more counted id_is job is quit =
+        desk_of opening contents_after faults new
+        (written_more faults (keyed screen) new _ opening contents_after contents_after (keyed_written screen (ap (λ a. with_ask a new.screen) asks))
+        (adds_began contents_after contents_after faults (keyed screen) new 0 began_count 0 id confirmed.plan confirmed.run more
+        (subst (λ n. option_map (running n) (first_work n confirmed.plan) ≡ Some confirmed.run) number started) job is unclosed (desk.written.told ∙ ap (option_map told) idle) refl refl counted id_is
+        (cleared new.screen settled) quit))
+        settled (λ h. ap (λ (t : Tally). t.closed) is ∙ desk.lost (sym (ap (λ (t : Tally). t.lost) is) ∙ h))
+        (λ h. absurd (let shut = ap (λ (t : Tally). t.closed) is in cc)) room
+      where
+        screen : Screen
+        screen = record new.screen { planned = Some (Begins confirmed.plan) }
+
+    -- a key that answers the job's trouble, and the order
+    pub desk_ordered : (answer : Answer) (live : Running) (order_count : ℕ) → asked ≡ ask.Answer answer → old.job ≡ Some live → MayAnswer live answer
+        → new.newest ≡ entry 0 old.tally.calls order_count 0 (Order live.id (Answered answer)) ∷ (entry 0 old.tally.calls count shown (Key key now refusals false) ∷ old.newest)
+        → count ≤ order_count → new.job ≡ Some (answered answer live)
+        → new.tally ≡ record old.tally { job = Some (told (answered answer live)); due = Some live.id } → new.quit ≡ old.quit
+        → IsDesk opening contents_after faults new
+    desk_ordered answer live order_count asks was may more counted job is quit =
+        desk_of opening contents_after faults new
+        (written_more faults (keyed screen) new _ opening contents_after contents_after (keyed_written screen (ap (λ a. with_ask a new.screen) asks))
+        (adds_order contents_after contents_after faults (keyed screen) new 0 order_count 0 answer live more was may desk.written.told job is unclosed refl refl counted (cleared new.screen settled) quit))
+        settled (λ h. ap (λ (t : Tally). t.closed) is ∙ desk.lost (sym (ap (λ (t : Tally). t.lost) is) ∙ h))
+        (λ h. absurd (let shut = ap (λ (t : Tally). t.closed) is in cc)) room
+      where
+        screen : Screen
+        screen = record new.screen { planned = Some (Answers answer) }
+
+closed_room : (job : Option Running) (spare spare_after : ℕ) → kept_room false job ≤ spare → spare ≤ spare_after + 1 → kept_room true (option_map closed_job job) ≤ spare_after
+closed_room None spare spare_after had left = omega (arith, had, left)
+closed_room (Some job) spare spare_after had left = omega (arith, had, left)
+
+-- the end of keys, written down in the room that was kept for it
+pub desk_closed : (opening contents : Option CallLog) (faults : ℕ) (old new : Seen) (count : ℕ) → IsDesk opening contents faults old → old.tally.closed ≡ false → faults_in faults old.newest ≤ count
+    → new.newest ≡ entry 0 old.tally.calls count 0 Closed ∷ old.newest
+    → new.tally ≡ record old.tally { job = option_map closed_job old.tally.job; closed = true; due = None } → new.job ≡ option_map closed_job old.job → new.tally.job ≡ option_map told new.job
+    → new.screen ≡ old.screen → new.quit ≡ old.quit → old.spare ≤ new.spare + 1 → IsDesk opening contents faults new
+desk_closed opening contents faults old new count desk unclosed later more is job tells screen quit left = record {
+  written = written_more faults old new _ opening contents contents desk.written
+      (adds_closed contents contents faults old new 0 count 0 more is job tells desk.settled refl later screen quit);
+  settled = ap (λ (s : Screen). s.planned) screen ∙ desk.settled;
+  lost = λ h. ap (λ (t : Tally). t.closed) is;
+  shut = λ h. ap (λ (t : Tally). t.due) is;
+  room = subst (λ b. kept_room b new.job ≤ new.spare) (sym (ap (λ (t : Tally). t.closed) is)) (subst (λ j. kept_room true j ≤ new.spare) (sym job)
+      (closed_room old.job old.spare new.spare (subst (λ b. kept_room b old.job ≤ old.spare) unclosed desk.room) left));
+}
+
+-- a look, written down
+pub desk_looked : (opening contents contents_after : Option CallLog) (faults : ℕ) (old new : Seen) (count shown : ℕ) (refusals : List Refusal) (trouble : Option Trouble) → IsDesk opening contents faults old
+    → old.tally.closed ≡ false → contents_after ≡ contents → faults_in faults old.newest ≤ count → (has_fault refusals ≡ true → HasRisen (faults_in faults old.newest) count)
+    → IfKnown contents (λ log. AreRefused ListFolder log refusals) → ShowsTrouble old.job trouble → LooksAgain (sight contents) old.tally.unseen trouble refusals old.screen new.screen
+    → new.newest ≡ entry 0 old.tally.calls count shown (Look refusals) ∷ old.newest
+    → new.tally ≡ record old.tally { unseen = false; due = if can_step old.tally.job then old.tally.due else None } → new.job ≡ old.job → new.tally.job ≡ option_map told new.job
+    → new.screen.planned ≡ None → new.quit ≡ old.quit → 2 ≤ new.spare
+    → IsDesk opening contents_after faults new
+desk_looked opening contents contents_after faults old new count shown refusals trouble desk unclosed same later fault refused shows leads more is job tells settled quit room =
+    desk_of opening contents_after faults new
+    (written_more faults old new _ opening contents contents_after desk.written
+    (adds_look contents contents_after faults old new 0 count shown refusals more is job tells unclosed desk.settled same later fault refused
+    (trouble, subst (λ j. ShowsTrouble j trouble) (sym desk.written.told) (shows_told old.job trouble shows), leads) quit))
+    settled (λ h. ap (λ (t : Tally). t.closed) is ∙ desk.lost (sym (ap (λ (t : Tally). t.lost) is) ∙ h)) (λ h. absurd (let shut = ap (λ (t : Tally). t.closed) is in cc)) room
+
+-- a step of the job, written down
+pub desk_stepped : (opening contents contents_after : Option CallLog) (faults : ℕ) (old new : Seen) (seat count made calls before after : ℕ) (live stepped : Running) (did : Did)
+    → IsDesk opening contents faults old → old.job ≡ Some live → StepsOn IsUnclaimed live stepped did made contents contents_after before after → length old.newest + 3 ≤ 2 ^ 56
+    → calls ≡ min (old.tally.calls + made) (2 ^ 64 - 1) → faults_in faults old.newest ≤ before → after ≡ count
+    → new.newest ≡ entry seat calls count 0 (Step live.id did) ∷ old.newest
+    → new.job ≡ if_closed old.tally.closed (if ends did then None else Some stepped)
+    → new.tally ≡ record old.tally { job = option_map told new.job; unseen = ends did || old.tally.unseen; calls = calls } → new.screen ≡ old.screen
+    → new.quit ≡ old.quit → 2 ≤ new.spare → IsDesk opening contents_after faults new
+desk_stepped opening contents contents_after faults old new seat count made calls before after live stepped did desk is steps fits calls_is had now more job tally screen quit room =
+    let all : calls ≡ old.tally.calls + made = let few = desk.written.calls in let three = steps.few in omega (arith, calls_is, three, fits, few) in
+    desk_of opening contents_after faults new
+    (written_more faults old new _ opening contents contents_after desk.written
+    (adds_step contents contents_after faults old new seat count 0 live stepped did made calls before after is desk.written.told steps all more job tally desk.settled had now screen quit))
+    (ap (λ (s : Screen). s.planned) screen ∙ desk.settled) (λ h. ap (λ (t : Tally). t.closed) tally ∙ desk.lost (sym (ap (λ (t : Tally). t.lost) tally) ∙ h))
+    (λ h. ap (λ (t : Tally). t.due) tally ∙ desk.shut (sym (ap (λ (t : Tally). t.closed) tally) ∙ h)) room
+
+pub room_left : (closed : Bool) (job : Option Running) (live : Running) (spare reserved left : ℕ) → job ≡ Some live → kept_room closed job ≤ spare → spare ≤ reserved → reserved ≤ left + 1 → kept_room closed None ≤ left
+room_left closed job live spare reserved left is had kept noted = go closed (subst (λ j. kept_room closed j ≤ spare) is had)
+  where
+    go : (closed : Bool) → kept_room closed (Some live) ≤ spare → kept_room closed None ≤ left
+    go true had = omega (arith, had, kept, noted)
+    go false had = omega (arith, had, kept, noted)
+
+-- the live job's trouble may be answered as it was asked
+pub asked_live : (next : ℕ) (job : Option Running) (answer : Answer) (live : Running) → job ≡ Some live → WellAsked next job (ask.Answer answer) → MayAnswer live answer
+asked_live next job answer live is (other, was, may) = let same : other ≡ live = let both : Some other ≡ Some live = sym was ∙ is in cc in subst (λ j. MayAnswer j answer) same may
+
+-- a key that is unknown leaves the screen as it was
+unknown_stays : (tree : Option View) (job : Option Running) (key : KeyType) (refusals : List Refusal) (before after : Screen) → plain_base key ≡ Unknown → KeyLeads tree job key refusals before after → after ≡ before
+unknown_stays tree job key refusals before after unknown leads = go before.over (subst (λ b. ByBox before.over tree job b refusals before after) unknown leads)
+  where
+    go : (over : Box) → ByBox over tree job Unknown refusals before after → after ≡ before
+    go NoBox h = h.1
+    go (DeleteBox path) h = h.1
+    go (MaskBox path) h = h.1
+    go (TargetBox path) h = h.1
+    go (TroubleBox trouble) h = h.1
+
+-- so it asks for nothing that is to be carried out
+pub unknown_plans_nothing : (tree : Option View) (job : Option Running) (key : KeyType) (refusals : List Refusal) (before after : Screen) (asked : Ask) (planned : Planned) → plain_base key ≡ Unknown → before.planned ≡ None
+    → KeyLeads tree job key refusals before (with_ask asked after) → (with_ask asked after).planned ≡ Some planned → ⊥
+unknown_plans_nothing tree job key refusals before after asked planned unknown settled leads plans =
+    let none = ap (λ (s : Screen). s.planned) (unknown_stays tree job key refusals before (with_ask asked after) unknown leads) ∙ settled in
+    cc
+
+-- the end of a job for want of memory, written down in the room that was kept for it
+pub desk_gave_up : (opening contents : Option CallLog) (faults : ℕ) (old new : Seen) (seat count : ℕ) (live : Running) (part : Option Route)
+    → IsDesk opening contents faults old → old.job ≡ Some live → waits_on live.course ≡ false → part ≡ part_of live.work → faults_in faults old.newest ≤ count
+    → new.newest ≡ entry seat old.tally.calls count 0 (Step live.id (Ended NoMemory part)) ∷ old.newest
+    → new.job ≡ None → new.tally ≡ record old.tally { job = None; unseen = true } → new.screen ≡ old.screen → new.quit ≡ old.quit → kept_room old.tally.closed None ≤ new.spare
+    → IsDesk opening contents faults new
+desk_gave_up opening contents faults old new seat count live part desk is ready part_is later more job tally screen quit room = record {
+  written = written_more faults old new _ opening contents contents desk.written
+      (adds_given_up contents contents faults old new seat count 0 live part is desk.written.told ready part_is more job tally desk.settled refl later screen quit);
+  settled = ap (λ (s : Screen). s.planned) screen ∙ desk.settled;
+  lost = λ h. ap (λ (t : Tally). t.closed) tally ∙ desk.lost (sym (ap (λ (t : Tally). t.lost) tally) ∙ h);
+  shut = λ h. ap (λ (t : Tally). t.due) tally ∙ desk.shut (sym (ap (λ (t : Tally). t.closed) tally) ∙ h);
+  room = subst (λ j. kept_room new.tally.closed j ≤ new.spare) (sym job) (subst (λ b. kept_room b None ≤ new.spare) (sym (ap (λ (t : Tally). t.closed) tally)) room);
+}
