@@ -1,5 +1,5 @@
 -- Each step of a job leaves fewer steps to be made.
-use Rattle.std.proofs.Common.{◌≡◌, ℕ, ◌+◌, ◌-◌, ◌<◌, ◌≤◌, false, true, [], ◌∷◌, sym, subst, ap, ◌∙◌, inl, inr, Option, Some, None, arith}
+use Rattle.std.proofs.Common.{◌≡◌, ℕ, ◌+◌, ◌-◌, ◌<◌, ◌≤◌, false, sym, subst, arith}
 use Rattle.std.specs.Prelude.{◌^◌}
 use Rattle.mc_text.specs.Routes.{Route}
 use Rattle.file_copy.specs.declared.report.Ending.{Ending}

@@ -1,21 +1,17 @@
 -- A step of a job is a piece of its work, by its course.
-use Rattle.std.proofs.Common.{◌≡◌, ℕ, ◌<◌, sym, ap, subst, ◌∙◌, refl, arith, inl, inr, Option, None}
+use Rattle.std.proofs.Common.{◌≡◌, ℕ, ◌<◌, sym, subst, arith, Option}
 use Rattle.mc_text.specs.Routes.{Route}
 use Rattle.tree_trait.specs.Change.{CallLog}
-use Rattle.tree_trait.specs.Answers.{HasRisen}
-use Rattle.file_copy.specs.declared.report.Cause.{Cause}
 use Rattle.file_copy.specs.declared.report.Ending.{Ending}
 use Rattle.file_copy.specs.declared.report.Did.{Did}
 use Rattle.file_copy.specs.declared.report.Did.TheVariants.{Began, Chunk, Placed, Removed, Skipped, Cleaned, Barrier, Troubled, Ended}
 use Rattle.file_copy.specs.CopySteps.{IsFault}
 use Rattle.copy_move.specs.declared.work.Work.{Work}
 use Rattle.copy_move.specs.declared.work.Work.TheVariants.{Copy, Delete}
-use Rattle.copy_move.specs.declared.run.Course.{Course}
-use Rattle.copy_move.specs.declared.run.Course.TheVariants.{GoesOn, InTrouble, Skips, Ends}
-use Rattle.copy_move.specs.Jobs.{Running, TellsOn, CallsOn, WorkWinds, course_after, ends}
-use Rattle.copy_move.specs.Ranks.{rank, rank_on}
-use Rattle.copy_move.specs.Steps.{StepsOn, SkipSteps, WorkSkips, WorkSteps, WorkWindsUp}
-use Rattle.copy_move.proofs.Falling.{passing_falls, waiting_falls}
+use Rattle.copy_move.specs.declared.run.Course.TheVariants.{GoesOn, Ends}
+use Rattle.copy_move.specs.Jobs.{Running, TellsOn, CallsOn, WorkWinds, course_after}
+use Rattle.copy_move.specs.Ranks.{rank_on}
+use Rattle.copy_move.specs.Steps.{StepsOn, WorkSteps, WorkWindsUp}
 
 -- no last step reports a fault
 quiet_end : (ending : Ending) (old new : Work) (did : Did) → WorkWinds ending old did new → IsFault did → ⊥
@@ -37,32 +33,32 @@ module _ (unclaimed : Route → Type 0) (job new : Running) (did : Did) (calls :
       → new ≡ record job { work = work; course = course_after did } → StepsOn unclaimed job new did calls before after faults faults_after
   run_goes own work same course steps is =
       let s = subst (λ w. WorkSteps unclaimed w work did calls before after faults faults_after) same steps in record {
-    tells = subst (λ c. TellsOn c job did new) (sym course) (work, s.tells, is);
-    called = λ log known.
-        subst (λ c. CallsOn unclaimed c job did new log after) (sym course)
-        (subst (λ (n : Running). CallsOn unclaimed GoesOn job did n log after) (sym is) (s.called log known));
-    counted = s.counted;
-    few = s.few;
-    unknown = s.unknown;
-    later = s.later;
-    fault = s.fault;
-    falls = λ going.
-        subst (λ (n : Running). rank_on n.course n.work < rank_on job.course job.work) (sym is)
-        (subst (λ c. rank_on (course_after did) work < rank_on c job.work) (sym course) (s.falls going));
-  }
+        tells = subst (λ c. TellsOn c job did new) (sym course) (work, s.tells, is);
+        called = λ log known.
+            subst (λ c. CallsOn unclaimed c job did new log after) (sym course)
+            (subst (λ (n : Running). CallsOn unclaimed GoesOn job did n log after) (sym is) (s.called log known));
+        counted = s.counted;
+        few = s.few;
+        unknown = s.unknown;
+        later = s.later;
+        fault = s.fault;
+        falls = λ going.
+            subst (λ (n : Running). rank_on n.course n.work < rank_on job.course job.work) (sym is)
+            (subst (λ c. rank_on (course_after did) work < rank_on c job.work) (sym course) (s.falls going));
+      }
 
   pub run_ends : (ending : Ending) (own work : Work) → own ≡ job.work → job.course ≡ Ends ending → WorkWindsUp ending own work did calls before after faults faults_after
       → new ≡ record job { work = work } → StepsOn unclaimed job new did calls before after faults faults_after
   run_ends ending own work same course steps is =
       let s = subst (λ w. WorkWindsUp ending w work did calls before after faults faults_after) same steps in record {
-    tells = subst (λ c. TellsOn c job did new) (sym course) (work, s.tells, is);
-    called = λ log known. subst (λ c. CallsOn unclaimed c job did new log after) (sym course) (s.called log known);
-    counted = s.counted;
-    few = let few = s.few in omega (arith, few);
-    unknown = s.unknown;
-    later = s.later;
-    fault = λ h. absurd (quiet_end ending job.work work did s.tells h);
-    falls = λ going.
-        subst (λ (n : Running). rank_on n.course n.work < rank_on job.course job.work) (sym is)
-        (subst (λ c. rank_on c work < rank_on c job.work) (sym course) (s.falls going));
-  }
+        tells = subst (λ c. TellsOn c job did new) (sym course) (work, s.tells, is);
+        called = λ log known. subst (λ c. CallsOn unclaimed c job did new log after) (sym course) (s.called log known);
+        counted = s.counted;
+        few = let few = s.few in omega (arith, few);
+        unknown = s.unknown;
+        later = s.later;
+        fault = λ h. absurd (quiet_end ending job.work work did s.tells h);
+        falls = λ going.
+            subst (λ (n : Running). rank_on n.course n.work < rank_on job.course job.work) (sym is)
+            (subst (λ c. rank_on c work < rank_on c job.work) (sym course) (s.falls going));
+      }

@@ -1,10 +1,9 @@
 -- The live job of a trace is, as its history tells it, the live job of the history.
-use Rattle.std.proofs.Common.{◌≡◌, ℕ, Bool, true, false, List, [], ◌∷◌, refl, sym, ap, subst, ◌∙◌, inl, inr, Option, Some, None}
+use Rattle.std.proofs.Common.{◌≡◌, ℕ, Bool, true, false, List, [], ◌∷◌, refl, sym, ap, ◌∙◌, inl, inr, Option, Some, None}
 use Rattle.std.specs.Prelude.{if◌then◌else◌, is_some, ◌&&◌}
 use Rattle.std.specs.Option.{option_map}
 use Rattle.mc_text.specs.Routes.{Route, parent_of}
 use Rattle.tree_trait.specs.Change.{CallLog}
-use Rattle.file_copy.specs.declared.report.Cause.{Cause}
 use Rattle.file_copy.specs.declared.report.Ending.{Ending}
 use Rattle.file_copy.specs.declared.report.Ending.TheVariants.{Finished, Aborted, Killed, NoMemory}
 use Rattle.file_copy.specs.declared.report.Did.{Did}
@@ -13,11 +12,10 @@ use Rattle.file_copy.specs.declared.stage.Next.{Next}
 use Rattle.file_copy.specs.declared.stage.Next.TheVariants as next
 use Rattle.file_copy.specs.declared.stage.Stage.{Stage}
 use Rattle.file_copy.specs.declared.stage.Stage.TheVariants as at
-use Rattle.file_copy.specs.declared.stage.FolderState.{FolderState}
-use Rattle.file_copy.specs.declared.stage.FolderState.TheVariants.{Synced, Dirty}
+use Rattle.file_copy.specs.declared.stage.FolderState.TheVariants.{Synced}
 use Rattle.file_copy.specs.Copying.{Copying, Tells, after_clean}
 use Rattle.file_copy.specs.Copying as copying
-use Rattle.file_copy.specs.LastSteps.{Winds, given_up, removable}
+use Rattle.file_copy.specs.LastSteps.{Winds, given_up}
 use Rattle.copy_move.specs.declared.history.Job.{Job}
 use Rattle.copy_move.specs.declared.history.Job.TheVariants as plan
 use Rattle.copy_move.specs.declared.history.Answer.{Answer}
@@ -27,16 +25,15 @@ use Rattle.copy_move.specs.declared.history.Event.TheVariants.{Key, Look, Order,
 use Rattle.copy_move.specs.declared.history.Event.TheVariants as event
 use Rattle.copy_move.specs.declared.history.JobOrder.TheVariants.{Answered}
 use Rattle.copy_move.specs.declared.history.Entry.{Entry}
-use Rattle.copy_move.specs.declared.deletion.Stage.TheVariants as deletion
 use Rattle.copy_move.specs.declared.work.Work.{Work}
 use Rattle.copy_move.specs.declared.work.Work.TheVariants.{Copy, Delete}
 use Rattle.copy_move.specs.declared.run.Course.{Course}
 use Rattle.copy_move.specs.declared.run.Course.TheVariants.{GoesOn, InTrouble, Skips, Ends}
 use Rattle.copy_move.specs.Deletions.{Deleting}
 use Rattle.copy_move.specs.Deletions as deletions
-use Rattle.copy_move.specs.Jobs.{Running, JobTells, TellsOn, WorkTells, WorkWinds, answered, answered_on, closed_job, copies, course_after, deletes, ends, first_work, skipped, taken_anew}
-use Rattle.copy_move.specs.Told.{after_event, after_step, cleaned, if_closed, is_closed, live_job, placed, removed, running, stage_told, synced, told, with_part, work_told}
-use Rattle.copy_move.specs.Traces.{EventLeads, StepLeads, IsTraced}
+use Rattle.copy_move.specs.Jobs.{Running, JobTells, TellsOn, WorkTells, WorkWinds, answered, answered_on, copies, course_after, deletes, ends, first_work, skipped, taken_anew}
+use Rattle.copy_move.specs.Told.{after_event, after_step, if_closed, is_closed, live_job, running, stage_told, told, work_told}
+use Rattle.copy_move.specs.Traces.{EventLeads, IsTraced}
 
 -- a job, by its parts
 abbrev job_of : ℕ → Work → Course → Running

@@ -3,7 +3,6 @@
 use Rattle.std.specs.Prelude.{◌≡◌, ◌⊎◌, ℕ, ⊤, Bool, true, false, ◌&&◌, is_some, if◌then◌else◌, [], ◌∷◌, Option, Some, None}
 use Rattle.mc_text.specs.Routes.{Route, parent_of}
 use Rattle.tree_trait.specs.Change.{CallLog}
-use Rattle.file_copy.specs.declared.report.Cause.{Cause}
 use Rattle.file_copy.specs.declared.report.Cause.TheVariants.{Memory}
 use Rattle.file_copy.specs.declared.report.Trouble.{Trouble}
 use Rattle.file_copy.specs.declared.report.Ending.{Ending}

@@ -15,15 +15,14 @@ use Rattle.file_copy.specs.LastSteps.{given_up}
 use Rattle.copy_move.specs.declared.history.Event.{Event}
 use Rattle.copy_move.specs.declared.history.Event.TheVariants.{Key, Look, Order, Step, Closed}
 use Rattle.copy_move.specs.declared.history.Event.TheVariants as event
-use Rattle.copy_move.specs.declared.history.JobOrder.{JobOrder}
 use Rattle.copy_move.specs.declared.history.JobOrder.TheVariants.{Answered}
 use Rattle.copy_move.specs.declared.history.Entry.{Entry}
 use Rattle.copy_move.specs.declared.deletion.Stage.TheVariants as deletion
 use Rattle.copy_move.specs.declared.work.Work.{Work}
 use Rattle.copy_move.specs.declared.work.Work.TheVariants.{Copy, Delete}
 use Rattle.copy_move.specs.declared.run.Course.{Course}
-use Rattle.copy_move.specs.declared.run.Course.TheVariants.{GoesOn, InTrouble, Skips, Ends}
-use Rattle.copy_move.specs.Jobs.{Running, JobTells, answered, answered_on, closed_job, course_after, first_work, part_of, skipped, waits_on}
+use Rattle.copy_move.specs.declared.run.Course.TheVariants.{GoesOn, InTrouble}
+use Rattle.copy_move.specs.Jobs.{Running, JobTells, answered, closed_job, first_work, part_of, skipped, waits_on}
 
 -- what no history tells
 abbrev pub unsaid : Said

@@ -5,6 +5,8 @@ mod deletion;
 mod history;
 mod laws;
 mod run;
+#[cfg(test)]
+mod tests;
 mod work;
 
 pub use deletion::{Deletion, Stage};

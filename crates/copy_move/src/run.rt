@@ -173,7 +173,11 @@ impl Run {
     pub fn give_up(self) -> Option<Path>
         ensures { result ≡ part_of self.work }
     {
-        let Run { id: _, work, course: _ } = self;
+        let Run {
+            id: _,
+            work,
+            course: _,
+        } = self;
         work.into_part()
     }
 
@@ -232,13 +236,7 @@ fn copy_of(alloc: Global, pairs: &Pairs, id: u32) -> Result<Work, NoMemory>
     };
     let source = pair.source.copy(alloc)?;
     let target = pair.target.copy(alloc)?;
-    Ok(Work::Copy(FileCopy::new(
-        id,
-        source,
-        source_folder,
-        target,
-        folder,
-    )))
+    Ok(Work::Copy(FileCopy::new(id, source, source_folder, target, folder)))
 }
 
 /// The deletion of one file.

@@ -9,13 +9,13 @@ pub returns : goal.returns
 returns c =
     record {
       skips =
-        let now = c.args.self.now in
-        let work = c.skip-did.new.self in
-        record {
-          work = work;
-          skips = subst (λ w. WorkSkips c.args.cause w c.skip-did.result work) (ap (λ (j : Running). j.work) c.self.view_is) c.skip-did.ensures.skips;
-          new_is = ap (λ (j : Running). let k : Running = record j { work = work; course = c.after_report-self-inside.result } in k) c.self.view_is
-              ∙ ap (λ (course : Course). let k : Running = record now { work = work; course = course } in k) c.after_report-self-inside.ensures;
-          none = refl;
-        };
+          let now = c.args.self.now in
+          let work = c.skip-did.new.self in
+          record {
+            work = work;
+            skips = subst (λ w. WorkSkips c.args.cause w c.skip-did.result work) (ap (λ (j : Running). j.work) c.self.view_is) c.skip-did.ensures.skips;
+            new_is = ap (λ (j : Running). let k : Running = record j { work = work; course = c.after_report-self-inside.result } in k) c.self.view_is
+                ∙ ap (λ (course : Course). let k : Running = record now { work = work; course = course } in k) c.after_report-self-inside.ensures;
+            none = refl;
+          };
     }

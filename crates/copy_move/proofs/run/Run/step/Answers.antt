@@ -8,10 +8,10 @@ pub returns-in-Ends : goal.returns-in-Ends
 returns-in-Ends g c =
     record {
       steps =
-        let now = c.args.self.now in
-        let work = c.wind_up.new.self in
-        run_ends (λ path. g.P.PartTest.is_free c.args.parts.now path ≡ true) now _ c.wind_up.result.did c.wind_up.result.calls _ _ _ _ c.in-Ends.ending c.self.inside.work work
-        (ap (λ (j : Running). j.work) c.self.view_is) (sym (ap (λ (j : Running). j.course) c.self.view_is) ∙ c.in-Ends.is)
-        c.wind_up.ensures
-        (ap (λ (j : Running). let k : Running = record j { work = work } in k) c.self.view_is);
+          let now = c.args.self.now in
+          let work = c.wind_up.new.self in
+          run_ends (λ path. g.P.PartTest.is_free c.args.parts.now path ≡ true) now _ c.wind_up.result.did c.wind_up.result.calls _ _ _ _ c.in-Ends.ending c.self.inside.work work
+          (ap (λ (j : Running). j.work) c.self.view_is) (sym (ap (λ (j : Running). j.course) c.self.view_is) ∙ c.in-Ends.is)
+          c.wind_up.ensures
+          (ap (λ (j : Running). let k : Running = record j { work = work } in k) c.self.view_is);
     }

@@ -1,5 +1,5 @@
 -- A step of the work is that of its machine.
-use Rattle.copy_move.proofs.Falling.{copy_falls, deletion_falls}
+use Rattle.copy_move.proofs.Falling.{copy_falls}
 use Rattle.copy_move.proofs.work.Work.step.Goals as goal
 
 pub returns-in-Copy-clause-steps : goal.returns-in-Copy-clause-steps
