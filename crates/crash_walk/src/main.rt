@@ -96,11 +96,11 @@ fn put(alloc: Global, tree: &mut MemTree, path: &str) -> Result<()>
 }
 
 fn begin(alloc: Global, tree: MemTree) -> Result<MuteDesk> {
+    let left = Path::parse(alloc, "/a")?;
+    let right = Path::parse(alloc, "/a")?;
     let begun = MuteDesk::begin(
         alloc,
-        Start {
-            folder: Path::parse(alloc, "/a")?,
-        },
+        Start { left, right },
         Mute::new(tree),
         Mute::new(MemSink::new(alloc, None)),
         Mute::new(FakeSpawner::new(Outcomes(Vec::new(alloc)))),
