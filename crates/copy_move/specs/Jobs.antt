@@ -63,6 +63,18 @@ ends (Cleaned part) = false
 ends Barrier = false
 ends (Troubled trouble) = false
 
+-- the path at which a report says that a job is stuck
+abbrev pub stuck_path : Did → Option Route
+stuck_path (Troubled trouble) = trouble.path
+stuck_path (Began part) = None
+stuck_path (Chunk count) = None
+stuck_path (Placed path) = None
+stuck_path (Removed path) = None
+stuck_path (Skipped path cause) = None
+stuck_path (Cleaned part) = None
+stuck_path Barrier = None
+stuck_path (Ended ending part) = None
+
 -- what a job works on: the file that is copied or deleted
 abbrev pub file_of : Work → Route
 file_of (Copy c) = c.source

@@ -156,8 +156,8 @@ pub struct History {
     pub entries: Entries,
 }
 
-ghost use Rattle.std.specs.Prelude.{◌≡◌};
-ghost use Rattle.copy_move.specs.Jobs.{ends};
+ghost use Rattle.std.specs.Prelude.{◌≡◌, IfSome, Some};
+ghost use Rattle.copy_move.specs.Jobs.{ends, stuck_path};
 
 /// Whether a report is that of an end.
 pub fn is_end(did: &Did) -> bool
@@ -167,7 +167,9 @@ pub fn is_end(did: &Did) -> bool
 }
 
 /// The path at which a report says that a job is stuck; none where there is no memory for it.
-pub fn stuck_at(alloc: Global, did: &Did) -> Option<Path> {
+pub fn stuck_at(alloc: Global, did: &Did) -> Option<Path>
+    ensures { IfSome result (λ path. stuck_path did.now ≡ Some path) }
+{
     match did {
         Did::Troubled(trouble) => match &trouble.path {
             None => None,

@@ -1,0 +1,124 @@
+//! The two sessions: the trees that they begin with, and their keys.
+ghost use Rattle.std.specs.Prelude.{◌≡◌, []};
+
+use crate::images::walk;
+use crate::sessions::after_keys;
+use anyhow::{Result, bail};
+use mc_text::Path;
+use mem_tree::MemTree;
+use std::alloc::Global;
+
+/// A session that is walked.
+#[derive(Clone, Copy)]
+pub enum Scene {
+    /// Of two files one is deleted.
+    Deletion,
+    /// A file is copied from one folder into the other.
+    Copy,
+}
+
+impl Scene {
+    /// What is done in the session.
+    pub fn title(self) -> &'static str {
+        match self {
+            Scene::Deletion => "/a/x is deleted",
+            Scene::Copy => "/s/e is copied into /t",
+        }
+    }
+
+    /// Whether bytes are written.
+    pub fn writes(self) -> bool {
+        match self {
+            Scene::Deletion => false,
+            Scene::Copy => true,
+        }
+    }
+}
+
+/// A file as it was put: its bytes, fewer than eight, and its mode.
+#[derive(Clone, Copy)]
+pub struct Original {
+    pub bytes: &'static [u8],
+    pub mode: u16,
+}
+
+/// The file that is deleted, and the one beside it.
+pub const DELETED: Original = Original {
+    bytes: b"hi",
+    mode: 0o644,
+};
+
+/// The file that is copied.
+pub const COPIED: Original = Original {
+    bytes: b"hello",
+    mode: 0o640,
+};
+
+/// Down, F8, Enter, F10.
+const DELETING: &[u8] = b"\x1b[B\x1b[19~\r\x1b[21~";
+
+/// Down, F5, Enter at the mask, Enter at the target, F10.
+const COPYING: &[u8] = b"\x1b[B\x1b[15~\r\r\x1b[21~";
+
+/// The lines of a session: its title, and what is left at each moment.
+pub fn scene_lines(alloc: Global, scene: Scene) -> Result<Vec<String>> {
+    let tree = played(alloc, scene)?;
+    walk(alloc, &tree, scene)
+}
+
+/// The tree after a session.
+fn played(alloc: Global, scene: Scene) -> Result<MemTree> {
+    match scene {
+        Scene::Deletion => deletion(alloc),
+        Scene::Copy => copy(alloc),
+    }
+}
+
+fn deletion(alloc: Global) -> Result<MemTree> {
+    let tree = two_files(alloc)?;
+    after_keys(alloc, tree, "/a", "/a", DELETING)
+}
+
+fn copy(alloc: Global) -> Result<MemTree> {
+    let tree = file_and_folder(alloc)?;
+    after_keys(alloc, tree, "/s", "/t", COPYING)
+}
+
+/// The folder `/a` with two files.
+fn two_files(alloc: Global) -> Result<MemTree> {
+    let mut tree = MemTree::new(alloc, 0)?;
+    put_folder(alloc, &mut tree, "/a")?;
+    put_file(alloc, &mut tree, "/a/x", DELETED)?;
+    put_file(alloc, &mut tree, "/a/y", DELETED)?;
+    Ok(tree)
+}
+
+/// The folder `/s` with one file, and the empty folder `/t`.
+fn file_and_folder(alloc: Global) -> Result<MemTree> {
+    let mut tree = MemTree::new(alloc, 0)?;
+    put_folder(alloc, &mut tree, "/s")?;
+    put_folder(alloc, &mut tree, "/t")?;
+    put_file(alloc, &mut tree, "/s/e", COPIED)?;
+    Ok(tree)
+}
+
+fn put_folder(alloc: Global, tree: &mut MemTree, path: &str) -> Result<()>
+    requires unused { tree.old.log.changes ≡ [] }
+    ensures unused { tree.new.log.changes ≡ [] }
+{
+    let path = Path::parse(alloc, path)?;
+    tree.put_folder(alloc, &path, 0o755, 0)?;
+    Ok(())
+}
+
+fn put_file(alloc: Global, tree: &mut MemTree, path: &str, original: Original) -> Result<()>
+    requires unused { tree.old.log.changes ≡ [] }
+    ensures unused { tree.new.log.changes ≡ [] }
+{
+    if original.mode > 0o7777 {
+        bail!("a mode has twelve bits");
+    }
+    let path = Path::parse(alloc, path)?;
+    tree.put_file(alloc, &path, original.mode, 0, original.bytes)?;
+    Ok(())
+}
