@@ -4,7 +4,7 @@ use Rattle.mc_desk.specs.Logs.{jobs_begun}
 use Rattle.mc_desk.proofs.log.jobs_begun.Given as goal
 
 abbrev pub invariant-loop-entry : goal.invariant-loop-entry
-invariant-loop-entry l = l.count + jobs_begun l.left ≡ jobs_begun l.fn.entries.now
+invariant-loop-entry l = l.count + jobs_begun l.left ≡ jobs_begun l.fn.entries
 
 abbrev pub decreases-loop-entry : goal.decreases-loop-entry
 decreases-loop-entry l = length l.left
