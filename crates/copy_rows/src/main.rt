@@ -6,6 +6,7 @@ mod images;
 mod judging;
 mod rows;
 mod scene;
+mod shrunk;
 mod telling;
 
 use anyhow::Result;

@@ -2,6 +2,7 @@
 use crate::images::images_line;
 use crate::judging::what_stands;
 use crate::scene::{FOLDER, Original, SOURCE, TARGET, plant, take_names};
+use crate::shrunk::Shrunk;
 use crate::telling::{Answer, copy_lines};
 use anyhow::Result;
 use mc_text::Path;
@@ -79,6 +80,7 @@ pub fn all_lines(alloc: Global) -> Result<Vec<String>> {
         add(row_lines(alloc, row)?, &mut lines)?;
     }
     add(taken_lines(alloc)?, &mut lines)?;
+    add(shrunk_lines(alloc)?, &mut lines)?;
     add(torn_lines(alloc)?, &mut lines)?;
     Ok(lines)
 }
@@ -116,10 +118,21 @@ fn copied_lines<T: Tree>(
     original: &Original,
     answer: Answer,
 ) -> Result<Vec<String>> {
+    let mut lines = stepped_lines(alloc, tree, title, answer)?;
+    lines.push(left_line(alloc, tree, original)?)?;
+    Ok(lines)
+}
+
+/// The title, and the steps of a copy.
+fn stepped_lines<T: Tree>(
+    alloc: Global,
+    tree: &mut T,
+    title: &str,
+    answer: Answer,
+) -> Result<Vec<String>> {
     let mut lines = Vec::new(alloc);
     lines.push(String::from_str(alloc, title)?)?;
     add(copy_lines(alloc, tree, answer)?, &mut lines)?;
-    lines.push(left_line(alloc, tree, original)?)?;
     Ok(lines)
 }
 
@@ -155,6 +168,18 @@ fn taken_lines(alloc: Global) -> Result<Vec<String>> {
 fn calls_line(alloc: Global, tree: &MemTree, before: u64) -> Result<String> {
     let made = tree.calls().saturating_sub(before);
     Ok(format!(in alloc; "  changing calls in all: {made}")?)
+}
+
+/// A copy whose source ends before it should. What is left is seen without the cover.
+fn shrunk_lines(alloc: Global) -> Result<Vec<String>> {
+    let title = "a source that is said to have 70000 bytes, and ends after 65536";
+    let original = Original::new(alloc, 70_000, 0o644)?;
+    let mut cover = Shrunk::new(plant(alloc, &original, None)?, 65_536);
+    let mut lines = stepped_lines(alloc, &mut cover, title, Answer::Skip)?;
+    let mut tree = cover.into_inner();
+    lines.push(left_line(alloc, &mut tree, &original)?)?;
+    lines.push(images_line(alloc, &tree, &original)?)?;
+    Ok(lines)
 }
 
 /// A copy that is made wrong.

@@ -166,6 +166,7 @@ fn told(alloc: Global, did: &Did) -> Result<String> {
         Did::Began(part) => with_path(alloc, "Began", part),
         Did::Chunk(count) => Ok(format!(in alloc; "Chunk {count}")?),
         Did::Placed(target) => with_path(alloc, "Placed", target),
+        Did::Removed(path) => with_path(alloc, "Removed", path),
         Did::Skipped(source, cause) => {
             Ok(format!(in alloc; "{}, {cause:?}", with_path(alloc, "Skipped", source)?)?)
         }
