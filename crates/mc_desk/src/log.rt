@@ -79,6 +79,8 @@ impl Log {
 fn jobs_begun(entries: &[Entry]) -> u64
     ensures { result ≡ jobs_begun entries.now }
 {
+    // There are no more than a number of 64 bits counts.
+    let _most = entries.len();
     let mut count: u64 = 0;
     let mut left = entries;
     while let Some((entry, more)) = left.split_first() {
