@@ -16,10 +16,10 @@ use crate::tag::Tag;
 use crate::ui::Ui;
 use copy_move::{History, Run};
 use key_screen::KeyReader;
+use mc_text::Path;
 use std::alloc::Global;
 use std::marker::{Model, PhantomData};
 use thiserror::Error;
-use mc_text::Path;
 use tree_trait::{Sink, Spawner, Tree};
 
 /// A start that was refused gives the devices back.

@@ -298,11 +298,7 @@ fn copy_tree(alloc: Global, room: u64) -> Result<MemTree, Fail> {
 }
 
 /// The steps of a run over such a tree, and the size and the mode of what stands at the target.
-fn copied(
-    alloc: Global,
-    room: u64,
-    keys: &str,
-) -> Result<(String, Option<(u64, u16)>), Fail> {
+fn copied(alloc: Global, room: u64, keys: &str) -> Result<(String, Option<(u64, u16)>), Fail> {
     let words = words_of(alloc, "/s", Some("/t"))?;
     let target = Path::parse(alloc, "/t/x")?;
     let tree = copy_tree(alloc, room)?;

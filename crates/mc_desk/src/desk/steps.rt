@@ -11,11 +11,11 @@ ghost use Rattle.mc_desk.specs.Tallies.{can_step, keys_in, has_lost};
 ghost use Rattle.mc_desk.specs.Desks.{Blames, KeepsKeys, idle_reply};
 
 use super::{Desk, Due, Ended, StepReply};
+use crate::claims::NoClaims;
 use crate::tag::Tag;
 use copy_move::{Did, Ending, Entry, Event, Run, Stepped, is_end, stuck_at};
-use std::alloc::Global;
-use crate::claims::NoClaims;
 use mc_text::Path;
+use std::alloc::Global;
 use tree_trait::{Sink, Spawner, Tree};
 
 impl<N: Tag, T: Tree, S: Sink, P: Spawner> Desk<N, T, S, P> {
