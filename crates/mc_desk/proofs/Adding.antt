@@ -19,7 +19,7 @@ use Rattle.copy_move.specs.declared.history.Answer.{Answer}
 use Rattle.copy_move.specs.declared.history.Job.{Job}
 use Rattle.copy_move.specs.declared.history.Refusal.{Refusal}
 use Rattle.copy_move.specs.Jobs.{Running, MayAnswer, answered, closed_job, ends, first_work, part_of, waits_on}
-use Rattle.copy_move.specs.Told.{IsAllowedStep, after_step, if_closed, running, told}
+use Rattle.copy_move.specs.Told.{after_step, if_closed, running, told}
 use Rattle.copy_move.specs.Steps.{StepsOn}
 use Rattle.copy_move.specs.Traces.{AreRefused, IsUnclaimed}
 use Rattle.copy_move.specs.Traces as traces

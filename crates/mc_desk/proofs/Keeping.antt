@@ -10,7 +10,7 @@ use Rattle.copy_move.specs.declared.history.Event.TheVariants.{Key, Look, Began,
 use Rattle.copy_move.specs.Jobs.{Running}
 use Rattle.copy_move.specs.Told.{told, closes, if_closed, is_closed}
 use Rattle.copy_move.specs.Crashes.{calls_in}
-use Rattle.copy_move.specs.Traces.{Follows, IsTraced, IsTracedTo}
+use Rattle.copy_move.specs.Traces.{IsTraced, IsTracedTo}
 use Rattle.copy_move.specs.Traces as traces
 use Rattle.mc_desk.specs.Logs.{Logged}
 use Rattle.mc_desk.specs.Screens.{Screen, NoBox, sight}

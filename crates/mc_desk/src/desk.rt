@@ -1,5 +1,5 @@
 //! The desk: the devices of a session, its screen, its job and its history. Every call leaves it whole.
-ghost use Rattle.std.specs.Prelude.{◌≡◌, ◌≤◌, false, true, [], IfOk, IfErr, OnOk, Some, None};
+ghost use Rattle.std.specs.Prelude.{◌≡◌, ◌≤◌, false, true, [], IfOk, IfErr, OnOk, None};
 ghost use Rattle.tree_trait.specs.Calls.{ListFolder};
 ghost use Rattle.tree_trait.specs.Refusals.{refusal_of};
 ghost use Rattle.tree_trait.specs.Change.{current};

@@ -1,5 +1,5 @@
 //! The history as it is written: entries are added in room that was made before, so that nothing is half written down.
-ghost use Rattle.std.specs.Prelude.{◌≡◌, ◌+◌, ◌-◌, ◌^◌, ◌≤◌, ◌<◌, [], ◌∷◌, length, IfOk, OnOk, OnErr, reverse};
+ghost use Rattle.std.specs.Prelude.{◌≡◌, ◌+◌, ◌-◌, ◌^◌, ◌≤◌, ◌<◌, [], ◌∷◌, length, IfOk, OnOk, reverse};
 
 use copy_move::{Entries, Entry, History};
 use mc_text::NoMemory;

@@ -1,7 +1,7 @@
 //! Steps of the job, and the end of a session.
-ghost use Rattle.std.specs.Prelude.{◌≡◌, ◌<◌, Bool, true, Option, Some, None, IsSome, ◌||◌, reverse, if◌then◌else◌};
+ghost use Rattle.std.specs.Prelude.{◌≡◌, ◌<◌, true, Option, Some, None, IsSome, ◌||◌, reverse, if◌then◌else◌};
 ghost use Rattle.std.specs.Option.{option_map};
-ghost use Rattle.copy_move.specs.Jobs.{closed_job, part_of};
+ghost use Rattle.copy_move.specs.Jobs.{closed_job};
 ghost use Rattle.copy_move.specs.Ranks.{rank};
 ghost use Rattle.copy_move.specs.Told.{if_closed, live_job, IsReady};
 ghost use Rattle.copy_move.specs.Replay.{IsReplayed};
