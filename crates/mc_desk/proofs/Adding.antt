@@ -19,13 +19,13 @@ use Rattle.copy_move.specs.declared.history.Answer.{Answer}
 use Rattle.copy_move.specs.declared.history.Job.{Job}
 use Rattle.copy_move.specs.declared.history.Refusal.{Refusal}
 use Rattle.copy_move.specs.Jobs.{Running, MayAnswer, answered, closed_job, ends, first_work, part_of, waits_on}
-use Rattle.copy_move.specs.Told.{IsAllowedStep, after_step, if_closed, running, told}
+use Rattle.copy_move.specs.Told.{after_step, if_closed, running, told}
 use Rattle.copy_move.specs.Steps.{StepsOn}
 use Rattle.copy_move.specs.Traces.{AreRefused, IsUnclaimed}
 use Rattle.copy_move.specs.Traces as traces
 use Rattle.copy_move.proofs.StillTelling.{step_tells}
 use Rattle.copy_move.proofs.Telling.{answered_told, began_told, closed_told, step_told}
-use Rattle.mc_desk.specs.Screens.{Screen, NoBox, Begins, Answers, KeyLeads, LookLeads, plain_base, sight}
+use Rattle.mc_desk.specs.Screens.{NoBox, Begins, Answers, KeyLeads, LookLeads, plain_base, sight}
 use Rattle.mc_desk.specs.Tallies.{Tally, faults_in, can_step, end_unseen_event, has_fault}
 use Rattle.mc_desk.specs.Desks.{Seen}
 use Rattle.mc_desk.proofs.Answering.{may_answer_told, part_told, waits_told}

@@ -1,6 +1,5 @@
 -- What a history doesn't tell of a job has no part in its answers.
-use Rattle.std.proofs.Common.{◌≡◌, ℕ, Bool, true, false, ◌&&◌, refl, sym, ◌∙◌, ap, subst, Option, Some, None}
-use Rattle.std.specs.Prelude.{if◌then◌else◌}
+use Rattle.std.proofs.Common.{◌≡◌, refl, sym, ◌∙◌, ap, Option, Some, None}
 use Rattle.std.specs.Option.{option_map}
 use Rattle.file_copy.specs.declared.stage.Stage.{Stage}
 use Rattle.file_copy.specs.declared.stage.Stage.TheVariants.{Begin, Fill, Clean, Left, Decided}
@@ -12,7 +11,7 @@ use Rattle.copy_move.specs.declared.run.Course.{Course}
 use Rattle.copy_move.specs.declared.run.Course.TheVariants.{GoesOn, InTrouble, Skips, Ends}
 use Rattle.mc_text.specs.Routes.{Route}
 use Rattle.file_copy.specs.declared.report.Trouble.{Trouble}
-use Rattle.copy_move.specs.Jobs.{Running, MayAnswer, at_barrier, part_of, passes_over, trouble_on, waits_on}
+use Rattle.copy_move.specs.Jobs.{Running, MayAnswer, at_barrier, part_of, trouble_on, waits_on}
 use Rattle.copy_move.specs.Told.{stage_told, told, work_told}
 use Rattle.mc_desk.specs.Screens.{ShowsTrouble}
 use Rattle.mc_desk.specs.Tallies.{can_step}

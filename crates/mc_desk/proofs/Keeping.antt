@@ -1,5 +1,5 @@
 -- One entry more is a session still.
-use Rattle.std.proofs.Common.{◌≡◌, ◌⊎◌, ℕ, ◌+◌, ◌*◌, ◌≤◌, true, false, ◌||◌, List, [], ◌∷◌, length, refl, sym, ◌∙◌, ap, subst, inl, inr, Option, Some, None, arith}
+use Rattle.std.proofs.Common.{◌≡◌, ◌⊎◌, ℕ, ◌+◌, ◌≤◌, true, false, ◌||◌, List, [], ◌∷◌, length, refl, sym, ◌∙◌, ap, subst, inl, inr, Option, Some, None, arith}
 use Rattle.std.specs.Option.{option_map}
 use Rattle.mc_text.specs.Routes.{Route}
 use Rattle.tree_trait.specs.Change.{CallLog}
@@ -10,12 +10,12 @@ use Rattle.copy_move.specs.declared.history.Event.TheVariants.{Key, Look, Began,
 use Rattle.copy_move.specs.Jobs.{Running}
 use Rattle.copy_move.specs.Told.{told, closes, if_closed, is_closed}
 use Rattle.copy_move.specs.Crashes.{calls_in}
-use Rattle.copy_move.specs.Traces.{Follows, IsTraced, IsTracedTo}
+use Rattle.copy_move.specs.Traces.{IsTraced, IsTracedTo}
 use Rattle.copy_move.specs.Traces as traces
 use Rattle.mc_desk.specs.Logs.{Logged}
 use Rattle.mc_desk.specs.Screens.{Screen, NoBox, sight}
 use Rattle.mc_desk.specs.Tallies.{Tally, tally, after_entry, most_calls, faults_in}
-use Rattle.mc_desk.specs.Sessions.{IsSession, Enters, Traces, EventLeads, IsTimely, Counts, IsQuitKey, EndAsked}
+use Rattle.mc_desk.specs.Sessions.{IsSession, Traces, EventLeads, IsTimely, Counts, IsQuitKey, EndAsked}
 use Rattle.mc_desk.specs.Starts.{IsOpened}
 use Rattle.mc_desk.specs.Desks.{Seen, IsWritten, IsDesk}
 
@@ -44,7 +44,7 @@ kept_opening opening contents faults left right screen log pending same opened =
 abbrev pub Leads : Option CallLog → Option CallLog → Seen → Seen → Entry → Type 0
 Leads contents contents_after old new e =
     IfKnown contents (λ log. (now : CallLog) × (after : Option Running) × (contents_after ≡ Some now) × traces.EventLeads old.job e.what after log now
-        × (new.job ≡ if_closed (closes e.what || old.tally.closed) after) × (length now.changes + old.tally.calls ≡ length log.changes + e.calls))
+    × (new.job ≡ if_closed (closes e.what || old.tally.closed) after) × (length now.changes + old.tally.calls ≡ length log.changes + e.calls))
 
 -- an entry that may follow: what it makes of the desk, of the screen and of the tree
 pub record Adds (contents contents_after : Option CallLog) (faults : ℕ) (old new : Seen) (e : Entry) : Type 0 where
@@ -92,13 +92,18 @@ module _ (faults : ℕ) (old new : Seen) (e : Entry) where
       let closed : old.tally.closed ≡ is_closed old.newest = ap (λ (t : Tally). t.closed) written.tally in
       let calls : old.tally.calls ≡ calls_in old.newest = ap (λ (t : Tally). t.calls) written.tally in
       let counted = t.5 in
-      let long = traced_length opening had.0 old.newest old.job had.2 in
-      (had.0, t.0, had.1, t.2, record {
-        after = t.1;
-        leads = t.3;
-        job_is = t.4 ∙ ap (λ b. if_closed (closes e.what || b) t.1) closed;
-        counts = omega (arith, counted, calls, long);
-      })
+      let long = traced_length opening had.0 old.newest old.job had.2 in (
+        had.0,
+        t.0,
+        had.1,
+        t.2,
+        record {
+          after = t.1;
+          leads = t.3;
+          job_is = t.4 ∙ ap (λ b. if_closed (closes e.what || b) t.1) closed;
+          counts = omega (arith, counted, calls, long);
+        },
+      )
 
   three_calls : (what : Event) → most_calls what ≤ 3
   three_calls (Key key now refusals lost) = omega arith

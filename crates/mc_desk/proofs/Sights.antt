@@ -1,5 +1,5 @@
 -- What a look at a tree says of what can be seen of it.
-use Rattle.std.proofs.Common.{◌≡◌, ◌↔◌, ℕ, ◌<◌, ◌≤◌, Bool, true, false, ◌&&◌, List, [], ◌∷◌, length, refl, sym, ◌∙◌, ap, subst, inl, inr, Option, Some, None, IsSome, IfSome, Result, Ok, arith}
+use Rattle.std.proofs.Common.{◌≡◌, ◌↔◌, ℕ, ◌≤◌, Bool, true, false, ◌&&◌, List, [], ◌∷◌, length, refl, sym, ◌∙◌, ap, subst, inl, Option, Some, None, IsSome, IfSome, Result, Ok, arith}
 use Rattle.std.specs.Prelude.{nat_le, option_and_then}
 use Rattle.std.specs.Option.{option_map, option_map_or}
 use Rattle.mc_text.specs.Routes.{Route, spelled}
@@ -8,7 +8,7 @@ use Rattle.tree_trait.specs.declared.calls.TreeError.{TreeError}
 use Rattle.tree_trait.specs.declared.calls.Meta.{Meta}
 use Rattle.tree_trait.specs.declared.calls.Children.{Children}
 use Rattle.tree_trait.specs.Calls.{Stat, ListFolder}
-use Rattle.tree_trait.specs.FileSystem.{lookup, node, value, value_at, View, Spot, visible_tree}
+use Rattle.tree_trait.specs.FileSystem.{lookup, node, value, value_at, View, visible_tree}
 use Rattle.tree_trait.specs.Refusals.{file_kind, refusal_of}
 use Rattle.tree_trait.specs.Change.{CallLog, current, found}
 use Rattle.tree_trait.specs.CrashImages.{Among}
@@ -20,7 +20,7 @@ use Rattle.mc_desk.specs.declared.reread.Reread.{Reread}
 use Rattle.mc_desk.specs.Choices.{IsChoice}
 use Rattle.mc_desk.specs.Logs.{Logged}
 use Rattle.mc_desk.specs.Panels.{ListsFolder, Shown}
-use Rattle.mc_desk.specs.Screens.{IsOpening, IsReread, MayAsk, NoBox, Screen, is_file_spot, sight}
+use Rattle.mc_desk.specs.Screens.{IsReread, MayAsk, NoBox, Screen, is_file_spot, sight}
 use Rattle.mc_desk.specs.Starts.{IsOpened}
 
 -- what `stat` says of a path is what can be seen there

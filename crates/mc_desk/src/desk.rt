@@ -1,5 +1,5 @@
 //! The desk: the devices of a session, its screen, its job and its history. Every call leaves it whole.
-ghost use Rattle.std.specs.Prelude.{◌≡◌, ◌≤◌, false, true, [], IfOk, IfErr, OnOk, Some, None};
+ghost use Rattle.std.specs.Prelude.{◌≡◌, ◌≤◌, false, true, [], IfOk, IfErr, OnOk, None};
 ghost use Rattle.tree_trait.specs.Calls.{ListFolder};
 ghost use Rattle.tree_trait.specs.Refusals.{refusal_of};
 ghost use Rattle.tree_trait.specs.Change.{current};
@@ -16,10 +16,10 @@ use crate::tag::Tag;
 use crate::ui::Ui;
 use copy_move::{History, Run};
 use key_screen::KeyReader;
+use mc_text::Path;
 use std::alloc::Global;
 use std::marker::{Model, PhantomData};
 use thiserror::Error;
-use mc_text::Path;
 use tree_trait::{Sink, Spawner, Tree};
 
 /// A start that was refused gives the devices back.

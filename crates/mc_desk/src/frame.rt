@@ -1,9 +1,9 @@
 //! The bytes that show a screen: each row is placed and written, the current one in reverse.
-ghost use Rattle.std.specs.Prelude.{◌≡◌, ◌≤◌, ◌<◌, Err, IfOk};
+ghost use Rattle.std.specs.Prelude.{◌≡◌, ◌≤◌, ◌<◌, Err};
 ghost use Rattle.tree_trait.specs.Answers.{HasRisen};
 
 use crate::causes::write_cause;
-use crate::dialog::{Chosen, Dialog};
+use crate::dialog::Dialog;
 use crate::panel::Panel;
 use crate::ui::Ui;
 use file_copy::Trouble;

@@ -3,7 +3,7 @@ ghost use Rattle.std.specs.Prelude.{◌≡◌, ◌≢◌, ◌<◌, ◌≤◌, If
 ghost use Rattle.mc_text.specs.Routes.{spelled};
 ghost use Rattle.mc_desk.specs.Panels.{Shown, rows_above, last_row, current_name, current_path, moved_down, place_of, read_again, with_names};
 
-use mc_text::{Name, Names, NoMemory, Path, PathError};
+use mc_text::{Name, Names, Path, PathError};
 use std::alloc::Global;
 use std::marker::Model;
 

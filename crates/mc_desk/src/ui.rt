@@ -2,13 +2,11 @@
 ghost use Rattle.std.specs.Prelude.{◌≡◌, ◌↔◌, ◌++◌, ◌≤◌, true, None, Some, OnErr, IfOk, option_map};
 ghost use Rattle.tree_trait.specs.Calls.{Stat, ListFolder};
 ghost use Rattle.tree_trait.specs.Answers.{IfKnown, HasRisen};
-ghost use Rattle.copy_move.specs.Jobs.{Running};
 ghost use Rattle.copy_move.specs.Told.{told};
 ghost use Rattle.copy_move.specs.Traces.{AreRefused};
 ghost use Rattle.mc_desk.specs.Tallies.{has_fault};
 ghost use Rattle.mc_desk.specs.declared.asks.Ask.{Ask};
-ghost use Rattle.mc_desk.specs.Screens.{Box, ByBox, IsReread, KeyLeads, LooksAgain, NoBox, TroubleBox, WellAsked, listed, plain_base, seen_box, sight, with_ask, with_trouble};
-ghost use Rattle.mc_desk.specs.Panels.{with_names};
+ghost use Rattle.mc_desk.specs.Screens.{KeyLeads, LooksAgain, NoBox, WellAsked, listed, plain_base, seen_box, sight, with_ask, with_trouble};
 
 mod boxes;
 mod panel_keys;

@@ -64,7 +64,6 @@ refused_start log (Some folders) status faults faults_after keys screen start is
     some_none : {A : Type 0} (x : Option A) → x ≡ None → IsSome x → ⊥
     some_none x none some = cc
 
-
 -- what was written down is a session in the folders that the words name
 pub run_in : (o told : Option CallLog) (faults told_faults : ℕ) (folders : Option Start) (start : Start) (status : ℕ) (newest : List Entry) (contents : Option CallLog) (left right : Route)
     → o ≡ told → told_faults ≡ faults → folders ≡ Some start → left ≡ start.left → right ≡ start.right → EndsSession told told_faults newest contents left right → status ≢ 1 → status ≢ 2

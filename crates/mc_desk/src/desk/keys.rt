@@ -12,8 +12,8 @@ use crate::frame::draw;
 use crate::tag::Tag;
 use copy_move::{Entry, Event, JobOrder, Refusals, Run, Trouble};
 use key_screen::{Base, Fed, Key};
-use std::alloc::Global;
 use mc_text::Path;
+use std::alloc::Global;
 use tree_trait::{Sink, SinkError, Spawner, Tree};
 
 impl<N: Tag, T: Tree, S: Sink, P: Spawner> Desk<N, T, S, P> {
@@ -61,10 +61,7 @@ impl<N: Tag, T: Tree, S: Sink, P: Spawner> Desk<N, T, S, P> {
             return Err(DeskError::Memory);
         }
         let trouble = shown_trouble(&self.job, self.stuck_at.take());
-        let Ok(refusals) = self
-            .ui
-            .look(alloc, &mut self.tree, self.unseen, trouble)
-        else {
+        let Ok(refusals) = self.ui.look(alloc, &mut self.tree, self.unseen, trouble) else {
             return Err(DeskError::Memory);
         };
         let drawn = draw(alloc, &mut self.screen, &self.ui);
@@ -121,10 +118,7 @@ impl<N: Tag, T: Tree, S: Sink, P: Spawner> Desk<N, T, S, P> {
         ensures quit { result ≡ Ok DeskReply.Quit → self.new.quit ≡ true }
     {
         let id = self.last_id.saturating_add(1);
-        let Ok(act) = self
-            .ui
-            .key(alloc, &mut self.tree, &self.job, id, key)
-        else {
+        let Ok(act) = self.ui.key(alloc, &mut self.tree, &self.job, id, key) else {
             return self.lose_key(alloc, key, now);
         };
         let KeyAct { ask, refusals } = act;

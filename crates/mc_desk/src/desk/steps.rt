@@ -1,7 +1,7 @@
 //! Steps of the job, and the end of a session.
-ghost use Rattle.std.specs.Prelude.{◌≡◌, ◌<◌, Bool, true, Option, Some, None, IsSome, ◌||◌, reverse, if◌then◌else◌};
+ghost use Rattle.std.specs.Prelude.{◌≡◌, ◌<◌, true, Option, Some, None, IsSome, ◌||◌, reverse, if◌then◌else◌};
 ghost use Rattle.std.specs.Option.{option_map};
-ghost use Rattle.copy_move.specs.Jobs.{closed_job, part_of};
+ghost use Rattle.copy_move.specs.Jobs.{closed_job};
 ghost use Rattle.copy_move.specs.Ranks.{rank};
 ghost use Rattle.copy_move.specs.Told.{if_closed, live_job, IsReady};
 ghost use Rattle.copy_move.specs.Replay.{IsReplayed};
@@ -12,11 +12,11 @@ ghost use Rattle.mc_desk.specs.Desks.{Blames, KeepsKeys, idle_reply};
 ghost use Rattle.mc_desk.specs.Logs.{jobs_begun};
 
 use super::{Desk, Due, Ended, StepReply};
+use crate::claims::NoClaims;
 use crate::tag::Tag;
 use copy_move::{Did, Ending, Entry, Event, Run, Stepped, is_end, stuck_at};
-use std::alloc::Global;
-use crate::claims::NoClaims;
 use mc_text::Path;
+use std::alloc::Global;
 use tree_trait::{Sink, Spawner, Tree};
 
 impl<N: Tag, T: Tree, S: Sink, P: Spawner> Desk<N, T, S, P> {

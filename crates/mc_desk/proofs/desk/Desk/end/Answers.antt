@@ -1,5 +1,5 @@
 -- A tree that was called as the history tells shows what the history makes of it.
-use Rattle.std.proofs.Common.{rules, sym, subst, ◌≡◌, None, refl, ap, ◌∙◌}
+use Rattle.std.proofs.Common.{rules, sym, subst, ◌≡◌, None, ap}
 use Rattle.copy_move.specs.Replay.{IsReplayed}
 use Rattle.copy_move.specs.Traces.{IsTracedTo}
 use Rattle.copy_move.proofs.ReplayedTo.{replayed_to}
@@ -27,8 +27,7 @@ pub returns-clause-session : goal.returns-clause-session
 returns-clause-session g c =
     let desk = c.desk.inside in
     let none : desk.job ≡ None = search rules in
-    let screen : desk.ui ≡ c.args.self.screen = search rules in
-    (
+    let screen : desk.ui ≡ c.args.self.screen = search rules in (
       desk.ui,
       ap (λ (s : Screen). s.left.folder) screen,
       ap (λ (s : Screen). s.right.folder) screen,

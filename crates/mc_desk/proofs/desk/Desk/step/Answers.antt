@@ -1,12 +1,12 @@
 -- A step is written down as it was made; a closed desk's job never waits.
-use Rattle.std.proofs.Common.{rules, ◌≡◌, ◌+◌, ◌-◌, ◌^◌, ◌≤◌, ◌||◌, None, Some, refl, ap, sym, ◌∙◌, ◌∷◌, ◌<◌, length, subst, true, false, arith}
+use Rattle.std.proofs.Common.{rules, ◌≡◌, ◌+◌, ◌^◌, ◌≤◌, ◌||◌, None, Some, refl, ap, sym, ◌∙◌, ◌∷◌, ◌<◌, length, subst, true, false, arith}
 use Rattle.std.specs.Prelude.{if◌then◌else◌}
 use Rattle.std.specs.Option.{option_map}
 use Rattle.std.proofs.lemmas.Bool.{both_ways}
 use Rattle.file_copy.specs.declared.report.Did.TheVariants.{Ended}
 use Rattle.file_copy.specs.declared.report.Ending.TheVariants.{NoMemory}
 use Rattle.copy_move.specs.declared.history.Event.TheVariants.{Step}
-use Rattle.copy_move.specs.Jobs.{Running, ends, waits_on}
+use Rattle.copy_move.specs.Jobs.{ends, waits_on}
 use Rattle.copy_move.specs.Ranks.{rank}
 use Rattle.copy_move.specs.Told.{if_closed, told}
 use Rattle.mc_desk.specs.Tallies.{Tally}
