@@ -5,7 +5,7 @@ use Rattle.tree_trait.specs.declared.devices.SourceFault.{SourceFault}
 use Rattle.tree_trait.specs.Answers.{IfKnown}
 use Rattle.tree_trait.specs.Devices.{HasTaken as HasGiven}
 use Rattle.key_screen.specs.declared.keys.Key.{Key}
-use Rattle.key_screen.specs.DecodedKeys.{Decoded, decoded_keys}
+use Rattle.key_screen.specs.DecodedKeys.{Decoded}
 use Rattle.copy_move.specs.declared.history.Entry.{Entry}
 use Rattle.mc_desk.specs.declared.desk.DeskReply.{DeskReply}
 use Rattle.mc_desk.specs.declared.desk.DeskError.{DeskError}

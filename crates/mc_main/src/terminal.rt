@@ -1,7 +1,6 @@
 //! The terminal that the program runs in, asked through the shell, whose failures are ignored; and the program's words.
 use crate::words::USAGE;
 use mc_text::Text;
-use std::alloc::{AllocError, Global};
 use std::io;
 use std::process::{Command, Stdio};
 

@@ -1,5 +1,4 @@
 -- What the session has read is what the run has.
-use Rattle.mc_desk.specs.Desks.{Seen}
 use Rattle.mc_main.proofs.Taking.{reads}
 use Rattle.mc_main.proofs.endings.run_desk.Goals as goal
 

@@ -1,5 +1,5 @@
 -- The keys of the history are those of the bytes that were taken.
-use Rattle.std.proofs.Common.{rules, ◌≡◌, ◌≤◌, false, ◌∙◌, inl, inr, refl, arith}
+use Rattle.std.proofs.Common.{rules, ◌≡◌, false, ◌∙◌, inr, refl, arith}
 use Rattle.mc_main.proofs.Taking.{come_kept, come_byte, read_byte, read_so_far, failed_so_far, read_all, taken_as}
 use Rattle.mc_main.proofs.session.run_session.Goals as goal
 

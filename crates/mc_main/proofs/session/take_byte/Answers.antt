@@ -1,5 +1,5 @@
 -- What the source gave into a room of one byte.
-use Rattle.std.proofs.Common.{rules, ◌≡◌, ◌<◌, ◌≤◌, length, arith}
+use Rattle.std.proofs.Common.{rules, ◌≡◌, ◌<◌, length}
 use Rattle.mc_main.proofs.Taking.{none_given, one_given, room_one}
 use Rattle.mc_main.proofs.session.take_byte.Goals as goal
 

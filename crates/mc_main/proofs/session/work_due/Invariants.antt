@@ -1,5 +1,5 @@
 -- The job comes nearer to its end; the screen, the keys and what is to be looked at stay.
-use Rattle.std.proofs.Common.{◌≡◌, Some}
+use Rattle.std.proofs.Common.{◌≡◌}
 use Rattle.copy_move.specs.Ranks.{rank}
 use Rattle.mc_desk.specs.Desks.{KeepsKeys}
 use Rattle.mc_main.proofs.session.work_due.Given as goal
