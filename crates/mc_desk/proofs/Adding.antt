@@ -25,8 +25,9 @@ use Rattle.copy_move.specs.Traces.{AreRefused, IsUnclaimed}
 use Rattle.copy_move.specs.Traces as traces
 use Rattle.copy_move.proofs.StillTelling.{step_tells}
 use Rattle.copy_move.proofs.Telling.{answered_told, began_told, closed_told, step_told}
-use Rattle.mc_desk.specs.Screens.{NoBox, Begins, Answers, KeyLeads, LookLeads, plain_base, sight}
-use Rattle.mc_desk.specs.Tallies.{Tally, faults_in, can_step, end_unseen_event, has_fault}
+use Rattle.mc_ui.specs.Screens.{NoBox, Begins, Answers, KeyLeads, LookLeads, plain_base, sight}
+use Rattle.mc_ui.specs.Refused.{has_fault}
+use Rattle.mc_desk.specs.Tallies.{Tally, faults_in, can_step, end_unseen_event}
 use Rattle.mc_desk.specs.Desks.{Seen}
 use Rattle.mc_desk.proofs.Answering.{may_answer_told, part_told, waits_told}
 use Rattle.mc_desk.proofs.Keeping.{Adds, Leads}

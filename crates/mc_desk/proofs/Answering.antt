@@ -13,7 +13,7 @@ use Rattle.mc_text.specs.Routes.{Route}
 use Rattle.file_copy.specs.declared.report.Trouble.{Trouble}
 use Rattle.copy_move.specs.Jobs.{Running, MayAnswer, at_barrier, part_of, trouble_on, waits_on}
 use Rattle.copy_move.specs.Told.{stage_told, told, work_told}
-use Rattle.mc_desk.specs.Screens.{ShowsTrouble}
+use Rattle.mc_ui.specs.Screens.{ShowsTrouble}
 use Rattle.mc_desk.specs.Tallies.{can_step}
 
 stage_barrier : (stage : Stage) → copying.at_barrier (stage_told stage) ≡ copying.at_barrier stage

@@ -12,8 +12,8 @@ use Rattle.copy_move.specs.Told.{told, closes, if_closed, is_closed}
 use Rattle.copy_move.specs.Crashes.{calls_in}
 use Rattle.copy_move.specs.Traces.{IsTraced, IsTracedTo}
 use Rattle.copy_move.specs.Traces as traces
+use Rattle.mc_ui.specs.Screens.{Screen, NoBox, sight}
 use Rattle.mc_desk.specs.Logs.{Logged}
-use Rattle.mc_desk.specs.Screens.{Screen, NoBox, sight}
 use Rattle.mc_desk.specs.Tallies.{Tally, tally, after_entry, most_calls, faults_in}
 use Rattle.mc_desk.specs.Sessions.{IsSession, Traces, EventLeads, IsTimely, Counts, IsQuitKey, EndAsked}
 use Rattle.mc_desk.specs.Starts.{IsOpened}

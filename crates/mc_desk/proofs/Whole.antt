@@ -24,11 +24,12 @@ use Rattle.copy_move.specs.Jobs.{Running, MayAnswer, answered, closed_course, cl
 use Rattle.copy_move.specs.Told.{after_event, if_closed, is_closed, live_job, running, told}
 use Rattle.copy_move.specs.Steps.{StepsOn}
 use Rattle.copy_move.specs.Traces.{AreRefused, IsUnclaimed}
-use Rattle.mc_desk.specs.declared.asks.Ask.{Ask}
-use Rattle.mc_desk.specs.declared.asks.Ask.TheVariants as ask
-use Rattle.mc_desk.specs.declared.asks.Confirmed.{Confirmed}
-use Rattle.mc_desk.specs.Screens.{Box, Screen, NoBox, DeleteBox, MaskBox, TargetBox, TroubleBox, Planned, Begins, Answers, ByBox, KeyLeads, LooksAgain, ShowsTrouble, WellAsked, plain_base, sight, with_ask}
-use Rattle.mc_desk.specs.Tallies.{Tally, faults_in, can_step, has_fault}
+use Rattle.mc_ui.specs.declared.asks.Ask.{Ask}
+use Rattle.mc_ui.specs.declared.asks.Ask.TheVariants as ask
+use Rattle.mc_ui.specs.declared.asks.Confirmed.{Confirmed}
+use Rattle.mc_ui.specs.Screens.{Box, Screen, NoBox, DeleteBox, MaskBox, TargetBox, TroubleBox, Planned, Begins, Answers, ByBox, KeyLeads, LooksAgain, ShowsTrouble, WellAsked, plain_base, sight, with_ask}
+use Rattle.mc_ui.specs.Refused.{has_fault}
+use Rattle.mc_desk.specs.Tallies.{Tally, faults_in, can_step}
 use Rattle.mc_desk.specs.Desks.{Seen, kept_room, IsWritten, IsDesk}
 use Rattle.mc_desk.proofs.Adding.{adds_began, adds_closed, adds_given_up, adds_key, adds_look, adds_lost, adds_order, adds_step, entry}
 use Rattle.mc_desk.proofs.Answering.{shows_told}

@@ -10,6 +10,7 @@ use Rattle.key_screen.specs.DecodedKeys.{decoded_keys}
 use Rattle.copy_move.specs.declared.history.Entry.{Entry}
 use Rattle.copy_move.specs.Jobs.{Running}
 use Rattle.copy_move.specs.Told.{told}
+use Rattle.mc_ui.specs.Screens.{Screen}
 use Rattle.mc_desk.specs.declared.desk.Due.{Due}
 use Rattle.mc_desk.specs.declared.desk.Due.TheVariants.{Nothing, First, Job}
 use Rattle.mc_desk.specs.declared.desk.DeskReply.{DeskReply}
@@ -17,7 +18,6 @@ use Rattle.mc_desk.specs.declared.desk.DeskError.{DeskError}
 use Rattle.mc_desk.specs.declared.desk.StepReply.{StepReply}
 use Rattle.mc_desk.specs.declared.desk.StepReply.TheVariants.{Ended, Idle}
 use Rattle.mc_desk.specs.Tallies.{Tally, tally, faults_in, keys_in}
-use Rattle.mc_desk.specs.Screens.{Screen}
 use Rattle.mc_desk.specs.Sessions.{IsSession, EndAsked}
 
 -- what can be seen of a desk: its entries, the newest first, and how many more find room; the screen; the live job; what the

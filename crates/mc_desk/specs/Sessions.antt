@@ -15,8 +15,9 @@ use Rattle.copy_move.specs.Jobs.{Running, MayAnswer, first_work}
 use Rattle.copy_move.specs.Told.{IsAllowedStep}
 use Rattle.copy_move.specs.Traces.{Follows}
 use Rattle.copy_move.specs.Crashes.{calls_in}
-use Rattle.mc_desk.specs.Tallies.{Tally, tally, most_calls, has_fault, faults_in}
-use Rattle.mc_desk.specs.Screens.{Screen, NoBox, Begins, Answers, plain_base, sight, KeyLeads, LookLeads, IsOpening}
+use Rattle.mc_ui.specs.Refused.{has_fault}
+use Rattle.mc_ui.specs.Screens.{Screen, NoBox, Begins, Answers, plain_base, sight, KeyLeads, LookLeads, IsOpening}
+use Rattle.mc_desk.specs.Tallies.{Tally, tally, most_calls, faults_in}
 
 -- no key is worked in a closed session, where something is to be looked at, or after one was lost
 pub record TakesKey (t : Tally) : Type 0 where

@@ -8,12 +8,12 @@ use Rattle.tree_trait.specs.declared.calls.TreeError.TheVariants as refused
 use Rattle.tree_trait.specs.Calls.{ListFolder}
 use Rattle.tree_trait.specs.Refusals.{refusal_of}
 use Rattle.tree_trait.specs.Change.{CallLog}
+use Rattle.mc_ui.specs.Screens.{Screen, sight, IsOpening}
 use Rattle.mc_desk.specs.declared.starts.Side.{Side}
 use Rattle.mc_desk.specs.declared.starts.Side.TheVariants.{Left, Right}
 use Rattle.mc_desk.specs.declared.starts.StartError.{StartError}
 use Rattle.mc_desk.specs.declared.starts.StartError.TheVariants.{Tree, Memory}
 use Rattle.mc_desk.specs.Logs.{Logged}
-use Rattle.mc_desk.specs.Screens.{Screen, sight, IsOpening}
 
 -- a screen on which nothing happened yet, and a history with nothing in it
 pub record IsOpened (contents : Option CallLog) (left right : Route) (screen : Screen) (log : Logged) : Type 0 where

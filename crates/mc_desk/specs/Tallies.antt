@@ -2,14 +2,10 @@
 use Rattle.std.specs.Prelude.{ℕ, Bool, true, false, ◌||◌, if◌then◌else◌, List, [], ◌∷◌, ◌++◌, Option, Some, None}
 use Rattle.std.specs.Option.{option_map}
 use Rattle.key_screen.specs.declared.keys.Key.{Key as KeyType}
-use Rattle.tree_trait.specs.declared.calls.TreeError.{TreeError}
-use Rattle.tree_trait.specs.declared.calls.TreeError.TheVariants.{Fault}
 use Rattle.file_copy.specs.declared.report.Did.TheVariants.{Ended}
 use Rattle.copy_move.specs.declared.history.Event.{Event}
 use Rattle.copy_move.specs.declared.history.Event.TheVariants.{Key, Look, Began, Order, Step, Closed}
 use Rattle.copy_move.specs.declared.history.Entry.{Entry}
-use Rattle.copy_move.specs.declared.history.Refusal.{Refusal}
-use Rattle.copy_move.specs.declared.history.Refusal.TheVariants.{Tree, Plan}
 use Rattle.copy_move.specs.Jobs.{Running, waits_on}
 use Rattle.copy_move.specs.Told.{live_job, last_id, is_closed, closes, if_closed, after_event, id_after}
 use Rattle.copy_move.specs.Crashes.{calls_in}
@@ -103,16 +99,6 @@ most_calls (Began id plan background) = 0
 most_calls (Order id order) = 0
 most_calls (Step id did) = 3
 most_calls Closed = 0
-
--- the tree failed at a call that was refused
-abbrev pub is_fault : TreeError → Bool
-is_fault Fault = true
-is_fault e = false
-
-abbrev pub has_fault : List Refusal → Bool
-has_fault [] = false
-has_fault (Tree path e ∷ more) = is_fault e || has_fault more
-has_fault (Plan error ∷ more) = has_fault more
 
 -- the keys of a history, the first one first
 abbrev pub keys_of : Event → List KeyType

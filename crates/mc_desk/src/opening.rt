@@ -5,10 +5,9 @@ ghost use Rattle.tree_trait.specs.Answers.{IfKnown, HasRisen};
 ghost use Rattle.mc_desk.specs.Starts.{IsOpened, Starts, is_start_fault, start_error};
 
 use crate::log::Log;
-use crate::panel::Panel;
 use crate::starts::{Side, Start, StartError};
-use crate::ui::Ui;
 use mc_text::NoMemory;
+use mc_ui::{Panel, Ui};
 use std::alloc::Global;
 use tree_trait::{Tree, TreeError};
 

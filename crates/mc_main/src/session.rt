@@ -1,8 +1,8 @@
 //! A session: keys are taken one byte at a time, and after each the job that it began is worked.
 ghost use Rattle.std.specs.Prelude.{◌≡◌, ◌⊎◌, [], true, false, None, OnOk};
 ghost use Rattle.tree_trait.specs.Answers.{HasRisen, HasCause, IfKnown};
+ghost use Rattle.mc_ui.specs.Screens.{SameFolders};
 ghost use Rattle.mc_desk.specs.Desks.{KeepsKeys};
-ghost use Rattle.mc_desk.specs.Screens.{SameFolders};
 ghost use Rattle.mc_main.specs.Headline.{HasRead, TakesOne};
 
 use mc_desk::{Desk, DeskError, DeskReply, Tag};

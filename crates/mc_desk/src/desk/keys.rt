@@ -1,18 +1,17 @@
 //! Keys and looks: what a desk does for its user.
 ghost use Rattle.std.specs.Prelude.{◌≡◌, ◌≢◌, ◌+◌, ◌≤◌, ◌∷◌, ◌++◌, [], ℕ, List, true, false, if◌then◌else◌, IsTrue, IfOk, OnOk, Ok, Err, Some, None};
 ghost use Rattle.copy_move.specs.Told.{IsReady};
-ghost use Rattle.mc_desk.specs.Screens.{SameFolders, ShowsTrouble, plain_base};
+ghost use Rattle.mc_ui.specs.Screens.{SameFolders, ShowsTrouble, plain_base};
 ghost use Rattle.mc_desk.specs.Tallies.{can_step, keys_in};
 ghost use Rattle.mc_desk.specs.Desks.{failed_by, awaited, HasTaken, TakesByte, KeepsKeys};
 
 use super::steps::{closed, closing};
 use super::{Desk, DeskError, DeskReply, Due};
-use crate::asks::{Ask, Confirmed, KeyAct};
-use crate::frame::draw;
 use crate::tag::Tag;
 use copy_move::{Entry, Event, JobOrder, Refusals, Run, Trouble};
 use key_screen::{Base, Fed, Key};
 use mc_text::Path;
+use mc_ui::{Ask, Confirmed, KeyAct, draw};
 use std::alloc::Global;
 use tree_trait::{Sink, SinkError, Spawner, Tree};
 

@@ -1,5 +1,5 @@
 -- Two listings open the screen.
-use Rattle.mc_desk.proofs.Sights.{opens}
+use Rattle.mc_desk.proofs.Openings.{opens}
 use Rattle.mc_desk.proofs.opening.open.Goals as goal
 
 pub returns-clause-opened : goal.returns-clause-opened

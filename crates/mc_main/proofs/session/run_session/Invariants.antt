@@ -1,7 +1,7 @@
 -- The folders stay, the desk is open, the keyboard's count of faults doesn't fall, and the keys are those of the bytes taken.
 use Rattle.std.proofs.Common.{◌≡◌, ◌≤◌, false}
 use Rattle.tree_trait.specs.Answers.{IfKnown}
-use Rattle.mc_desk.specs.Screens.{SameFolders}
+use Rattle.mc_ui.specs.Screens.{SameFolders}
 use Rattle.mc_main.proofs.Taking.{HasCome}
 use Rattle.mc_main.proofs.session.run_session.Given as goal
 

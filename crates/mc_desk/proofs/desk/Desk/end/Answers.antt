@@ -3,7 +3,7 @@ use Rattle.std.proofs.Common.{rules, sym, subst, ◌≡◌, None, ap}
 use Rattle.copy_move.specs.Replay.{IsReplayed}
 use Rattle.copy_move.specs.Traces.{IsTracedTo}
 use Rattle.copy_move.proofs.ReplayedTo.{replayed_to}
-use Rattle.mc_desk.specs.Screens.{Screen}
+use Rattle.mc_ui.specs.Screens.{Screen}
 use Rattle.mc_desk.specs.Sessions.{IsSession}
 use Rattle.mc_desk.proofs.Keeping.{session_traced_to}
 use Rattle.mc_desk.proofs.desk.Desk.end.Goals as goal

@@ -5,11 +5,11 @@ use Rattle.copy_move.specs.declared.history.JobOrder.TheVariants.{Answered}
 use Rattle.copy_move.specs.Jobs.{MayAnswer, answered}
 use Rattle.copy_move.specs.Told.{told}
 use Rattle.key_screen.specs.declared.keys.Base.TheVariants.{Unknown}
-use Rattle.mc_desk.specs.declared.asks.Ask.{Ask}
+use Rattle.mc_ui.specs.declared.asks.Ask.{Ask}
+use Rattle.mc_ui.specs.Screens.{Begins, Answers, WellAsked, with_ask, plain_base}
 use Rattle.mc_desk.specs.declared.desk.DeskReply.{DeskReply}
 use Rattle.mc_desk.specs.declared.desk.DeskError.{DeskError}
 use Rattle.mc_desk.specs.Tallies.{Tally}
-use Rattle.mc_desk.specs.Screens.{Begins, Answers, WellAsked, with_ask, plain_base}
 use Rattle.mc_desk.specs.Desks.{Seen, Blames, awaited}
 use Rattle.mc_desk.proofs.Adding.{entry}
 use Rattle.mc_desk.proofs.Blaming.{blames_drawn}

@@ -1,7 +1,7 @@
 -- The names that the tree lists are those that can be seen in the folder.
 use Rattle.std.proofs.Common.{rules, refl, ◌≡◌, true}
-use Rattle.mc_desk.proofs.Sights.{lists_again}
-use Rattle.mc_desk.proofs.reread.list_again.Goals as goal
+use Rattle.mc_ui.proofs.Sights.{lists_again}
+use Rattle.mc_ui.proofs.reread.list_again.Goals as goal
 
 pub returns-in-Ok-clause-reread : goal.returns-in-Ok-clause-reread
 returns-in-Ok-clause-reread g c =

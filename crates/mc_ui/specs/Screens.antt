@@ -19,14 +19,14 @@ use Rattle.copy_move.specs.declared.history.PlanError.TheVariants.{TargetThere, 
 use Rattle.copy_move.specs.declared.history.Refusal.{Refusal}
 use Rattle.copy_move.specs.declared.history.Refusal.TheVariants.{Tree, Plan}
 use Rattle.copy_move.specs.Jobs.{Running, MayAnswer, at_barrier, passes_over, trouble_on, waits_on}
-use Rattle.mc_desk.specs.declared.asks.Ask.{Ask}
-use Rattle.mc_desk.specs.declared.asks.Ask.TheVariants as ask
-use Rattle.mc_desk.specs.declared.dialog.Dialog.{Dialog}
-use Rattle.mc_desk.specs.declared.dialog.Dialog.TheVariants as dialog
-use Rattle.mc_desk.specs.declared.ui.panel_keys.Opens.{Opens}
-use Rattle.mc_desk.specs.declared.ui.panel_keys.Opens.TheVariants as opens
-use Rattle.mc_desk.specs.declared.reread.Reread.{Reread}
-use Rattle.mc_desk.specs.Panels.{Shown, current_path, moved_down, with_names, ListsFolder}
+use Rattle.mc_ui.specs.declared.asks.Ask.{Ask}
+use Rattle.mc_ui.specs.declared.asks.Ask.TheVariants as ask
+use Rattle.mc_ui.specs.declared.dialog.Dialog.{Dialog}
+use Rattle.mc_ui.specs.declared.dialog.Dialog.TheVariants as dialog
+use Rattle.mc_ui.specs.declared.ui.panel_keys.Opens.{Opens}
+use Rattle.mc_ui.specs.declared.ui.panel_keys.Opens.TheVariants as opens
+use Rattle.mc_ui.specs.declared.reread.Reread.{Reread}
+use Rattle.mc_ui.specs.Panels.{Shown, current_path, moved_down, with_names, ListsFolder}
 
 -- what stands over the panels: nothing, or a box that asks whether to delete a file, shows the mask or the target of a copy,
 -- or tells of a job's trouble

@@ -1,9 +1,9 @@
 //! The look at the thing under the cursor.
 ghost use Rattle.std.specs.Prelude.{◌≡◌, ◌≤◌, true, IfOk};
 ghost use Rattle.tree_trait.specs.Answers.{IfKnown, HasRisen};
-ghost use Rattle.mc_desk.specs.Panels.{current_path};
-ghost use Rattle.mc_desk.specs.Screens.{sight};
-ghost use Rattle.mc_desk.specs.Choices.{IsChoice, ChoiceCalls, is_faulty};
+ghost use Rattle.mc_ui.specs.Panels.{current_path};
+ghost use Rattle.mc_ui.specs.Screens.{sight};
+ghost use Rattle.mc_ui.specs.Choices.{IsChoice, ChoiceCalls, is_faulty};
 
 use crate::dialog::Chosen;
 use crate::panel::Panel;

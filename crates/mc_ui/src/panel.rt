@@ -1,7 +1,7 @@
 //! The panel: the names in one folder, and a cursor on one of its rows.
 ghost use Rattle.std.specs.Prelude.{◌≡◌, ◌≢◌, ◌<◌, ◌≤◌, IfOk, IfErr, IfSome, Some, length, option_map};
 ghost use Rattle.mc_text.specs.Routes.{spelled};
-ghost use Rattle.mc_desk.specs.Panels.{Shown, rows_above, last_row, current_name, current_path, moved_down, place_of, read_again, with_names};
+ghost use Rattle.mc_ui.specs.Panels.{Shown, rows_above, last_row, current_name, current_path, moved_down, place_of, read_again, with_names};
 
 use mc_text::{Name, Names, Path, PathError};
 use std::alloc::Global;
@@ -16,7 +16,7 @@ pub struct Panel {
 }
 
 impl Model for Panel {
-    ghost use Rattle.mc_desk.specs.Panels.{Shown};
+    ghost use Rattle.mc_ui.specs.Panels.{Shown};
 
     ghost Value = { Shown };
 

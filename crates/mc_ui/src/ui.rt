@@ -4,9 +4,9 @@ ghost use Rattle.tree_trait.specs.Calls.{Stat, ListFolder};
 ghost use Rattle.tree_trait.specs.Answers.{IfKnown, HasRisen};
 ghost use Rattle.copy_move.specs.Told.{told};
 ghost use Rattle.copy_move.specs.Traces.{AreRefused};
-ghost use Rattle.mc_desk.specs.Tallies.{has_fault};
-ghost use Rattle.mc_desk.specs.declared.asks.Ask.{Ask};
-ghost use Rattle.mc_desk.specs.Screens.{KeyLeads, LooksAgain, NoBox, WellAsked, listed, plain_base, seen_box, sight, with_ask, with_trouble};
+ghost use Rattle.mc_ui.specs.Refused.{has_fault};
+ghost use Rattle.mc_ui.specs.declared.asks.Ask.{Ask};
+ghost use Rattle.mc_ui.specs.Screens.{KeyLeads, LooksAgain, NoBox, WellAsked, listed, plain_base, seen_box, sight, with_ask, with_trouble};
 
 mod boxes;
 mod panel_keys;
@@ -36,7 +36,7 @@ pub struct Ui {
 
 impl Model for Ui {
     ghost use Rattle.std.specs.Prelude.{None};
-    ghost use Rattle.mc_desk.specs.Screens.{Screen, seen_box};
+    ghost use Rattle.mc_ui.specs.Screens.{Screen, seen_box};
 
     ghost Value = { Screen };
 

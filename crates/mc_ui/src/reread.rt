@@ -3,8 +3,8 @@ ghost use Rattle.std.specs.Prelude.{◌≡◌, ◌≤◌, true, IfOk};
 ghost use Rattle.tree_trait.specs.Calls.{ListFolder};
 ghost use Rattle.tree_trait.specs.Answers.{IfKnown, HasRisen};
 ghost use Rattle.copy_move.specs.Traces.{AreRefused};
-ghost use Rattle.mc_desk.specs.Screens.{IsReread, listed, sight};
-ghost use Rattle.mc_desk.specs.Tallies.{has_fault};
+ghost use Rattle.mc_ui.specs.Screens.{IsReread, listed, sight};
+ghost use Rattle.mc_ui.specs.Refused.{has_fault};
 
 use copy_move::Refusal;
 use mc_text::{Names, NoMemory, Path};

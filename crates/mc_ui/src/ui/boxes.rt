@@ -4,10 +4,10 @@ ghost use Rattle.tree_trait.specs.Calls.{Stat};
 ghost use Rattle.tree_trait.specs.Answers.{IfKnown, HasRisen};
 ghost use Rattle.copy_move.specs.Told.{told};
 ghost use Rattle.copy_move.specs.Traces.{AreRefused};
-ghost use Rattle.mc_desk.specs.Tallies.{has_fault};
+ghost use Rattle.mc_ui.specs.Refused.{has_fault};
 ghost use Rattle.key_screen.specs.declared.keys.Base.{Base as BaseType};
 ghost use Rattle.copy_move.specs.Jobs.{passes_over};
-ghost use Rattle.mc_desk.specs.Screens.{DeleteBox, InTargetBox, MaskBox, NoBox, PlansCopy, TargetBox, TroubleBox, WellAsked, answered_box, can_answer as may_answer, confirms as does_confirm, in_delete_box, in_mask_box, in_trouble_box, is_cancel as does_cancel, is_enter as is_enter_key, letter_of as answer_of, seen_box, sight, target_in, with_ask};
+ghost use Rattle.mc_ui.specs.Screens.{DeleteBox, InTargetBox, MaskBox, NoBox, PlansCopy, TargetBox, TroubleBox, WellAsked, answered_box, can_answer as may_answer, confirms as does_confirm, in_delete_box, in_mask_box, in_trouble_box, is_cancel as does_cancel, is_enter as is_enter_key, letter_of as answer_of, seen_box, sight, target_in, with_ask};
 
 use super::Ui;
 use super::panel_keys::{asks, nothing, one_refusal};

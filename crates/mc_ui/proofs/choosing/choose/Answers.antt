@@ -1,8 +1,8 @@
 -- What `stat` says of the thing is what can be seen there.
 use Rattle.std.proofs.Common.{refl, sym, ◌∙◌, ap}
 use Rattle.tree_trait.specs.Refusals.{file_kind}
-use Rattle.mc_desk.proofs.Sights.{file_choice, near}
-use Rattle.mc_desk.proofs.choosing.choose.Goals as goal
+use Rattle.mc_ui.proofs.Sights.{file_choice, near}
+use Rattle.mc_ui.proofs.choosing.choose.Goals as goal
 
 pub returns-in-File-clause-chosen : goal.returns-in-File-clause-chosen
 returns-in-File-clause-chosen g c =

@@ -2,8 +2,8 @@
 use Rattle.std.proofs.Common.{sym, subst, ◌∙◌, ◌≡◌, Some}
 use Rattle.std.specs.Option.{option_map}
 use Rattle.copy_move.specs.Told.{told}
-use Rattle.mc_desk.specs.Screens.{TroubleBox, answered_box, letter_of, with_ask, Screen}
-use Rattle.mc_desk.proofs.ui.Ui.key_in_trouble.Goals as goal
+use Rattle.mc_ui.specs.Screens.{TroubleBox, answered_box, letter_of, with_ask, Screen}
+use Rattle.mc_ui.proofs.ui.Ui.key_in_trouble.Goals as goal
 
 pub returns-in-Some-clause-leads : goal.returns-in-Some-clause-leads
 returns-in-Some-clause-leads c =

@@ -2,8 +2,8 @@
 ghost use Rattle.std.specs.Prelude.{◌≡◌, ◌≢◌, ◌<◌, ◌≤◌, true, IfErr, IfOk, is_some, length};
 ghost use Rattle.mc_text.specs.Routes.{parent_of, spelled};
 ghost use Rattle.tree_trait.specs.Answers.{IfKnown, HasRisen};
-ghost use Rattle.mc_desk.specs.Screens.{copy_plan, delete_plan, sight, target_in};
-ghost use Rattle.mc_desk.specs.Choices.{AfterLook, PlanCalls, PlanLeads, has_plan_fault};
+ghost use Rattle.mc_ui.specs.Screens.{copy_plan, delete_plan, sight, target_in};
+ghost use Rattle.mc_ui.specs.Choices.{AfterLook, PlanCalls, PlanLeads, has_plan_fault};
 
 use crate::asks::Confirmed;
 use crate::dialog::Chosen;

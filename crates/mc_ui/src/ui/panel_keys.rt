@@ -4,9 +4,9 @@ ghost use Rattle.tree_trait.specs.Calls.{Stat};
 ghost use Rattle.tree_trait.specs.Answers.{IfKnown, HasRisen};
 ghost use Rattle.copy_move.specs.Told.{told};
 ghost use Rattle.copy_move.specs.Traces.{AreRefused};
-ghost use Rattle.mc_desk.specs.Tallies.{has_fault};
-ghost use Rattle.mc_desk.specs.Panels.{current_path};
-ghost use Rattle.mc_desk.specs.Screens.{Chooses, InPanel, NoBox, WellAsked, box_of, seen_box, sight, with_ask};
+ghost use Rattle.mc_ui.specs.Refused.{has_fault};
+ghost use Rattle.mc_ui.specs.Panels.{current_path};
+ghost use Rattle.mc_ui.specs.Screens.{Chooses, InPanel, NoBox, WellAsked, box_of, seen_box, sight, with_ask};
 
 use super::Ui;
 use crate::asks::{Ask, KeyAct};

@@ -1,6 +1,6 @@
 -- Something stands at the target.
-use Rattle.mc_desk.proofs.Sights.{stands}
-use Rattle.mc_desk.proofs.copying.plan_copy.Goals as goal
+use Rattle.mc_ui.proofs.Sights.{stands}
+use Rattle.mc_ui.proofs.copying.plan_copy.Goals as goal
 
 pub returns-in-Ok-stat-clause-leads : goal.returns-in-Ok-stat-clause-leads
 returns-in-Ok-stat-clause-leads g c =

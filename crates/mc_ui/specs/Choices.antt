@@ -8,12 +8,12 @@ use Rattle.tree_trait.specs.Calls.{Stat}
 use Rattle.tree_trait.specs.Change.{CallLog}
 use Rattle.copy_move.specs.declared.history.Refusal.TheVariants.{Tree}
 use Rattle.copy_move.specs.Traces.{HasCause, IsRefusedWith}
-use Rattle.mc_desk.specs.declared.choosing.Choice.{Choice}
-use Rattle.mc_desk.specs.declared.choosing.Choice.TheVariants.{Nothing, File, Refused}
-use Rattle.mc_desk.specs.declared.copying.CopyPlan.{CopyPlan}
-use Rattle.mc_desk.specs.declared.copying.CopyPlan.TheVariants.{Begins, Refuses}
-use Rattle.mc_desk.specs.Screens.{CopyRefused, MayAsk, copy_plan}
-use Rattle.mc_desk.specs.Tallies.{has_fault, is_fault}
+use Rattle.mc_ui.specs.declared.choosing.Choice.{Choice}
+use Rattle.mc_ui.specs.declared.choosing.Choice.TheVariants.{Nothing, File, Refused}
+use Rattle.mc_ui.specs.declared.copying.CopyPlan.{CopyPlan}
+use Rattle.mc_ui.specs.declared.copying.CopyPlan.TheVariants.{Begins, Refuses}
+use Rattle.mc_ui.specs.Screens.{CopyRefused, MayAsk, copy_plan}
+use Rattle.mc_ui.specs.Refused.{has_fault, is_fault}
 
 -- it is nothing that a box may ask of, or a file, or a look at it was refused
 abbrev pub IsChoice : Option View → Option Route → Choice → Type 0

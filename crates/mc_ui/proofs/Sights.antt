@@ -14,14 +14,12 @@ use Rattle.tree_trait.specs.Change.{CallLog, current, found}
 use Rattle.tree_trait.specs.CrashImages.{Among}
 use Rattle.tree_trait.specs.Answers.{IsMeta, IsListing, IsAscending, IfKnown, Reads}
 use Rattle.tree_trait.proofs.Walking.{stat-found, list-found}
-use Rattle.mc_desk.specs.declared.dialog.Chosen.{Chosen}
-use Rattle.mc_desk.specs.declared.choosing.Choice.TheVariants.{File}
-use Rattle.mc_desk.specs.declared.reread.Reread.{Reread}
-use Rattle.mc_desk.specs.Choices.{IsChoice}
-use Rattle.mc_desk.specs.Logs.{Logged}
-use Rattle.mc_desk.specs.Panels.{ListsFolder, Shown}
-use Rattle.mc_desk.specs.Screens.{IsReread, MayAsk, NoBox, Screen, is_file_spot, sight}
-use Rattle.mc_desk.specs.Starts.{IsOpened}
+use Rattle.mc_ui.specs.declared.dialog.Chosen.{Chosen}
+use Rattle.mc_ui.specs.declared.choosing.Choice.TheVariants.{File}
+use Rattle.mc_ui.specs.declared.reread.Reread.{Reread}
+use Rattle.mc_ui.specs.Choices.{IsChoice}
+use Rattle.mc_ui.specs.Panels.{ListsFolder}
+use Rattle.mc_ui.specs.Screens.{IsReread, MayAsk, is_file_spot, sight}
 
 -- what `stat` says of a path is what can be seen there
 spot_kind : (log : CallLog) (path : Route) (meta : Meta) → refusal_of (current log) (Stat path) ≡ None → IsMeta (current log) path meta
@@ -94,27 +92,3 @@ pub lists_again : (contents : Option CallLog) (unseen : Bool) (folder : Route) (
     → r.names ≡ Some children.names → r.refused ≡ None → IsReread (sight contents) unseen folder r
 lists_again contents unseen folder children r on order reads names none =
     subst (λ u. IsReread (sight contents) u folder r) (sym on) (inl (children.names, lists_folder contents folder children order reads, names, none))
-
--- two listings open the screen
-pub opens : (contents contents_then : Option CallLog) (left right : Route) (left_children right_children : Children) (left_panel right_panel : Shown) (screen : Screen) (log : Logged) → contents_then ≡ contents
-    → left_panel ≡ record { folder = left; names = left_children.names; cursor = 0 } → right_panel ≡ record { folder = right; names = right_children.names; cursor = 0 }
-    → screen ≡ record { left = left_panel; right = right_panel; over = NoBox; planned = None }
-    → IsAscending left_children.names → IfKnown contents (λ log. Reads log (ListFolder left) (let r : Result Children TreeError = Ok left_children in r) (IsListing (current log) (found (current log) left)))
-    → IsAscending right_children.names → IfKnown contents_then (λ log. Reads log (ListFolder right) (let r : Result Children TreeError = Ok right_children in r) (IsListing (current log) (found (current log) right)))
-    → log.newest ≡ [] → 1 ≤ log.spare → IsOpened contents left right screen log
-opens contents contents_then left right left_children right_children left_panel right_panel screen log same left_is right_is is left_order left_reads right_order right_reads empty room =
-    subst (λ s. IsOpened contents left right s log) (sym is)
-    (subst (λ p. IsOpened contents left right (record { left = p; right = right_panel; over = NoBox; planned = None }) log) (sym left_is)
-    (subst (λ p. IsOpened contents left right (record { left = record { folder = left; names = left_children.names; cursor = 0 }; right = p; over = NoBox; planned = None }) log) (sym right_is) record {
-      opening = record {
-        left = lists_folder contents left left_children left_order left_reads;
-        right = subst (λ o. ListsFolder (sight o) right right_children.names) same (lists_folder contents_then right right_children right_order right_reads);
-        cursors = (refl, refl);
-        over = refl;
-        planned = refl;
-      };
-      left_is = refl;
-      right_is = refl;
-      empty = empty;
-      room = room;
-    }))

@@ -1,0 +1,4 @@
+pub mod Choices
+pub mod Panels
+pub mod Refused
+pub mod Screens

@@ -1,0 +1,16 @@
+-- Which refusals come of a failure of the tree.
+use Rattle.std.specs.Prelude.{Bool, true, false, ◌||◌, List, [], ◌∷◌}
+use Rattle.tree_trait.specs.declared.calls.TreeError.{TreeError}
+use Rattle.tree_trait.specs.declared.calls.TreeError.TheVariants.{Fault}
+use Rattle.copy_move.specs.declared.history.Refusal.{Refusal}
+use Rattle.copy_move.specs.declared.history.Refusal.TheVariants.{Tree, Plan}
+
+-- the tree failed at a call that was refused
+abbrev pub is_fault : TreeError → Bool
+is_fault Fault = true
+is_fault e = false
+
+abbrev pub has_fault : List Refusal → Bool
+has_fault [] = false
+has_fault (Tree path e ∷ more) = is_fault e || has_fault more
+has_fault (Plan error ∷ more) = has_fault more

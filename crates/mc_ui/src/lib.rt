@@ -1,0 +1,22 @@
+//! What stands on the screen: two panels, the box over them, and what keys and looks make of it.
+#![tactic(auto)]
+
+mod asks;
+mod causes;
+mod choosing;
+mod copying;
+mod dialog;
+mod frame;
+mod panel;
+mod reread;
+mod ui;
+
+pub use asks::{Ask, Confirmed, KeyAct};
+pub use causes::cause_text;
+pub use choosing::{Choice, choose};
+pub use copying::{CopyPlan, plan_copy};
+pub use dialog::{Chosen, Dialog};
+pub use frame::draw;
+pub use panel::Panel;
+pub use reread::{Reread, list_again};
+pub use ui::Ui;
