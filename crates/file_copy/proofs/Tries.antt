@@ -13,10 +13,10 @@ use Rattle.file_copy.specs.declared.stage.Stage.{Stage}
 use Rattle.file_copy.specs.declared.stage.Stage.TheVariants.{Begin, Fill, Clean, Left, Decided}
 use Rattle.file_copy.specs.declared.stage.FolderState.{FolderState}
 use Rattle.file_copy.specs.declared.stage.FolderState.TheVariants.{Synced, Dirty}
-use Rattle.file_copy.specs.declared.work.Moved.{Moved}
+use Rattle.file_copy.specs.declared.winding.Wound.{Wound}
 use Rattle.file_copy.specs.CallRuns.{HasMore}
 use Rattle.file_copy.specs.Copying.{Copying, IsSound, Places, copying, folder_of}
-use Rattle.file_copy.specs.LastSteps.{Leaves, SyncTried, WindMoves, Winds, WindsOn, given_up, last_steps, let_go, removable, tries_of}
+use Rattle.file_copy.specs.LastSteps.{Leaves, SyncAnswers, SyncTried, WindMoves, Winds, WindsOn, given_up, last_steps, let_go, refusal_in, removable, sync_answer, tries_of}
 use Rattle.file_copy.proofs.Runs.{one_more, no_more, ran_one}
 
 -- a call that was tried counts
@@ -37,6 +37,11 @@ err_some : (call : Call) (e : TreeError) (log : CallLog) (after : Option CallLog
 err_some call refused.Memory log after h = (log, h)
 err_some call refused.Fault log after h = (_, h.1.1)
 err_some call e log after h = (_, h.1)
+
+-- an answer, by its refusal
+answered : (answer : Result (Unit {0}) TreeError) (left : Option TreeError) → left ≡ refusal_in answer → answer ≡ sync_answer left
+answered (Ok done) left is = subst (λ l. Ok done ≡ sync_answer l) (sym is) refl
+answered (Err e) left is = subst (λ l. Err e ≡ sync_answer l) (sym is) refl
 
 -- with no part to be removed
 settled_same : (stage : Stage) → removable stage ≡ None → given_up stage ≡ stage
@@ -70,14 +75,18 @@ three_left Decided part h = absurd cc
 
 module _ (ending : Ending) (p : Places) (stage : Stage) (before after : Option CallLog) where
   -- the sync of the folder was tried
-  pub winds_tried : (folder : FolderState) (at : Route) (answer : Result (Unit {0}) TreeError) (calls f0 f1 : ℕ) → removable stage ≡ None → folder ≡ Dirty → at ≡ folder_of p.target → calls ≡ tries_of answer
-      → IfKnown before (λ log. Performs {A = Unit {0}} log (SyncFolder at) answer after) → (before ≡ None → after ≡ None) → f0 ≤ f1
-      → WindsOn ending (copying p stage folder) (copying p stage Synced) Barrier calls before after f0 f1
-  winds_tried folder at answer calls f0 f1 settled owed at_is calls_is called unknown later = record {
+  pub winds_tried : (folder : FolderState) (at : Route) (answer : Result (Unit {0}) TreeError) (calls : ℕ) (left : Option TreeError) (f0 f1 : ℕ) → removable stage ≡ None → folder ≡ Dirty → at ≡ folder_of p.target
+      → calls ≡ tries_of answer → left ≡ refusal_in answer → IfKnown before (λ log. Performs {A = Unit {0}} log (SyncFolder at) answer after) → (before ≡ None → after ≡ None) → f0 ≤ f1
+      → WindsOn ending (copying p stage folder) (copying p stage Synced) Barrier calls left before after f0 f1
+  winds_tried folder at answer calls left f0 f1 settled owed at_is calls_is left_is called unknown later = record {
     tells = (owed, ap (λ s. copying p s Synced) (sym (settled_same stage settled)));
     called = λ log known.
         subst (λ part. SyncTried (copying p stage folder) part log after) (sym settled)
         (answer, subst (λ q. Performs {A = Unit {0}} log (SyncFolder q) answer after) at_is (called log known));
+    synced = λ log known.
+        subst (λ part. SyncAnswers (copying p stage folder) part left log after) (sym settled)
+        (subst (λ a. Performs {A = Unit {0}} log (SyncFolder (folder_of p.target)) a after) (answered answer left left_is)
+        (subst (λ q. Performs {A = Unit {0}} log (SyncFolder q) answer after) at_is (called log known)));
     counted = λ log known now is. subst (λ n. HasMore log n now) (sym calls_is) (counts_try (SyncFolder at) answer log now after (called log known) is);
     few = let few = tries_few answer in omega (arith, few, calls_is);
     unknown = unknown;
@@ -89,13 +98,14 @@ module _ (ending : Ending) (p : Places) (stage : Stage) (before after : Option C
     -- the part was removed
     pub winds_cleaned : (done : Unit {0}) (f0 f1 : ℕ) → IfKnown before (λ log. Performs {A = Unit {0}} log (RemoveFile part) (Ok done) after) → (before ≡ None → after ≡ None)
         → HasCause refused.Fault f0 f1 (let r : Result (Unit {0}) TreeError = Ok done in r)
-        → WindsOn ending (copying p stage Dirty) (copying p Decided Dirty) (Cleaned part) 1 before after f0 f1
+        → WindsOn ending (copying p stage Dirty) (copying p Decided Dirty) (Cleaned part) 1 None before after f0 f1
     winds_cleaned done f0 f1 called unknown cause =
         let ran = ran_one (RemoveFile part) (Ok done) part false before after f0 f1 refl called unknown cause in
         let three = three_left stage part has in
         record {
           tells = (has, refl);
           called = ran.done;
+          synced = λ log known. refl;
           counted = ran.counted;
           few = omega arith;
           unknown = unknown;
@@ -104,11 +114,11 @@ module _ (ending : Ending) (p : Places) (stage : Stage) (before after : Option C
         }
 
     -- the part stays, and the sync of the folder was tried
-    winds_stays : (e : TreeError) (mid : Option CallLog) (answer : Result (Unit {0}) TreeError) (calls total f0 f1 f2 : ℕ) → calls ≡ tries_of (Err e) → total ≡ calls + tries_of answer
-        → IfKnown before (λ log. Performs {A = Unit {0}} log (RemoveFile part) (Err e) mid) → IfKnown mid (λ log. Performs {A = Unit {0}} log (SyncFolder (folder_of p.target)) answer after)
+    winds_stays : (e : TreeError) (mid : Option CallLog) (answer : Result (Unit {0}) TreeError) (left : Option TreeError) (calls total f0 f1 f2 : ℕ) → calls ≡ tries_of (Err e) → total ≡ calls + tries_of answer
+        → left ≡ refusal_in answer → IfKnown before (λ log. Performs {A = Unit {0}} log (RemoveFile part) (Err e) mid) → IfKnown mid (λ log. Performs {A = Unit {0}} log (SyncFolder (folder_of p.target)) answer after)
         → (before ≡ None → after ≡ None) → f0 ≤ f2
-        → WindsOn ending (copying p stage Dirty) (copying p (Left part) Synced) Barrier total before after f0 f2
-    winds_stays e mid answer calls total f0 f1 f2 calls_is total_is removed synced unknown later =
+        → WindsOn ending (copying p stage Dirty) (copying p (Left part) Synced) Barrier total left before after f0 f2
+    winds_stays e mid answer left calls total f0 f1 f2 calls_is total_is left_is removed synced unknown later =
         let three = three_left stage part has in
         record {
           tells = (refl, ap (λ s. copying p s Synced) (sym (left_after stage part has)));
@@ -116,6 +126,14 @@ module _ (ending : Ending) (p : Places) (stage : Stage) (before after : Option C
               let middle = err_some (RemoveFile part) e log mid (removed log known) in
               subst (λ q. SyncTried (copying p stage Dirty) q log after) (sym has)
               (e, middle.0, subst (Performs {A = Unit {0}} log (RemoveFile part) (Err e)) middle.1 (removed log known), (answer, synced middle.0 middle.1));
+          synced = λ log known.
+              let middle = err_some (RemoveFile part) e log mid (removed log known) in
+              subst (λ q. SyncAnswers (copying p stage Dirty) q left log after) (sym has) (
+                e,
+                middle.0,
+                subst (Performs {A = Unit {0}} log (RemoveFile part) (Err e)) middle.1 (removed log known),
+                subst (λ a. Performs {A = Unit {0}} middle.0 (SyncFolder (folder_of p.target)) a after) (answered answer left left_is) (synced middle.0 middle.1),
+              );
           counted = λ log known now is.
               let middle = err_some (RemoveFile part) e log mid (removed log known) in
               let first = counts_try (RemoveFile part) (Err e) log middle.0 mid (removed log known) middle.1 in
@@ -127,21 +145,21 @@ module _ (ending : Ending) (p : Places) (stage : Stage) (before after : Option C
           falls = omega (arith, three);
         }
 
-    pub winds_left : (e : TreeError) (mid : Option CallLog) (moved : Moved) (calls f0 f1 f2 : ℕ) → calls ≡ tries_of (Err e)
-        → IfKnown before (λ log. Performs {A = Unit {0}} log (RemoveFile part) (Err e) mid) → (before ≡ None → mid ≡ None) → f0 ≤ f1 → Leaves p part calls moved mid after f1 f2
-        → WindMoves ending (copying p stage Dirty) moved before after f0 f2
-    winds_left e mid moved calls f0 f1 f2 calls_is removed unknown later l =
-        let stays = winds_stays e mid l.tried.0 calls moved.calls f0 f1 f2 calls_is l.tried.1 removed l.tried.2 (λ h. l.unknown (unknown h)) (let more = l.later in omega (arith, later, more)) in
-        let at_stage = subst (λ s. WindsOn ending (copying p stage Dirty) (copying p s Synced) Barrier moved.calls before after f0 f2) (sym l.stage) stays in
-        let at_folder = subst (λ f. WindsOn ending (copying p stage Dirty) (copying p moved.stage f) Barrier moved.calls before after f0 f2) (sym l.folder) at_stage in
-        subst (λ d. WindsOn ending (copying p stage Dirty) (copying p moved.stage moved.folder) d moved.calls before after f0 f2) (sym l.did) at_folder
+    pub winds_left : (e : TreeError) (mid : Option CallLog) (wound : Wound) (calls f0 f1 f2 : ℕ) → calls ≡ tries_of (Err e)
+        → IfKnown before (λ log. Performs {A = Unit {0}} log (RemoveFile part) (Err e) mid) → (before ≡ None → mid ≡ None) → f0 ≤ f1 → Leaves p part calls wound mid after f1 f2
+        → WindMoves ending (copying p stage Dirty) wound before after f0 f2
+    winds_left e mid wound calls f0 f1 f2 calls_is removed unknown later l =
+        let stays = winds_stays e mid l.tried.0 wound.left calls wound.calls f0 f1 f2 calls_is l.tried.1 l.tried.2 removed l.tried.3 (λ h. l.unknown (unknown h)) (let more = l.later in omega (arith, later, more)) in
+        let at_stage = subst (λ s. WindsOn ending (copying p stage Dirty) (copying p s Synced) Barrier wound.calls wound.left before after f0 f2) (sym l.stage) stays in
+        let at_folder = subst (λ f. WindsOn ending (copying p stage Dirty) (copying p wound.stage f) Barrier wound.calls wound.left before after f0 f2) (sym l.folder) at_stage in
+        subst (λ d. WindsOn ending (copying p stage Dirty) (copying p wound.stage wound.folder) d wound.calls wound.left before after f0 f2) (sym l.did) at_folder
 
 -- where the copy stands at this stage
-pub winds_at : (ending : Ending) (p : Places) (stage at : Stage) (folder : FolderState) (moved : Moved) (before after : Option CallLog) (f0 f1 : ℕ)
-    → stage ≡ at → folder ≡ Dirty → WindMoves ending (copying p at Dirty) moved before after f0 f1 → WindMoves ending (copying p stage folder) moved before after f0 f1
-winds_at ending p stage at folder moved before after f0 f1 is folder_is m =
-    subst (λ s. WindMoves ending (copying p s folder) moved before after f0 f1) (sym is)
-    (subst (λ f. WindMoves ending (copying p at f) moved before after f0 f1) (sym folder_is) m)
+pub winds_at : (ending : Ending) (p : Places) (stage at : Stage) (folder : FolderState) (wound : Wound) (before after : Option CallLog) (f0 f1 : ℕ)
+    → stage ≡ at → folder ≡ Dirty → WindMoves ending (copying p at Dirty) wound before after f0 f1 → WindMoves ending (copying p stage folder) wound before after f0 f1
+winds_at ending p stage at folder wound before after f0 f1 is folder_is m =
+    subst (λ s. WindMoves ending (copying p s folder) wound before after f0 f1) (sym is)
+    (subst (λ f. WindMoves ending (copying p at f) wound before after f0 f1) (sym folder_is) m)
 
 -- a last step leaves the copy sound
 given_sound : (stage : Stage) → IsSound (given_up stage) Synced

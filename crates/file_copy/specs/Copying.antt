@@ -1,5 +1,5 @@
 -- The order in which a file is copied: what a step may report where the copy stands, and where it stands then.
-use Rattle.std.specs.Prelude.{◌≡◌, ℕ, ◌+◌, ◌-◌, ◌^◌, ◌≤◌, ⊤, Bool, true, false, [], ◌∷◌, Option, Some, None}
+use Rattle.std.specs.Prelude.{◌≡◌, ℕ, ◌+◌, ◌-◌, ◌^◌, ◌≤◌, ⊤, Bool, true, false, not, [], ◌∷◌, Option, Some, None}
 use Rattle.mc_text.specs.Routes.{Route}
 use Rattle.file_copy.specs.declared.report.Ending.TheVariants.{Finished}
 use Rattle.file_copy.specs.declared.report.Did.{Did}
@@ -74,6 +74,19 @@ at_barrier Decided = true
 at_barrier (Left part) = true
 at_barrier Begin = false
 at_barrier (Fill part said done) = false
+
+-- the folder has a change of names that no sync has brought onto the disk
+abbrev pub is_dirty : FolderState → Bool
+is_dirty Dirty = true
+is_dirty Synced = false
+
+-- a copy that has changed nothing yet
+abbrev pub is_fresh : Stage → FolderState → Bool
+is_fresh Begin folder = not (is_dirty folder)
+is_fresh (Fill part said done) folder = false
+is_fresh (Clean part follows) folder = false
+is_fresh (Left part) folder = false
+is_fresh Decided folder = false
 
 -- at most so many bytes go to the part in one step
 abbrev pub chunk_bytes : ℕ

@@ -14,7 +14,7 @@ use Rattle.file_copy.specs.declared.stage.Stage.TheVariants.{Begin, Fill, Clean,
 use Rattle.file_copy.specs.declared.stage.FolderState.{FolderState}
 use Rattle.file_copy.specs.declared.stage.FolderState.TheVariants.{Synced, Dirty}
 use Rattle.file_copy.specs.CallRuns.{AllDone, HasMore}
-use Rattle.file_copy.specs.declared.work.Moved.{Moved}
+use Rattle.file_copy.specs.declared.winding.Wound.{Wound}
 use Rattle.file_copy.specs.Copying.{Places, Copying, copying, folder_of}
 
 -- the part that could not be removed
@@ -85,6 +85,28 @@ WindCalls c (Removed path) log after = ⊥
 WindCalls c (Skipped path cause) log after = ⊥
 WindCalls c (Troubled trouble) log after = ⊥
 
+-- what a sync answered: it was done, or it was refused so
+abbrev pub sync_answer : Option TreeError → Result (Unit {0}) TreeError
+sync_answer None = Ok tt
+sync_answer (Some e) = Err e
+
+-- the refusal that an answer is
+abbrev pub refusal_in : Result (Unit {0}) TreeError → Option TreeError
+refusal_in (Ok done) = None
+refusal_in (Err e) = Some e
+
+-- the sync of the folder was answered so; a part that stands was refused its removal before
+abbrev pub SyncAnswers : Copying → Option Route → Option TreeError → CallLog → Option CallLog → Type 0
+SyncAnswers c None left log after = Performs {A = Unit {0}} log (SyncFolder (folder_of c.target)) (sync_answer left) after
+SyncAnswers c (Some part) left log after =
+    (e : TreeError) × (mid : CallLog) × Performs {A = Unit {0}} log (RemoveFile part) (Err e) (Some mid)
+    × Performs {A = Unit {0}} mid (SyncFolder (folder_of c.target)) (sync_answer left) after
+
+-- what a last step tells of the folder: the refusal of its sync, if that was tried in vain
+abbrev pub TellsFolder : Copying → Did → Option TreeError → CallLog → Option CallLog → Type 0
+TellsFolder c Barrier left log after = SyncAnswers c (removable c.stage) left log after
+TellsFolder c did left log after = left ≡ None
+
 -- the most last steps that a copy makes yet
 abbrev pub last_steps : Stage → FolderState → ℕ
 last_steps (Fill part said done) folder = 3
@@ -102,10 +124,11 @@ GoesDown (Ended how part) old new = ⊤
 GoesDown did old new = last_steps new.stage new.folder < last_steps old.stage old.folder
 
 -- A last step: what it reports is allowed, the copy is then as it says, and it made the calls that it says, which it
--- counts. It is always one of at most three.
-pub record WindsOn (ending : Ending) (old new : Copying) (did : Did) (calls : ℕ) (before after : Option CallLog) (faults faults_after : ℕ) : Type 0 where
+-- counts. It is always one of at most three. It tells the refusal of a sync that was tried in vain.
+pub record WindsOn (ending : Ending) (old new : Copying) (did : Did) (calls : ℕ) (left : Option TreeError) (before after : Option CallLog) (faults faults_after : ℕ) : Type 0 where
   pub tells : Winds ending old did new
   pub called : IfKnown before (λ log. WindCalls old did log after)
+  pub synced : IfKnown before (λ log. TellsFolder old did left log after)
   pub counted : IfKnown before (λ log. IfKnown after (HasMore log calls))
   pub few : calls ≤ 2
   pub unknown : before ≡ None → after ≡ None
@@ -113,9 +136,9 @@ pub record WindsOn (ending : Ending) (old new : Copying) (did : Did) (calls : �
   pub falls : GoesDown did old new
 
 -- the same of a step that says where it left the copy
-abbrev pub WindMoves : Ending → Copying → Moved → Option CallLog → Option CallLog → ℕ → ℕ → Type 0
-WindMoves ending old moved before after faults faults_after =
-    WindsOn ending old (record old { stage = moved.stage; folder = moved.folder }) moved.did moved.calls before after faults faults_after
+abbrev pub WindMoves : Ending → Copying → Wound → Option CallLog → Option CallLog → ℕ → ℕ → Type 0
+WindMoves ending old wound before after faults faults_after =
+    WindsOn ending old (record old { stage = wound.stage; folder = wound.folder }) wound.did wound.calls wound.left before after faults faults_after
 
 -- how many calls were made for an answer: none where there was no memory
 abbrev pub tries_of : Result (Unit {0}) TreeError → ℕ
@@ -124,21 +147,21 @@ tries_of (Err refused.Memory) = 0
 tries_of (Err e) = 1
 
 -- the end of a copy with no part to be removed
-abbrev pub Ends : Ending → Stage → Moved → Type 0
-Ends ending stage moved =
-    moved ≡ record { did = Ended ending (left_at stage); calls = 0; stage = let_go stage; folder = Synced }
+abbrev pub Ends : Ending → Stage → Wound → Type 0
+Ends ending stage wound =
+    wound ≡ record { did = Ended ending (left_at stage); calls = 0; left = None; stage = let_go stage; folder = Synced }
 
 -- The sync of the folder is tried where a part stays for which so many calls were made.
-pub record Leaves (p : Places) (part : Route) (calls : ℕ) (moved : Moved) (before after : Option CallLog) (faults faults_after : ℕ) : Type 0 where
-  pub did : moved.did ≡ Barrier
-  pub stage : moved.stage ≡ Left part
-  pub folder : moved.folder ≡ Synced
-  pub tried : (answer : Result (Unit {0}) TreeError) × (moved.calls ≡ calls + tries_of answer)
+pub record Leaves (p : Places) (part : Route) (calls : ℕ) (wound : Wound) (before after : Option CallLog) (faults faults_after : ℕ) : Type 0 where
+  pub did : wound.did ≡ Barrier
+  pub stage : wound.stage ≡ Left part
+  pub folder : wound.folder ≡ Synced
+  pub tried : (answer : Result (Unit {0}) TreeError) × (wound.calls ≡ calls + tries_of answer) × (wound.left ≡ refusal_in answer)
       × IfKnown before (λ log. Performs {A = Unit {0}} log (SyncFolder (folder_of p.target)) answer after)
   pub unknown : before ≡ None → after ≡ None
   pub later : faults ≤ faults_after
 
 -- the part that a stage has is removed, or it stays and the folder's sync is tried
-abbrev pub Removes : Places → Route → Moved → Option CallLog → Option CallLog → ℕ → ℕ → Type 0
-Removes p part moved before after faults faults_after =
-    (ending : Ending) (stage : Stage) → removable stage ≡ Some part → WindMoves ending (copying p stage Dirty) moved before after faults faults_after
+abbrev pub Removes : Places → Route → Wound → Option CallLog → Option CallLog → ℕ → ℕ → Type 0
+Removes p part wound before after faults faults_after =
+    (ending : Ending) (stage : Stage) → removable stage ≡ Some part → WindMoves ending (copying p stage Dirty) wound before after faults faults_after

@@ -1,7 +1,7 @@
 //! The copy of one file, a piece of work at each step.
 ghost use Rattle.std.specs.Prelude.{◌≡◌, None, Some, true, option_map};
 ghost use Rattle.mc_text.specs.Routes.{parent_of};
-ghost use Rattle.file_copy.specs.Copying.{IsSound, at_barrier, begun, part_at, skipped as skipped_to, taken_anew as stage_anew};
+ghost use Rattle.file_copy.specs.Copying.{IsSound, at_barrier, begun, folder_of, is_dirty, is_fresh, part_at, skipped as skipped_to, taken_anew as stage_anew};
 ghost use Rattle.file_copy.specs.CopySteps.{Skips, StepsOn};
 ghost use Rattle.file_copy.specs.LastSteps.{WindsOn, left_at};
 
@@ -16,7 +16,7 @@ use mc_text::Path;
 use std::alloc::Global;
 use std::marker::Model;
 use std::mem;
-use tree_trait::Tree;
+use tree_trait::{Tree, TreeError};
 
 /// The copy of one file to a path at which nothing stands.
 #[derive(Debug, Drop)]
@@ -41,6 +41,15 @@ impl Model for FileCopy {
 pub struct Stepped {
     pub did: Did,
     pub calls: u64,
+}
+
+/// What a last step did, how many changing calls of the tree it made, and the refusal of a sync that was tried in vain:
+/// the folder then has names that no sync has brought onto the disk.
+#[derive(Debug, Drop)]
+pub struct LastStepped {
+    pub did: Did,
+    pub calls: u64,
+    pub left: Option<TreeError>,
 }
 
 impl FileCopy {
@@ -80,6 +89,33 @@ impl FileCopy {
             folder: _,
         } = self;
         part_in(stage)
+    }
+
+    /// The folder of the target.
+    pub fn folder(&self) -> &Path
+        ensures { result.now ≡ folder_of self.now.target }
+    {
+        self.item.folder()
+    }
+
+    /// Whether the folder has a change of names that no sync has brought onto the disk, as far as this copy goes.
+    pub fn is_dirty(&self) -> bool
+        ensures { result ≡ is_dirty self.now.folder }
+    {
+        match self.folder {
+            FolderState::Dirty => true,
+            FolderState::Synced => false,
+        }
+    }
+
+    /// Whether nothing was changed yet.
+    pub fn is_fresh(&self) -> bool
+        ensures { result ≡ is_fresh self.now.stage self.now.folder }
+    {
+        match (&self.stage, self.folder) {
+            (Stage::Begin, FolderState::Synced) => true,
+            _ => false,
+        }
     }
 
     /// Whether the next call is at a barrier, where nothing can be skipped.
@@ -128,17 +164,23 @@ impl FileCopy {
     }
 
     /// Makes the next of the last steps of a job that is to end so. After the end the copy is to be let go.
-    pub fn wind_up<T: Tree>(&mut self, alloc: Global, tree: &mut T, ending: Ending) -> Stepped
-        ensures { WindsOn ending self.old self.new result.did result.calls
+    pub fn wind_up<T: Tree>(
+        &mut self,
+        alloc: Global,
+        tree: &mut T,
+        ending: Ending,
+    ) -> LastStepped
+        ensures { WindsOn ending self.old self.new result.did result.calls result.left
             (T.contents tree.old) (T.contents tree.new) (T.fault_count tree.old) (T.fault_count tree.new) }
     {
         let stage = mem::replace(&mut self.stage, Stage::Decided);
-        let moved = wind(alloc, tree, &self.item, stage, self.folder, ending);
-        self.stage = moved.stage;
-        self.folder = moved.folder;
-        Stepped {
-            did: moved.did,
-            calls: moved.calls,
+        let wound = wind(alloc, tree, &self.item, stage, self.folder, ending);
+        self.stage = wound.stage;
+        self.folder = wound.folder;
+        LastStepped {
+            did: wound.did,
+            calls: wound.calls,
+            left: wound.left,
         }
     }
 }

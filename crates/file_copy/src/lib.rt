@@ -15,7 +15,7 @@ mod stop;
 mod winding;
 mod work;
 
-pub use copy::{FileCopy, Stepped};
+pub use copy::{FileCopy, LastStepped, Stepped};
 pub use laws::{what_a_copy_shows, what_a_crash_leaves_of_a_copy, what_a_finished_copy_leaves};
 pub use part_name::PartTest;
 pub use report::{Cause, Did, Ending, Trouble};

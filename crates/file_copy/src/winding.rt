@@ -1,15 +1,25 @@
 //! The last steps of a copy that is aborted or killed: one try to remove its part, one try to sync the folder.
 ghost use Rattle.std.specs.Prelude.{◌≡◌, ◌≤◌, None};
 ghost use Rattle.file_copy.specs.Copying.{IsSound, copying};
-ghost use Rattle.file_copy.specs.LastSteps.{Ends, Leaves, Removes, WindMoves, removable, tries_of};
+ghost use Rattle.file_copy.specs.LastSteps.{Ends, Leaves, Removes, WindMoves, refusal_in, removable, tries_of};
 
 use crate::item::Item;
 use crate::report::{Did, Ending};
 use crate::stage::{FolderState, Stage};
-use crate::work::Moved;
 use mc_text::Path;
 use std::alloc::Global;
 use tree_trait::{Tree, TreeError};
+
+/// What a last step did, how many changing calls it made, the refusal of a sync that was tried in vain, and where the
+/// copy stands then.
+#[derive(Debug, Drop)]
+pub(crate) struct Wound {
+    pub(crate) did: Did,
+    pub(crate) calls: u64,
+    pub(crate) left: Option<TreeError>,
+    pub(crate) stage: Stage,
+    pub(crate) folder: FolderState,
+}
 
 /// Makes the next of the last steps. None of them takes memory of its own.
 pub(crate) fn wind<T: Tree>(
@@ -19,7 +29,7 @@ pub(crate) fn wind<T: Tree>(
     stage: Stage,
     folder: FolderState,
     ending: Ending,
-) -> Moved
+) -> Wound
     requires { IsSound stage folder }
     ensures { WindMoves ending (copying item.now stage folder) result (T.contents tree.old) (T.contents tree.new)
         (T.fault_count tree.old) (T.fault_count tree.new) }
@@ -34,14 +44,15 @@ pub(crate) fn wind<T: Tree>(
 }
 
 /// Tries to remove the part. One that stays has had its try, and the folder's sync is tried at once.
-fn remove_or_leave<T: Tree>(alloc: Global, tree: &mut T, item: &Item, part: Path) -> Moved
+fn remove_or_leave<T: Tree>(alloc: Global, tree: &mut T, item: &Item, part: Path) -> Wound
     ensures { Removes item.now part result (T.contents tree.old) (T.contents tree.new)
         (T.fault_count tree.old) (T.fault_count tree.new) }
 {
     match tree.remove_file(alloc, &part) {
-        Ok(()) => Moved {
+        Ok(()) => Wound {
             did: Did::Cleaned(part),
             calls: 1,
+            left: None,
             stage: Stage::Decided,
             folder: FolderState::Dirty,
         },
@@ -50,14 +61,16 @@ fn remove_or_leave<T: Tree>(alloc: Global, tree: &mut T, item: &Item, part: Path
 }
 
 /// The sync of the folder after so many calls, where the part stays.
-fn leave<T: Tree>(alloc: Global, tree: &mut T, item: &Item, part: Path, calls: u64) -> Moved
+fn leave<T: Tree>(alloc: Global, tree: &mut T, item: &Item, part: Path, calls: u64) -> Wound
     requires { calls ≤ 1 }
     ensures { Leaves item.now part calls result (T.contents tree.old) (T.contents tree.new)
         (T.fault_count tree.old) (T.fault_count tree.new) }
 {
-    Moved {
+    let answer = tree.sync_folder(alloc, item.folder());
+    Wound {
         did: Did::Barrier,
-        calls: calls + tried(tree.sync_folder(alloc, item.folder())),
+        calls: calls + tried(answer),
+        left: refusal_in(answer),
         stage: Stage::Left { part },
         folder: FolderState::Synced,
     }
@@ -71,24 +84,34 @@ fn settle<T: Tree>(
     stage: Stage,
     folder: FolderState,
     ending: Ending,
-) -> Moved
+) -> Wound
     requires { removable stage ≡ None }
     ensures { WindMoves ending (copying item.now stage folder) result (T.contents tree.old) (T.contents tree.new)
         (T.fault_count tree.old) (T.fault_count tree.new) }
 {
     match folder {
-        FolderState::Dirty => Moved {
-            did: Did::Barrier,
-            calls: tried(tree.sync_folder(alloc, item.folder())),
-            stage,
-            folder: FolderState::Synced,
-        },
+        FolderState::Dirty => try_sync(alloc, tree, item, stage),
         FolderState::Synced => end(stage, ending),
     }
 }
 
+fn try_sync<T: Tree>(alloc: Global, tree: &mut T, item: &Item, stage: Stage) -> Wound
+    requires { removable stage ≡ None }
+    ensures { (ending : Ending) → WindMoves ending (copying item.now stage FolderState.Dirty) result (T.contents tree.old) (T.contents tree.new)
+        (T.fault_count tree.old) (T.fault_count tree.new) }
+{
+    let synced = tree.sync_folder(alloc, item.folder());
+    Wound {
+        did: Did::Barrier,
+        calls: tried(synced),
+        left: refusal_in(synced),
+        stage,
+        folder: FolderState::Synced,
+    }
+}
+
 /// The end names the part that stays.
-fn end(stage: Stage, ending: Ending) -> Moved
+fn end(stage: Stage, ending: Ending) -> Wound
     requires { removable stage ≡ None }
     ensures { Ends ending stage result }
 {
@@ -98,12 +121,13 @@ fn end(stage: Stage, ending: Ending) -> Moved
     }
 }
 
-fn ended(ending: Ending, part: Option<Path>, stage: Stage) -> Moved
-    ensures { result ≡ record { did = Did.Ended ending part; calls = 0; stage = stage; folder = FolderState.Synced } }
+fn ended(ending: Ending, part: Option<Path>, stage: Stage) -> Wound
+    ensures { result ≡ record { did = Did.Ended ending part; calls = 0; left = None; stage = stage; folder = FolderState.Synced } }
 {
-    Moved {
+    Wound {
         did: Did::Ended { ending, part },
         calls: 0,
+        left: None,
         stage,
         folder: FolderState::Synced,
     }
@@ -116,5 +140,15 @@ fn tried(answer: Result<(), TreeError>) -> u64
     match answer {
         Err(TreeError::Memory) => 0,
         Ok(()) | Err(_) => 1,
+    }
+}
+
+/// The refusal that an answer is.
+fn refusal_in(answer: Result<(), TreeError>) -> Option<TreeError>
+    ensures { result ≡ refusal_in answer }
+{
+    match answer {
+        Ok(()) => None,
+        Err(error) => Some(error),
     }
 }
