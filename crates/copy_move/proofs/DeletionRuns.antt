@@ -12,6 +12,7 @@ use Rattle.file_copy.specs.declared.report.Ending.{Ending}
 use Rattle.file_copy.specs.declared.report.Did.{Did}
 use Rattle.file_copy.specs.declared.report.Did.TheVariants.{Removed, Barrier, Troubled}
 use Rattle.file_copy.specs.CallRuns.{HasMore}
+use Rattle.file_copy.specs.LastSteps.{refusal_in, sync_answer}
 use Rattle.copy_move.specs.declared.deletion.Stage.TheVariants.{Remove, Sync, Finish}
 use Rattle.copy_move.specs.Deletions.{Deleting, Answers, IsTroubleAt, calls_for, call_of, cause_of, trouble_at}
 use Rattle.copy_move.specs.DeletionSteps.{DeletionStep, LastDeletionStep}
@@ -57,10 +58,15 @@ counts_call log now call (Err refused.Memory) after h is = no_more log now (sym 
 counts_call log now call (Err refused.Fault) after h is = one_more log _ now (sym h.1.1 ∙ is)
 counts_call log now call (Err e) after h is = one_more log _ now (sym h.1 ∙ is)
 
-few_calls : (answer : Result (Unit {0}) TreeError) → calls_for answer ≤ 1
+pub few_calls : (answer : Result (Unit {0}) TreeError) → calls_for answer ≤ 1
 few_calls (Ok done) = omega arith
 few_calls (Err refused.Memory) = omega arith
 few_calls (Err e) = omega arith
+
+-- an answer, by its refusal
+answered : (answer : Result (Unit {0}) TreeError) (left : Option TreeError) → left ≡ refusal_in answer → answer ≡ sync_answer left
+answered (Ok done) left is = subst (λ l. Ok done ≡ sync_answer l) (sym is) refl
+answered (Err e) left is = subst (λ l. Err e ≡ sync_answer l) (sym is) refl
 
 module _ (old new : Deleting) (before after : Option CallLog) (faults faults_after : ℕ) where
   -- the call that a deletion makes, where its tree is known
@@ -105,13 +111,16 @@ module _ (old new : Deleting) (before after : Option CallLog) (faults faults_aft
       }
 
   -- the last sync was tried
-  pub steps_tried : (ending : Ending) (did : Did) (calls : ℕ) (folder : Route) (answer : Result (Unit {0}) TreeError) → did ≡ Barrier → calls ≡ calls_for answer → old.stage ≡ Sync
-      → parent_of old.path ≡ Some folder → new ≡ record old { stage = Finish } → Called (SyncFolder folder) answer → (before ≡ None → after ≡ None) → faults ≤ faults_after
-      → LastDeletionStep ending old new did calls before after faults faults_after
-  steps_tried ending did calls folder answer is count stage within new_is called unknown later =
-      subst (λ d. LastDeletionStep ending old new d calls before after faults faults_after) (sym is) record {
+  pub steps_tried : (ending : Ending) (did : Did) (calls : ℕ) (left : Option TreeError) (folder : Route) (answer : Result (Unit {0}) TreeError) → did ≡ Barrier → calls ≡ calls_for answer
+      → left ≡ refusal_in answer → old.stage ≡ Sync → parent_of old.path ≡ Some folder → new ≡ record old { stage = Finish } → Called (SyncFolder folder) answer → (before ≡ None → after ≡ None) → faults ≤ faults_after
+      → LastDeletionStep ending old new did calls left before after faults faults_after
+  steps_tried ending did calls left folder answer is count left_is stage within new_is called unknown later =
+      subst (λ d. LastDeletionStep ending old new d calls left before after faults faults_after) (sym is) record {
         tells = (stage, new_is);
         called = λ log known. (answer, subst (λ call. Answers log call answer after) (sym (sync_call old.path folder within)) (called log known));
+        synced = λ log known.
+            subst (λ a. Answers log (call_of Sync old.path) a after) (answered answer left left_is)
+            (subst (λ call. Answers log call answer after) (sym (sync_call old.path folder within)) (called log known));
         counted = counted (SyncFolder folder) answer calls count called;
         few = let most = few_calls answer in omega (arith, count, most);
         unknown = unknown;

@@ -95,6 +95,17 @@ copy_falls old new (Ended NoMemory part) t sound h = absurd t
 copy_falls old new (Removed path) t sound h = absurd t
 copy_falls old new (Skipped path cause) t sound h = absurd t
 
+tried_low : (stage : DeletionStage) → last_deletion_steps stage < deletion_rank stage
+tried_low deletion.Remove = omega arith
+tried_low deletion.Sync = omega arith
+tried_low deletion.Finish = omega arith
+tried_low deletion.PassedOver = omega arith
+
+-- a job in trouble has fewer steps left than one that goes on
+pub trouble_falls : (work : Work) → last_rank work < work_rank work
+trouble_falls (Copy c) = let few = few_last c.stage c.folder in let more = more_left c.stage c.folder in omega (arith, few, more)
+trouble_falls (Delete d) = tried_low d.stage
+
 pub deletion_falls : (old new : Deleting) (did : Did) → deletions.Tells old did new → ends did ≡ false → rank_on (course_after did) (Delete new) < work_rank (Delete old)
 deletion_falls old new (Removed path) (at, gone, is) h =
     subst (λ (n : Deleting). deletion_rank n.stage < deletion_rank old.stage) (sym is) (subst (λ s. 5 < deletion_rank s) (sym at) (omega arith))
@@ -102,12 +113,6 @@ deletion_falls old new Barrier (at, is) h =
     subst (λ (n : Deleting). deletion_rank n.stage < deletion_rank old.stage) (sym is) (subst (λ s. 4 < deletion_rank s) (sym at) (omega arith))
 deletion_falls old new (Troubled trouble) (at, is) h =
     subst (λ (n : Deleting). last_deletion_steps n.stage < deletion_rank old.stage) (sym is) (tried_low old.stage)
-  where
-    tried_low : (stage : DeletionStage) → last_deletion_steps stage < deletion_rank stage
-    tried_low deletion.Remove = omega arith
-    tried_low deletion.Sync = omega arith
-    tried_low deletion.Finish = omega arith
-    tried_low deletion.PassedOver = omega arith
 deletion_falls old new (Ended Finished part) t h = absurd cc
 deletion_falls old new (Ended Aborted part) t h = absurd t
 deletion_falls old new (Ended Killed part) t h = absurd t

@@ -1,6 +1,7 @@
 -- A step of a job is a piece of its work, by its course.
 use Rattle.std.proofs.Common.{◌≡◌, ℕ, ◌<◌, sym, subst, arith, Option}
 use Rattle.mc_text.specs.Routes.{Route}
+use Rattle.tree_trait.specs.declared.calls.TreeError.{TreeError}
 use Rattle.tree_trait.specs.Change.{CallLog}
 use Rattle.file_copy.specs.declared.report.Ending.{Ending}
 use Rattle.file_copy.specs.declared.report.Did.{Did}
@@ -47,10 +48,10 @@ module _ (unclaimed : Route → Type 0) (job new : Running) (did : Did) (calls :
             (subst (λ c. rank_on (course_after did) work < rank_on c job.work) (sym course) (s.falls going));
       }
 
-  pub run_ends : (ending : Ending) (own work : Work) → own ≡ job.work → job.course ≡ Ends ending → WorkWindsUp ending own work did calls before after faults faults_after
+  pub run_ends : (ending : Ending) (own work : Work) (left : Option TreeError) → own ≡ job.work → job.course ≡ Ends ending → WorkWindsUp ending own work did calls left before after faults faults_after
       → new ≡ record job { work = work } → StepsOn unclaimed job new did calls before after faults faults_after
-  run_ends ending own work same course steps is =
-      let s = subst (λ w. WorkWindsUp ending w work did calls before after faults faults_after) same steps in record {
+  run_ends ending own work left same course steps is =
+      let s = subst (λ w. WorkWindsUp ending w work did calls left before after faults faults_after) same steps in record {
         tells = subst (λ c. TellsOn c job did new) (sym course) (work, s.tells, is);
         called = λ log known. subst (λ c. CallsOn unclaimed c job did new log after) (sym course) (s.called log known);
         counted = s.counted;

@@ -1,6 +1,7 @@
 -- What a step of a deletion does: its report, the deletion after it, its call of the tree, and how many changing calls that
 -- was.
 use Rattle.std.specs.Prelude.{◌≡◌, ◌⊎◌, ℕ, ◌≤◌, Option, None}
+use Rattle.tree_trait.specs.declared.calls.TreeError.{TreeError}
 use Rattle.tree_trait.specs.Change.{CallLog}
 use Rattle.tree_trait.specs.Answers.{IfKnown, HasRisen}
 use Rattle.file_copy.specs.declared.report.Cause.{Cause}
@@ -10,7 +11,7 @@ use Rattle.file_copy.specs.declared.report.Did.TheVariants.{Skipped, Troubled}
 use Rattle.file_copy.specs.CallRuns.{HasMore}
 use Rattle.file_copy.specs.CopySteps.{IsFault}
 use Rattle.file_copy.specs.Stops.{no_memory_of}
-use Rattle.copy_move.specs.Deletions.{Deleting, Tells, Winds, DeletionCalls, LastCalls, at_barrier, skipped}
+use Rattle.copy_move.specs.Deletions.{Deleting, Tells, Winds, DeletionCalls, DeletionLeaves, LastCalls, at_barrier, skipped}
 
 -- A step: what it reports is allowed, the deletion is then as it says, it is the call of the tree that it says, and it
 -- reports a fault only where the tree's count has risen. It counts the changing calls that it made.
@@ -23,10 +24,11 @@ pub record DeletionStep (old new : Deleting) (did : Did) (calls : ℕ) (before a
   pub later : faults ≤ faults_after
   pub fault : IsFault did → HasRisen faults faults_after
 
--- a last step, likewise
-pub record LastDeletionStep (ending : Ending) (old new : Deleting) (did : Did) (calls : ℕ) (before after : Option CallLog) (faults faults_after : ℕ) : Type 0 where
+-- A last step, likewise. It tells the refusal of a sync that was tried in vain.
+pub record LastDeletionStep (ending : Ending) (old new : Deleting) (did : Did) (calls : ℕ) (left : Option TreeError) (before after : Option CallLog) (faults faults_after : ℕ) : Type 0 where
   pub tells : Winds ending old did new
   pub called : IfKnown before (λ log. LastCalls old did log after)
+  pub synced : IfKnown before (λ log. DeletionLeaves old did left log after)
   pub counted : IfKnown before (λ log. IfKnown after (HasMore log calls))
   pub few : calls ≤ 1
   pub unknown : before ≡ None → after ≡ None

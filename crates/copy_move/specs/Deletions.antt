@@ -14,6 +14,7 @@ use Rattle.file_copy.specs.declared.report.Ending.{Ending}
 use Rattle.file_copy.specs.declared.report.Ending.TheVariants.{Finished}
 use Rattle.file_copy.specs.declared.report.Did.{Did}
 use Rattle.file_copy.specs.declared.report.Did.TheVariants.{Began, Chunk, Placed, Removed, Skipped, Cleaned, Barrier, Troubled, Ended}
+use Rattle.file_copy.specs.LastSteps.{sync_answer}
 use Rattle.copy_move.specs.declared.deletion.Stage.{Stage}
 use Rattle.copy_move.specs.declared.deletion.Stage.TheVariants.{Remove, Sync, Finish, PassedOver}
 
@@ -42,6 +43,27 @@ is_done Remove = false
 is_done Sync = false
 is_done Finish = true
 is_done PassedOver = true
+
+-- the folder has a name less, and no sync has brought that onto the disk
+abbrev pub is_dirty : Stage → Bool
+is_dirty Remove = false
+is_dirty Sync = true
+is_dirty Finish = false
+is_dirty PassedOver = false
+
+-- a deletion that has changed nothing yet
+abbrev pub is_fresh : Stage → Bool
+is_fresh Remove = true
+is_fresh Sync = false
+is_fresh Finish = false
+is_fresh PassedOver = false
+
+-- where a deletion stands once its folder was synced
+abbrev pub after_sync : Stage → Stage
+after_sync Remove = Remove
+after_sync Sync = Finish
+after_sync Finish = Finish
+after_sync PassedOver = PassedOver
 
 -- the call that a deletion makes next; one that has all done makes none
 abbrev pub call_of : Stage → Route → Option Call
@@ -127,6 +149,11 @@ LastCalls d (Removed path) log after = ⊥
 LastCalls d (Skipped path cause) log after = ⊥
 LastCalls d (Cleaned part) log after = ⊥
 LastCalls d (Troubled trouble) log after = ⊥
+
+-- what a last step tells of the folder: the refusal of its sync, if that was tried in vain
+abbrev pub DeletionLeaves : Deleting → Did → Option TreeError → CallLog → Option CallLog → Type 0
+DeletionLeaves d Barrier left log after = Answers log (call_of Sync d.path) (sync_answer left) after
+DeletionLeaves d did left log after = left ≡ None
 
 -- how many changing calls were made for an answer: none where there was no memory
 abbrev pub calls_for : Result (Unit {0}) TreeError → ℕ

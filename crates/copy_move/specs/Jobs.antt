@@ -22,7 +22,7 @@ use Rattle.copy_move.specs.declared.deletion.Stage.TheVariants.{Remove}
 use Rattle.copy_move.specs.declared.work.Work.{Work}
 use Rattle.copy_move.specs.declared.work.Work.TheVariants.{Copy, Delete}
 use Rattle.copy_move.specs.declared.run.Course.{Course}
-use Rattle.copy_move.specs.declared.run.Course.TheVariants.{GoesOn, InTrouble, Skips, Ends}
+use Rattle.copy_move.specs.declared.run.Course.TheVariants.{GoesOn, InTrouble, Unsettled, Skips, Ends}
 use Rattle.copy_move.specs.Deletions.{DeletionCalls, LastCalls}
 use Rattle.copy_move.specs.Deletions as deletions
 
@@ -85,6 +85,19 @@ abbrev pub at_barrier : Work → Bool
 at_barrier (Copy c) = copying.at_barrier c.stage
 at_barrier (Delete d) = deletions.at_barrier d.stage
 
+-- the work of a job that has changed nothing yet
+abbrev pub is_fresh : Work → Bool
+is_fresh (Copy c) = copying.is_fresh c.stage c.folder
+is_fresh (Delete d) = deletions.is_fresh d.stage
+
+-- nothing can be skipped: the next call is at a barrier, or the trouble is a folder that an ended job left
+abbrev pub is_barred : Course → Work → Bool
+is_barred (Unsettled cause) work = true
+is_barred GoesOn work = at_barrier work
+is_barred (InTrouble cause) work = at_barrier work
+is_barred (Skips cause) work = at_barrier work
+is_barred (Ends ending) work = at_barrier work
+
 -- the work without the file
 abbrev pub skipped : Work → Work
 skipped (Copy c) = Copy (record c { stage = copying.skipped c.stage })
@@ -109,6 +122,7 @@ IsGoing (Delete d) = ⊤
 abbrev pub IsSound : Course → Work → Type 0
 IsSound GoesOn work = IsGoing work
 IsSound (InTrouble cause) work = IsGoing work
+IsSound (Unsettled cause) work = IsGoing work
 IsSound (Skips cause) work = IsGoing work
 IsSound (Ends ending) work = ⊤
 
@@ -143,6 +157,7 @@ course_after (Ended ending part) = GoesOn
 abbrev pub TellsOn : Course → Running → Did → Running → Type 0
 TellsOn GoesOn job did new = (work : Work) × WorkTells job.work did work × (new ≡ record job { work = work; course = course_after did })
 TellsOn (InTrouble cause) job did new = ⊥
+TellsOn (Unsettled cause) job did new = ⊥
 TellsOn (Skips cause) job did new =
     ((did ≡ Skipped (file_of job.work) cause) × (new ≡ record job { work = skipped job.work; course = GoesOn }))
     ⊎ ((did ≡ Troubled (no_memory_of (at_barrier job.work))) × (new ≡ record job { course = InTrouble Memory }))
@@ -166,6 +181,7 @@ WorkLastCalls (Delete d) did log after = LastCalls d did log after
 abbrev pub CallsOn : (Route → Type 0) → Course → Running → Did → Running → CallLog → Option CallLog → Type 0
 CallsOn unclaimed GoesOn job did new log after = WorkCalls unclaimed job.work did new.work log after
 CallsOn unclaimed (InTrouble cause) job did new log after = ⊥
+CallsOn unclaimed (Unsettled cause) job did new log after = ⊥
 CallsOn unclaimed (Skips cause) job did new log after = after ≡ Some log
 CallsOn unclaimed (Ends ending) job did new log after = WorkLastCalls job.work did log after
 
@@ -178,6 +194,10 @@ answered_on (InTrouble cause) Retry job = record job { work = taken_anew job.wor
 answered_on (InTrouble cause) Skip job = record job { course = Skips cause }
 answered_on (InTrouble cause) SkipAll job = record job { course = Skips cause }
 answered_on (InTrouble cause) Abort job = record job { course = Ends Aborted }
+answered_on (Unsettled cause) Retry job = record job { work = taken_anew job.work; course = GoesOn }
+answered_on (Unsettled cause) Skip job = job
+answered_on (Unsettled cause) SkipAll job = job
+answered_on (Unsettled cause) Abort job = record job { course = Ends Aborted }
 answered_on GoesOn answer job = job
 answered_on (Skips cause) answer job = job
 answered_on (Ends ending) answer job = job
@@ -195,6 +215,7 @@ passes_over Abort = false
 -- a job waits for an answer
 abbrev pub waits_on : Course → Bool
 waits_on (InTrouble cause) = true
+waits_on (Unsettled cause) = true
 waits_on GoesOn = false
 waits_on (Skips cause) = false
 waits_on (Ends ending) = false
@@ -202,6 +223,7 @@ waits_on (Ends ending) = false
 -- the trouble of a job that waits
 abbrev pub trouble_on : Course → Work → Option Route → Option Trouble
 trouble_on (InTrouble cause) work path = Some (record { cause = cause; path = path; barrier = at_barrier work })
+trouble_on (Unsettled cause) work path = Some (record { cause = cause; path = path; barrier = true })
 trouble_on GoesOn work path = None
 trouble_on (Skips cause) work path = None
 trouble_on (Ends ending) work path = None
@@ -209,12 +231,13 @@ trouble_on (Ends ending) work path = None
 -- a trouble can be answered so: at a barrier nothing is passed over
 pub record MayAnswer (job : Running) (answer : Answer) : Type 0 where
   pub waits : waits_on job.course ≡ true
-  pub fits : passes_over answer ≡ true → at_barrier job.work ≡ false
+  pub fits : passes_over answer ≡ true → is_barred job.course job.work ≡ false
 
 -- a job is ordered to end so; one that makes its last steps already ends as it was ordered first
 abbrev pub ended_course : Ending → Course → Course
 ended_course ending GoesOn = Ends ending
 ended_course ending (InTrouble cause) = Ends ending
+ended_course ending (Unsettled cause) = Ends ending
 ended_course ending (Skips cause) = Ends ending
 ended_course ending (Ends first) = Ends first
 
@@ -222,6 +245,7 @@ ended_course ending (Ends first) = Ends first
 abbrev pub closed_course : Course → Course
 closed_course GoesOn = GoesOn
 closed_course (InTrouble cause) = Ends Aborted
+closed_course (Unsettled cause) = Ends Aborted
 closed_course (Skips cause) = Skips cause
 closed_course (Ends ending) = Ends ending
 

@@ -5,6 +5,7 @@ pub mod Jobs
 pub mod PlainCrashes
 pub mod Ranks
 pub mod Replay
+pub mod Settling
 pub mod Steps
 pub mod Told
 pub mod Traces

@@ -11,7 +11,7 @@ use Rattle.copy_move.specs.declared.deletion.Stage.TheVariants as deletion
 use Rattle.copy_move.specs.declared.work.Work.{Work}
 use Rattle.copy_move.specs.declared.work.Work.TheVariants.{Copy, Delete}
 use Rattle.copy_move.specs.declared.run.Course.{Course}
-use Rattle.copy_move.specs.declared.run.Course.TheVariants.{GoesOn, InTrouble, Skips, Ends}
+use Rattle.copy_move.specs.declared.run.Course.TheVariants.{GoesOn, InTrouble, Unsettled, Skips, Ends}
 use Rattle.copy_move.specs.Jobs.{Running}
 
 -- of a copy that goes on: a file has at most 2^63 bytes, and each chunk at least one; at last three steps more, if it is
@@ -51,6 +51,7 @@ last_rank (Delete d) = last_deletion_steps d.stage
 abbrev pub rank_on : Course → Work → ℕ
 rank_on GoesOn work = work_rank work
 rank_on (InTrouble cause) work = last_rank work
+rank_on (Unsettled cause) work = last_rank work
 rank_on (Skips cause) work = 10
 rank_on (Ends ending) work = last_rank work
 

@@ -1,17 +1,24 @@
 -- What a step of a job does: its report, the job after it, its calls of the tree, and how many changing calls that was.
-use Rattle.std.specs.Prelude.{◌≡◌, ◌⊎◌, ℕ, ◌<◌, ◌≤◌, false, Option, Some, None}
+use Rattle.std.specs.Prelude.{◌≡◌, ◌⊎◌, ℕ, ◌<◌, ◌≤◌, true, false, List, Option, Some, None, Ok, Err}
 use Rattle.mc_text.specs.Routes.{Route}
-use Rattle.tree_trait.specs.Change.{CallLog}
-use Rattle.tree_trait.specs.Answers.{IfKnown, HasRisen}
+use Rattle.tree_trait.specs.declared.calls.TreeError.{TreeError}
+use Rattle.tree_trait.specs.Calls.{SyncFolder}
+use Rattle.tree_trait.specs.Change.{CallLog, current}
+use Rattle.tree_trait.specs.Answers.{IfKnown, HasRisen, Performs}
+use Rattle.tree_trait.specs.CrashImages.{Among}
 use Rattle.file_copy.specs.declared.report.Did.{Did}
 use Rattle.file_copy.specs.declared.report.Ending.{Ending}
 use Rattle.file_copy.specs.CallRuns.{HasMore}
 use Rattle.file_copy.specs.CopySteps.{IsFault}
 use Rattle.file_copy.specs.declared.report.Cause.{Cause}
-use Rattle.file_copy.specs.declared.report.Did.TheVariants.{Skipped, Troubled}
+use Rattle.file_copy.specs.declared.report.Did.TheVariants.{Barrier, Skipped, Troubled}
 use Rattle.file_copy.specs.Stops.{no_memory_of}
 use Rattle.copy_move.specs.declared.work.Work.{Work}
-use Rattle.copy_move.specs.Jobs.{Running, JobTells, JobCalls, WorkTells, WorkCalls, WorkWinds, WorkLastCalls, at_barrier, course_after, ends, file_of, skipped}
+use Rattle.copy_move.specs.declared.run.Course.{Course}
+use Rattle.copy_move.specs.declared.run.Course.TheVariants.{GoesOn, Unsettled, Ends}
+use Rattle.copy_move.specs.Deletions.{cause_of, trouble_at}
+use Rattle.copy_move.specs.Jobs.{Running, JobTells, JobCalls, WorkTells, WorkCalls, WorkWinds, WorkLastCalls, at_barrier, course_after, ends, file_of, is_fresh, skipped}
+use Rattle.copy_move.specs.Settling.{NoneOwed, TellsFolder, after_try, changed_folder, is_dirty, with_change, without}
 use Rattle.copy_move.specs.Ranks.{rank, rank_on, work_rank, last_rank}
 
 -- A step of a job: what it reports is allowed, the job is then as it says, it made the calls of the tree that it says, at
@@ -27,6 +34,44 @@ pub record StepsOn (unclaimed : Route → Type 0) (old new : Running) (did : Did
   pub fault : IsFault did → HasRisen faults faults_after
   pub falls : ends did ≡ false → rank (Some new) < rank (Some old)
 
+-- What a step of a job's own makes of the dirty folders. Its folder joins them before the first change there and leaves them
+-- with its sync. In last steps it leaves them only where the one try of its sync wasn't refused.
+abbrev pub LeavesDirty : Course → Work → Did → Work → List Route → List Route → Option CallLog → Option CallLog → Type 0
+LeavesDirty (Ends ending) old did new dirty dirty_after before after =
+    (left : Option TreeError) × (dirty_after ≡ after_try did left (changed_folder old) dirty) × IfKnown before (λ log. TellsFolder old did left log after)
+LeavesDirty course old did new dirty dirty_after before after = dirty_after ≡ with_change (is_dirty old) (is_dirty new) (changed_folder old) dirty
+
+-- A step of the job's own: one that may make its first change is made only where no dirty folder lies on that mount.
+pub record OwnStep (unclaimed : Route → Type 0) (old new : Running) (did : Did) (calls : ℕ) (dirty dirty_after : List Route) (before after : Option CallLog) (faults faults_after : ℕ) : Type 0 where
+  pub own : StepsOn unclaimed old new did calls before after faults faults_after
+  pub settled : old.course ≡ GoesOn → is_fresh old.work ≡ true → IfKnown before (λ log. NoneOwed (current log) (changed_folder old.work) dirty)
+  pub leaves : LeavesDirty old.course old.work did new.work dirty dirty_after before after
+
+-- a dirty folder was synced, and the job stands where it stood; or that was refused, and the job waits for an answer
+abbrev pub SyncsFolder : Running → Route → Did → Running → List Route → List Route → Option CallLog → Option CallLog → Type 0
+SyncsFolder old folder did new dirty dirty_after before after =
+    ((did ≡ Barrier) × (new ≡ old) × (dirty_after ≡ without folder dirty) × IfKnown before (λ log. Performs {A = Unit {0}} log (SyncFolder folder) (Ok tt) after))
+    ⊎ ((e : TreeError) × (did ≡ Troubled (trouble_at e folder true)) × (new ≡ record old { course = Unsettled (cause_of e) }) × (dirty_after ≡ dirty)
+    × IfKnown before (λ log. Performs {A = Unit {0}} log (SyncFolder folder) (Err e) after))
+
+-- A step of a job that has changed nothing yet, where an ended job left a dirty folder: that is synced first.
+pub record SettlingStep (old new : Running) (did : Did) (calls : ℕ) (dirty dirty_after : List Route) (before after : Option CallLog) (faults faults_after : ℕ) : Type 0 where
+  pub goes : old.course ≡ GoesOn
+  pub fresh : is_fresh old.work ≡ true
+  pub folder : Route
+  pub owed : Among dirty folder
+  pub synced : SyncsFolder old folder did new dirty dirty_after before after
+  pub counted : IfKnown before (λ log. IfKnown after (HasMore log calls))
+  pub few : calls ≤ 1
+  pub unknown : before ≡ None → after ≡ None
+  pub later : faults ≤ faults_after
+  pub fault : IsFault did → HasRisen faults faults_after
+
+abbrev pub RunStep : (Route → Type 0) → Running → Running → Did → ℕ → List Route → List Route → Option CallLog → Option CallLog → ℕ → ℕ → Type 0
+RunStep unclaimed old new did calls dirty dirty_after before after faults faults_after =
+    OwnStep unclaimed old new did calls dirty dirty_after before after faults faults_after
+    ⊎ SettlingStep old new did calls dirty dirty_after before after faults faults_after
+
 -- A piece of work, likewise. Fewer steps are left then, and at most three where it is refused.
 pub record WorkSteps (unclaimed : Route → Type 0) (old new : Work) (did : Did) (calls : ℕ) (before after : Option CallLog) (faults faults_after : ℕ) : Type 0 where
   pub tells : WorkTells old did new
@@ -38,10 +83,11 @@ pub record WorkSteps (unclaimed : Route → Type 0) (old new : Work) (did : Did)
   pub fault : IsFault did → HasRisen faults faults_after
   pub falls : ends did ≡ false → rank_on (course_after did) new < work_rank old
 
--- one of the last pieces of work
-pub record WorkWindsUp (ending : Ending) (old new : Work) (did : Did) (calls : ℕ) (before after : Option CallLog) (faults faults_after : ℕ) : Type 0 where
+-- One of the last pieces of work. It tells the refusal of a sync that was tried in vain.
+pub record WorkWindsUp (ending : Ending) (old new : Work) (did : Did) (calls : ℕ) (left : Option TreeError) (before after : Option CallLog) (faults faults_after : ℕ) : Type 0 where
   pub tells : WorkWinds ending old did new
   pub called : IfKnown before (λ log. WorkLastCalls old did log after)
+  pub synced : IfKnown before (λ log. TellsFolder old did left log after)
   pub counted : IfKnown before (λ log. IfKnown after (HasMore log calls))
   pub few : calls ≤ 2
   pub unknown : before ≡ None → after ≡ None
@@ -60,3 +106,10 @@ pub record SkipSteps (cause : Cause) (old new : Running) (did : Did) (calls : �
   pub skips : WorkSkips cause old.work did work
   pub new_is : new ≡ record old { work = work; course = course_after did }
   pub none : calls ≡ 0
+
+-- a last step of a job: one of its work, which leaves the folder among the dirty ones where the one try of its sync was refused
+pub record WindingStep (ending : Ending) (old new : Running) (did : Did) (calls : ℕ) (dirty dirty_after : List Route) (before after : Option CallLog) (faults faults_after : ℕ) : Type 0 where
+  pub left : Option TreeError
+  pub winds : WorkWindsUp ending old.work new.work did calls left before after faults faults_after
+  pub new_is : new ≡ record old { work = new.work }
+  pub leaves : dirty_after ≡ after_try did left (changed_folder old.work) dirty

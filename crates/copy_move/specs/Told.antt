@@ -1,8 +1,9 @@
 -- What a history tells of its jobs: the live one, but for the size and the mode that a copy's source was said to have and
 -- how many of its bytes were copied. Histories stand newest first here.
-use Rattle.std.specs.Prelude.{◌≡◌, ◌⊎◌, ℕ, Bool, true, false, ◌||◌, List, [], ◌∷◌, Option, Some, None, option_and_then}
+use Rattle.std.specs.Prelude.{◌≡◌, ◌⊎◌, ℕ, Bool, true, false, ◌||◌, ◌&&◌, if◌then◌else◌, List, [], ◌∷◌, Option, Some, None, option_and_then}
 use Rattle.std.specs.Option.{option_map}
 use Rattle.mc_text.specs.Routes.{Route}
+use Rattle.file_copy.specs.declared.report.Trouble.{Trouble}
 use Rattle.file_copy.specs.declared.report.Ending.TheVariants.{NoMemory}
 use Rattle.file_copy.specs.declared.report.Did.{Did}
 use Rattle.file_copy.specs.declared.report.Did.TheVariants.{Began, Chunk, Placed, Removed, Skipped, Cleaned, Barrier, Troubled, Ended}
@@ -21,8 +22,9 @@ use Rattle.copy_move.specs.declared.deletion.Stage.TheVariants as deletion
 use Rattle.copy_move.specs.declared.work.Work.{Work}
 use Rattle.copy_move.specs.declared.work.Work.TheVariants.{Copy, Delete}
 use Rattle.copy_move.specs.declared.run.Course.{Course}
-use Rattle.copy_move.specs.declared.run.Course.TheVariants.{GoesOn, InTrouble}
-use Rattle.copy_move.specs.Jobs.{Running, JobTells, answered, closed_job, first_work, part_of, skipped, waits_on}
+use Rattle.copy_move.specs.declared.run.Course.TheVariants.{GoesOn, InTrouble, Unsettled}
+use Rattle.copy_move.specs.Deletions.{after_sync}
+use Rattle.copy_move.specs.Jobs.{Running, JobTells, answered, closed_job, first_work, is_fresh, part_of, skipped, waits_on}
 
 -- what no history tells
 abbrev pub unsaid : Said
@@ -68,10 +70,15 @@ abbrev pub cleaned : Course → Work → Work
 cleaned course (Copy c) = Copy (record c { stage = cleaned_stage course c.stage })
 cleaned course (Delete d) = Delete d
 
--- the work once its folder was synced, or its sync was tried; a part that stands then has had its try
+-- the work once its folder was synced, or its sync was tried; a part that stands then has had its try. The sync of a folder
+-- that an ended job left comes before the first change, and leaves the work as it is.
 abbrev pub synced : Work → Work
 synced (Copy c) = Copy (record c { stage = given_up c.stage; folder = Synced })
-synced (Delete d) = Delete (record d { stage = deletion.Finish })
+synced (Delete d) = Delete (record d { stage = after_sync d.stage })
+
+-- a trouble at a barrier before the first change is that of a folder which an ended job left
+abbrev pub course_told : Work → Trouble → Course
+course_told work trouble = if is_fresh work && trouble.barrier then Unsettled trouble.cause else InTrouble trouble.cause
 
 -- the job after a step
 abbrev pub after_step : Did → Running → Option Running
@@ -82,7 +89,7 @@ after_step (Removed path) job = Some (record job { work = removed job.work })
 after_step (Skipped path cause) job = Some (record job { work = skipped job.work; course = GoesOn })
 after_step (Cleaned part) job = Some (record job { work = cleaned job.course job.work })
 after_step Barrier job = Some (record job { work = synced job.work })
-after_step (Troubled trouble) job = Some (record job { course = InTrouble trouble.cause })
+after_step (Troubled trouble) job = Some (record job { course = course_told job.work trouble })
 after_step (Ended ending part) job = None
 
 -- a job just begun
@@ -141,9 +148,14 @@ Reports job did = (old : Running) × (new : Running) × (told old ≡ job) × Jo
 abbrev pub EndsWithoutMemory : Running → Did → Type 0
 EndsWithoutMemory job did = (waits_on job.course ≡ false) × (did ≡ Ended NoMemory (part_of job.work))
 
+-- a job that has changed nothing yet may report the sync of a folder that an ended job left, or its trouble at a barrier
+abbrev pub ReportsSync : Running → Did → Type 0
+ReportsSync job did =
+    (job.course ≡ GoesOn) × (is_fresh job.work ≡ true) × ((did ≡ Barrier) ⊎ ((trouble : Trouble) × (did ≡ Troubled trouble) × (trouble.barrier ≡ true)))
+
 -- a step that a job may report, as far as its history tells
 abbrev pub IsAllowedStep : Running → Did → Type 0
-IsAllowedStep job did = Reports job did ⊎ EndsWithoutMemory job did
+IsAllowedStep job did = Reports job did ⊎ (EndsWithoutMemory job did ⊎ ReportsSync job did)
 
 -- a live job that waits for nothing
 abbrev pub IsReady : Option Running → Type 0

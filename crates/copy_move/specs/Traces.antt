@@ -19,6 +19,7 @@ use Rattle.copy_move.specs.declared.history.Event.TheVariants.{Key, Look, Began,
 use Rattle.copy_move.specs.declared.history.Entry.{Entry}
 use Rattle.copy_move.specs.Jobs.{Running, JobTells, JobCalls, ends, part_of}
 use Rattle.copy_move.specs.Told.{after_event, if_closed, is_closed}
+use Rattle.copy_move.specs.Settling.{Settles, left_dirty}
 
 -- a reading call is refused with this error: as the tree gives it, or by a fault
 abbrev pub IsRefusedWith : CallLog → Call → TreeError → Type 0
@@ -63,11 +64,12 @@ EventLeads job (Began id plan background) after log now = (after ≡ after_event
 EventLeads job (Order id order) after log now = (after ≡ after_event (Order id order) job) × (now ≡ log)
 EventLeads job Closed after log now = (after ≡ job) × (now ≡ log)
 
--- An entry after older ones: it leads from the live job and the log so far to these. It counts the changing calls that the
+-- An entry after older ones: it leads from the live job and the log so far to these, by what it says or by the sync of a folder
+-- that an ended job left. It counts the changing calls that the
 -- session has made by its end.
 pub record Follows (opening : CallLog) (e : Entry) (older : List Entry) (was : Option Running) (before : CallLog) (job : Option Running) (now : CallLog) : Type 0 where
   pub after : Option Running
-  pub leads : EventLeads was e.what after before now
+  pub leads : EventLeads was e.what after before now ⊎ Settles (left_dirty older) was e.what after before now
   pub job_is : job ≡ if_closed (is_closed (e ∷ older)) after
   pub counts : length now.changes ≡ length opening.changes + e.calls
 

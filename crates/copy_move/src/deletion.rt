@@ -3,10 +3,12 @@
 ghost use Rattle.std.specs.Prelude.{◌≡◌, Err, None, Some};
 ghost use Rattle.mc_text.specs.Routes.{parent_of};
 ghost use Rattle.file_copy.specs.Stops.{no_memory_of};
-ghost use Rattle.copy_move.specs.Deletions.{at_barrier, calls_for, skipped as skipped_to, trouble_at};
+ghost use Rattle.copy_move.specs.Deletions.{at_barrier, calls_for, cause_of, is_dirty, is_fresh, skipped as skipped_to, trouble_at};
+ghost use Rattle.file_copy.specs.LastSteps.{refusal_in};
+ghost use Rattle.file_copy.specs.Copying.{folder_of};
 ghost use Rattle.copy_move.specs.DeletionSteps.{DeletionSkips, DeletionStep, LastDeletionStep};
 
-use file_copy::{Cause, Did, Ending, Stepped, Trouble};
+use file_copy::{Cause, Did, Ending, LastStepped, Stepped, Trouble};
 use mc_text::Path;
 use std::alloc::Global;
 use std::marker::Model;
@@ -82,13 +84,40 @@ impl Deletion {
     }
 
     /// Makes the next of the last steps of a job that is to end so: a sync that is owed is tried once.
-    pub fn wind_up<T: Tree>(&mut self, alloc: Global, tree: &mut T, ending: Ending) -> Stepped
-        ensures { LastDeletionStep ending self.old self.new result.did result.calls (T.contents tree.old)
+    pub fn wind_up<T: Tree>(&mut self, alloc: Global, tree: &mut T, ending: Ending) -> LastStepped
+        ensures { LastDeletionStep ending self.old self.new result.did result.calls result.left (T.contents tree.old)
             (T.contents tree.new) (T.fault_count tree.old) (T.fault_count tree.new) }
     {
         match self.stage {
             Stage::Sync => self.try_sync(alloc, tree, ending),
-            Stage::Remove | Stage::Finish | Stage::PassedOver => without_call(ended(ending)),
+            Stage::Remove | Stage::Finish | Stage::PassedOver => last(ended(ending), None),
+        }
+    }
+
+    /// The folder that holds the file.
+    pub fn folder(&self) -> &Path
+        ensures { result.now ≡ folder_of self.now.path }
+    {
+        &self.folder
+    }
+
+    /// Whether the folder has a name less, and no sync has brought that onto the disk, as far as this deletion goes.
+    pub fn is_dirty(&self) -> bool
+        ensures { result ≡ is_dirty self.now.stage }
+    {
+        match self.stage {
+            Stage::Sync => true,
+            Stage::Remove | Stage::Finish | Stage::PassedOver => false,
+        }
+    }
+
+    /// Whether nothing was changed yet.
+    pub fn is_fresh(&self) -> bool
+        ensures { result ≡ is_fresh self.now.stage }
+    {
+        match self.stage {
+            Stage::Remove => true,
+            Stage::Sync | Stage::Finish | Stage::PassedOver => false,
         }
     }
 
@@ -140,9 +169,9 @@ impl Deletion {
     }
 
     /// The one try of a job that is to end.
-    fn try_sync<T: Tree>(&mut self, alloc: Global, tree: &mut T, ending: Ending) -> Stepped
+    fn try_sync<T: Tree>(&mut self, alloc: Global, tree: &mut T, ending: Ending) -> LastStepped
         requires stage { self.old.stage ≡ Stage.Sync }
-        ensures { LastDeletionStep ending self.old self.new result.did result.calls (T.contents tree.old)
+        ensures { LastDeletionStep ending self.old self.new result.did result.calls result.left (T.contents tree.old)
             (T.contents tree.new) (T.fault_count tree.old) (T.fault_count tree.new) }
     {
         let _ending = ending;
@@ -164,23 +193,44 @@ fn skipped(stage: Stage) -> Stage
 }
 
 /// A sync that was tried, whatever it answered. One that found no memory was not made.
-fn tried(answer: Result<(), TreeError>) -> Stepped
+fn tried(answer: Result<(), TreeError>) -> LastStepped
     ensures did { result.did ≡ Did.Barrier }
     ensures calls { result.calls ≡ calls_for answer }
+    ensures left { result.left ≡ refusal_in answer }
 {
     match answer {
-        Err(TreeError::Memory) => without_call(Did::Barrier),
-        Ok(()) | Err(_) => with_call(Did::Barrier),
+        Ok(()) => LastStepped {
+            did: Did::Barrier,
+            calls: 1,
+            left: None,
+        },
+        Err(TreeError::Memory) => last(Did::Barrier, Some(TreeError::Memory)),
+        Err(error) => LastStepped {
+            did: Did::Barrier,
+            calls: 1,
+            left: Some(error),
+        },
     }
 }
 
-fn without_call(did: Did) -> Stepped
+/// A last step that made no call.
+fn last(did: Did, left: Option<TreeError>) -> LastStepped
+    ensures { result ≡ record { did = did; calls = 0; left = left } }
+{
+    LastStepped {
+        did,
+        calls: 0,
+        left,
+    }
+}
+
+pub(crate) fn without_call(did: Did) -> Stepped
     ensures { result ≡ record { did = did; calls = 0 } }
 {
     Stepped { did, calls: 0 }
 }
 
-fn with_call(did: Did) -> Stepped
+pub(crate) fn with_call(did: Did) -> Stepped
     ensures { result ≡ record { did = did; calls = 1 } }
 {
     Stepped { did, calls: 1 }
@@ -193,7 +243,7 @@ fn ended(ending: Ending) -> Did
 }
 
 /// Trouble for want of memory.
-fn no_memory(barrier: bool) -> Trouble
+pub(crate) fn no_memory(barrier: bool) -> Trouble
     ensures { result ≡ no_memory_of barrier }
 {
     Trouble {
@@ -204,7 +254,7 @@ fn no_memory(barrier: bool) -> Trouble
 }
 
 /// The report of a refused call. One that found no memory was not made.
-fn refused(error: TreeError, path: Path, barrier: bool) -> Stepped
+pub(crate) fn refused(error: TreeError, path: Path, barrier: bool) -> Stepped
     ensures did { result.did ≡ Did.Troubled (trouble_at error path barrier) }
     ensures calls { result.calls ≡ calls_for (Err error) }
 {
@@ -215,5 +265,15 @@ fn refused(error: TreeError, path: Path, barrier: bool) -> Stepped
             path: Some(path),
             barrier,
         })),
+    }
+}
+
+/// The cause of a trouble where a call was refused.
+pub(crate) fn cause_of(error: TreeError) -> Cause
+    ensures { result ≡ cause_of error }
+{
+    match error {
+        TreeError::Memory => Cause::Memory,
+        error => Cause::Tree(error),
     }
 }

@@ -2,6 +2,7 @@
 #![tactic(auto)]
 
 mod deletion;
+mod dirty;
 mod history;
 mod laws;
 mod run;
@@ -10,6 +11,7 @@ mod tests;
 mod work;
 
 pub use deletion::{Deletion, Stage};
+pub use dirty::Dirty;
 pub use file_copy::{Cause, Did, Ending, PartTest, Stepped, Trouble};
 pub use history::{
     Answer, AnswerError, Entries, Entry, Event, History, Job, JobOrder, Pair, Pairs, PlanError,

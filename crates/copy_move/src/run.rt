@@ -1,14 +1,19 @@
 //! A job that is worked, step by step: it does its work, waits in a trouble for an answer, and makes its last steps where it
 //! is to end early.
-ghost use Rattle.std.specs.Prelude.{◌≡◌, Err, IfOk, IsSome, OnErr, OnOk, Some, false, option_map, true};
-ghost use Rattle.copy_move.specs.Jobs.{IsGoing, MayAnswer, answered, at_barrier, closed_job, course_after, ended_course, first_work, part_of, passes_over, trouble_on, waits_on};
-ghost use Rattle.copy_move.specs.Steps.{SkipSteps, StepsOn};
+ghost use Rattle.std.specs.Prelude.{◌≡◌, ◌&&◌, Err, IfErr, IfOk, IsSome, OnErr, OnOk, Some, false, option_map, true};
+ghost use Rattle.tree_trait.specs.Change.{current};
+ghost use Rattle.tree_trait.specs.Answers.{IfKnown};
+ghost use Rattle.tree_trait.specs.CrashImages.{Among};
+ghost use Rattle.copy_move.specs.Jobs.{IsGoing, MayAnswer, answered, closed_job, course_after, ended_course, first_work, is_barred, is_fresh, part_of, passes_over, trouble_on, waits_on};
+ghost use Rattle.copy_move.specs.Settling.{NoneOwed, changed_folder};
+ghost use Rattle.copy_move.specs.Steps.{OwnStep, RunStep, SettlingStep, SkipSteps, WindingStep};
 ghost use Rattle.copy_move.specs.Told.{running};
 
-use crate::deletion::Deletion;
+use crate::deletion::{Deletion, cause_of, no_memory, refused, with_call, without_call};
+use crate::dirty::Dirty;
 use crate::history::{Answer, AnswerError, Job, Pairs};
 use crate::work::Work;
-use file_copy::{Cause, Did, Ending, FileCopy, PartTest, Stepped, Trouble};
+use file_copy::{Cause, Did, Ending, FileCopy, LastStepped, PartTest, Stepped, Trouble};
 use mc_text::{NoMemory, Path, Paths};
 use std::alloc::Global;
 use std::marker::Model;
@@ -20,6 +25,8 @@ pub enum Course {
     GoesOn,
     /// A call was refused, or there was no memory. The job waits for an answer.
     InTrouble(Cause),
+    /// A folder that an ended job left could not be synced. The job has changed nothing yet, and waits for an answer.
+    Unsettled(Cause),
     /// Its file is to be left as it is, since this stood in the way.
     Skips(Cause),
     /// It makes its last steps, and then it ends so.
@@ -73,14 +80,22 @@ impl Run {
     pub fn waits(&self) -> bool
         ensures { result ≡ waits_on self.now.course }
     {
-        matches!(self.course, Course::InTrouble(_))
+        match self.course {
+            Course::InTrouble(_) | Course::Unsettled(_) => true,
+            Course::GoesOn | Course::Skips(_) | Course::Ends(_) => false,
+        }
     }
 
     /// Whether its next call is at a barrier, where nothing can be skipped.
     pub fn is_at_barrier(&self) -> bool
-        ensures { result ≡ at_barrier self.now.work }
+        ensures { result ≡ is_barred self.now.course self.now.work }
     {
-        self.work.is_at_barrier()
+        match self.course {
+            Course::Unsettled(_) => true,
+            Course::GoesOn | Course::InTrouble(_) | Course::Skips(_) | Course::Ends(_) => {
+                self.work.is_at_barrier()
+            }
+        }
     }
 
     /// The trouble in which the job waits, with the path at which it stands.
@@ -93,6 +108,11 @@ impl Run {
                 path,
                 barrier: self.work.is_at_barrier(),
             }),
+            Course::Unsettled(cause) => Some(Trouble {
+                cause,
+                path,
+                barrier: true,
+            }),
             Course::GoesOn | Course::Skips(_) | Course::Ends(_) => None,
         }
     }
@@ -104,17 +124,25 @@ impl Run {
         self.work.part()
     }
 
-    /// Makes the job's next step. After an end the job is to be let go.
-    pub fn step<T: Tree, P: PartTest>(&mut self, alloc: Global, tree: &mut T, parts: &P) -> Stepped
+    /// Makes the job's next step. Where an ended job left a dirty folder on the mount on which this job is to change names,
+    /// that is synced first, a folder a step. After an end the job is to be let go. The job's own folder is among the dirty
+    /// ones from its first change there until it was synced.
+    pub fn step<T: Tree, P: PartTest>(
+        &mut self,
+        alloc: Global,
+        tree: &mut T,
+        parts: &P,
+        dirty: &mut Dirty,
+    ) -> Stepped
         requires ready { waits_on self.old.course ≡ false }
-        ensures steps { StepsOn (λ path. P.is_free parts.now path ≡ true) self.old self.new result.did result.calls
+        ensures steps { RunStep (λ path. P.is_free parts.now path ≡ true) self.old self.new result.did result.calls dirty.old dirty.new
             (T.contents tree.old) (T.contents tree.new) (T.fault_count tree.old) (T.fault_count tree.new) }
     {
         match self.course {
-            Course::GoesOn => self.go_on(alloc, tree, parts),
+            Course::GoesOn => self.go_on(alloc, tree, parts, dirty),
             Course::Skips(cause) => self.skip(alloc, cause),
-            Course::Ends(ending) => self.work.wind_up(alloc, tree, ending),
-            Course::InTrouble(_) => unreachable!(),
+            Course::Ends(ending) => self.wind_up(alloc, tree, ending, dirty),
+            Course::InTrouble(_) | Course::Unsettled(_) => unreachable!(),
         }
     }
 
@@ -124,26 +152,14 @@ impl Run {
         ensures taken { OnOk result (self.new ≡ answered answer self.old) }
         ensures fits { OnOk result (MayAnswer self.old answer) }
         ensures not_asked { result ≡ Err AnswerError.NotAsked → waits_on self.old.course ≡ false }
-        ensures wrong { result ≡ Err AnswerError.WrongAnswer → (passes_over answer ≡ true) × (at_barrier self.old.work ≡ true) }
+        ensures wrong { result ≡ Err AnswerError.WrongAnswer → (passes_over answer ≡ true) × (is_barred self.old.course self.old.work ≡ true) }
         ensures same { OnErr result (self.new ≡ self.old) }
     {
-        let Course::InTrouble(cause) = self.course else {
-            return Err(AnswerError::NotAsked);
-        };
-        match answer {
-            Answer::Retry => {
-                self.work.retry();
-                self.course = Course::GoesOn;
-            }
-            Answer::Skip | Answer::SkipAll => {
-                if self.work.is_at_barrier() {
-                    return Err(AnswerError::WrongAnswer);
-                }
-                self.course = Course::Skips(cause);
-            }
-            Answer::Abort => self.course = Course::Ends(Ending::Aborted),
+        match self.course {
+            Course::InTrouble(cause) => self.answer_trouble(cause, answer),
+            Course::Unsettled(_) => self.answer_unsettled(answer),
+            Course::GoesOn | Course::Skips(_) | Course::Ends(_) => Err(AnswerError::NotAsked),
         }
-        Ok(())
     }
 
     /// The job is to make its last steps, and to end as aborted.
@@ -181,12 +197,155 @@ impl Run {
         work.into_part()
     }
 
-    fn go_on<T: Tree, P: PartTest>(&mut self, alloc: Global, tree: &mut T, parts: &P) -> Stepped
+    fn answer_trouble(&mut self, cause: Cause, answer: Answer) -> Result<(), AnswerError>
+        requires course { self.old.course ≡ Course.InTrouble cause }
+        ensures taken { OnOk result (self.new ≡ answered answer self.old) }
+        ensures fits { OnOk result (MayAnswer self.old answer) }
+        ensures wrong { IfErr result (λ e. (e ≡ AnswerError.WrongAnswer) × (passes_over answer ≡ true) × (is_barred self.old.course self.old.work ≡ true)) }
+        ensures same { OnErr result (self.new ≡ self.old) }
+    {
+        match answer {
+            Answer::Retry => {
+                self.work.retry();
+                self.course = Course::GoesOn;
+            }
+            Answer::Skip | Answer::SkipAll => {
+                if self.work.is_at_barrier() {
+                    return Err(AnswerError::WrongAnswer);
+                }
+                self.course = Course::Skips(cause);
+            }
+            Answer::Abort => self.course = Course::Ends(Ending::Aborted),
+        }
+        Ok(())
+    }
+
+    fn answer_unsettled(&mut self, answer: Answer) -> Result<(), AnswerError>
+        requires course { (cause : Cause) × (self.old.course ≡ Course.Unsettled cause) }
+        ensures taken { OnOk result (self.new ≡ answered answer self.old) }
+        ensures fits { OnOk result (MayAnswer self.old answer) }
+        ensures wrong { IfErr result (λ e. (e ≡ AnswerError.WrongAnswer) × (passes_over answer ≡ true) × (is_barred self.old.course self.old.work ≡ true)) }
+        ensures same { OnErr result (self.new ≡ self.old) }
+    {
+        match answer {
+            Answer::Retry => {
+                self.work.retry();
+                self.course = Course::GoesOn;
+            }
+            Answer::Skip | Answer::SkipAll => return Err(AnswerError::WrongAnswer),
+            Answer::Abort => self.course = Course::Ends(Ending::Aborted),
+        }
+        Ok(())
+    }
+
+    fn go_on<T: Tree, P: PartTest>(
+        &mut self,
+        alloc: Global,
+        tree: &mut T,
+        parts: &P,
+        dirty: &mut Dirty,
+    ) -> Stepped
         requires course { self.old.course ≡ Course.GoesOn }
-        ensures steps { StepsOn (λ path. P.is_free parts.now path ≡ true) self.old self.new result.did result.calls
+        ensures steps { RunStep (λ path. P.is_free parts.now path ≡ true) self.old self.new result.did result.calls dirty.old dirty.new
             (T.contents tree.old) (T.contents tree.new) (T.fault_count tree.old) (T.fault_count tree.new) }
     {
+        if self.work.is_fresh() {
+            self.begin(alloc, tree, parts, dirty)
+        } else {
+            self.work_on(alloc, tree, parts, dirty)
+        }
+    }
+
+    /// Before the first change: a folder that an ended job left is synced, or all are.
+    fn begin<T: Tree, P: PartTest>(
+        &mut self,
+        alloc: Global,
+        tree: &mut T,
+        parts: &P,
+        dirty: &mut Dirty,
+    ) -> Stepped
+        requires course { self.old.course ≡ Course.GoesOn }
+        requires fresh { is_fresh self.old.work ≡ true }
+        ensures steps { RunStep (λ path. P.is_free parts.now path ≡ true) self.old self.new result.did result.calls dirty.old dirty.new
+            (T.contents tree.old) (T.contents tree.new) (T.fault_count tree.old) (T.fault_count tree.new) }
+    {
+        let Some(owed) = dirty.first_beside(alloc, tree, self.work.folder()) else {
+            return self.change_first(alloc, tree, parts, dirty);
+        };
+        let Ok(folder) = owed.copy(alloc) else {
+            self.course = Course::Unsettled(Cause::Memory);
+            return without_call(Did::Troubled(no_memory(true)));
+        };
+        self.settle(alloc, tree, dirty, folder)
+    }
+
+    /// Syncs a folder that an ended job left.
+    fn settle<T: Tree>(
+        &mut self,
+        alloc: Global,
+        tree: &mut T,
+        dirty: &mut Dirty,
+        folder: Path,
+    ) -> Stepped
+        requires course { self.old.course ≡ Course.GoesOn }
+        requires fresh { is_fresh self.old.work ≡ true }
+        requires owed { Among dirty.old folder }
+        ensures steps { SettlingStep self.old self.new result.did result.calls dirty.old dirty.new
+            (T.contents tree.old) (T.contents tree.new) (T.fault_count tree.old) (T.fault_count tree.new) }
+    {
+        match tree.sync_folder(alloc, &folder) {
+            Ok(()) => {
+                dirty.remove(&folder);
+                with_call(Did::Barrier)
+            }
+            Err(error) => {
+                self.course = Course::Unsettled(cause_of(error));
+                refused(error, folder, true)
+            }
+        }
+    }
+
+    /// The step that may make the first change. The folder joins the dirty ones before it: afterwards it is too late to find
+    /// no memory.
+    fn change_first<T: Tree, P: PartTest>(
+        &mut self,
+        alloc: Global,
+        tree: &mut T,
+        parts: &P,
+        dirty: &mut Dirty,
+    ) -> Stepped
+        requires course { self.old.course ≡ Course.GoesOn }
+        requires fresh { is_fresh self.old.work ≡ true }
+        requires settled { IfKnown (T.contents tree.old) (λ log. NoneOwed (current log) (changed_folder self.old.work) dirty.old) }
+        ensures steps { OwnStep (λ path. P.is_free parts.now path ≡ true) self.old self.new result.did result.calls dirty.old dirty.new
+            (T.contents tree.old) (T.contents tree.new) (T.fault_count tree.old) (T.fault_count tree.new) }
+    {
+        let Ok(()) = dirty.add(alloc, self.work.folder()) else {
+            self.course = Course::InTrouble(Cause::Memory);
+            return without_call(Did::Troubled(no_memory(false)));
+        };
         let stepped = self.work.step(alloc, tree, parts);
+        dirty.keep_last_if(self.work.is_dirty());
+        self.course = after_report(&stepped.did);
+        stepped
+    }
+
+    /// A step after the first change.
+    fn work_on<T: Tree, P: PartTest>(
+        &mut self,
+        alloc: Global,
+        tree: &mut T,
+        parts: &P,
+        dirty: &mut Dirty,
+    ) -> Stepped
+        requires course { self.old.course ≡ Course.GoesOn }
+        requires changed { is_fresh self.old.work ≡ false }
+        ensures steps { OwnStep (λ path. P.is_free parts.now path ≡ true) self.old self.new result.did result.calls dirty.old dirty.new
+            (T.contents tree.old) (T.contents tree.new) (T.fault_count tree.old) (T.fault_count tree.new) }
+    {
+        let was_dirty = self.work.is_dirty();
+        let stepped = self.work.step(alloc, tree, parts);
+        dirty.remove_if(both(was_dirty, !self.work.is_dirty()), self.work.folder());
         self.course = after_report(&stepped.did);
         stepped
     }
@@ -200,12 +359,31 @@ impl Run {
         Stepped { did, calls: 0 }
     }
 
+    fn wind_up<T: Tree>(
+        &mut self,
+        alloc: Global,
+        tree: &mut T,
+        ending: Ending,
+        dirty: &mut Dirty,
+    ) -> Stepped
+        requires course { self.old.course ≡ Course.Ends ending }
+        ensures steps { WindingStep ending self.old self.new result.did result.calls dirty.old dirty.new
+            (T.contents tree.old) (T.contents tree.new) (T.fault_count tree.old) (T.fault_count tree.new) }
+    {
+        let LastStepped { did, calls, left } = self.work.wind_up(alloc, tree, ending);
+        dirty.after_try(&did, left, self.work.folder());
+        Stepped { did, calls }
+    }
+
     fn end_as(&mut self, ending: Ending)
         ensures { self.new ≡ record self.old { course = ended_course ending self.old.course } }
     {
         self.course = match self.course {
             Course::Ends(first) => Course::Ends(first),
-            Course::GoesOn | Course::InTrouble(_) | Course::Skips(_) => Course::Ends(ending),
+            Course::GoesOn
+            | Course::InTrouble(_)
+            | Course::Unsettled(_)
+            | Course::Skips(_) => Course::Ends(ending),
         };
     }
 }
@@ -218,6 +396,12 @@ fn after_report(did: &Did) -> Course
         Did::Troubled(trouble) => Course::InTrouble(trouble.cause),
         _ => Course::GoesOn,
     }
+}
+
+fn both(one: bool, other: bool) -> bool
+    ensures { result ≡ (one && other) }
+{
+    one && other
 }
 
 /// The copy of one file.

@@ -1,10 +1,11 @@
 //! What a job does: it copies a file, or it deletes one. One machine for each.
 ghost use Rattle.std.specs.Prelude.{◌≡◌, option_map, true};
-ghost use Rattle.copy_move.specs.Jobs.{IsGoing, at_barrier, part_of, taken_anew as anew};
+ghost use Rattle.copy_move.specs.Jobs.{IsGoing, at_barrier, is_fresh, part_of, taken_anew as anew};
+ghost use Rattle.copy_move.specs.Settling.{changed_folder, is_dirty};
 ghost use Rattle.copy_move.specs.Steps.{WorkSkips, WorkSteps, WorkWindsUp};
 
 use crate::deletion::Deletion;
-use file_copy::{Cause, Did, Ending, FileCopy, PartTest, Stepped};
+use file_copy::{Cause, Did, Ending, FileCopy, LastStepped, PartTest, Stepped};
 use mc_text::Path;
 use std::alloc::Global;
 use tree_trait::Tree;
@@ -65,8 +66,8 @@ impl Work {
         alloc: Global,
         tree: &mut T,
         ending: Ending,
-    ) -> Stepped
-        ensures { WorkWindsUp ending self.old self.new result.did result.calls
+    ) -> LastStepped
+        ensures { WorkWindsUp ending self.old self.new result.did result.calls result.left
             (T.contents tree.old) (T.contents tree.new) (T.fault_count tree.old) (T.fault_count tree.new) }
     {
         match self {
@@ -102,6 +103,36 @@ impl Work {
         match self {
             Work::Copy(copy) => copy.is_at_barrier(),
             Work::Delete(deletion) => deletion.is_at_barrier(),
+        }
+    }
+
+    /// The folder in which names are changed.
+    pub(crate) fn folder(&self) -> &Path
+        ensures { result.now ≡ changed_folder self.now }
+    {
+        match self {
+            Work::Copy(copy) => copy.folder(),
+            Work::Delete(deletion) => deletion.folder(),
+        }
+    }
+
+    /// Whether it has a change of names that no sync has brought onto the disk, as far as this work goes.
+    pub(crate) fn is_dirty(&self) -> bool
+        ensures { result ≡ is_dirty self.now }
+    {
+        match self {
+            Work::Copy(copy) => copy.is_dirty(),
+            Work::Delete(deletion) => deletion.is_dirty(),
+        }
+    }
+
+    /// Whether nothing was changed yet.
+    pub(crate) fn is_fresh(&self) -> bool
+        ensures { result ≡ is_fresh self.now }
+    {
+        match self {
+            Work::Copy(copy) => copy.is_fresh(),
+            Work::Delete(deletion) => deletion.is_fresh(),
         }
     }
 }
