@@ -22,12 +22,13 @@ use Rattle.copy_move.specs.declared.history.Entry.{Entry}
 use Rattle.copy_move.specs.declared.work.Work.{Work}
 use Rattle.copy_move.specs.declared.work.Work.TheVariants.{Copy, Delete}
 use Rattle.copy_move.specs.declared.run.Course.{Course}
-use Rattle.copy_move.specs.declared.run.Course.TheVariants.{GoesOn, InTrouble, Skips, Ends}
+use Rattle.copy_move.specs.declared.run.Course.TheVariants.{GoesOn, InTrouble, Unsettled, Skips, Ends}
 use Rattle.copy_move.specs.Deletions.{Deleting, Tells, Winds}
 use Rattle.copy_move.specs.Jobs.{Running}
 use Rattle.copy_move.specs.Told.{live_job}
 use Rattle.copy_move.specs.Replay.{OnlyDeletes, replayed_event, replayed_step, replayed_tree}
-use Rattle.copy_move.specs.Traces.{EventLeads, StepLeads, IsTraced}
+use Rattle.copy_move.specs.Settling.{left_dirty}
+use Rattle.copy_move.specs.Traces.{EntryLeads, EventLeads, StepLeads, IsTraced}
 use Rattle.copy_move.specs.Crashes.{finished_at, finished_by, finished_files, finished_work, is_pending, IsInDoubt, IsBeingDeleted, DeletionsLaw}
 use Rattle.copy_move.proofs.OnlyDeletions.{DeletionLeads, IsDeletion, JobDeletes, deletion, deletion_step, live_deletes, traced_live}
 use Rattle.copy_move.proofs.Shows.{ShowsDeletions, traced_shows}
@@ -70,6 +71,7 @@ leads_leaves : (id : ℕ) (d : Deleting) (course : Course) (did : Did) (after : 
     → (d.path ≡ path → ⊥) → replayed_step did (deletion id d course) v path ≡ v path
 leads_leaves id d GoesOn did after log now v path h other = goes_on_leaves (deletion id d GoesOn) d h.0 did v path h.1 other
 leads_leaves id d (InTrouble cause) did after log now v path h other = absurd h
+leads_leaves id d (Unsettled cause) did after log now v path h other = absurd h
 leads_leaves id d (Skips cause) did after log now v path (same, inl skips) other = subst (λ x. replayed_step x (deletion id d (Skips cause)) v path ≡ v path) (sym skips.0) refl
 leads_leaves id d (Skips cause) did after log now v path (same, inr trouble) other = subst (λ x. replayed_step x (deletion id d (Skips cause)) v path ≡ v path) (sym trouble.0) refl
 leads_leaves id d (Ends ending) did after log now v path h other = winds_leaves (deletion id d (Ends ending)) d h.0 ending did v path h.1
@@ -93,6 +95,12 @@ event_leaves job (Look refusals) after log now v path only h other = refl
 event_leaves job (event.Began id plan background) after log now v path only h other = refl
 event_leaves job (Order id order) after log now v path only h other = refl
 event_leaves job Closed after log now v path only h other = refl
+
+-- the sync of a folder that an ended job left leaves all as it was
+entry_leaves : (left : List Route) (job : Option Running) (what : Event) (after : Option Running) (log now : CallLog) (v : View) (path : Route) → JobDeletes job → EntryLeads left job what after log now
+    → (IsBeingDeleted job path → ⊥) → replayed_event what job v path ≡ v path
+entry_leaves left job what after log now v path only (inl h) other = event_leaves job what after log now v path only h other
+entry_leaves left job what after log now v path only (inr s) other = rw (s.what_is, s.was_is) (elim s.synced [ | inl h ↦ rw h.0 refl | inr h ↦ rw h.1 refl ])
 
 -- what was finished stays so
 still_at : (stage : Stage) (file : Route) (before : List Route) (path : Route) → Among before path → Among (finished_at stage file before) path
@@ -142,8 +150,8 @@ module _ (opening : CallLog) (standing : List Entry) (next : Entry) (job : Optio
   opened = shown.opening_is
 
   -- the event of the next entry, after the job that the history tells
-  led : EventLeads (live_job standing) next.what h.3.after h.1 at
-  led = subst (λ j. EventLeads j next.what h.3.after h.1 at) (traced_live opening h.1 standing h.0 only.0 h.2) h.3.leads
+  led : EntryLeads (left_dirty standing) (live_job standing) next.what h.3.after h.1 at
+  led = subst (λ j. EntryLeads (left_dirty standing) j next.what h.3.after h.1 at) (traced_live opening h.1 standing h.0 only.0 h.2) h.3.leads
 
   now_is : current at ≡ after_changes (current opening) done.session
   now_is = session_current opening at done.session opened done.changes
@@ -177,7 +185,7 @@ module _ (opening : CallLog) (standing : List Entry) (next : Entry) (job : Optio
       same_value image (current at) path ((lacks_of image left_of).nodes ∙ sym (lacks_of (current at) now_left).nodes) (leads_as_now path sure)
       ∙ ap (λ (spot : Spot). spot.value)
       (shown.shows path
-      ∙ event_leaves (live_job standing) next.what h.3.after h.1 at (replayed_tree (visible_tree (current opening)) standing) path (live_deletes standing only.0) led other)
+      ∙ entry_leaves (left_dirty standing) (live_job standing) next.what h.3.after h.1 at (replayed_tree (visible_tree (current opening)) standing) path (live_deletes standing only.0) led other)
 
   pub whole : (path : Route) → (value_at image path ≡ value_at (current opening) path) ⊎ (value_at image path ≡ None)
   whole path = value_lacks (current opening) image (lacks_of image left_of) path

@@ -77,7 +77,7 @@ abbrev begun_entries : List Entry
 begun_entries = entry 0 (Began 1 (plan.Delete (the_file ∷ [])) false) ∷ []
 
 begun_traced : IsTraced (log []) begun_entries (Some (job Remove GoesOn)) (log [])
-begun_traced = (None, log [], (refl, refl), record { after = Some (job Remove GoesOn); leads = (refl, refl); job_is = refl; counts = refl })
+begun_traced = (None, log [], (refl, refl), record { after = Some (job Remove GoesOn); leads = inl (refl, refl); job_is = refl; counts = refl })
 
 -- it has removed the name
 abbrev removed_entries : List Entry
@@ -90,7 +90,7 @@ removed_traced = (
   begun_traced,
   record {
     after = Some (job Sync GoesOn);
-    leads = inl (job Sync GoesOn, (Delete (record { path = the_file; stage = Sync }), (refl, refl, refl), refl), (refl, (pos 0, refl)), refl);
+    leads = inl (inl (job Sync GoesOn, (Delete (record { path = the_file; stage = Sync }), (refl, refl, refl), refl), (refl, (pos 0, refl)), refl));
     job_is = refl;
     counts = refl;
   },
@@ -114,7 +114,7 @@ synced_traced = (
   removed_traced,
   record {
     after = Some (job Finish GoesOn);
-    leads = inl (job Finish GoesOn, (Delete (record { path = the_file; stage = Finish }), (refl, refl), refl), (refl, (pos 0, refl)), refl);
+    leads = inl (inl (job Finish GoesOn, (Delete (record { path = the_file; stage = Finish }), (refl, refl), refl), (refl, (pos 0, refl)), refl));
     job_is = refl;
     counts = refl;
   },
@@ -127,7 +127,7 @@ finished_traced = (
   synced_traced,
   record {
     after = None;
-    leads = inl (job Finish GoesOn, (Delete (record { path = the_file; stage = Finish }), (refl, refl, refl), refl), refl, refl);
+    leads = inl (inl (job Finish GoesOn, (Delete (record { path = the_file; stage = Finish }), (refl, refl, refl), refl), refl, refl));
     job_is = refl;
     counts = refl;
   },
@@ -165,12 +165,12 @@ troubled_traced = (
   removed_traced,
   record {
     after = Some waiting;
-    leads = inl (
+    leads = inl (inl (
       waiting,
       (Delete (record { path = the_file; stage = Sync }), ((refused.Fault, refl), refl), refl),
       (refused.Fault, refl, (refl, ([], refl))),
       refl,
-    );
+    ));
     job_is = refl;
     counts = refl;
   },
@@ -181,7 +181,7 @@ closed_traced = (
   Some waiting,
   log (removal ∷ Nothing ∷ []),
   troubled_traced,
-  record { after = Some waiting; leads = (refl, refl); job_is = refl; counts = refl },
+  record { after = Some waiting; leads = inl (refl, refl); job_is = refl; counts = refl },
 )
 
 tried_traced : IsTraced (log []) tried_entries (Some (job Finish (Ends Aborted))) aborted_log
@@ -191,12 +191,12 @@ tried_traced = (
   closed_traced,
   record {
     after = Some (job Finish (Ends Aborted));
-    leads = inl (
+    leads = inl (inl (
       job Finish (Ends Aborted),
       (Delete (record { path = the_file; stage = Finish }), (refl, refl), refl),
       (Err refused.Fault, (refl, ([], refl))),
       refl,
-    );
+    ));
     job_is = refl;
     counts = refl;
   },
@@ -209,7 +209,7 @@ aborted_traced = (
   tried_traced,
   record {
     after = None;
-    leads = inl (job Finish (Ends Aborted), (Delete (record { path = the_file; stage = Finish }), ((λ h. cc), refl, refl, refl), refl), refl, refl);
+    leads = inl (inl (job Finish (Ends Aborted), (Delete (record { path = the_file; stage = Finish }), ((λ h. cc), refl, refl, refl), refl), refl, refl));
     job_is = refl;
     counts = refl;
   },
@@ -246,21 +246,21 @@ refused_traced = (
   begun_traced,
   record {
     after = Some asking;
-    leads = inl (asking, (Delete (record { path = the_file; stage = Remove }), ((refused.Fault, refl), refl), refl), (refused.Fault, refl, (refl, ([], refl))), refl);
+    leads = inl (inl (asking, (Delete (record { path = the_file; stage = Remove }), ((refused.Fault, refl), refl), refl), (refused.Fault, refl, (refl, ([], refl))), refl));
     job_is = refl;
     counts = refl;
   },
 )
 
 answered_traced : IsTraced (log []) answered_entries (Some skipping) (log (Nothing ∷ []))
-answered_traced = (Some asking, log (Nothing ∷ []), refused_traced, record { after = Some skipping; leads = (refl, refl); job_is = refl; counts = refl })
+answered_traced = (Some asking, log (Nothing ∷ []), refused_traced, record { after = Some skipping; leads = inl (refl, refl); job_is = refl; counts = refl })
 
 skipped_traced : IsTraced (log []) skipped_entries (Some (job PassedOver GoesOn)) (log (Nothing ∷ []))
 skipped_traced = (
   Some skipping,
   log (Nothing ∷ []),
   answered_traced,
-  record { after = Some (job PassedOver GoesOn); leads = inl (job PassedOver GoesOn, inl (refl, refl), refl, refl); job_is = refl; counts = refl },
+  record { after = Some (job PassedOver GoesOn); leads = inl (inl (job PassedOver GoesOn, inl (refl, refl), refl, refl)); job_is = refl; counts = refl },
 )
 
 passed_traced : IsTraced (log []) passed_entries None (log (Nothing ∷ []))
@@ -270,7 +270,7 @@ passed_traced = (
   skipped_traced,
   record {
     after = None;
-    leads = inl (job PassedOver GoesOn, (Delete (record { path = the_file; stage = PassedOver }), (refl, refl, refl), refl), refl, refl);
+    leads = inl (inl (job PassedOver GoesOn, (Delete (record { path = the_file; stage = PassedOver }), (refl, refl, refl), refl), refl, refl));
     job_is = refl;
     counts = refl;
   },

@@ -18,7 +18,7 @@ use Rattle.copy_move.specs.declared.history.Job.TheVariants as plan
 use Rattle.copy_move.specs.declared.work.Work.{Work}
 use Rattle.copy_move.specs.declared.work.Work.TheVariants.{Copy, Delete}
 use Rattle.copy_move.specs.declared.run.Course.{Course}
-use Rattle.copy_move.specs.declared.run.Course.TheVariants.{GoesOn, InTrouble, Skips, Ends}
+use Rattle.copy_move.specs.declared.run.Course.TheVariants.{GoesOn, InTrouble, Unsettled, Skips, Ends}
 use Rattle.copy_move.specs.Deletions.{Deleting, skipped}
 use Rattle.copy_move.specs.Jobs.{Running, answered, closed_course, deletes, first_work}
 use Rattle.copy_move.specs.Told.{if_closed, running}
@@ -55,6 +55,7 @@ gone_synced s cs m up tree takes gone image left =
 abbrev pub is_ending : Course → Bool
 is_ending GoesOn = false
 is_ending (InTrouble cause) = false
+is_ending (Unsettled cause) = false
 is_ending (Skips cause) = false
 is_ending (Ends ending) = true
 
@@ -62,6 +63,7 @@ is_ending (Ends ending) = true
 abbrev pub IsOrdered : Course → Type 0
 IsOrdered GoesOn = ⊤
 IsOrdered (InTrouble cause) = ⊤
+IsOrdered (Unsettled cause) = ⊤
 IsOrdered (Skips cause) = ⊤
 IsOrdered (Ends ending) = ending ≡ Aborted
 
@@ -130,6 +132,10 @@ answered_work s cs Retry id (Delete d) (InTrouble cause) p = progress_course s c
 answered_work s cs Skip id (Delete d) (InTrouble cause) p = progress_course s cs (InTrouble cause) (Skips cause) d refl tt p
 answered_work s cs SkipAll id (Delete d) (InTrouble cause) p = progress_course s cs (InTrouble cause) (Skips cause) d refl tt p
 answered_work s cs Abort id (Delete d) (InTrouble cause) p = progress_course s cs (InTrouble cause) (Ends Aborted) d refl refl p
+answered_work s cs Retry id (Delete d) (Unsettled cause) p = progress_course s cs (Unsettled cause) GoesOn d refl tt p
+answered_work s cs Skip id (Delete d) (Unsettled cause) p = p
+answered_work s cs SkipAll id (Delete d) (Unsettled cause) p = p
+answered_work s cs Abort id (Delete d) (Unsettled cause) p = progress_course s cs (Unsettled cause) (Ends Aborted) d refl refl p
 answered_work s cs answer id (Delete d) GoesOn p = p
 answered_work s cs answer id (Delete d) (Skips cause) p = p
 answered_work s cs answer id (Delete d) (Ends ending) p = p
@@ -152,6 +158,7 @@ begun_progress s cs id (path ∷ more ∷ paths) = tt
 closed_work : (s : FileSystem) (cs : List Change) (course : Course) (work : Work) → WorkProgress s cs course work → WorkProgress s cs (closed_course course) work
 closed_work s cs course (Copy c) p = p
 closed_work s cs (InTrouble cause) (Delete d) p = progress_course s cs (InTrouble cause) (Ends Aborted) d refl refl p
+closed_work s cs (Unsettled cause) (Delete d) p = progress_course s cs (Unsettled cause) (Ends Aborted) d refl refl p
 closed_work s cs GoesOn (Delete d) p = p
 closed_work s cs (Skips cause) (Delete d) p = p
 closed_work s cs (Ends ending) (Delete d) p = p

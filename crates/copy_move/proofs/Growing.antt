@@ -22,13 +22,14 @@ use Rattle.file_copy.specs.LastSteps.{IsTried, SyncTried, WindCalls, removable}
 use Rattle.copy_move.specs.declared.work.Work.{Work}
 use Rattle.copy_move.specs.declared.work.Work.TheVariants.{Copy, Delete}
 use Rattle.copy_move.specs.declared.run.Course.{Course}
-use Rattle.copy_move.specs.declared.run.Course.TheVariants.{GoesOn, InTrouble, Skips, Ends}
+use Rattle.copy_move.specs.declared.run.Course.TheVariants.{GoesOn, InTrouble, Unsettled, Skips, Ends}
 use Rattle.copy_move.specs.declared.history.Event.{Event}
 use Rattle.copy_move.specs.declared.history.Event.TheVariants as event
 use Rattle.copy_move.specs.declared.deletion.Stage.TheVariants.{Sync}
 use Rattle.copy_move.specs.Deletions.{Deleting, Answers, DeletionCalls, LastCalls, call_of}
 use Rattle.copy_move.specs.Jobs.{Running, CallsOn, WorkCalls, WorkLastCalls}
-use Rattle.copy_move.specs.Traces.{IsUnclaimed, StepLeads, EventLeads}
+use Rattle.copy_move.specs.Settling.{Settles}
+use Rattle.copy_move.specs.Traces.{EntryLeads, IsUnclaimed, StepLeads, EventLeads}
 use Rattle.copy_move.proofs.PlainTurns.{some_log}
 
 -- the log goes on
@@ -170,6 +171,7 @@ last_work_grows (Delete d) did log now h = last_grows d did log now h
 job_grows : (course : Course) (job : Running) (did : Did) (new : Running) (log now : CallLog) → CallsOn IsUnclaimed course job did new log (Some now) → Grows log now
 job_grows GoesOn job did new log now h = work_grows job.work did new.work log now h
 job_grows (InTrouble cause_is) job did new log now h = absurd h
+job_grows (Unsettled cause_is) job did new log now h = absurd h
 job_grows (Skips cause_is) job did new log now h = grows_not log now (some_log now log h)
 job_grows (Ends ending) job did new log now h = last_work_grows job.work did log now h
 
@@ -190,6 +192,13 @@ event_grows None (event.Order id order) after log now h = grows_not log now h.1
 event_grows (Some job) (event.Order id order) after log now h = grows_not log now h.1
 event_grows None event.Closed after log now h = grows_not log now h.1
 event_grows (Some job) event.Closed after log now h = grows_not log now h.1
+
+pub entry_grows : (left : List Route) (job : Option Running) (what : Event) (after : Option Running) (log now : CallLog) → EntryLeads left job what after log now → Grows log now
+entry_grows left job what after log now (inl h) = event_grows job what after log now h
+entry_grows left job what after log now (inr s) = elim s.synced [
+  | inl h ↦ answers_grows log (Some (SyncFolder s.folder)) (Ok tt) now h.2
+  | inr h ↦ answers_grows log (Some (SyncFolder s.folder)) (Err h.0) now h.3
+]
 
 -- with no live job the log stays
 pub idle_same : (what : Event) (after : Option Running) (log now : CallLog) → EventLeads None what after log now → now ≡ log

@@ -40,7 +40,7 @@ at_end opening now newest job count only h is = record {
   job = if_closed (is_closed (closing (calls_in newest) ∷ newest)) job;
   at = now;
   only = (only, tt);
-  traced = (job, now, h, record { after = job; leads = (refl, refl); job_is = refl; counts = traced_count opening now newest job h });
+  traced = (job, now, h, record { after = job; leads = inl (refl, refl); job_is = refl; counts = traced_count opening now newest job h });
   made_is = ap (λ n. take n now.changes) is ∙ take-length now.changes;
 }
 

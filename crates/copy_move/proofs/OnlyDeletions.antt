@@ -23,13 +23,13 @@ use Rattle.copy_move.specs.declared.history.Entry.{Entry}
 use Rattle.copy_move.specs.declared.work.Work.{Work}
 use Rattle.copy_move.specs.declared.work.Work.TheVariants.{Copy, Delete}
 use Rattle.copy_move.specs.declared.run.Course.{Course}
-use Rattle.copy_move.specs.declared.run.Course.TheVariants.{GoesOn, InTrouble, Skips, Ends}
-use Rattle.copy_move.specs.Deletions.{Deleting, Tells, Winds, DeletionCalls, LastCalls, at_barrier, skipped}
+use Rattle.copy_move.specs.declared.run.Course.TheVariants.{GoesOn, InTrouble, Unsettled, Skips, Ends}
+use Rattle.copy_move.specs.Deletions.{Deleting, Tells, Winds, DeletionCalls, LastCalls, after_sync, at_barrier, skipped}
 use Rattle.copy_move.specs.Jobs.{Running, JobTells, WorkTells, WorkWinds, JobCalls, answered, course_after, deletes, ends, first_work}
 use Rattle.copy_move.specs.Told.{after_step, after_event, if_closed, is_closed, live_job, running, told, work_told}
 use Rattle.copy_move.specs.Replay.{DeletesEvent, OnlyDeletes}
 use Rattle.copy_move.specs.Traces.{IsUnclaimed, StepLeads, IsTraced}
-use Rattle.copy_move.proofs.Telling.{traced_told}
+use Rattle.copy_move.proofs.Telling.{deletion_in_trouble, skip_in_trouble, traced_told}
 
 abbrev pub IsDeletion : Work → Type 0
 IsDeletion (Delete d) = ⊤
@@ -49,6 +49,7 @@ abbrev pub DeletionLeads : ℕ → Deleting → Course → Did → Option Runnin
 DeletionLeads id d GoesOn did after log now =
     (new : Deleting) × Tells d did new × DeletionCalls d did log (Some now) × (after ≡ (if ends did then None else Some (deletion id new (course_after did))))
 DeletionLeads id d (InTrouble cause) did after log now = ⊥
+DeletionLeads id d (Unsettled cause) did after log now = ⊥
 DeletionLeads id d (Skips cause) did after log now =
     (now ≡ log)
     × (((did ≡ Skipped d.path cause) × (after ≡ Some (deletion id (record d { stage = skipped d.stage }) GoesOn)))
@@ -79,6 +80,7 @@ leads_deletion id d GoesOn did after log now new tells calls is =
     let t = tells_deletion d did tells.0 tells.1 in
     (t.0, t.2, calls, left_after (ends did) after new _ is (tells.2 ∙ ap (λ w. record { id = id; work = w; course = course_after did }) t.1))
 leads_deletion id d (InTrouble cause) did after log now new tells calls is = absurd tells
+leads_deletion id d (Unsettled cause) did after log now new tells calls is = absurd tells
 leads_deletion id d (Skips cause) did after log now new (inl skips) calls is = (
   some_log now log calls,
   inl (skips.0, subst (λ x. after ≡ (if ends x then None else Some (deletion id (record d { stage = skipped d.stage }) GoesOn))) skips.0 (left_after (ends did) after new _ is skips.1)),
@@ -115,6 +117,10 @@ answer_deletes id (Delete d) (InTrouble cause) Retry h = tt
 answer_deletes id (Delete d) (InTrouble cause) Skip h = tt
 answer_deletes id (Delete d) (InTrouble cause) SkipAll h = tt
 answer_deletes id (Delete d) (InTrouble cause) Abort h = tt
+answer_deletes id (Delete d) (Unsettled cause) Retry h = tt
+answer_deletes id (Delete d) (Unsettled cause) Skip h = tt
+answer_deletes id (Delete d) (Unsettled cause) SkipAll h = tt
+answer_deletes id (Delete d) (Unsettled cause) Abort h = tt
 answer_deletes id (Delete d) GoesOn answer h = tt
 answer_deletes id (Delete d) (Skips cause) answer h = tt
 answer_deletes id (Delete d) (Ends ending) answer h = tt
@@ -153,8 +159,8 @@ live_deletes (e ∷ older) h = closed_deletes (is_closed (e ∷ older)) (after_e
 goes_on_told : (id : ℕ) (d : Deleting) (did : Did) (after : Option Running) (new : Deleting) → Tells d did new
     → after ≡ (if ends did then None else Some (deletion id new (course_after did))) → after ≡ after_step did (deletion id d GoesOn)
 goes_on_told id d (Removed path) after new h is = is ∙ ap (λ x. Some (deletion id x GoesOn)) h.2
-goes_on_told id d Barrier after new h is = is ∙ ap (λ x. Some (deletion id x GoesOn)) h.1
-goes_on_told id d (Troubled trouble) after new h is = is ∙ ap (λ x. Some (deletion id x (InTrouble trouble.cause))) h.1
+goes_on_told id d Barrier after new h is = is ∙ (ap (λ x. Some (deletion id x GoesOn)) h.1 ∙ sym (ap (λ stage. Some (deletion id (record d { stage = after_sync stage }) GoesOn)) h.0))
+goes_on_told id d (Troubled trouble) after new h is = is ∙ (ap (λ x. Some (deletion id x (InTrouble trouble.cause))) h.1 ∙ ap (λ course. Some (deletion id d course)) (sym (deletion_in_trouble d trouble h.0)))
 goes_on_told id d (Ended ending part) after new h is = is
 goes_on_told id d (Began part) after new h is = absurd h
 goes_on_told id d (Chunk count) after new h is = absurd h
@@ -164,7 +170,7 @@ goes_on_told id d (Cleaned part) after new h is = absurd h
 
 winds_told : (id : ℕ) (d : Deleting) (ending : Ending) (did : Did) (after : Option Running) (new : Deleting) → Winds ending d did new
     → after ≡ (if ends did then None else Some (deletion id new (Ends ending))) → after ≡ after_step did (deletion id d (Ends ending))
-winds_told id d ending Barrier after new h is = is ∙ ap (λ x. Some (deletion id x (Ends ending))) h.1
+winds_told id d ending Barrier after new h is = is ∙ (ap (λ x. Some (deletion id x (Ends ending))) h.1 ∙ sym (ap (λ stage. Some (deletion id (record d { stage = after_sync stage }) (Ends ending))) h.0))
 winds_told id d ending (Ended how part) after new h is = is
 winds_told id d ending (Began part) after new h is = absurd h
 winds_told id d ending (Chunk count) after new h is = absurd h
@@ -177,8 +183,10 @@ winds_told id d ending (Troubled trouble) after new h is = absurd h
 pub leads_told : (id : ℕ) (d : Deleting) (course : Course) (did : Did) (after : Option Running) (log now : CallLog) → DeletionLeads id d course did after log now → after ≡ after_step did (deletion id d course)
 leads_told id d GoesOn did after log now h = goes_on_told id d did after h.0 h.1 h.3
 leads_told id d (InTrouble cause) did after log now h = absurd h
+leads_told id d (Unsettled cause) did after log now h = absurd h
 leads_told id d (Skips cause) did after log now (same, inl skips) = subst (λ x. after ≡ after_step x (deletion id d (Skips cause))) (sym skips.0) skips.1
-leads_told id d (Skips cause) did after log now (same, inr trouble) = subst (λ x. after ≡ after_step x (deletion id d (Skips cause))) (sym trouble.0) trouble.1
+leads_told id d (Skips cause) did after log now (same, inr trouble) =
+    subst (λ x. after ≡ after_step x (deletion id d (Skips cause))) (sym trouble.0) (trouble.1 ∙ ap (λ course. Some (deletion id d course)) (sym (skip_in_trouble (Delete d))))
 leads_told id d (Ends ending) did after log now h = winds_told id d ending did after h.0 h.1 h.3
 
 -- a history tells a deletion whole

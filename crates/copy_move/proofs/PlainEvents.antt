@@ -20,7 +20,7 @@ use Rattle.copy_move.specs.declared.history.Entry.{Entry}
 use Rattle.copy_move.specs.declared.work.Work.{Work}
 use Rattle.copy_move.specs.declared.work.Work.TheVariants.{Copy, Delete}
 use Rattle.copy_move.specs.declared.run.Course.{Course}
-use Rattle.copy_move.specs.declared.run.Course.TheVariants.{GoesOn, InTrouble, Skips, Ends}
+use Rattle.copy_move.specs.declared.run.Course.TheVariants.{GoesOn, InTrouble, Unsettled, Skips, Ends}
 use Rattle.copy_move.specs.Jobs.{Running, CallsOn, WorkCalls, WorkLastCalls, answered_on, closed_course, copies, deletes, taken_anew}
 use Rattle.copy_move.specs.Told.{if_closed, told, work_told}
 use Rattle.copy_move.specs.Replay.{left_by, open_after, placed_view, replayed_event, replayed_step}
@@ -81,6 +81,7 @@ step_like (Ended ending part) first job v like = refl
 closed_fits : (course : Course) (turns : List Turn) → Fits course turns → Fits (closed_course course) turns
 closed_fits GoesOn turns fits = fits
 closed_fits (InTrouble cause) turns fits = refl
+closed_fits (Unsettled cause) turns fits = refl
 closed_fits (Skips cause) turns fits = fits
 closed_fits (Ends ending) turns fits = fits
 
@@ -133,12 +134,18 @@ end_calls GoesOn job ending part new log now calls = at job.work new.work calls
     at (Copy c) (Delete d) h = absurd h
     at (Delete c) made h = some_log now log h
 end_calls (InTrouble cause) job ending part new log now calls = absurd calls
+end_calls (Unsettled cause) job ending part new log now calls = absurd calls
 end_calls (Skips cause) job ending part new log now calls = some_log now log calls
 end_calls (Ends how) job ending part new log now calls = at job.work calls
   where
     at : (old : Work) → WorkLastCalls old (Ended ending part) log (Some now) → now ≡ log
     at (Copy c) h = some_log now log h
     at (Delete c) h = some_log now log h
+
+-- after an end there is no job
+pub end_none : (job : Running) (ending : Ending) (part : Option Route) (after : Option Running) (log now : CallLog) → StepLeads job (Ended ending part) after log now → after ≡ None
+end_none job ending part after log now (inl (new, tells, calls, after_is)) = after_is
+end_none job ending part after log now (inr (did_is, none, same)) = none
 
 pub end_same : (job : Running) (ending : Ending) (part : Option Route) (after : Option Running) (log now : CallLog) → StepLeads job (Ended ending part) after log now → now ≡ log
 end_same job ending part after log now (inl (new, tells, calls, after_is)) = end_calls job.course job ending part new log now calls
@@ -180,6 +187,34 @@ module _ (first : Work) (is_first : IsFirst first) (before : CallLog) (lawful : 
     view = λ v. refl;
   }
   ordered (InTrouble cause) id work answer.Abort turns parts log now reach fits going same = record {
+    turns_now = turns;
+    work = work;
+    reach = subst (WorkReaches first before turns work) (sym same) reach;
+    live = (refl, refl, going);
+    view = λ v. refl;
+  }
+  ordered (Unsettled cause) id work answer.Retry turns parts log now reach fits going same = record {
+    turns_now = Retry ∷ turns;
+    work = taken_anew work;
+    reach = (work, log, reach, fits, (refl, same));
+    live = (refl, (refl, refl), going);
+    view = λ v. refl;
+  }
+  ordered (Unsettled cause) id work answer.Skip turns parts log now reach fits going same = record {
+    turns_now = turns;
+    work = work;
+    reach = subst (WorkReaches first before turns work) (sym same) reach;
+    live = (refl, fits, going);
+    view = λ v. refl;
+  }
+  ordered (Unsettled cause) id work answer.SkipAll turns parts log now reach fits going same = record {
+    turns_now = turns;
+    work = work;
+    reach = subst (WorkReaches first before turns work) (sym same) reach;
+    live = (refl, fits, going);
+    view = λ v. refl;
+  }
+  ordered (Unsettled cause) id work answer.Abort turns parts log now reach fits going same = record {
     turns_now = turns;
     work = work;
     reach = subst (WorkReaches first before turns work) (sym same) reach;

@@ -110,7 +110,7 @@ abbrev copy_entries : List Entry
 copy_entries = entry 0 (event.Began 5 (plan.Copy ((record { source = here.source; target = here.target }) ∷ [])) false) ∷ []
 
 copy_traced : IsTraced (log []) copy_entries (Some (copy Begin Synced)) (log [])
-copy_traced = (None, log [], (refl, refl), record { after = Some (copy Begin Synced); leads = (refl, refl); job_is = refl; counts = refl })
+copy_traced = (None, log [], (refl, refl), record { after = Some (copy Begin Synced); leads = inl (refl, refl); job_is = refl; counts = refl })
 
 -- the part is made and filled
 abbrev made_entries : List Entry
@@ -123,7 +123,7 @@ made_traced = (
   copy_traced,
   record {
     after = Some (copy (Fill (part_path here 0) said 0) Dirty);
-    leads = inl (
+    leads = inl (inl (
       copy (Fill (part_path here 0) said 0) Dirty,
       (Copy (copying here (Fill (part_path here 0) said 0) Dirty), (refl, (said, refl)), refl),
       (
@@ -132,7 +132,7 @@ made_traced = (
         (0, refl, first_free, (log (making ∷ []), (refl, (pos 0, refl)), refl)),
       ),
       refl,
-    );
+    ));
     job_is = refl;
     counts = refl;
   },
@@ -148,7 +148,7 @@ filled_traced = (
   made_traced,
   record {
     after = Some (copy (Fill (part_path here 0) said 2) Dirty);
-    leads = inl (
+    leads = inl (inl (
       copy (Fill (part_path here 0) said 2) Dirty,
       (
         Copy (copying here (Fill (part_path here 0) said 2) Dirty),
@@ -157,7 +157,7 @@ filled_traced = (
       ),
       (part_path here 0, said, 0, refl, refl, (log (making ∷ filling ∷ []), (rw own_name refl, (pos 0, rw own_name refl)), refl)),
       refl,
-    );
+    ));
     job_is = refl;
     counts = refl;
   },
@@ -180,7 +180,7 @@ placed_traced = (
   filled_traced,
   record {
     after = Some (copy Decided Dirty);
-    leads = inl (
+    leads = inl (inl (
       copy Decided Dirty,
       (Copy (copying here Decided Dirty), (part_path here 0, said, refl, refl, refl), refl),
       (
@@ -194,7 +194,7 @@ placed_traced = (
         ),
       ),
       refl,
-    );
+    ));
     job_is = refl;
     counts = refl;
   },
@@ -210,7 +210,7 @@ synced_traced = (
   placed_traced,
   record {
     after = Some (copy Decided Synced);
-    leads = inl (copy Decided Synced, (Copy (copying here Decided Synced), (refl, refl, refl), refl), (copied_log, (refl, (pos 0, refl)), refl), refl);
+    leads = inl (inl (copy Decided Synced, (Copy (copying here Decided Synced), (refl, refl, refl), refl), (copied_log, (refl, (pos 0, refl)), refl), refl));
     job_is = refl;
     counts = refl;
   },
@@ -226,7 +226,7 @@ copied_traced = (
   synced_traced,
   record {
     after = None;
-    leads = inl (copy Decided Synced, (Copy (copying here Decided Synced), (refl, refl, refl, refl), refl), refl, refl);
+    leads = inl (inl (copy Decided Synced, (Copy (copying here Decided Synced), (refl, refl, refl, refl), refl), refl, refl));
     job_is = refl;
     counts = refl;
   },
@@ -249,15 +249,15 @@ removed_traced : IsTraced (log []) removed_entries (Some deletion_synced) remove
 removed_traced = (
   Some deletion,
   copied_log,
-  (None, copied_log, copied_traced, record { after = Some deletion; leads = (refl, refl); job_is = refl; counts = refl }),
+  (None, copied_log, copied_traced, record { after = Some deletion; leads = inl (refl, refl); job_is = refl; counts = refl }),
   record {
     after = Some deletion_synced;
-    leads = inl (
+    leads = inl (inl (
       deletion_synced,
       (Delete (record { path = here.source; stage = Sync }), (refl, refl, refl), refl),
       (refl, (pos 0, refl)),
       refl,
-    );
+    ));
     job_is = refl;
     counts = refl;
   },

@@ -6,9 +6,9 @@ use Rattle.mc_text.specs.Routes.{Route}
 use Rattle.tree_trait.specs.FileSystem.{View, visible_tree}
 use Rattle.tree_trait.specs.Shape.{IsTree}
 use Rattle.tree_trait.specs.Change.{CallLog, current}
-use Rattle.tree_trait.specs.CrashImages.{all_settled}
+use Rattle.tree_trait.specs.CrashImages.{Among, all_settled}
 use Rattle.file_copy.specs.declared.report.Ending.TheVariants.{Finished}
-use Rattle.file_copy.specs.declared.report.Did.TheVariants.{Ended}
+use Rattle.file_copy.specs.declared.report.Did.TheVariants.{Began, Chunk, Placed, Removed, Skipped, Cleaned, Barrier, Troubled, Ended}
 use Rattle.file_copy.specs.CopyCrashes.{Turn, Step}
 use Rattle.file_copy.specs.CopyShows.{standing, has_ended}
 use Rattle.copy_move.specs.declared.history.Job.{Job}
@@ -22,9 +22,10 @@ use Rattle.copy_move.specs.Jobs.{Running, WorkTells, first_work}
 use Rattle.copy_move.specs.Told.{if_closed, is_closed, live_job, running, told}
 use Rattle.copy_move.specs.Replay.{IsPlain, PlainEvent, left_by, left_parts, open_work, open_after, replayed_event, replayed_tree}
 use Rattle.copy_move.specs.PlainCrashes.{before_open, closed_by}
-use Rattle.copy_move.specs.Traces.{EventLeads, Follows, IsTraced}
+use Rattle.copy_move.specs.Settling.{left_by_end, left_dirty}
+use Rattle.copy_move.specs.Traces.{EntryLeads, EventLeads, Follows, IsTraced}
 use Rattle.copy_move.proofs.Growing.{event_grows, grows_length}
-use Rattle.copy_move.proofs.PlainEvents.{IsWithin, closed_live, event_finished, event_turned, kind_of}
+use Rattle.copy_move.proofs.PlainEvents.{IsWithin, closed_live, end_none, event_finished, event_turned, kind_of}
 use Rattle.copy_move.proofs.PlainTurns.{IsLive}
 use Rattle.copy_move.proofs.Telling.{traced_told}
 use Rattle.copy_move.proofs.WorkLaws.{IsFirst, IsLawful, is_first, work_lawful, work_settled}
@@ -59,6 +60,46 @@ idle_closed : (closed : Bool) → if_closed closed None ≡ None
 idle_closed true = refl
 idle_closed false = refl
 
+-- what a job leaves that doesn't end otherwise than finished, or not at all
+abbrev LeavesNone : Event → List Entry → Type 0
+LeavesNone what older = left_by_end what (live_job older) (left_dirty older) ≡ left_dirty older
+
+-- a live job after an event was live before it, and leaves nothing by that
+still_none : (what : Event) (was after live : Option Running) (older : List Entry) (log now : CallLog) (job : Running) → IsWithin what → EventLeads was what after log now → after ≡ Some job
+    → ((job : Running) → was ≡ Some job → left_dirty older ≡ []) → left_by_end what live (left_dirty older) ≡ []
+still_none (event.Step id did) None after live older log now job within h is clean = absurd h
+still_none (event.Step id (Began part)) (Some old) after live older log now job within h is clean = clean old refl
+still_none (event.Step id (Chunk count)) (Some old) after live older log now job within h is clean = clean old refl
+still_none (event.Step id (Placed path)) (Some old) after live older log now job within h is clean = clean old refl
+still_none (event.Step id (Removed path)) (Some old) after live older log now job within h is clean = clean old refl
+still_none (event.Step id (Skipped path cause)) (Some old) after live older log now job within h is clean = clean old refl
+still_none (event.Step id (Cleaned part)) (Some old) after live older log now job within h is clean = clean old refl
+still_none (event.Step id Barrier) (Some old) after live older log now job within h is clean = clean old refl
+still_none (event.Step id (Troubled trouble)) (Some old) after live older log now job within h is clean = clean old refl
+still_none (event.Step id (Ended ending part)) (Some old) after live older log now job within h is clean =
+    absurd (let none : after ≡ None = end_none old ending part after log now h in let no : (let o : Option Running = None in o) ≡ Some job = sym none ∙ is in cc)
+still_none (event.Key key time refusals lost) None after live older log now job within h is clean = absurd (let no : (let o : Option Running = None in o) ≡ Some job = sym h.0 ∙ is in cc)
+still_none (event.Key key time refusals lost) (Some old) after live older log now job within h is clean = clean old refl
+still_none (event.Look refusals) None after live older log now job within h is clean = absurd (let no : (let o : Option Running = None in o) ≡ Some job = sym h.0 ∙ is in cc)
+still_none (event.Look refusals) (Some old) after live older log now job within h is clean = clean old refl
+still_none (event.Order id (Answered ans)) None after live older log now job within h is clean = absurd (let no : (let o : Option Running = None in o) ≡ Some job = sym h.0 ∙ is in cc)
+still_none (event.Order id (Answered ans)) (Some old) after live older log now job within h is clean = clean old refl
+still_none event.Closed None after live older log now job within h is clean = absurd (let no : (let o : Option Running = None in o) ≡ Some job = sym h.0 ∙ is in cc)
+still_none event.Closed (Some old) after live older log now job within h is clean = clean old refl
+still_none (event.Began id plan background) was after live older log now job within h is clean = absurd (within.not_begun id plan background refl)
+
+-- the end of a finished job leaves nothing
+finished_clean : (was after : Option Running) (log now : CallLog) (id : ℕ) (part : Option Route) → EventLeads was (event.Step id (Ended Finished part)) after log now → {left : List Route}
+    → ((job : Running) → was ≡ Some job → left ≡ []) → left ≡ []
+finished_clean None after log now id part h clean = absurd h
+finished_clean (Some old) after log now id part h clean = clean old refl
+
+-- the close leaves a job where there was one
+closed_some : (closed : Bool) (after : Option Running) (job : Running) → if_closed closed after ≡ Some job → (old : Running) × (after ≡ Some old)
+closed_some true None job h = absurd cc
+closed_some true (Some old) job h = (old, refl)
+closed_some false after job h = (job, h)
+
 module _ (v : View) where
   -- nothing is pending, and the tree shows what these entries make of the opening
   pub record IsRested (entries : List Entry) (log : CallLog) : Type 0 where
@@ -72,6 +113,7 @@ module _ (v : View) where
     pub open_is : open_work newest ≡ None
     pub rested : IsRested (before_open newest) now
     pub same : SameView (replayed_tree v (before_open newest)) (replayed_tree v newest)
+    pub clean : left_dirty newest ≡ []
 
   -- a job is open that was begun with this work on this log
   pub record IsBusy (begun : CallLog) (first : Work) (newest : List Entry) (job : Option Running) (now : CallLog) : Type 0 where
@@ -83,6 +125,7 @@ module _ (v : View) where
     pub work : Work
     pub reach : WorkReaches first begun turns work now
     pub live : IsLive job turns work (left_parts newest)
+    pub clean : (live : Running) → job ≡ Some live → left_dirty newest ≡ []
     pub shows : SameView (replayed_tree v newest) (made_view first turns (replayed_tree v (before_open newest)))
 
   abbrev pub Standing : List Entry → Option Running → CallLog → Type 0
@@ -98,15 +141,16 @@ module _ (v : View) where
 
   module _ (seat calls faults shown : ℕ) (older : List Entry) (log now : CallLog) (closed : Bool) where
     -- a job begins, or there is none to begin
-    begins : (id : ℕ) (job : Job) (background : Bool) (first : Option Work) → first_work id job ≡ first → IsRested older now
+    begins : (id : ℕ) (job : Job) (background : Bool) (first : Option Work) → first_work id job ≡ first → IsRested older now → left_dirty older ≡ []
         → Standing (entry seat calls faults shown (event.Began id job background) ∷ older) (if_closed closed (option_map (running id) first)) now
-    begins id job background None is rested = inl (record {
+    begins id job background None is rested clean = inl (record {
       job_is = idle_closed closed;
       open_is = is;
       rested = rested;
       same = λ p. refl;
+      clean = clean;
     })
-    begins id job background (Some first) is rested = inr (
+    begins id job background (Some first) is rested clean = inr (
       now,
       first,
       record {
@@ -119,32 +163,34 @@ module _ (v : View) where
         reach = (refl, refl);
         live = closed_live closed (Some (running id first)) [] first (left_parts older) (refl, (refl, refl), refl);
         shows = λ p. refl;
+        clean = λ live now_is. clean;
       },
     )
 
     stays_idle : (what : Event) → (open_after what (open_work older) ≡ open_work older) → (closed_by (entry seat calls faults shown what) what older (before_open older) ≡ before_open older)
-        → ((w : View) → replayed_event what (live_job older) w ≡ w) → IsIdle older None log → now ≡ log → Standing (entry seat calls faults shown what ∷ older) (if_closed closed None) now
-    stays_idle what opens closes calm idle same = inl (record {
+        → ((w : View) → replayed_event what (live_job older) w ≡ w) → LeavesNone what older → IsIdle older None log → now ≡ log → Standing (entry seat calls faults shown what ∷ older) (if_closed closed None) now
+    stays_idle what opens closes calm none idle same = inl (record {
       job_is = idle_closed closed;
       open_is = opens ∙ idle.open_is;
       rested = subst (λ (es : List Entry). IsRested es now) (sym closes) (subst (IsRested (before_open older)) (sym same) idle.rested);
       same = λ p. ap (λ es. replayed_tree v es p) closes ∙ (idle.same p ∙ ap (λ w. w p) (sym (calm (replayed_tree v older))));
+      clean = none ∙ idle.clean;
     })
 
     idle_next : (what : Event) (after : Option Running) → IsIdle older None log → EventLeads None what after log now → Standing (entry seat calls faults shown what ∷ older) (if_closed closed after) now
     idle_next (event.Step id did) after idle h = absurd h
     idle_next (event.Key key time refusals lost) after idle h =
         subst (λ a. Standing (entry seat calls faults shown (event.Key key time refusals lost) ∷ older) (if_closed closed a) now) (sym h.0)
-        (stays_idle (event.Key key time refusals lost) refl refl (λ w. refl) idle h.1)
+        (stays_idle (event.Key key time refusals lost) refl refl (λ w. refl) refl idle h.1)
     idle_next (event.Look refusals) after idle h =
-        subst (λ a. Standing (entry seat calls faults shown (event.Look refusals) ∷ older) (if_closed closed a) now) (sym h.0) (stays_idle (event.Look refusals) refl refl (λ w. refl) idle h.1)
+        subst (λ a. Standing (entry seat calls faults shown (event.Look refusals) ∷ older) (if_closed closed a) now) (sym h.0) (stays_idle (event.Look refusals) refl refl (λ w. refl) refl idle h.1)
     idle_next (event.Order id (Answered ans)) after idle h =
-        subst (λ a. Standing (entry seat calls faults shown (event.Order id (Answered ans)) ∷ older) (if_closed closed a) now) (sym h.0) (stays_idle (event.Order id (Answered ans)) refl refl (λ w. refl) idle h.1)
+        subst (λ a. Standing (entry seat calls faults shown (event.Order id (Answered ans)) ∷ older) (if_closed closed a) now) (sym h.0) (stays_idle (event.Order id (Answered ans)) refl refl (λ w. refl) refl idle h.1)
     idle_next event.Closed after idle h =
-        subst (λ a. Standing (entry seat calls faults shown event.Closed ∷ older) (if_closed closed a) now) (sym h.0) (stays_idle event.Closed refl refl (λ w. refl) idle h.1)
+        subst (λ a. Standing (entry seat calls faults shown event.Closed ∷ older) (if_closed closed a) now) (sym h.0) (stays_idle event.Closed refl refl (λ w. refl) refl idle h.1)
     idle_next (event.Began id job background) after idle h =
         subst (λ a. Standing (entry seat calls faults shown (event.Began id job background) ∷ older) (if_closed closed a) now) (sym h.0)
-        (begins id job background (first_work id job) refl (idle_rested older None log now idle h.1))
+        (begins id job background (first_work id job) refl (idle_rested older None log now idle h.1) idle.clean)
 
     module _ (begun : CallLog) (first : Work) (was : Option Running) (busy : IsBusy begun first older was log) where
       abbrev Lawful : List Turn → Work → CallLog → Type 0
@@ -175,6 +221,7 @@ module _ (v : View) where
                 ∙ (event_same what (option_map told was) (replayed_tree v older) (made_view first busy.turns (replayed_tree v (before_open older))) busy.shows p
                 ∙ (ap (λ w. w p) (sym (t.view (replayed_tree v (before_open older))))
                 ∙ ap (λ es. made_view first t.turns_now (replayed_tree v es) p) (sym before_is)));
+            clean = λ job is. let some = closed_some closed after job is in still_none what was after (live_job older) older log now some.0 within h some.1 busy.clean;
           }
 
       -- it is finished
@@ -193,6 +240,7 @@ module _ (v : View) where
                 ∙ (sym (busy.shows p) ∙ ap (λ w. w p) (sym (finish_same id part (live_job older) (replayed_tree v older)))));
           };
           same = λ p. refl;
+          clean = finished_clean was after log now id part h busy.clean;
         },
         end.3,
       )
@@ -218,16 +266,24 @@ module _ (v : View) where
         ]
       ]
 
+  -- where a plain session stands, no ended job left a folder for the live one
+  pub plainly_leads : (older : List Entry) (was : Option Running) (what : Event) (after : Option Running) (log now : CallLog) → Standing older was log → EntryLeads (left_dirty older) was what after log now
+      → EventLeads was what after log now
+  plainly_leads older was what after log now stands (inl h) = h
+  plainly_leads older was what after log now (inl idle) (inr s) = absurd (let no : (let o : Option Running = None in o) ≡ Some s.job = sym idle.job_is ∙ s.was_is in cc)
+  plainly_leads older was what after log now (inr (begun, first, busy)) (inr s) = absurd (subst (λ left. Among left s.folder) (busy.clean s.job s.was_is) s.owed)
+
   -- each entry leads on
   pub standing_next : (opening : CallLog) (e : Entry) (older : List Entry) (was job : Option Running) (log now : CallLog) → PlainEvent e.what (open_work older) → live_job older ≡ option_map told was
       → Follows opening e older was log job now → Standing older was log → Standing (e ∷ older) job now
   standing_next opening e older was job log now plain live follows (inl idle) =
       subst (λ j. Standing (e ∷ older) j now) (sym follows.job_is)
       (idle_next e.seat e.calls e.faults e.shown older log now (is_closed (e ∷ older)) e.what follows.after
-      (subst (λ j. IsIdle older j log) idle.job_is idle) (subst (λ j. EventLeads j e.what follows.after log now) idle.job_is follows.leads))
+      (subst (λ j. IsIdle older j log) idle.job_is idle) (subst (λ j. EventLeads j e.what follows.after log now) idle.job_is (plainly_leads older was e.what follows.after log now (inl idle) follows.leads)))
   standing_next opening e older was job log now plain live follows (inr (begun, first, busy)) =
       subst (λ j. Standing (e ∷ older) j now) (sym follows.job_is)
-      (busy_next e.seat e.calls e.faults e.shown older log now (is_closed (e ∷ older)) begun first was busy e.what follows.after plain live follows.leads)
+      (busy_next e.seat e.calls e.faults e.shown older log now (is_closed (e ∷ older)) begun first was busy e.what follows.after plain live
+      (plainly_leads older was e.what follows.after log now (inr (begun, first, busy)) follows.leads))
 
 -- where a plain session stands
 pub standing_of : (opening now : CallLog) (newest : List Entry) (job : Option Running) → IsTree (current opening) → all_settled opening.changes ≡ true → IsPlain newest → IsTraced opening newest job now
@@ -241,6 +297,7 @@ standing_of opening now [] job tree settled plain h = inl (record {
     shows = λ p. ap (λ (l : CallLog). visible_tree (current l) p) h.1;
   };
   same = λ p. refl;
+  clean = refl;
 })
 standing_of opening now (e ∷ older) job tree settled plain (was, log, traced, follows) =
     standing_next (visible_tree (current opening)) opening e older was job log now plain.1 (sym (traced_told opening log older was traced)) follows

@@ -20,10 +20,11 @@ use Rattle.copy_move.specs.Told.{is_closed, live_job, told}
 use Rattle.copy_move.specs.Replay.{IsPlain, PlainEvent, open_work, replayed_tree}
 use Rattle.copy_move.specs.PlainCrashes.{IsPlainlySafe, LeavesSafe, MayHold, PlainLaw, before_open}
 use Rattle.copy_move.specs.Crashes.{calls_in, IsMoment}
+use Rattle.copy_move.specs.Settling.{left_dirty}
 use Rattle.copy_move.specs.Traces.{EventLeads, Follows, IsTraced}
-use Rattle.copy_move.proofs.Growing.{earlier_image, event_grows, grows_length, idle_same}
+use Rattle.copy_move.proofs.Growing.{earlier_image, entry_grows, grows_length, idle_same}
 use Rattle.copy_move.proofs.PlainEvents.{kind_of}
-use Rattle.copy_move.proofs.PlainLogs.{IsBusy, Standing, busy_finished, busy_within, standing_of}
+use Rattle.copy_move.proofs.PlainLogs.{IsBusy, Standing, busy_finished, busy_within, plainly_leads, standing_of}
 use Rattle.copy_move.proofs.Telling.{traced_told}
 use Rattle.copy_move.proofs.WorkLaws.{work_lawful}
 use Rattle.copy_move.proofs.WorkTurns.{SameView}
@@ -73,7 +74,7 @@ module _ (v : View) where
       → live_job older ≡ option_map told was → Follows opening e older was log job now → Standing v older was log → length log.changes < count → count ≤ length now.changes → IsCrashImage now count image
       → IsPlainlySafe v older image
   within_safe opening e older was job log now count image plain live follows (inl idle) low high left =
-      let same : now ≡ log = idle_same e.what follows.after log now (subst (λ j. EventLeads j e.what follows.after log now) idle.job_is follows.leads) in
+      let same : now ≡ log = idle_same e.what follows.after log now (subst (λ j. EventLeads j e.what follows.after log now) idle.job_is (plainly_leads v older was e.what follows.after log now (inl idle) follows.leads)) in
       let short = ap (λ (l : CallLog). length l.changes) same in
       absurd (omega (arith, low, high, short))
   within_safe opening e older was job log now count image plain live follows (inr (begun, first, busy)) low high left = elim (kind_of e.what) [
@@ -81,7 +82,7 @@ module _ (v : View) where
     | inr other ↦ elim other [
       | inl (id, part, is) ↦
           let same : now ≡ log = (busy_finished v e.seat e.calls e.faults e.shown older log now (is_closed (e ∷ older)) begun first was busy id part follows.after
-          (subst (λ w. EventLeads was w follows.after log now) is follows.leads)).1 in
+          (subst (λ w. EventLeads was w follows.after log now) is (plainly_leads v older was e.what follows.after log now (inr (begun, first, busy)) follows.leads))).1 in
           let short = ap (λ (l : CallLog). length l.changes) same in
           absurd (omega (arith, low, high, short))
       | inr within ↦
@@ -89,7 +90,8 @@ module _ (v : View) where
           subst (λ w. LeavesSafe w (replayed_tree v (before_open older)) image) (within.open_stays (open_work older))
           (subst (λ (es : List Entry). LeavesSafe (open_work (e ∷ older)) (replayed_tree v es) image) (within.closed_stays e older (before_open older))
           (busy_safe begun first (e ∷ older) _ now count image
-          (busy_within v e.seat e.calls e.faults e.shown older log now (is_closed (e ∷ older)) begun first was busy e.what follows.after within live follows.leads)
+          (busy_within v e.seat e.calls e.faults e.shown older log now (is_closed (e ∷ older)) begun first was busy e.what follows.after within live
+          (plainly_leads v older was e.what follows.after log now (inr (begun, first, busy)) follows.leads))
           (omega (arith, since, low)) high left))
     ]
   ]
@@ -103,7 +105,7 @@ module _ (opening : CallLog) where
   -- an entry ends with no fewer calls than the one before it
   calls_rise : (e : Entry) (older : List Entry) (was job : Option Running) (log now : CallLog) → IsTraced opening older was log → Follows opening e older was log job now → calls_in older ≤ e.calls
   calls_rise e older was job log now traced follows =
-      let long = grows_length log now (event_grows was e.what follows.after log now follows.leads) in
+      let long = grows_length log now (entry_grows (left_dirty older) was e.what follows.after log now follows.leads) in
       let old = traced_count opening log older was traced in
       let new = follows.counts in
       omega (arith, long, old, new)
@@ -143,7 +145,7 @@ module _ (opening : CallLog) where
               (standing_of opening log older was tree settled plain.0 traced) (omega (arith, old, past)) (omega (arith, new, high)) left)
           | inr front ↦
               moment_safe older standing was log e.calls calls image plain.0 traced before (omega (arith, front))
-              (earlier_image log now (length opening.changes + calls) image (event_grows was e.what follows.after log now follows.leads) (omega (arith, old, front)) left)
+              (earlier_image log now (length opening.changes + calls) image (entry_grows (left_dirty older) was e.what follows.after log now follows.leads) (omega (arith, old, front)) left)
         ]
 
 pub plain_law : PlainLaw

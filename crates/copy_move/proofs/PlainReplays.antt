@@ -19,8 +19,9 @@ use Rattle.copy_move.specs.Jobs.{Running, part_of}
 use Rattle.copy_move.specs.Told.{live_job, stage_told, told, work_told}
 use Rattle.copy_move.specs.Replay.{IsPart, IsPlain, Replays, left_parts, replayed_tree}
 use Rattle.copy_move.specs.PlainCrashes.{before_open}
+use Rattle.copy_move.specs.Settling.{left_dirty}
 use Rattle.copy_move.specs.Traces.{IsTraced}
-use Rattle.copy_move.proofs.Growing.{event_grows}
+use Rattle.copy_move.proofs.Growing.{entry_grows}
 use Rattle.copy_move.proofs.PlainLogs.{Standing, standing_of}
 use Rattle.copy_move.proofs.PlainTurns.{IsLive}
 use Rattle.copy_move.proofs.Telling.{traced_told}
@@ -50,7 +51,7 @@ part_is newest (Some job) turns work path told_is live known stands =
 pub traced_opening : (opening now : CallLog) (newest : List Entry) (job : Option Running) → IsTraced opening newest job now → now.opening ≡ opening.opening
 traced_opening opening now [] job h = ap (λ (l : CallLog). l.opening) h.1
 traced_opening opening now (e ∷ older) job (was, log, traced, follows) =
-    (event_grows was e.what follows.after log now follows.leads).opening ∙ traced_opening opening log older was traced
+    (entry_grows (left_dirty older) was e.what follows.after log now follows.leads).opening ∙ traced_opening opening log older was traced
 
 module _ (opening now : CallLog) (newest : List Entry) (job : Option Running) (traced : IsTraced opening newest job now) where
   standing_replays : Standing (visible_tree (current opening)) newest job now → Replays opening now newest

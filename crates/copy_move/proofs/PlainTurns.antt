@@ -17,7 +17,7 @@ use Rattle.copy_move.specs.declared.history.Event.TheVariants as event
 use Rattle.copy_move.specs.declared.work.Work.{Work}
 use Rattle.copy_move.specs.declared.work.Work.TheVariants.{Copy, Delete}
 use Rattle.copy_move.specs.declared.run.Course.{Course}
-use Rattle.copy_move.specs.declared.run.Course.TheVariants.{GoesOn, InTrouble, Skips, Ends}
+use Rattle.copy_move.specs.declared.run.Course.TheVariants.{GoesOn, InTrouble, Unsettled, Skips, Ends}
 use Rattle.copy_move.specs.Jobs.{Running, TellsOn, CallsOn, WorkCalls, WorkWinds, course_after, ends, part_of, skipped}
 use Rattle.copy_move.specs.Replay.{left_by}
 use Rattle.copy_move.specs.Traces.{IsUnclaimed}
@@ -32,6 +32,7 @@ job_of id work course = record { id = id; work = work; course = course }
 abbrev pub Fits : Course → List Turn → Type 0
 Fits GoesOn turns = (is_troubled turns ≡ false) × (is_winding turns ≡ false)
 Fits (InTrouble cause) turns = is_winding turns ≡ false
+Fits (Unsettled cause) turns = is_winding turns ≡ false
 Fits (Skips cause) turns = is_winding turns ≡ false
 Fits (Ends ending) turns = ending ≡ Aborted
 
@@ -127,6 +128,7 @@ module _ (first : Work) (before : CallLog) (lawful : (turns : List Turn) (work :
           view = λ v. refl;
         }
     step_turned (InTrouble cause) id number work did new reach fits tells calls = absurd tells
+    step_turned (Unsettled cause) id number work did new reach fits tells calls = absurd tells
     step_turned (Skips cause) id number work did new reach fits (inl (did_is, new_is)) calls = record {
       turns_now = Skip ∷ turns;
       work = skipped work;
@@ -175,6 +177,7 @@ module _ (first : Work) (before : CallLog) (lawful : (turns : List Turn) (work :
     finished_on GoesOn id work part new reach fits (made, tells, new_is) calls =
         (made, (work, log, reach, fits, (tells, subst (λ w. WorkCalls IsUnclaimed work (Ended Finished part) w log (Some now)) (ap (λ (j : Running). j.work) new_is) calls)))
     finished_on (InTrouble cause) id work part new reach fits tells calls = absurd tells
+    finished_on (Unsettled cause) id work part new reach fits tells calls = absurd tells
     finished_on (Skips cause) id work part new reach fits (inl (did_is, new_is)) calls = absurd (no_end _ _ Finished part did_is refl refl)
     finished_on (Skips cause) id work part new reach fits (inr (did_is, new_is)) calls = absurd (no_end _ _ Finished part did_is refl refl)
     finished_on (Ends ending) id work part new reach fits (made, tells, new_is) calls = absurd (not_aborted work made tells)

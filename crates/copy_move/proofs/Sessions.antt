@@ -1,5 +1,5 @@
 -- What a session that only deletes did to its tree: each change took a file away, and a finished file is gone for good.
-use Rattle.std.proofs.Common.{◌≡◌, ℕ, false, List, [], ◌∷◌, ◌++◌, append_assoc, refl, sym, ◌∙◌, ap, subst, inl, inr, Option, Some, None, Ok}
+use Rattle.std.proofs.Common.{◌≡◌, ℕ, false, List, [], ◌∷◌, ◌++◌, append_assoc, refl, sym, ◌∙◌, ap, subst, inl, inr, Option, Some, None, Ok, Err}
 use Rattle.std.proofs.lemmas.List.{append-nil}
 use Rattle.mc_text.specs.Routes.{Route}
 use Rattle.tree_trait.specs.declared.file_system.FileSystem.{FileSystem}
@@ -10,6 +10,7 @@ use Rattle.tree_trait.specs.CrashImages.{Among}
 use Rattle.tree_trait.proofs.Settled.{after_changes-append}
 use Rattle.tree_trait.proofs.Walking.{removable}
 use Rattle.file_copy.proofs.CopyAnswers.{some_log}
+use Rattle.file_copy.specs.declared.report.Cause.{Cause}
 use Rattle.file_copy.specs.declared.report.Ending.{Ending}
 use Rattle.file_copy.specs.declared.report.Ending.TheVariants.{Finished, Aborted, Killed, NoMemory}
 use Rattle.file_copy.specs.declared.report.Did.{Did}
@@ -25,13 +26,15 @@ use Rattle.copy_move.specs.declared.history.Entry.{Entry}
 use Rattle.copy_move.specs.declared.work.Work.{Work}
 use Rattle.copy_move.specs.declared.work.Work.TheVariants.{Copy, Delete}
 use Rattle.copy_move.specs.declared.run.Course.{Course}
-use Rattle.copy_move.specs.declared.run.Course.TheVariants.{GoesOn, InTrouble, Skips, Ends}
-use Rattle.copy_move.specs.Deletions.{Deleting, Answers, DeletionCalls, LastCalls, Tells, call_of}
+use Rattle.copy_move.specs.declared.run.Course.TheVariants.{GoesOn, InTrouble, Unsettled, Skips, Ends}
+use Rattle.copy_move.specs.Deletions.{Deleting, Answers, DeletionCalls, LastCalls, Tells, after_sync, call_of, cause_of}
 use Rattle.copy_move.specs.Jobs.{Running}
 use Rattle.copy_move.specs.Told.{after_step, is_closed, live_job}
 use Rattle.copy_move.specs.Replay.{DeletesEvent, OnlyDeletes}
-use Rattle.copy_move.specs.Traces.{EventLeads, IsTraced, StepLeads}
+use Rattle.copy_move.specs.Settling.{FolderSettles, Settles, left_dirty}
+use Rattle.copy_move.specs.Traces.{EntryLeads, EventLeads, IsTraced, StepLeads}
 use Rattle.copy_move.specs.Crashes.{finished_at, finished_by, finished_files}
+use Rattle.copy_move.proofs.Telling.{deletion_in_trouble}
 use Rattle.copy_move.proofs.OnlyDeletions.{DeletionLeads, DeletionStep, deletion, deletion_step, leads_told, traced_live}
 use Rattle.copy_move.proofs.Shows.{ShowsDeletions, traced_shows}
 use Rattle.copy_move.proofs.Taking.{AllTake, all_take-append, Lacks, lacks_image, all_there}
@@ -49,6 +52,13 @@ no_memory_finishes part h = cc
 
 aborted_finishes : (ending : Ending) → ending ≡ Aborted → Finished ≡ ending → ⊥
 aborted_finishes ending aborted finished = cc
+
+-- once the folder was synced, no sync is owed
+never_sync : (stage : Stage) → after_sync stage ≡ Sync → ⊥
+never_sync Remove h = cc
+never_sync Sync h = cc
+never_sync Finish h = cc
+never_sync PassedOver h = cc
 
 module _ (s : FileSystem) (tree : IsTree s) (cs : List Change) (takes : AllTake s cs) (log now : CallLog) (log_tree : IsTree (current log)) (is : current log ≡ after_changes s cs) where
   lacks : Lacks s (current log)
@@ -88,10 +98,10 @@ module _ (s : FileSystem) (tree : IsTree s) (cs : List Change) (takes : AllTake 
       }
   goes_on_turned id d new Barrier p tells h =
       let t = sync_turned d.path (p.removed tells.0) h in
-      record { adds = t.0; live = record { removed = λ e. cc; synced = λ e goes. t.1; ordered = tt } }
+      record { adds = t.0; live = record { removed = λ e. absurd (never_sync d.stage e); synced = λ e goes. t.1; ordered = tt } }
   goes_on_turned id d new (Troubled trouble) p tells h =
       let a : Adds s log now = adds_not_done s d.stage d.path h.0 log now h.2 in
-      record { adds = a; live = progress_course s (cs ++ a.more) GoesOn _ d refl tt (progress_more s cs a.more GoesOn d a.takes p) }
+      record { adds = a; live = progress_course s (cs ++ a.more) GoesOn _ d refl (subst IsOrdered (sym (deletion_in_trouble d trouble tells.0)) tt) (progress_more s cs a.more GoesOn d a.takes p) }
   goes_on_turned id d new (Ended ending part) p tells h = record { adds = adds_nothing s log now (some_log now log h); live = tt }
   goes_on_turned id d new (Began part) p tells h = absurd h
   goes_on_turned id d new (Chunk count) p tells h = absurd h
@@ -102,7 +112,7 @@ module _ (s : FileSystem) (tree : IsTree s) (cs : List Change) (takes : AllTake 
   winds_turned : (id : ℕ) (d : Deleting) (ending : Ending) (did : Did) → Progress s cs (Ends ending) d → LastCalls d did log (Some now) → Turned s cs log now (after_step did (deletion id d (Ends ending)))
   winds_turned id d ending Barrier p h = record {
     adds = adds_sync_tried s d.path h.0 log now h.1;
-    live = record { removed = λ e. cc; synced = λ e goes. cc; ordered = p.ordered };
+    live = record { removed = λ e. absurd (never_sync d.stage e); synced = λ e goes. cc; ordered = p.ordered };
   }
   winds_turned id d ending (Ended how part) p h = record { adds = adds_nothing s log now (some_log now log h); live = tt }
   winds_turned id d ending (Began part) p h = absurd h
@@ -116,6 +126,7 @@ module _ (s : FileSystem) (tree : IsTree s) (cs : List Change) (takes : AllTake 
   leads_turned : (id : ℕ) (d : Deleting) (course : Course) (did : Did) (after : Option Running) → Progress s cs course d → DeletionLeads id d course did after log now → Turned s cs log now after
   leads_turned id d GoesOn did after p h = subst (Turned s cs log now) (sym (leads_told id d GoesOn did after log now h)) (goes_on_turned id d h.0 did p h.1 h.2)
   leads_turned id d (InTrouble cause) did after p h = absurd h
+  leads_turned id d (Unsettled cause) did after p h = absurd h
   leads_turned id d (Skips cause) did after p (same, inl skips) =
       subst (Turned s cs log now) (sym skips.1) (same_job (Some (deletion id _ GoesOn)) (skipped_progress s cs (Skips cause) d refl p) same)
   leads_turned id d (Skips cause) did after p (same, inr trouble) =
@@ -141,10 +152,34 @@ module _ (s : FileSystem) (tree : IsTree s) (cs : List Change) (takes : AllTake 
   event_turned job (Order id (Answered answer)) after only p h = subst (Turned s cs log now) (sym h.0) (same_job _ (answered_progress s cs answer job p) h.1)
   event_turned job Closed after only p h = subst (Turned s cs log now) (sym h.0) (same_job job p h.1)
 
+  -- the sync of a folder that an ended job left, whatever it answered
+  unsettled : (cause : Cause) (id : ℕ) (work : Work) (course : Course) (more : List Change) → AllTake s more → course ≡ GoesOn → WorkProgress s cs course work
+      → JobProgress s (cs ++ more) (Some (record { id = id; work = work; course = Unsettled cause }))
+  unsettled cause id (Copy c) course more fits goes p = absurd p
+  unsettled cause id (Delete d) course more fits goes p =
+      progress_course s (cs ++ more) course (Unsettled cause) d (ap is_ending goes) tt (progress_more s cs more course d fits p)
+
+  settles_turned : (left : List Route) (job : Option Running) (what : Event) (after : Option Running) → JobProgress s cs job → Settles left job what after log now → Turned s cs log now after
+  settles_turned left job what after p t =
+      let live : WorkProgress s cs t.job.course t.job.work = subst (JobProgress s cs) t.was_is p in
+      elim t.synced [
+        | inl h ↦
+            let a : Adds s log now = adds_sync_tried s ([] ∷ t.folder) (Ok tt) log now h.2 in
+            subst (Turned s cs log now) (sym h.1) (record { adds = a; live = job_progress_more s cs a.more (Some t.job) a.takes live })
+        | inr h ↦
+            let a : Adds s log now = adds_sync_tried s ([] ∷ t.folder) (Err h.0) log now h.3 in
+            subst (Turned s cs log now) (sym h.2) (record { adds = a; live = unsettled (cause_of h.0) t.job.id t.job.work t.job.course a.more a.takes t.goes live })
+      ]
+
+  entry_turned : (left : List Route) (job : Option Running) (what : Event) (after : Option Running) → DeletesEvent what → JobProgress s cs job → EntryLeads left job what after log now → Turned s cs log now after
+  entry_turned left job what after only p (inl h) = event_turned job what after only p h
+  entry_turned left job what after only p (inr t) = settles_turned left job what after p t
+
   -- a deletion is finished only where it wasn't ordered to end
   finishes : (id : ℕ) (d : Deleting) (course : Course) (part : Option Route) (after : Option Running) → IsOrdered course → DeletionStep id d course (Ended Finished part) after log now → is_ending course ≡ false
   finishes id d GoesOn part after ordered h = refl
   finishes id d (InTrouble cause) part after ordered h = refl
+  finishes id d (Unsettled cause) part after ordered h = refl
   finishes id d (Skips cause) part after ordered h = refl
   finishes id d (Ends ending) part after ordered (inl leads) = absurd (aborted_finishes ending ordered leads.1.1)
   finishes id d (Ends ending) part after ordered (inr none) = absurd (no_memory_finishes part none.0)
@@ -188,6 +223,16 @@ module _ (s : FileSystem) (tree : IsTree s) (cs : List Change) (takes : AllTake 
   event_finished job (Order id order) after before p h gone path among = gone path among
   event_finished job Closed after before p h gone path among = gone path among
 
+  -- and it finishes nothing
+  entry_finished : (left : List Route) (job : Option Running) (what : Event) (after : Option Running) (before : List Route) → JobProgress s cs job → EntryLeads left job what after log now
+      → ((path : Route) → Among before path → IsGone s cs path) → (path : Route) → Among (finished_by what job before) path → IsGone s cs path
+  entry_finished left job what after before p (inl h) gone path among = event_finished job what after before p h gone path among
+  entry_finished left job what after before p (inr t) gone path among = gone path (subst (λ files. Among files path) (finishes_nothing t.synced) among)
+    where
+      finishes_nothing : FolderSettles t.job t.folder t.did after log now → finished_by what job before ≡ before
+      finishes_nothing (inl h) = rw (t.what_is, t.was_is) (rw h.0 refl)
+      finishes_nothing (inr h) = rw (t.what_is, t.was_is) (rw h.1 refl)
+
 -- What a session did: each change took a file away or changed nothing, the live job has come as far as its stage says, and
 -- what was finished is gone from every crash image.
 pub record IsSession (opening now : CallLog) (newest : List Entry) (job : Option Running) : Type 0 where
@@ -207,7 +252,7 @@ pub newest_turned : (opening now : CallLog) (e : Entry) (older : List Entry) (jo
     → (o : IsSession opening h.1 older h.0) → Turned (current opening) o.session h.1 now h.3.after
 newest_turned opening now e older job tree only h o =
     let d : ShowsDeletions opening h.1 older = traced_shows opening h.1 older h.0 tree only.0 h.2 in
-    event_turned (current opening) tree o.session o.takes h.1 now d.tree (session_current opening h.1 o.session d.opening_is o.changes) h.0 e.what h.3.after only.1 o.live h.3.leads
+    entry_turned (current opening) tree o.session o.takes h.1 now d.tree (session_current opening h.1 o.session d.opening_is o.changes) (left_dirty older) h.0 e.what h.3.after only.1 o.live h.3.leads
 
 pub session_of : (opening now : CallLog) (newest : List Entry) (job : Option Running) → IsTree (current opening) → OnlyDeletes newest → IsTraced opening newest job now → IsSession opening now newest job
 session_of opening now [] job tree only h = record {
@@ -230,6 +275,6 @@ session_of opening now (e ∷ older) job tree only h =
           (closed_progress (current opening) (o.session ++ t.adds.more) (is_closed (e ∷ older)) h.3.after t.live);
       finished = λ path among.
           gone_more (current opening) o.session t.adds.more path t.adds.takes
-          (event_finished (current opening) tree o.session o.takes h.1 now d.tree (session_current opening h.1 o.session d.opening_is o.changes) h.0 e.what h.3.after (finished_files older)
+          (entry_finished (current opening) tree o.session o.takes h.1 now d.tree (session_current opening h.1 o.session d.opening_is o.changes) (left_dirty older) h.0 e.what h.3.after (finished_files older)
           o.live h.3.leads o.finished path (subst (λ j. Among (finished_by e.what j (finished_files older)) path) (sym was_is) among));
     }

@@ -25,11 +25,12 @@ use Rattle.copy_move.specs.declared.deletion.Stage.TheVariants.{Remove, Sync, Fi
 use Rattle.copy_move.specs.declared.work.Work.{Work}
 use Rattle.copy_move.specs.declared.work.Work.TheVariants.{Copy, Delete}
 use Rattle.copy_move.specs.declared.run.Course.{Course}
-use Rattle.copy_move.specs.declared.run.Course.TheVariants.{GoesOn, InTrouble, Skips, Ends}
+use Rattle.copy_move.specs.declared.run.Course.TheVariants.{GoesOn, InTrouble, Unsettled, Skips, Ends}
 use Rattle.copy_move.specs.Deletions.{Deleting, Answers, DeletionCalls, LastCalls, call_of}
 use Rattle.copy_move.specs.Jobs.{Running}
 use Rattle.copy_move.specs.Replay.{OnlyDeletes, replayed_step, replayed_event, replayed_tree, Replays}
-use Rattle.copy_move.specs.Traces.{StepLeads, EventLeads, IsTraced}
+use Rattle.copy_move.specs.Settling.{Settles, left_dirty}
+use Rattle.copy_move.specs.Traces.{EntryLeads, StepLeads, EventLeads, IsTraced}
 use Rattle.copy_move.proofs.OnlyDeletions.{JobDeletes, IsDeletion, DeletionLeads, deletion, deletion_step, traced_live, traced_deletes}
 
 -- the file system after one call more
@@ -132,6 +133,7 @@ leads_turns : (id : ℕ) (d : Deleting) (course : Course) (did : Did) (after : O
     → Turns log (replayed_step did (deletion id d course)) now
 leads_turns id d GoesOn did after log now h = goes_on_turns (deletion id d GoesOn) d did log now h.2
 leads_turns id d (InTrouble cause) did after log now h = absurd h
+leads_turns id d (Unsettled cause) did after log now h = absurd h
 leads_turns id d (Skips cause) did after log now (same, inl skips) =
     subst (λ x. Turns log (replayed_step x (deletion id d (Skips cause))) now) (sym skips.0) (unchanged log now same)
 leads_turns id d (Skips cause) did after log now (same, inr trouble) =
@@ -156,6 +158,17 @@ event_turns job (Look refusals) after log now only h = unchanged log now h.1
 event_turns job (event.Began id plan background) after log now only h = unchanged log now h.1
 event_turns job (Order id order) after log now only h = unchanged log now h.1
 event_turns job Closed after log now only h = unchanged log now h.1
+
+-- the sync of a folder that an ended job left, whatever it answered
+settles_turns : (left : List Route) (job : Option Running) (what : Event) (after : Option Running) (log now : CallLog) → Settles left job what after log now → Turns log (replayed_event what job) now
+settles_turns left job what after log now s = rw (s.what_is, s.was_is) (elim s.synced [
+  | inl h ↦ rw h.0 (sync_tried ([] ∷ s.folder) (Ok tt) log now h.2)
+  | inr h ↦ rw h.1 (sync_tried ([] ∷ s.folder) (Err h.0) log now h.3)
+])
+
+entry_turns : (left : List Route) (job : Option Running) (what : Event) (after : Option Running) (log now : CallLog) → JobDeletes job → EntryLeads left job what after log now → Turns log (replayed_event what job) now
+entry_turns left job what after log now only (inl h) = event_turns job what after log now only h
+entry_turns left job what after log now only (inr s) = settles_turns left job what after log now s
 
 -- an event makes the same of views that are the same at each path
 step_same : (id : ℕ) (work : Work) (course : Course) (did : Did) (v w : View) → IsDeletion work → ((path : Route) → v path ≡ w path) → (path : Route)
@@ -195,7 +208,7 @@ traced_shows opening now [] job tree only h = record {
 traced_shows opening now (e ∷ older) job tree only (was, before, older_traced, follows) =
     let r : ShowsDeletions opening before older = traced_shows opening before older was tree only.0 older_traced in
     let deleting : JobDeletes was = traced_deletes opening before older was only.0 older_traced in
-    let t : Turns before (replayed_event e.what was) now = event_turns was e.what follows.after before now deleting follows.leads in
+    let t : Turns before (replayed_event e.what was) now = entry_turns (left_dirty older) was e.what follows.after before now deleting follows.leads in
     record {
       opening_is = t.opening ∙ r.opening_is;
       tree = t.tree r.tree;

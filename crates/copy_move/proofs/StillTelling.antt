@@ -21,7 +21,7 @@ use Rattle.copy_move.specs.declared.deletion.Stage.TheVariants.{Sync}
 use Rattle.copy_move.specs.declared.work.Work.{Work}
 use Rattle.copy_move.specs.declared.work.Work.TheVariants.{Copy, Delete}
 use Rattle.copy_move.specs.declared.run.Course.{Course}
-use Rattle.copy_move.specs.declared.run.Course.TheVariants.{GoesOn, InTrouble, Skips, Ends}
+use Rattle.copy_move.specs.declared.run.Course.TheVariants.{GoesOn, InTrouble, Unsettled, Skips, Ends}
 use Rattle.copy_move.specs.Deletions.{Answers, Deleting, DeletionCalls, LastCalls, call_of}
 use Rattle.copy_move.specs.Jobs.{CallsOn, JobCalls, Running, WorkCalls, WorkLastCalls}
 
@@ -128,6 +128,7 @@ last_work_tells (Delete d) did log after h = last_tells d did log after h
 calls_tell : (unclaimed : Route → Type 0) (course : Course) (job : Running) (did : Did) (new : Running) (log : CallLog) (after : Option CallLog) → CallsOn unclaimed course job did new log after → StillTells after
 calls_tell unclaimed GoesOn job did new log after h = work_tells unclaimed job.work did new.work log after h
 calls_tell unclaimed (InTrouble cause) job did new log after h = absurd h
+calls_tell unclaimed (Unsettled cause) job did new log after h = absurd h
 calls_tell unclaimed (Skips cause) job did new log after h = (log, h)
 calls_tell unclaimed (Ends ending) job did new log after h = last_work_tells job.work did log after h
 

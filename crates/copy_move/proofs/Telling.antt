@@ -4,6 +4,9 @@ use Rattle.std.specs.Prelude.{if◌then◌else◌, is_some, ◌&&◌}
 use Rattle.std.specs.Option.{option_map}
 use Rattle.mc_text.specs.Routes.{Route, parent_of}
 use Rattle.tree_trait.specs.Change.{CallLog}
+use Rattle.std.proofs.lemmas.Bool.{false≢true}
+use Rattle.file_copy.specs.declared.report.Cause.TheVariants.{Memory}
+use Rattle.file_copy.specs.declared.report.Trouble.{Trouble}
 use Rattle.file_copy.specs.declared.report.Ending.{Ending}
 use Rattle.file_copy.specs.declared.report.Ending.TheVariants.{Finished, Aborted, Killed, NoMemory}
 use Rattle.file_copy.specs.declared.report.Did.{Did}
@@ -12,10 +15,12 @@ use Rattle.file_copy.specs.declared.stage.Next.{Next}
 use Rattle.file_copy.specs.declared.stage.Next.TheVariants as next
 use Rattle.file_copy.specs.declared.stage.Stage.{Stage}
 use Rattle.file_copy.specs.declared.stage.Stage.TheVariants as at
-use Rattle.file_copy.specs.declared.stage.FolderState.TheVariants.{Synced}
+use Rattle.file_copy.specs.declared.stage.FolderState.{FolderState}
+use Rattle.file_copy.specs.declared.stage.FolderState.TheVariants.{Synced, Dirty}
 use Rattle.file_copy.specs.Copying.{Copying, Tells, after_clean}
 use Rattle.file_copy.specs.Copying as copying
 use Rattle.file_copy.specs.LastSteps.{Winds, given_up}
+use Rattle.file_copy.specs.Stops.{no_memory_of}
 use Rattle.copy_move.specs.declared.history.Job.{Job}
 use Rattle.copy_move.specs.declared.history.Job.TheVariants as plan
 use Rattle.copy_move.specs.declared.history.Answer.{Answer}
@@ -28,12 +33,15 @@ use Rattle.copy_move.specs.declared.history.Entry.{Entry}
 use Rattle.copy_move.specs.declared.work.Work.{Work}
 use Rattle.copy_move.specs.declared.work.Work.TheVariants.{Copy, Delete}
 use Rattle.copy_move.specs.declared.run.Course.{Course}
-use Rattle.copy_move.specs.declared.run.Course.TheVariants.{GoesOn, InTrouble, Skips, Ends}
-use Rattle.copy_move.specs.Deletions.{Deleting}
+use Rattle.copy_move.specs.declared.run.Course.TheVariants.{GoesOn, InTrouble, Unsettled, Skips, Ends}
+use Rattle.copy_move.specs.declared.deletion.Stage.{Stage as DeletionStage}
+use Rattle.copy_move.specs.declared.deletion.Stage.TheVariants as deletion
+use Rattle.copy_move.specs.Deletions.{Deleting, trouble_at}
 use Rattle.copy_move.specs.Deletions as deletions
-use Rattle.copy_move.specs.Jobs.{Running, JobTells, TellsOn, WorkTells, WorkWinds, answered, answered_on, copies, course_after, deletes, ends, first_work, skipped, taken_anew}
-use Rattle.copy_move.specs.Told.{after_event, after_step, if_closed, is_closed, live_job, running, stage_told, told, work_told}
-use Rattle.copy_move.specs.Traces.{EventLeads, IsTraced}
+use Rattle.copy_move.specs.Jobs.{Running, JobTells, TellsOn, WorkTells, WorkWinds, answered, answered_on, at_barrier, copies, course_after, deletes, ends, first_work, is_fresh, skipped, taken_anew}
+use Rattle.copy_move.specs.Told.{after_event, after_step, course_told, if_closed, is_closed, live_job, running, stage_told, synced, told, work_told}
+use Rattle.copy_move.specs.Settling.{Settles, left_dirty}
+use Rattle.copy_move.specs.Traces.{EntryLeads, EventLeads, IsTraced}
 
 -- a job, by its parts
 abbrev job_of : ℕ → Work → Course → Running
@@ -68,6 +76,55 @@ anew_told : (work : Work) → taken_anew (work_told work) ≡ work_told (taken_a
 anew_told (Copy c) = ap (λ stage. Copy (record c { stage = stage })) (anew_stage_told c.stage)
 anew_told (Delete d) = refl
 
+-- before the first change no trouble of the work is at a barrier
+copy_bars : (stage : Stage) (folder : FolderState) (barrier : Bool) → barrier ≡ copying.at_barrier stage → (copying.is_fresh stage folder && barrier) ≡ false
+copy_bars at.Begin Dirty barrier h = refl
+copy_bars at.Begin Synced barrier h = h
+copy_bars (at.Fill part said done) folder barrier h = refl
+copy_bars (at.Clean part follows) folder barrier h = refl
+copy_bars (at.Left part) folder barrier h = refl
+copy_bars at.Decided folder barrier h = refl
+
+deletion_bars : (stage : DeletionStage) (barrier : Bool) → barrier ≡ deletions.at_barrier stage → (deletions.is_fresh stage && barrier) ≡ false
+deletion_bars deletion.Remove barrier h = h
+deletion_bars deletion.Sync barrier h = refl
+deletion_bars deletion.Finish barrier h = refl
+deletion_bars deletion.PassedOver barrier h = refl
+
+-- the trouble of a deletion is at a barrier where its next call is
+trouble_bars : (stage : DeletionStage) (path : Route) (trouble : Trouble) → deletions.IsTroubleAt stage path trouble → trouble.barrier ≡ deletions.at_barrier stage
+trouble_bars deletion.Remove path trouble (e, is) = ap (λ (t : Trouble). t.barrier) is
+trouble_bars deletion.Sync [] trouble h = absurd h
+trouble_bars deletion.Sync (name ∷ folder) trouble (e, is) = ap (λ (t : Trouble). t.barrier) is
+trouble_bars deletion.Finish path trouble h = absurd h
+trouble_bars deletion.PassedOver path trouble h = absurd h
+
+fresh_stage_told : (stage : Stage) (folder : FolderState) → copying.is_fresh (stage_told stage) folder ≡ copying.is_fresh stage folder
+fresh_stage_told (at.Fill part said done) folder = refl
+fresh_stage_told at.Begin folder = refl
+fresh_stage_told (at.Clean part follows) folder = refl
+fresh_stage_told (at.Left part) folder = refl
+fresh_stage_told at.Decided folder = refl
+
+fresh_told : (work : Work) → is_fresh (work_told work) ≡ is_fresh work
+fresh_told (Copy c) = fresh_stage_told c.stage c.folder
+fresh_told (Delete d) = refl
+
+-- then the job is in trouble, as its history tells it
+in_trouble : (work : Work) (trouble : Trouble) → (is_fresh work && trouble.barrier) ≡ false → course_told (work_told work) trouble ≡ InTrouble trouble.cause
+in_trouble work trouble h = ap (λ b. if b && trouble.barrier then Unsettled trouble.cause else InTrouble trouble.cause) (fresh_told work)
+    ∙ ap (λ b. if b then Unsettled trouble.cause else InTrouble trouble.cause) h
+
+pub deletion_in_trouble : (d : Deleting) (trouble : Trouble) → deletions.IsTroubleAt d.stage d.path trouble → course_told (Delete d) trouble ≡ InTrouble trouble.cause
+deletion_in_trouble d trouble h = in_trouble (Delete d) trouble (deletion_bars d.stage trouble.barrier (trouble_bars d.stage d.path trouble h))
+
+skip_bars : (work : Work) → (is_fresh work && at_barrier work) ≡ false
+skip_bars (Copy c) = copy_bars c.stage c.folder (copying.at_barrier c.stage) refl
+skip_bars (Delete d) = deletion_bars d.stage (deletions.at_barrier d.stage) refl
+
+pub skip_in_trouble : (work : Work) → course_told (work_told work) (no_memory_of (at_barrier work)) ≡ InTrouble Memory
+skip_in_trouble work = in_trouble work (no_memory_of (at_barrier work)) (skip_bars work)
+
 cleaned_told : (id : ℕ) (c : Copying) (part : Route) (follows : Next) → after_step (Cleaned part) (told (job_of id (Copy (record c { stage = at.Clean part follows })) GoesOn))
     ≡ Some (told (job_of id (Copy (record c { stage = after_clean follows })) GoesOn))
 cleaned_told id c part next.Begin = refl
@@ -81,7 +138,8 @@ copy_told id old new (Chunk count) (part, said, done, from, some, few, within, i
 copy_told id old new (Placed path) (part, said, from, target, is) h = rw is refl
 copy_told id old new (Cleaned part) (follows, from, is) h = rw is (rw from (cleaned_told id old part follows))
 copy_told id old new Barrier (from, dirty, is) h = rw is (rw from refl)
-copy_told id old new (Troubled trouble) (barrier, is) h = rw is refl
+copy_told id old new (Troubled trouble) (barrier, is) h =
+    rw is (ap (λ course. Some (job_of id (work_told (Copy old)) course)) (in_trouble (Copy old) trouble (copy_bars old.stage old.folder trouble.barrier barrier)))
 copy_told id old new (Ended Finished part) t h = absurd cc
 copy_told id old new (Ended Aborted part) t h = absurd t
 copy_told id old new (Ended Killed part) t h = absurd t
@@ -93,8 +151,8 @@ copy_told id old new (Skipped path cause) t h = absurd t
 deletion_told : (id : ℕ) (old new : Deleting) (did : Did) → deletions.Tells old did new → ends did ≡ false
     → after_step did (told (job_of id (Delete old) GoesOn)) ≡ Some (told (job_of id (Delete new) (course_after did)))
 deletion_told id old new (Removed path) (from, gone, is) h = rw is refl
-deletion_told id old new Barrier (from, is) h = rw is refl
-deletion_told id old new (Troubled trouble) (where_is, is) h = rw is refl
+deletion_told id old new Barrier (from, is) h = rw is (ap (λ stage. Some (job_of id (Delete (record old { stage = deletions.after_sync stage })) GoesOn)) from)
+deletion_told id old new (Troubled trouble) (where_is, is) h = rw is (ap (λ course. Some (job_of id (Delete old) course)) (deletion_in_trouble old trouble where_is))
 deletion_told id old new (Ended Finished part) t h = absurd cc
 deletion_told id old new (Ended Aborted part) t h = absurd t
 deletion_told id old new (Ended Killed part) t h = absurd t
@@ -120,7 +178,7 @@ copy_winds id ending old new (Troubled trouble) t h = absurd t
 
 deletion_winds : (id : ℕ) (ending : Ending) (old new : Deleting) (did : Did) → deletions.Winds ending old did new → ends did ≡ false
     → after_step did (told (job_of id (Delete old) (Ends ending))) ≡ Some (told (job_of id (Delete new) (Ends ending)))
-deletion_winds id ending old new Barrier (from, is) h = rw is refl
+deletion_winds id ending old new Barrier (from, is) h = rw is (ap (λ stage. Some (job_of id (Delete (record old { stage = deletions.after_sync stage })) (Ends ending))) from)
 deletion_winds id ending old new (Ended how part) t h = absurd cc
 deletion_winds id ending old new (Began part) t h = absurd t
 deletion_winds id ending old new (Chunk count) t h = absurd t
@@ -148,8 +206,9 @@ told_on : (course : Course) (id : ℕ) (work : Work) (new : Running) (did : Did)
     → after_step did (told (job_of id work course)) ≡ Some (told new)
 told_on GoesOn id work new did (after, tells, is) h = rw is (goes_told id work after did tells h)
 told_on (InTrouble cause) id work new did t h = absurd t
+told_on (Unsettled cause) id work new did t h = absurd t
 told_on (Skips cause) id work new did (inl skips) h = rw (skips.0, skips.1) (ap (λ w. Some (job_of id w GoesOn)) (skipped_told work))
-told_on (Skips cause) id work new did (inr waits) h = rw (waits.0, waits.1) refl
+told_on (Skips cause) id work new did (inr waits) h = rw (waits.0, waits.1) (ap (λ course. Some (job_of id (work_told work) course)) (skip_in_trouble work))
 told_on (Ends ending) id work new did (after, tells, is) h = rw is (winds_told id ending work after did tells h)
 
 -- what a history tells of a job follows its steps
@@ -177,6 +236,10 @@ answered_told answer job = answers job.course answer
     answers (InTrouble cause) Skip = refl
     answers (InTrouble cause) SkipAll = refl
     answers (InTrouble cause) Abort = refl
+    answers (Unsettled cause) Retry = ap (λ w. job_of job.id w GoesOn) (sym (anew_told job.work))
+    answers (Unsettled cause) Skip = refl
+    answers (Unsettled cause) SkipAll = refl
+    answers (Unsettled cause) Abort = refl
     answers GoesOn answer = refl
     answers (Skips cause) answer = refl
     answers (Ends ending) answer = refl
@@ -208,6 +271,42 @@ event_told (Some job) (Order id (Answered answer)) after log now h = ap (option_
 event_told None Closed after log now h = ap (option_map told) h.0
 event_told (Some job) Closed after log now h = ap (option_map told) h.0
 
+-- the sync of a folder that an ended job left comes before the first change, and leaves the work as it is
+synced_copy : (c : Copying) (stage : Stage) (folder : FolderState) → copying.is_fresh stage folder ≡ true → synced (work_told (Copy (record c { stage = stage; folder = folder }))) ≡ work_told (Copy (record c { stage = stage; folder = folder }))
+synced_copy c at.Begin Synced h = refl
+synced_copy c at.Begin Dirty h = absurd (false≢true h)
+synced_copy c (at.Fill part said done) folder h = absurd (false≢true h)
+synced_copy c (at.Clean part follows) folder h = absurd (false≢true h)
+synced_copy c (at.Left part) folder h = absurd (false≢true h)
+synced_copy c at.Decided folder h = absurd (false≢true h)
+
+synced_deletion : (d : Deleting) (stage : DeletionStage) → deletions.is_fresh stage ≡ true → synced (Delete (record d { stage = stage })) ≡ Delete (record d { stage = stage })
+synced_deletion d deletion.Remove h = refl
+synced_deletion d deletion.Sync h = absurd (false≢true h)
+synced_deletion d deletion.Finish h = absurd (false≢true h)
+synced_deletion d deletion.PassedOver h = absurd (false≢true h)
+
+fresh_synced : (work : Work) → is_fresh work ≡ true → synced (work_told work) ≡ work_told work
+fresh_synced (Copy c) h = synced_copy c c.stage c.folder h
+fresh_synced (Delete d) h = synced_deletion d d.stage h
+
+fresh_unsettled : (work : Work) (trouble : Trouble) → is_fresh work ≡ true → trouble.barrier ≡ true → course_told (work_told work) trouble ≡ Unsettled trouble.cause
+fresh_unsettled work trouble fresh barrier =
+    ap (λ b. if b && trouble.barrier then Unsettled trouble.cause else InTrouble trouble.cause) (fresh_told work ∙ fresh)
+    ∙ ap (λ b. if b then Unsettled trouble.cause else InTrouble trouble.cause) barrier
+
+pub settles_told : (left : List Route) (was : Option Running) (what : Event) (after : Option Running) (log now : CallLog) → Settles left was what after log now
+    → option_map told after ≡ after_event what (option_map told was)
+settles_told left was what after log now s = rw (s.what_is, s.was_is) (elim s.synced [
+  | inl h ↦ rw (h.0, h.1) (ap (λ w. Some (job_of s.job.id w s.job.course)) (sym (fresh_synced s.job.work s.fresh)))
+  | inr h ↦ rw (h.1, h.2) (ap (λ course. Some (job_of s.job.id (work_told s.job.work) course)) (sym (fresh_unsettled s.job.work (trouble_at h.0 s.folder true) s.fresh refl)))
+])
+
+entry_told : (left : List Route) (was : Option Running) (what : Event) (after : Option Running) (log now : CallLog) → EntryLeads left was what after log now
+    → option_map told after ≡ after_event what (option_map told was)
+entry_told left was what after log now (inl h) = event_told was what after log now h
+entry_told left was what after log now (inr s) = settles_told left was what after log now s
+
 pub closed_told : (closed : Bool) (job : Option Running) → option_map told (if_closed closed job) ≡ if_closed closed (option_map told job)
 closed_told true None = refl
 closed_told true (Some job) = refl
@@ -219,4 +318,4 @@ traced_told opening now [] job h = ap (option_map told) h.0
 traced_told opening now (e ∷ older) job (was, before, traced, follows) =
     ap (option_map told) follows.job_is
     ∙ (closed_told (is_closed (e ∷ older)) follows.after
-    ∙ ap (if_closed (is_closed (e ∷ older))) (event_told was e.what follows.after before now follows.leads ∙ ap (after_event e.what) (traced_told opening before older was traced)))
+    ∙ ap (if_closed (is_closed (e ∷ older))) (entry_told (left_dirty older) was e.what follows.after before now follows.leads ∙ ap (after_event e.what) (traced_told opening before older was traced)))

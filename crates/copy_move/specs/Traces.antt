@@ -64,12 +64,15 @@ EventLeads job (Began id plan background) after log now = (after ≡ after_event
 EventLeads job (Order id order) after log now = (after ≡ after_event (Order id order) job) × (now ≡ log)
 EventLeads job Closed after log now = (after ≡ job) × (now ≡ log)
 
--- An entry after older ones: it leads from the live job and the log so far to these, by what it says or by the sync of a folder
--- that an ended job left. It counts the changing calls that the
+-- the same, or the sync of a folder that an ended job left
+abbrev pub EntryLeads : List Route → Option Running → Event → Option Running → CallLog → CallLog → Type 0
+EntryLeads left was what after log now = EventLeads was what after log now ⊎ Settles left was what after log now
+
+-- An entry after older ones: it leads from the live job and the log so far to these. It counts the changing calls that the
 -- session has made by its end.
 pub record Follows (opening : CallLog) (e : Entry) (older : List Entry) (was : Option Running) (before : CallLog) (job : Option Running) (now : CallLog) : Type 0 where
   pub after : Option Running
-  pub leads : EventLeads was e.what after before now ⊎ Settles (left_dirty older) was e.what after before now
+  pub leads : EntryLeads (left_dirty older) was e.what after before now
   pub job_is : job ≡ if_closed (is_closed (e ∷ older)) after
   pub counts : length now.changes ≡ length opening.changes + e.calls
 
