@@ -100,7 +100,7 @@ event_leaves job Closed after log now v path only h other = refl
 entry_leaves : (left : List Route) (job : Option Running) (what : Event) (after : Option Running) (log now : CallLog) (v : View) (path : Route) → JobDeletes job → EntryLeads left job what after log now
     → (IsBeingDeleted job path → ⊥) → replayed_event what job v path ≡ v path
 entry_leaves left job what after log now v path only (inl h) other = event_leaves job what after log now v path only h other
-entry_leaves left job what after log now v path only (inr s) other = rw (s.what_is, s.was_is) (elim s.synced [ | inl h ↦ rw h.0 refl | inr h ↦ rw h.1 refl ])
+entry_leaves left job what after log now v path only (inr s) other = rw (s.what_is, s.was_is) (elim s.synced [ inl h ↦ rw h.0 refl | inr h ↦ rw h.1 refl ])
 
 -- what was finished stays so
 still_at : (stage : Stage) (file : Route) (before : List Route) (path : Route) → Among before path → Among (finished_at stage file before) path

@@ -263,7 +263,7 @@ module _ (unclaimed : Route → Type 0) (did : Did) (calls : ℕ) (dirty dirty_a
       let stays : is_dirty old ≡ false → is_dirty work ≡ false = λ clean. stays_clean old work did steps.tells (ap is_fresh same ∙ changed) clean in
       let there : folder ≡ changed_folder old = folder_is ∙ same_folder old work did steps.tells in
       let leaves = synced_only (is_dirty old) (is_dirty work) synced folder dirty dirty_after stays synced_is after_is
-          ∙ ap (λ f. with_change (is_dirty old) (is_dirty work) f dirty) there in
+      ∙ ap (λ f. with_change (is_dirty old) (is_dirty work) f dirty) there in
       record {
         own = run_goes unclaimed job (record { id = id; work = work; course = course }) did calls before after f0 f1 old work same goes steps
             (ap (λ n. let r : Running = record { id = n; work = work; course = course } in r) number ∙ ap (λ c. let r : Running = record job { work = work; course = c } in r) course_is);
@@ -280,7 +280,7 @@ module _ (unclaimed : Route → Type 0) (did : Did) (calls : ℕ) (dirty dirty_a
       let same : old ≡ job.work = ap (λ (j : Running). j.work) is in
       let number : id ≡ job.id = ap (λ (j : Running). j.id) is in
       let leaves = joined (is_dirty old) (is_dirty work) folder dirty more dirty_after (fresh_clean old (ap is_fresh same ∙ fresh)) more_is after_is
-          ∙ ap (λ f. with_change (is_dirty old) (is_dirty work) f dirty) folder_is in
+      ∙ ap (λ f. with_change (is_dirty old) (is_dirty work) f dirty) folder_is in
       record {
         own = run_goes unclaimed job (record { id = id; work = work; course = course }) did calls before after f0 f1 old work same goes steps
             (ap (λ n. let r : Running = record { id = n; work = work; course = course } in r) number ∙ ap (λ c. let r : Running = record job { work = work; course = c } in r) course_is);
@@ -318,7 +318,7 @@ module _ (unclaimed : Route → Type 0) (dirty : List Route) (contents : Option 
       let same : old ≡ job.work = ap (λ (j : Running). j.work) is in
       let number : id ≡ job.id = ap (λ (j : Running). j.id) is in
       let steps = subst (λ d. WorkSteps unclaimed old old d calls contents contents f f) (sym did_is)
-          (subst (λ n. WorkSteps unclaimed old old (Troubled (no_memory_of false)) n contents contents f f) (sym calls_is) (no_first_steps unclaimed old contents f (ap is_fresh same ∙ fresh))) in
+      (subst (λ n. WorkSteps unclaimed old old (Troubled (no_memory_of false)) n contents contents f f) (sym calls_is) (no_first_steps unclaimed old contents f (ap is_fresh same ∙ fresh))) in
       record {
         own = run_goes unclaimed job (record { id = id; work = old; course = InTrouble Memory }) did calls contents contents f f old old same goes steps
             (ap (λ n. let r : Running = record { id = n; work = old; course = InTrouble Memory } in r) number ∙ ap (λ d. let r : Running = record job { work = old; course = course_after d } in r) (sym did_is));
@@ -331,14 +331,14 @@ module _ (unclaimed : Route → Type 0) (dirty : List Route) (contents : Option 
   pub skipped_step : (cause : Cause) (job new : Running) (did : Did) (calls : ℕ) → job.course ≡ Skips cause → SkipSteps cause job new did calls → OwnStep unclaimed job new did calls dirty dirty contents contents f f
   skipped_step cause job new did calls skips s = elim s.skips [
     | inl passed ↦
-    let work_is : s.work ≡ skipped job.work = passed.1 in
-    let new_is : new ≡ record job { work = skipped job.work; course = GoesOn } = s.new_is ∙ (ap (λ w. let r : Running = record job { work = w; course = course_after did } in r) work_is
+        let work_is : s.work ≡ skipped job.work = passed.1 in
+        let new_is : new ≡ record job { work = skipped job.work; course = GoesOn } = s.new_is ∙ (ap (λ w. let r : Running = record job { work = w; course = course_after did } in r) work_is
         ∙ ap (λ d. let r : Running = record job { work = skipped job.work; course = course_after d } in r) passed.0) in
-    built new_is (inl (passed.0, new_is)) (passing_falls job.work) (skipped_dirty job.work) (λ fault. subst (λ d. IsFault d → ⊥) (sym passed.0) (λ h. h) fault)
+        built new_is (inl (passed.0, new_is)) (passing_falls job.work) (skipped_dirty job.work) (λ fault. subst (λ d. IsFault d → ⊥) (sym passed.0) (λ h. h) fault)
     | inr waits ↦
-    let new_is : new ≡ record job { course = InTrouble Memory } = s.new_is ∙ (ap (λ w. let r : Running = record job { work = w; course = course_after did } in r) waits.1
+        let new_is : new ≡ record job { course = InTrouble Memory } = s.new_is ∙ (ap (λ w. let r : Running = record job { work = w; course = course_after did } in r) waits.1
         ∙ ap (λ d. let r : Running = record job { course = course_after d } in r) waits.0) in
-    built new_is (inr (waits.0, new_is)) (waiting_falls job.work) refl (λ fault. subst (λ d. IsFault d → ⊥) (sym waits.0) (λ h. absurd cc) fault)
+        built new_is (inr (waits.0, new_is)) (waiting_falls job.work) refl (λ fault. subst (λ d. IsFault d → ⊥) (sym waits.0) (λ h. absurd cc) fault)
   ]
     where
       built : {to : Running} → new ≡ to → TellsOn (Skips cause) job did new → rank_on to.course to.work < 10 → is_dirty to.work ≡ is_dirty job.work → (IsFault did → ⊥) → OwnStep unclaimed job new did calls dirty dirty contents contents f f

@@ -28,7 +28,7 @@ use Rattle.copy_move.specs.Jobs.{CallsOn, JobCalls, Running, WorkCalls, WorkLast
 abbrev pub StillTells : Option CallLog → Type 0
 StillTells after = (now : CallLog) × (after ≡ Some now)
 
-performs_tells : (log : CallLog) (call : Call) (answer : Result (Unit {0}) TreeError) (after : Option CallLog) → Performs {A = Unit {0}} log call answer after → StillTells after
+pub performs_tells : (log : CallLog) (call : Call) (answer : Result (Unit {0}) TreeError) (after : Option CallLog) → Performs {A = Unit {0}} log call answer after → StillTells after
 performs_tells log call (Ok done) after h = (_, h.1.1)
 performs_tells log call (Err refused.Fault) after h = (_, h.1.1)
 performs_tells log call (Err refused.Memory) after h = (log, h)

@@ -1,8 +1,9 @@
 -- The live job of a trace is, as its history tells it, the live job of the history.
-use Rattle.std.proofs.Common.{◌≡◌, ℕ, Bool, true, false, List, [], ◌∷◌, refl, sym, ap, ◌∙◌, inl, inr, Option, Some, None}
+use Rattle.std.proofs.Common.{◌≡◌, ℕ, Bool, true, false, List, [], ◌∷◌, refl, sym, ap, ◌∙◌, ◌⊎◌, inl, inr, Option, Some, None}
 use Rattle.std.specs.Prelude.{if◌then◌else◌, is_some, ◌&&◌}
 use Rattle.std.specs.Option.{option_map}
 use Rattle.mc_text.specs.Routes.{Route, parent_of}
+use Rattle.tree_trait.specs.declared.calls.TreeError.{TreeError}
 use Rattle.tree_trait.specs.Change.{CallLog}
 use Rattle.std.proofs.lemmas.Bool.{false≢true}
 use Rattle.file_copy.specs.declared.report.Cause.TheVariants.{Memory}
@@ -36,7 +37,7 @@ use Rattle.copy_move.specs.declared.run.Course.{Course}
 use Rattle.copy_move.specs.declared.run.Course.TheVariants.{GoesOn, InTrouble, Unsettled, Skips, Ends}
 use Rattle.copy_move.specs.declared.deletion.Stage.{Stage as DeletionStage}
 use Rattle.copy_move.specs.declared.deletion.Stage.TheVariants as deletion
-use Rattle.copy_move.specs.Deletions.{Deleting, trouble_at}
+use Rattle.copy_move.specs.Deletions.{Deleting, cause_of, trouble_at}
 use Rattle.copy_move.specs.Deletions as deletions
 use Rattle.copy_move.specs.Jobs.{Running, JobTells, TellsOn, WorkTells, WorkWinds, answered, answered_on, at_barrier, copies, course_after, deletes, ends, first_work, is_fresh, skipped, taken_anew}
 use Rattle.copy_move.specs.Told.{after_event, after_step, course_told, if_closed, is_closed, live_job, running, stage_told, synced, told, work_told}
@@ -106,7 +107,7 @@ fresh_stage_told (at.Clean part follows) folder = refl
 fresh_stage_told (at.Left part) folder = refl
 fresh_stage_told at.Decided folder = refl
 
-fresh_told : (work : Work) → is_fresh (work_told work) ≡ is_fresh work
+pub fresh_told : (work : Work) → is_fresh (work_told work) ≡ is_fresh work
 fresh_told (Copy c) = fresh_stage_told c.stage c.folder
 fresh_told (Delete d) = refl
 
@@ -295,11 +296,18 @@ fresh_unsettled work trouble fresh barrier =
     ap (λ b. if b && trouble.barrier then Unsettled trouble.cause else InTrouble trouble.cause) (fresh_told work ∙ fresh)
     ∙ ap (λ b. if b then Unsettled trouble.cause else InTrouble trouble.cause) barrier
 
-pub settles_told : (left : List Route) (was : Option Running) (what : Event) (after : Option Running) (log now : CallLog) → Settles left was what after log now
+-- what is told of a job follows the sync of a folder that an ended job left, or its refusal
+pub sync_told : (job : Running) (folder : Route) (did : Did) (after : Option Running) → is_fresh job.work ≡ true
+    → ((did ≡ Barrier) × (after ≡ Some job)) ⊎ ((e : TreeError) × (did ≡ Troubled (trouble_at e folder true)) × (after ≡ Some (record job { course = Unsettled (cause_of e) })))
+    → option_map told after ≡ after_step did (told job)
+sync_told job folder did after fresh (inl h) = rw (h.0, h.1) (ap (λ w. Some (job_of job.id w job.course)) (sym (fresh_synced job.work fresh)))
+sync_told job folder did after fresh (inr h) = rw (h.1, h.2) (ap (λ course. Some (job_of job.id (work_told job.work) course)) (sym (fresh_unsettled job.work (trouble_at h.0 folder true) fresh refl)))
+
+settles_told : (left : List Route) (was : Option Running) (what : Event) (after : Option Running) (log now : CallLog) → Settles left was what after log now
     → option_map told after ≡ after_event what (option_map told was)
 settles_told left was what after log now s = rw (s.what_is, s.was_is) (elim s.synced [
-  | inl h ↦ rw (h.0, h.1) (ap (λ w. Some (job_of s.job.id w s.job.course)) (sym (fresh_synced s.job.work s.fresh)))
-  | inr h ↦ rw (h.1, h.2) (ap (λ course. Some (job_of s.job.id (work_told s.job.work) course)) (sym (fresh_unsettled s.job.work (trouble_at h.0 s.folder true) s.fresh refl)))
+  | inl h ↦ sync_told s.job s.folder s.did after s.fresh (inl (h.0, h.1))
+  | inr h ↦ sync_told s.job s.folder s.did after s.fresh (inr (h.0, h.1, h.2))
 ])
 
 entry_told : (left : List Route) (was : Option Running) (what : Event) (after : Option Running) (log now : CallLog) → EntryLeads left was what after log now

@@ -1,5 +1,6 @@
 -- How many steps a job makes at most before its end or its next trouble. Each step leaves fewer.
-use Rattle.std.specs.Prelude.{ℕ, ◌+◌, ◌-◌, ◌^◌, Option, Some, None}
+use Rattle.std.specs.Prelude.{ℕ, ◌+◌, ◌-◌, ◌*◌, ◌^◌, List, length, Option, Some, None}
+use Rattle.mc_text.specs.Routes.{Route}
 use Rattle.file_copy.specs.declared.stage.Stage.{Stage}
 use Rattle.file_copy.specs.declared.stage.Stage.TheVariants.{Begin, Fill, Clean, Left, Decided}
 use Rattle.file_copy.specs.declared.stage.Next.TheVariants as next
@@ -58,3 +59,7 @@ rank_on (Ends ending) work = last_rank work
 abbrev pub rank : Option Running → ℕ
 rank None = 0
 rank (Some job) = rank_on job.course job.work
+
+-- the same where folders are dirty, each of which a job may have to sync before its first change; a change adds one
+abbrev pub rank_with : List Route → Option Running → ℕ
+rank_with dirty job = 2 * rank job + length dirty

@@ -20,7 +20,8 @@ use Rattle.copy_move.specs.declared.history.Event.TheVariants.{Step}
 use Rattle.copy_move.specs.declared.history.Entry.{Entry}
 use Rattle.copy_move.specs.declared.work.Work.{Work}
 use Rattle.copy_move.specs.declared.work.Work.TheVariants.{Copy, Delete}
-use Rattle.copy_move.specs.declared.run.Course.TheVariants.{GoesOn, Unsettled}
+use Rattle.copy_move.specs.declared.run.Course.{Course}
+use Rattle.copy_move.specs.declared.run.Course.TheVariants.{GoesOn, InTrouble, Unsettled, Skips, Ends}
 use Rattle.copy_move.specs.Deletions.{DeletionLeaves, cause_of, trouble_at}
 use Rattle.copy_move.specs.Deletions as deletions
 use Rattle.copy_move.specs.Jobs.{Running, is_fresh}
@@ -70,6 +71,18 @@ IsElsewhere s folder mount = (refusal_of s (Stat folder) ≡ Some Missing) ⊎ (
 abbrev pub NoneOwed : FileSystem → Route → List Route → Type 0
 NoneOwed s folder dirty = (kept : Route) → Among dirty kept → (refusal_of s (Stat kept) ≡ Some Missing) ⊎ ((number : ℕ) × IsMountOf s folder number × (IsMountOf s kept number → ⊥))
 
+-- the live job may have changed names in its folder since the last sync there; in last steps that may have been refused
+abbrev pub may_owe : Course → Work → Bool
+may_owe GoesOn work = is_dirty work
+may_owe (InTrouble cause) work = is_dirty work
+may_owe (Unsettled cause) work = is_dirty work
+may_owe (Skips cause) work = is_dirty work
+may_owe (Ends ending) work = true
+
+abbrev pub IsOwner : Option Running → Route → Type 0
+IsOwner None folder = ⊥
+IsOwner (Some job) folder = (changed_folder job.work ≡ folder) × (may_owe job.course job.work ≡ true)
+
 -- a job that ends otherwise than finished may leave its folder so
 abbrev pub folder_left : Option Running → List Route → List Route
 folder_left None before = before
@@ -84,6 +97,10 @@ left_by_end event job before = before
 abbrev pub left_dirty : List Entry → List Route
 left_dirty [] = []
 left_dirty (e ∷ older) = left_by_end e.what (live_job older) (left_dirty older)
+
+-- each dirty folder is one that an ended job left, or one in which the live job may have changed names
+abbrev pub IsOwed : List Route → Option Running → List Route → Type 0
+IsOwed left job dirty = (folder : Route) → Among dirty folder → Among left folder ⊎ IsOwner job folder
 
 -- A folder that an ended job left was synced, and then the job stands where it stood; or that was refused, and the job waits
 -- for an answer.

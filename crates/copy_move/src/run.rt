@@ -233,7 +233,7 @@ impl Run {
                 self.course = Course::GoesOn;
             }
             Answer::Skip | Answer::SkipAll => return Err(AnswerError::WrongAnswer),
-            Answer::Abort => self.course = Course::Ends(Ending::Aborted),
+            Answer::Abort => self.end_as(Ending::Aborted),
         }
         Ok(())
     }
@@ -380,10 +380,8 @@ impl Run {
     {
         self.course = match self.course {
             Course::Ends(first) => Course::Ends(first),
-            Course::GoesOn
-            | Course::InTrouble(_)
-            | Course::Unsettled(_)
-            | Course::Skips(_) => Course::Ends(ending),
+            Course::GoesOn | Course::InTrouble(_) | Course::Unsettled(_) | Course::Skips(_) =>
+                Course::Ends(ending),
         };
     }
 }

@@ -15,9 +15,11 @@ returns-in_default g c =
 
 pub returns-in_default-copy : goal.returns-in_default-copy
 returns-in_default-copy g c =
-    record { steps = inr (refused_folder c.in-Some.owed.now _ _ _ c.requires.course c.requires.fresh c.in-Some.ensures.owed _ _ _ _ (λ h. c.first_beside.ensures.same ∙ h) c.first_beside.ensures.later refused.Memory _ _ _
-        (ap (λ (s : Stepped). s.did) c.without_call.ensures ∙ ap Troubled c.no_memory.ensures) (ap (λ (s : Stepped). s.calls) c.without_call.ensures)
-        (ap (λ (j : Running). let k : Running = record j { course = Unsettled Memory } in k) c.self.view_is) refl (λ log known. c.first_beside.ensures.same ∙ known) (λ h. absurd cc)) }
+    record {
+      steps = inr (refused_folder c.in-Some.owed.now _ _ _ c.requires.course c.requires.fresh c.in-Some.ensures.owed _ _ _ _ (λ h. c.first_beside.ensures.same ∙ h) c.first_beside.ensures.later refused.Memory _ _ _
+          (ap (λ (s : Stepped). s.did) c.without_call.ensures ∙ ap Troubled c.no_memory.ensures) (ap (λ (s : Stepped). s.calls) c.without_call.ensures)
+          (ap (λ (j : Running). let k : Running = record j { course = Unsettled Memory } in k) c.self.view_is) refl (λ log known. c.first_beside.ensures.same ∙ known) (λ h. absurd cc));
+    }
 
 pub returns : goal.returns
 returns g c =
