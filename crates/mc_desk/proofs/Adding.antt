@@ -1,15 +1,17 @@
 -- The entries of a desk, one kind at a time: each may follow.
-use Rattle.std.proofs.Common.{◌≡◌, ◌⊎◌, ℕ, ◌+◌, ◌-◌, ◌^◌, ◌≤◌, min, Bool, true, false, ◌||◌, List, [], ◌∷◌, length, refl, sym, ◌∙◌, ap, subst, inl, inr, IsSome, Option, Some, None, arith}
+use Rattle.std.proofs.Common.{◌≡◌, ◌⊎◌, ℕ, ◌+◌, ◌-◌, ◌^◌, ◌≤◌, min, Bool, true, false, ◌||◌, List, [], ◌∷◌, length, refl, sym, ◌∙◌, ap, subst, inl, inr, IsSome, Option, Some, None, Ok, Err, arith}
 use Rattle.std.specs.Prelude.{if◌then◌else◌, option_and_then}
 use Rattle.std.specs.Option.{option_map}
 use Rattle.key_screen.specs.declared.keys.Key.{Key as KeyType}
 use Rattle.key_screen.specs.declared.keys.Base.TheVariants.{F}
 use Rattle.mc_text.specs.Routes.{Route}
-use Rattle.tree_trait.specs.Calls.{Stat, ListFolder}
+use Rattle.tree_trait.specs.declared.calls.TreeError.{TreeError}
+use Rattle.tree_trait.specs.Calls.{Stat, ListFolder, SyncFolder}
 use Rattle.tree_trait.specs.Change.{CallLog}
-use Rattle.tree_trait.specs.Answers.{IfKnown, HasRisen}
+use Rattle.tree_trait.specs.Answers.{IfKnown, HasRisen, Performs}
 use Rattle.file_copy.specs.declared.report.Did.{Did}
 use Rattle.file_copy.specs.declared.report.Did.TheVariants.{Began as BeganPart, Chunk, Placed, Removed, Skipped, Cleaned, Barrier, Troubled, Ended}
+use Rattle.file_copy.specs.declared.report.Trouble.{Trouble}
 use Rattle.file_copy.specs.declared.report.Ending.TheVariants.{NoMemory}
 use Rattle.copy_move.specs.declared.history.Entry.{Entry}
 use Rattle.copy_move.specs.declared.history.Event.{Event}
@@ -20,17 +22,21 @@ use Rattle.copy_move.specs.declared.history.Job.{Job}
 use Rattle.copy_move.specs.declared.history.Refusal.{Refusal}
 use Rattle.copy_move.specs.Jobs.{Running, MayAnswer, answered, closed_job, ends, first_work, part_of, waits_on}
 use Rattle.copy_move.specs.Told.{after_step, if_closed, running, told}
-use Rattle.copy_move.specs.Steps.{StepsOn}
+use Rattle.copy_move.specs.declared.run.Course.TheVariants.{Unsettled}
+use Rattle.copy_move.specs.Deletions.{cause_of, trouble_at}
+use Rattle.copy_move.specs.Settling.{FolderSettles, IsOwed, left_dirty}
+use Rattle.copy_move.specs.Steps.{SettlingStep, StepsOn, SyncsFolder}
 use Rattle.copy_move.specs.Traces.{AreRefused, IsUnclaimed}
 use Rattle.copy_move.specs.Traces as traces
-use Rattle.copy_move.proofs.StillTelling.{step_tells}
-use Rattle.copy_move.proofs.Telling.{answered_told, began_told, closed_told, step_told}
+use Rattle.copy_move.proofs.StillTelling.{performs_tells, step_tells}
+use Rattle.copy_move.proofs.Telling.{answered_told, began_told, closed_told, fresh_told, step_told, sync_told}
 use Rattle.mc_ui.specs.Screens.{NoBox, Begins, Answers, KeyLeads, LookLeads, plain_base, sight}
 use Rattle.mc_ui.specs.Refused.{has_fault}
 use Rattle.mc_desk.specs.Tallies.{Tally, faults_in, can_step, end_unseen_event}
 use Rattle.mc_desk.specs.Desks.{Seen}
 use Rattle.mc_desk.proofs.Answering.{may_answer_told, part_told, waits_told}
 use Rattle.mc_desk.proofs.Keeping.{Adds, Leads}
+use Rattle.mc_desk.proofs.Owing.{fresh_left}
 
 abbrev pub entry : ℕ → ℕ → ℕ → ℕ → Event → Entry
 entry seat calls faults shown what = record { seat = seat; calls = calls; faults = faults; shown = shown; what = what }
@@ -52,7 +58,7 @@ module _ (contents contents_after : Option CallLog) (same : contents_after ≡ c
   -- an entry that makes no changing call
   leads_on : (old new : Seen) (e : Entry) (after : Option Running) → e.calls ≡ old.tally.calls → ((log : CallLog) → contents ≡ Some log → traces.EventLeads old.job e.what after log log)
       → new.job ≡ if_closed (Rattle.copy_move.specs.Told.closes e.what || old.tally.closed) after → Leads contents contents_after old new e
-  leads_on old new e after calls leads job log known = (log, after, same ∙ known, leads log known, job, (let l : length log.changes ≡ length log.changes = refl in omega (arith, calls)))
+  leads_on old new e after calls leads job log known = (log, after, same ∙ known, inl (leads log known), job, (let l : length log.changes ≡ length log.changes = refl in omega (arith, calls)))
 
 module _ (contents contents_after : Option CallLog) (faults : ℕ) (old new : Seen) (seat count shown : ℕ) where
   -- a key that was worked
@@ -227,8 +233,8 @@ module _ (contents contents_after : Option CallLog) (faults : ℕ) (old new : Se
           known_after.0,
           (if ends did then None else Some stepped),
           known_after.1,
-          subst (λ j. traces.EventLeads j (Step live.id did) (if ends did then None else Some stepped) log known_after.0) (sym is)
-              (inl (stepped, steps.tells, subst (λ o. Rattle.copy_move.specs.Jobs.JobCalls IsUnclaimed live did stepped log o) known_after.1 called, refl)),
+          inl (subst (λ j. traces.EventLeads j (Step live.id did) (if ends did then None else Some stepped) log known_after.0) (sym is)
+              (inl (stepped, steps.tells, subst (λ o. Rattle.copy_move.specs.Jobs.JobCalls IsUnclaimed live did stepped log o) known_after.1 called, refl))),
           job,
           omega (arith, counted, calls_is),
         );
@@ -238,6 +244,87 @@ module _ (contents contents_after : Option CallLog) (faults : ℕ) (old new : Se
     where
       told_is : old.tally.job ≡ Some (told live)
       told_is = tells ∙ ap (option_map told) is
+
+  -- the sync of a folder that an ended job left
+  pub adds_settled : (live stepped : Running) (did : Did) (made calls before after : ℕ) (dirty_after : List Route) → old.job ≡ Some live → old.tally.job ≡ option_map told old.job
+      → SettlingStep live stepped did made old.dirty dirty_after contents contents_after before after → IsOwed (left_dirty old.newest) (Some live) old.dirty → calls ≡ old.tally.calls + made
+      → new.newest ≡ entry seat calls count shown (Step live.id did) ∷ old.newest
+      → new.job ≡ if_closed old.tally.closed (if ends did then None else Some stepped)
+      → new.tally ≡ record old.tally { job = option_map told new.job; unseen = ends did || old.tally.unseen; calls = calls }
+      → old.screen.planned ≡ None → faults_in faults old.newest ≤ before → after ≡ count → new.screen ≡ old.screen → new.quit ≡ old.quit
+      → Adds contents contents_after faults old new (entry seat calls count shown (Step live.id did))
+  adds_settled live stepped did made calls before after dirty_after is tells s owed calls_is more job tally settled had now screen quit = record {
+    more = more;
+    tally = tally ∙ stepped_tally old.tally _ _ _ _ calls
+        (ap (option_map told) (job ∙ ap (if_closed old.tally.closed) goes_on) ∙ (closed_told old.tally.closed (Some stepped)
+        ∙ ap (if_closed old.tally.closed) (sync_told live s.folder did (Some stepped) s.fresh reported ∙ sym (ap (λ j. option_and_then (after_step did) j) told_is)))) (unseen_step live.id did old.tally.unseen);
+    told = ap (λ (t : Tally). t.job) tally;
+    timely = settled;
+    counts = record {
+      later = let l = s.later in omega (arith, l, had, now);
+      fault = λ h. let risen = s.fault h in omega (arith, risen, had, now);
+      calls = omega (arith, calls_is);
+      most = let few = s.few in omega (arith, calls_is, few);
+    };
+    leads = (screen, (told live, told_is, refl, inr (inr (s.goes, fresh_told live.work ∙ s.fresh, reports s.synced))));
+    traced = λ log known.
+        let here = tells_on log known s.synced in
+        let counted = s.counted log known here.0 here.1 in (
+          here.0,
+          Some stepped,
+          here.1,
+          inr (record {
+            job = live;
+            was_is = is;
+            goes = s.goes;
+            fresh = s.fresh;
+            folder = s.folder;
+            owed = fresh_left (left_dirty old.newest) live old.dirty s.folder s.goes s.fresh owed s.owed;
+            number = live.id;
+            did = did;
+            what_is = refl;
+            synced = here.2;
+          }),
+          job ∙ ap (if_closed old.tally.closed) goes_on,
+          omega (arith, counted, calls_is),
+        );
+    unknown = s.unknown;
+    quit = λ h. inl (sym quit ∙ h);
+  }
+    where
+      told_is : old.tally.job ≡ Some (told live)
+      told_is = tells ∙ ap (option_map told) is
+
+      Syncs : Type 0
+      Syncs = SyncsFolder live s.folder did stepped old.dirty dirty_after contents contents_after
+
+      not_ended : Syncs → ends did ≡ false
+      not_ended (inl h) = ap ends h.0
+      not_ended (inr h) = ap ends h.1
+
+      goes_on : (if ends did then None else Some stepped) ≡ Some stepped
+      goes_on = ap (λ b. if b then None else Some stepped) (not_ended s.synced)
+
+      report : Syncs → ((did ≡ Barrier) × (Some stepped ≡ Some live)) ⊎ ((e : TreeError) × (did ≡ Troubled (trouble_at e s.folder true)) × (Some stepped ≡ Some (record live { course = Unsettled (cause_of e) })))
+      report (inl h) = inl (h.0, ap Some h.1)
+      report (inr h) = inr (h.0, h.1, ap Some h.2)
+
+      reported : ((did ≡ Barrier) × (Some stepped ≡ Some live)) ⊎ ((e : TreeError) × (did ≡ Troubled (trouble_at e s.folder true)) × (Some stepped ≡ Some (record live { course = Unsettled (cause_of e) })))
+      reported = report s.synced
+
+      reports : Syncs → (did ≡ Barrier) ⊎ ((trouble : Trouble) × (did ≡ Troubled trouble) × (trouble.barrier ≡ true))
+      reports (inl h) = inl h.0
+      reports (inr h) = inr (trouble_at h.0 s.folder true, h.1, refl)
+
+      tells_on : (log : CallLog) → contents ≡ Some log → Syncs → (now : CallLog) × (contents_after ≡ Some now) × FolderSettles live s.folder did (Some stepped) log now
+      tells_on log known (inl h) =
+          let performs = h.3 log known in
+          let here = performs_tells log (SyncFolder s.folder) (Ok tt) contents_after performs in
+          (here.0, here.1, inl (h.0, ap Some h.1, subst (Performs {A = Unit {0}} log (SyncFolder s.folder) (Ok tt)) here.1 performs))
+      tells_on log known (inr h) =
+          let performs = h.4 log known in
+          let here = performs_tells log (SyncFolder s.folder) (Err h.0) contents_after performs in
+          (here.0, here.1, inr (h.0, h.1, ap Some h.2, subst (Performs {A = Unit {0}} log (SyncFolder s.folder) (Err h.0)) here.1 performs))
 
   -- the end of a job for want of memory
   pub adds_given_up : (live : Running) (part : Option Route) → old.job ≡ Some live → old.tally.job ≡ option_map told old.job → waits_on live.course ≡ false → part ≡ part_of live.work
@@ -251,7 +338,7 @@ module _ (contents contents_after : Option CallLog) (faults : ℕ) (old new : Se
     told = ap (λ (t : Tally). t.job) tally ∙ sym (ap (option_map told) job);
     timely = settled;
     counts = record { later = later; fault = λ h. absurd h; calls = omega arith; most = omega arith };
-    leads = (screen, (told live, told_is, refl, inr (waits_told live ∙ ready, ap (Ended NoMemory) (part_is ∙ sym (part_told live)))));
+    leads = (screen, (told live, told_is, refl, inr (inl (waits_told live ∙ ready, ap (Ended NoMemory) (part_is ∙ sym (part_told live))))));
     traced = leads_on contents contents_after same old new (entry seat old.tally.calls count shown (Step live.id (Ended NoMemory part))) None refl
         (λ log known. subst (λ j. traces.EventLeads j (Step live.id (Ended NoMemory part)) None log log) (sym is) (inr (ap (Ended NoMemory) part_is, refl, refl))) (job ∙ none_left old.tally.closed);
     unknown = still_unknown contents contents_after same;

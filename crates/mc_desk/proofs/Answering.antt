@@ -8,10 +8,10 @@ use Rattle.copy_move.specs.declared.history.Answer.{Answer}
 use Rattle.copy_move.specs.declared.work.Work.{Work}
 use Rattle.copy_move.specs.declared.work.Work.TheVariants.{Copy, Delete}
 use Rattle.copy_move.specs.declared.run.Course.{Course}
-use Rattle.copy_move.specs.declared.run.Course.TheVariants.{GoesOn, InTrouble, Skips, Ends}
+use Rattle.copy_move.specs.declared.run.Course.TheVariants.{GoesOn, InTrouble, Unsettled, Skips, Ends}
 use Rattle.mc_text.specs.Routes.{Route}
 use Rattle.file_copy.specs.declared.report.Trouble.{Trouble}
-use Rattle.copy_move.specs.Jobs.{Running, MayAnswer, at_barrier, part_of, trouble_on, waits_on}
+use Rattle.copy_move.specs.Jobs.{Running, MayAnswer, at_barrier, is_barred, part_of, trouble_on, waits_on}
 use Rattle.copy_move.specs.Told.{stage_told, told, work_told}
 use Rattle.mc_ui.specs.Screens.{ShowsTrouble}
 use Rattle.mc_desk.specs.Tallies.{can_step}
@@ -44,8 +44,15 @@ part_told job = work_part job.work
 pub waits_told : (job : Running) → waits_on (told job).course ≡ waits_on job.course
 waits_told job = refl
 
+barred_told : (course : Course) (work : Work) → is_barred course (work_told work) ≡ is_barred course work
+barred_told (Unsettled cause) work = refl
+barred_told GoesOn work = barrier_told work
+barred_told (InTrouble cause) work = barrier_told work
+barred_told (Skips cause) work = barrier_told work
+barred_told (Ends ending) work = barrier_told work
+
 pub may_answer_told : (job : Running) (answer : Answer) → MayAnswer job answer → MayAnswer (told job) answer
-may_answer_told job answer may = record { waits = may.waits; fits = λ h. barrier_told job.work ∙ may.fits h }
+may_answer_told job answer may = record { waits = may.waits; fits = λ h. barred_told job.course job.work ∙ may.fits h }
 
 pub steps_told : (job : Option Running) → can_step (option_map told job) ≡ can_step job
 steps_told None = refl
@@ -53,6 +60,7 @@ steps_told (Some job) = refl
 
 trouble_told : (course : Course) (work : Work) (path : Option Route) → trouble_on course (work_told work) path ≡ trouble_on course work path
 trouble_told (InTrouble cause) work path = ap (λ b. Some (record { cause = cause; path = path; barrier = b })) (barrier_told work)
+trouble_told (Unsettled cause) work path = refl
 trouble_told GoesOn work path = refl
 trouble_told (Skips cause) work path = refl
 trouble_told (Ends ending) work path = refl

@@ -4,11 +4,13 @@ use Rattle.std.specs.Option.{option_map}
 use Rattle.mc_text.specs.Routes.{Route}
 use Rattle.tree_trait.specs.Change.{CallLog}
 use Rattle.tree_trait.specs.Answers.{IfKnown}
+use Rattle.tree_trait.specs.CrashImages.{Among}
 use Rattle.copy_move.specs.declared.history.Entry.{Entry}
 use Rattle.copy_move.specs.declared.history.Event.{Event}
 use Rattle.copy_move.specs.declared.history.Event.TheVariants.{Key, Look, Began, Order, Step, Closed}
 use Rattle.copy_move.specs.Jobs.{Running}
 use Rattle.copy_move.specs.Told.{told, closes, if_closed, is_closed}
+use Rattle.copy_move.specs.Settling.{left_dirty}
 use Rattle.copy_move.specs.Crashes.{calls_in}
 use Rattle.copy_move.specs.Traces.{IsTraced, IsTracedTo}
 use Rattle.copy_move.specs.Traces as traces
@@ -23,9 +25,9 @@ use Rattle.mc_desk.specs.Desks.{Seen, IsWritten, IsDesk}
 abbrev pub fresh : Tally
 fresh = record { job = None; last = 0; unseen = false; closed = false; due = Some 0; lost = false; calls = 0 }
 
-pub kept_opening : (opening contents : Option CallLog) (faults : ℕ) (left right : Route) (screen : Screen) (log : Logged) (pending : List ℕ) → contents ≡ opening → IsOpened contents left right screen log
-    → IsDesk opening contents faults (record { newest = log.newest; spare = log.spare; screen = screen; job = None; tally = fresh; pending = pending; quit = false })
-kept_opening opening contents faults left right screen log pending same opened = record {
+pub kept_opening : (opening contents : Option CallLog) (faults : ℕ) (left right : Route) (screen : Screen) (log : Logged) (dirty : List Route) (pending : List ℕ) → contents ≡ opening → IsOpened contents left right screen log → dirty ≡ []
+    → IsDesk opening contents faults (record { newest = log.newest; spare = log.spare; screen = screen; job = None; dirty = dirty; tally = fresh; pending = pending; quit = false })
+kept_opening opening contents faults left right screen log dirty pending same opened none = record {
   written = record {
     session = subst (λ es. IsSession opening faults es screen None contents) (sym opened.empty)
         (subst (λ o. IsSession o faults [] screen None contents) same (opened.opening, refl, refl));
@@ -38,12 +40,13 @@ kept_opening opening contents faults left right screen log pending same opened =
   lost = λ lost. absurd cc;
   shut = λ closed. absurd cc;
   room = let h = opened.room in omega (arith, h);
+  owed = λ folder among. absurd (subst (λ d. Among d folder) none among);
 }
 
 -- what an entry says of the tree and of the live job, where the tree tells
 abbrev pub Leads : Option CallLog → Option CallLog → Seen → Seen → Entry → Type 0
 Leads contents contents_after old new e =
-    IfKnown contents (λ log. (now : CallLog) × (after : Option Running) × (contents_after ≡ Some now) × traces.EventLeads old.job e.what after log now
+    IfKnown contents (λ log. (now : CallLog) × (after : Option Running) × (contents_after ≡ Some now) × traces.EntryLeads (left_dirty old.newest) old.job e.what after log now
     × (new.job ≡ if_closed (closes e.what || old.tally.closed) after) × (length now.changes + old.tally.calls ≡ length log.changes + e.calls))
 
 -- an entry that may follow: what it makes of the desk, of the screen and of the tree

@@ -12,7 +12,7 @@ use Rattle.copy_move.specs.declared.history.Event.TheVariants.{Key, Look, Began,
 use Rattle.copy_move.specs.declared.history.JobOrder.TheVariants.{Answered}
 use Rattle.copy_move.specs.declared.work.Work.{Work}
 use Rattle.copy_move.specs.declared.run.Course.{Course}
-use Rattle.copy_move.specs.declared.run.Course.TheVariants.{GoesOn, InTrouble, Skips, Ends}
+use Rattle.copy_move.specs.declared.run.Course.TheVariants.{GoesOn, InTrouble, Unsettled, Skips, Ends}
 use Rattle.copy_move.specs.Jobs.{Running, answered, answered_on, first_work}
 use Rattle.copy_move.specs.Told.{live_job, is_closed, if_closed, after_event, after_step, running}
 use Rattle.mc_desk.specs.Tallies.{due_in, due_after, can_step}
@@ -43,6 +43,10 @@ answered_id Retry (InTrouble cause) job = refl
 answered_id Skip (InTrouble cause) job = refl
 answered_id SkipAll (InTrouble cause) job = refl
 answered_id Abort (InTrouble cause) job = refl
+answered_id Retry (Unsettled cause) job = refl
+answered_id Skip (Unsettled cause) job = refl
+answered_id SkipAll (Unsettled cause) job = refl
+answered_id Abort (Unsettled cause) job = refl
 answered_id answer GoesOn job = refl
 answered_id answer (Skips cause) job = refl
 answered_id answer (Ends ending) job = refl

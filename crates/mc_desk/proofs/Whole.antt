@@ -1,5 +1,5 @@
 -- The entries of a desk leave a whole desk.
-use Rattle.std.proofs.Common.{◌≡◌, ◌⊎◌, ℕ, ◌+◌, ◌-◌, ◌^◌, ◌≤◌, min, Bool, true, false, ◌||◌, List, [], ◌∷◌, length, refl, sym, ◌∙◌, ap, subst, inl, Option, Some, None, arith}
+use Rattle.std.proofs.Common.{◌≡◌, ◌⊎◌, ℕ, ◌+◌, ◌-◌, ◌^◌, ◌≤◌, min, Bool, true, false, ◌||◌, List, [], ◌∷◌, length, refl, sym, ◌∙◌, ap, subst, inl, inr, Option, Some, None, arith}
 use Rattle.std.specs.Prelude.{if◌then◌else◌}
 use Rattle.std.specs.Option.{option_map}
 use Rattle.key_screen.specs.declared.keys.Key.{Key as KeyType}
@@ -19,10 +19,11 @@ use Rattle.copy_move.specs.declared.history.JobOrder.TheVariants.{Answered}
 use Rattle.copy_move.specs.declared.history.Answer.{Answer}
 use Rattle.copy_move.specs.declared.history.Refusal.{Refusal}
 use Rattle.copy_move.specs.declared.run.Course.{Course}
-use Rattle.copy_move.specs.declared.run.Course.TheVariants.{GoesOn, InTrouble, Skips, Ends}
+use Rattle.copy_move.specs.declared.run.Course.TheVariants.{GoesOn, InTrouble, Unsettled, Skips, Ends}
 use Rattle.copy_move.specs.Jobs.{Running, MayAnswer, answered, closed_course, closed_job, ends, first_work, part_of, waits_on}
 use Rattle.copy_move.specs.Told.{after_event, if_closed, is_closed, live_job, running, told}
-use Rattle.copy_move.specs.Steps.{StepsOn}
+use Rattle.copy_move.specs.Settling.{IsOwed, IsOwner, left_by_end, left_dirty}
+use Rattle.copy_move.specs.Steps.{RunStep}
 use Rattle.copy_move.specs.Traces.{AreRefused, IsUnclaimed}
 use Rattle.mc_ui.specs.declared.asks.Ask.{Ask}
 use Rattle.mc_ui.specs.declared.asks.Ask.TheVariants as ask
@@ -31,9 +32,11 @@ use Rattle.mc_ui.specs.Screens.{Box, Screen, NoBox, DeleteBox, MaskBox, TargetBo
 use Rattle.mc_ui.specs.Refused.{has_fault}
 use Rattle.mc_desk.specs.Tallies.{Tally, faults_in, can_step}
 use Rattle.mc_desk.specs.Desks.{Seen, kept_room, IsWritten, IsDesk}
-use Rattle.mc_desk.proofs.Adding.{adds_began, adds_closed, adds_given_up, adds_key, adds_look, adds_lost, adds_order, adds_step, entry}
+use Rattle.copy_move.proofs.Gone.{IsOrdered}
+use Rattle.mc_desk.proofs.Adding.{adds_began, adds_closed, adds_given_up, adds_key, adds_look, adds_lost, adds_order, adds_settled, adds_step, entry}
 use Rattle.mc_desk.proofs.Answering.{shows_told}
 use Rattle.mc_desk.proofs.Keeping.{written_more}
+use Rattle.mc_desk.proofs.Owing.{answered_owner, closed_owner, given_up_owed, own_owed, owed_on, settling_owed, told_ordered}
 
 -- two entries are room enough
 room_two : (closed : Bool) (job : Option Running) → kept_room closed job ≤ 2
@@ -44,13 +47,23 @@ room_two false (Some job) = omega arith
 
 -- a written desk on which nothing waits is whole
 desk_of : (opening contents : Option CallLog) (faults : ℕ) (desk : Seen) → IsWritten opening contents faults desk → desk.screen.planned ≡ None → (desk.tally.lost ≡ true → desk.tally.closed ≡ true)
-    → (desk.tally.closed ≡ true → desk.tally.due ≡ None) → 2 ≤ desk.spare → IsDesk opening contents faults desk
-desk_of opening contents faults desk written settled lost shut room =
-    record { written = written; settled = settled; lost = lost; shut = shut; room = let two = room_two desk.tally.closed desk.job in omega (arith, two, room) }
+    → (desk.tally.closed ≡ true → desk.tally.due ≡ None) → 2 ≤ desk.spare → IsOwed (left_dirty desk.newest) desk.job desk.dirty → IsDesk opening contents faults desk
+desk_of opening contents faults desk written settled lost shut room owed =
+    record { written = written; settled = settled; lost = lost; shut = shut; room = let two = room_two desk.tally.closed desk.job in omega (arith, two, room); owed = owed }
+
+-- the live job that the history of a desk tells of
+live_told : (opening contents : Option CallLog) (faults : ℕ) (old : Seen) (live : Running) → IsDesk opening contents faults old → old.job ≡ Some live → live_job old.newest ≡ Some (told live)
+live_told opening contents faults old live desk is = sym (ap (λ (t : Tally). t.job) desk.written.tally) ∙ (desk.written.told ∙ ap (option_map told) is)
+
+-- where no job ended, the folders are owed as they were
+owed_still : (old new : Seen) → left_dirty new.newest ≡ left_dirty old.newest → new.dirty ≡ old.dirty → ((folder : Route) → IsOwner old.job folder → IsOwner new.job folder) → IsOwed (left_dirty old.newest) old.job old.dirty
+    → IsOwed (left_dirty new.newest) new.job new.dirty
+owed_still old new left dirty owner owed = owed_on (left_dirty old.newest) (left_dirty new.newest) old.job new.job old.dirty new.dirty left dirty owner owed
 
 closed_waits : (course : Course) → waits_on (closed_course course) ≡ false
 closed_waits GoesOn = refl
 closed_waits (InTrouble cause) = refl
+closed_waits (Unsettled cause) = refl
 closed_waits (Skips cause) = refl
 closed_waits (Ends ending) = refl
 
@@ -88,9 +101,9 @@ module _ (opening contents contents_after : Option CallLog) (faults : ℕ) (old 
   -- a key that was lost, and the end of keys
   pub desk_lost : new.newest ≡ entry 0 old.tally.calls count 0 Closed ∷ (entry 0 old.tally.calls count shown (Key key now [] true) ∷ old.newest)
       → new.tally ≡ record old.tally { job = option_map closed_job old.tally.job; closed = true; due = None; lost = true } → new.job ≡ option_map closed_job old.job → new.tally.job ≡ option_map told new.job
-      → new.screen ≡ old.screen → new.quit ≡ old.quit → 1 ≤ new.spare
+      → new.screen ≡ old.screen → new.quit ≡ old.quit → 1 ≤ new.spare → new.dirty ≡ old.dirty
       → IsDesk opening contents_after faults new
-  desk_lost more is job tells screen quit room = record {
+  desk_lost more is job tells screen quit room dirty = record {
     written =
         written_more faults mid new _ opening contents_after contents_after
         (written_more faults old mid _ opening contents contents_after desk.written
@@ -100,6 +113,7 @@ module _ (opening contents contents_after : Option CallLog) (faults : ℕ) (old 
     lost = λ h. ap (λ (t : Tally). t.closed) is;
     shut = λ h. ap (λ (t : Tally). t.due) is;
     room = let closed = ap (λ (t : Tally). t.closed) is in rw closed (let one = last_room new.job in omega (arith, one, room));
+    owed = owed_still old new (ap left_dirty more) dirty (λ folder own. subst (λ j. IsOwner j folder) (sym job) (closed_owner true old.job folder own)) desk.owed;
   }
     where
       mid : Seen
@@ -110,14 +124,15 @@ module _ (opening contents contents_after : Option CallLog) (faults : ℕ) (old 
       (settled : new.screen.planned ≡ None) (room : 2 ≤ new.spare) (tells : new.tally.job ≡ option_map told new.job) where
     -- a key that was worked
     pub desk_keyed : new.newest ≡ entry 0 old.tally.calls count shown (Key key now refusals false) ∷ old.newest → new.tally ≡ old.tally → new.job ≡ old.job → with_ask asked new.screen ≡ new.screen
-        → (new.quit ≡ true → (old.quit ≡ true) ⊎ ((plain_base key ≡ F 10) × (old.screen.over ≡ NoBox))) → IsDesk opening contents_after faults new
-    desk_keyed more is job asks quit =
+        → (new.quit ≡ true → (old.quit ≡ true) ⊎ ((plain_base key ≡ F 10) × (old.screen.over ≡ NoBox))) → new.dirty ≡ old.dirty → IsDesk opening contents_after faults new
+    desk_keyed more is job asks quit dirty =
         desk_of opening contents_after faults new
         (written_more faults old new _ opening contents contents_after desk.written
         (adds_key contents contents_after faults old new 0 count shown key now refusals more is job tells unclosed looked (unlost opening contents faults old desk unclosed) desk.settled same later fault refused
         (subst (λ s. KeyLeads (sight contents) old.tally.job key refusals old.screen s) asks leads) quit))
         settled (λ h. ap (λ (t : Tally). t.closed) is ∙ desk.lost (sym (ap (λ (t : Tally). t.lost) is) ∙ h))
         (λ h. ap (λ (t : Tally). t.due) is ∙ desk.shut (sym (ap (λ (t : Tally). t.closed) is) ∙ h)) room
+        (owed_still old new (ap left_dirty more) dirty (λ folder own. subst (λ j. IsOwner j folder) (sym job) own) desk.owed)
 
     -- the key, on a screen on which what it asked is still to be carried out
     abbrev keyed : Screen → Seen
@@ -134,9 +149,9 @@ module _ (opening contents contents_after : Option CallLog) (faults : ℕ) (old 
         → option_map (running confirmed.run.id) (first_work confirmed.run.id confirmed.plan) ≡ Some confirmed.run
         → new.newest ≡ entry 0 old.tally.calls began_count 0 (Began id confirmed.plan false) ∷ (entry 0 old.tally.calls count shown (Key key now refusals false) ∷ old.newest)
         → count ≤ began_count → id ≡ min (old.tally.last + 1) (2 ^ 32 - 1) → new.job ≡ Some confirmed.run
-        → new.tally ≡ record old.tally { job = Some (told confirmed.run); last = id; due = Some id } → new.quit ≡ old.quit
+        → new.tally ≡ record old.tally { job = Some (told confirmed.run); last = id; due = Some id } → new.quit ≡ old.quit → new.dirty ≡ old.dirty
         → IsDesk opening contents_after faults new
-    desk_began confirmed id began_count asks number idle started more counted id_is job is quit =
+    desk_began confirmed id began_count asks number idle started more counted id_is job is quit dirty =
         desk_of opening contents_after faults new
         (written_more faults (keyed screen) new _ opening contents_after contents_after (keyed_written screen (ap (λ a. with_ask a new.screen) asks))
         (adds_began contents_after contents_after faults (keyed screen) new 0 began_count 0 id confirmed.plan confirmed.run more
@@ -144,6 +159,7 @@ module _ (opening contents contents_after : Option CallLog) (faults : ℕ) (old 
         (cleared new.screen settled) quit))
         settled (λ h. ap (λ (t : Tally). t.closed) is ∙ desk.lost (sym (ap (λ (t : Tally). t.lost) is) ∙ h))
         (λ h. absurd (let shut = ap (λ (t : Tally). t.closed) is in cc)) room
+        (owed_still old new (ap left_dirty more) dirty (λ folder own. absurd (subst (λ j. IsOwner j folder) idle own)) desk.owed)
       where
         screen : Screen
         screen = record new.screen { planned = Some (Begins confirmed.plan) }
@@ -152,14 +168,16 @@ module _ (opening contents contents_after : Option CallLog) (faults : ℕ) (old 
     pub desk_ordered : (answer : Answer) (live : Running) (order_count : ℕ) → asked ≡ ask.Answer answer → old.job ≡ Some live → MayAnswer live answer
         → new.newest ≡ entry 0 old.tally.calls order_count 0 (Order live.id (Answered answer)) ∷ (entry 0 old.tally.calls count shown (Key key now refusals false) ∷ old.newest)
         → count ≤ order_count → new.job ≡ Some (answered answer live)
-        → new.tally ≡ record old.tally { job = Some (told (answered answer live)); due = Some live.id } → new.quit ≡ old.quit
+        → new.tally ≡ record old.tally { job = Some (told (answered answer live)); due = Some live.id } → new.quit ≡ old.quit → new.dirty ≡ old.dirty
         → IsDesk opening contents_after faults new
-    desk_ordered answer live order_count asks was may more counted job is quit =
+    desk_ordered answer live order_count asks was may more counted job is quit dirty =
         desk_of opening contents_after faults new
         (written_more faults (keyed screen) new _ opening contents_after contents_after (keyed_written screen (ap (λ a. with_ask a new.screen) asks))
         (adds_order contents_after contents_after faults (keyed screen) new 0 order_count 0 answer live more was may desk.written.told job is unclosed refl refl counted (cleared new.screen settled) quit))
         settled (λ h. ap (λ (t : Tally). t.closed) is ∙ desk.lost (sym (ap (λ (t : Tally). t.lost) is) ∙ h))
         (λ h. absurd (let shut = ap (λ (t : Tally). t.closed) is in cc)) room
+        (owed_still old new (ap left_dirty more) dirty
+        (λ folder own. subst (λ j. IsOwner j folder) (sym job) (answered_owner answer live.id live.work live.course folder (subst (λ j. IsOwner j folder) was own))) desk.owed)
       where
         screen : Screen
         screen = record new.screen { planned = Some (Answers answer) }
@@ -172,8 +190,8 @@ closed_room (Some job) spare spare_after had left = omega (arith, had, left)
 pub desk_closed : (opening contents : Option CallLog) (faults : ℕ) (old new : Seen) (count : ℕ) → IsDesk opening contents faults old → old.tally.closed ≡ false → faults_in faults old.newest ≤ count
     → new.newest ≡ entry 0 old.tally.calls count 0 Closed ∷ old.newest
     → new.tally ≡ record old.tally { job = option_map closed_job old.tally.job; closed = true; due = None } → new.job ≡ option_map closed_job old.job → new.tally.job ≡ option_map told new.job
-    → new.screen ≡ old.screen → new.quit ≡ old.quit → old.spare ≤ new.spare + 1 → IsDesk opening contents faults new
-desk_closed opening contents faults old new count desk unclosed later more is job tells screen quit left = record {
+    → new.screen ≡ old.screen → new.quit ≡ old.quit → old.spare ≤ new.spare + 1 → new.dirty ≡ old.dirty → IsDesk opening contents faults new
+desk_closed opening contents faults old new count desk unclosed later more is job tells screen quit left dirty = record {
   written = written_more faults old new _ opening contents contents desk.written
       (adds_closed contents contents faults old new 0 count 0 more is job tells desk.settled refl later screen quit);
   settled = ap (λ (s : Screen). s.planned) screen ∙ desk.settled;
@@ -181,6 +199,7 @@ desk_closed opening contents faults old new count desk unclosed later more is jo
   shut = λ h. ap (λ (t : Tally). t.due) is;
   room = subst (λ b. kept_room b new.job ≤ new.spare) (sym (ap (λ (t : Tally). t.closed) is)) (subst (λ j. kept_room true j ≤ new.spare) (sym job)
       (closed_room old.job old.spare new.spare (subst (λ b. kept_room b old.job ≤ old.spare) unclosed desk.room) left));
+  owed = owed_still old new (ap left_dirty more) dirty (λ folder own. subst (λ j. IsOwner j folder) (sym job) (closed_owner true old.job folder own)) desk.owed;
 }
 
 -- a look, written down
@@ -189,30 +208,56 @@ pub desk_looked : (opening contents contents_after : Option CallLog) (faults : �
     → IfKnown contents (λ log. AreRefused ListFolder log refusals) → ShowsTrouble old.job trouble → LooksAgain (sight contents) old.tally.unseen trouble refusals old.screen new.screen
     → new.newest ≡ entry 0 old.tally.calls count shown (Look refusals) ∷ old.newest
     → new.tally ≡ record old.tally { unseen = false; due = if can_step old.tally.job then old.tally.due else None } → new.job ≡ old.job → new.tally.job ≡ option_map told new.job
-    → new.screen.planned ≡ None → new.quit ≡ old.quit → 2 ≤ new.spare
+    → new.screen.planned ≡ None → new.quit ≡ old.quit → 2 ≤ new.spare → new.dirty ≡ old.dirty
     → IsDesk opening contents_after faults new
-desk_looked opening contents contents_after faults old new count shown refusals trouble desk unclosed same later fault refused shows leads more is job tells settled quit room =
+desk_looked opening contents contents_after faults old new count shown refusals trouble desk unclosed same later fault refused shows leads more is job tells settled quit room dirty =
     desk_of opening contents_after faults new
     (written_more faults old new _ opening contents contents_after desk.written
     (adds_look contents contents_after faults old new 0 count shown refusals more is job tells unclosed desk.settled same later fault refused
     (trouble, subst (λ j. ShowsTrouble j trouble) (sym desk.written.told) (shows_told old.job trouble shows), leads) quit))
     settled (λ h. ap (λ (t : Tally). t.closed) is ∙ desk.lost (sym (ap (λ (t : Tally). t.lost) is) ∙ h)) (λ h. absurd (let shut = ap (λ (t : Tally). t.closed) is in cc)) room
+    (owed_still old new (ap left_dirty more) dirty (λ folder own. subst (λ j. IsOwner j folder) (sym job) own) desk.owed)
+
+-- a step makes at most three changing calls
+few_made : (live stepped : Running) (did : Did) (made : ℕ) (dirty dirty_after : List Route) (contents contents_after : Option CallLog) (before after : ℕ)
+    → RunStep IsUnclaimed live stepped did made dirty dirty_after contents contents_after before after → made ≤ 3
+few_made live stepped did made dirty dirty_after contents contents_after before after (inl o) = o.own.few
+few_made live stepped did made dirty dirty_after contents contents_after before after (inr s) = let few = s.few in omega (arith, few)
+
+-- what it makes of the dirty folders
+step_owed : (left : List Route) (live stepped : Running) (did : Did) (made number : ℕ) (dirty dirty_after : List Route) (contents contents_after : Option CallLog) (before after : ℕ) → IsOrdered live.course
+    → IsOwed left (Some live) dirty → RunStep IsUnclaimed live stepped did made dirty dirty_after contents contents_after before after
+    → IsOwed (left_by_end (Step number did) (Some (told live)) left) (if ends did then None else Some stepped) dirty_after
+step_owed left live stepped did made number dirty dirty_after contents contents_after before after ordered owed (inl o) =
+    own_owed left live dirty owed stepped did number dirty_after IsUnclaimed made contents contents_after before after ordered o
+step_owed left live stepped did made number dirty dirty_after contents contents_after before after ordered owed (inr s) =
+    settling_owed left live dirty owed stepped did made number dirty_after contents contents_after before after s (if ends did then None else Some stepped)
 
 -- a step of the job, written down
 pub desk_stepped : (opening contents contents_after : Option CallLog) (faults : ℕ) (old new : Seen) (seat count made calls before after : ℕ) (live stepped : Running) (did : Did)
-    → IsDesk opening contents faults old → old.job ≡ Some live → StepsOn IsUnclaimed live stepped did made contents contents_after before after → length old.newest + 3 ≤ 2 ^ 56
+    → IsDesk opening contents faults old → old.job ≡ Some live → RunStep IsUnclaimed live stepped did made old.dirty new.dirty contents contents_after before after → length old.newest + 3 ≤ 2 ^ 56
     → calls ≡ min (old.tally.calls + made) (2 ^ 64 - 1) → faults_in faults old.newest ≤ before → after ≡ count
     → new.newest ≡ entry seat calls count 0 (Step live.id did) ∷ old.newest
     → new.job ≡ if_closed old.tally.closed (if ends did then None else Some stepped)
     → new.tally ≡ record old.tally { job = option_map told new.job; unseen = ends did || old.tally.unseen; calls = calls } → new.screen ≡ old.screen
     → new.quit ≡ old.quit → 2 ≤ new.spare → IsDesk opening contents_after faults new
 desk_stepped opening contents contents_after faults old new seat count made calls before after live stepped did desk is steps fits calls_is had now more job tally screen quit room =
-    let all : calls ≡ old.tally.calls + made = let few = desk.written.calls in let three = steps.few in omega (arith, calls_is, three, fits, few) in
+    let all : calls ≡ old.tally.calls + made =
+    let few = desk.written.calls in let three = few_made live stepped did made old.dirty new.dirty contents contents_after before after steps in omega (arith, calls_is, three, fits, few) in
     desk_of opening contents_after faults new
-    (written_more faults old new _ opening contents contents_after desk.written
-    (adds_step contents contents_after faults old new seat count 0 live stepped did made calls before after is desk.written.told steps all more job tally desk.settled had now screen quit))
+    (written_more faults old new _ opening contents contents_after desk.written (elim steps [
+      | inl o ↦ adds_step contents contents_after faults old new seat count 0 live stepped did made calls before after is desk.written.told o.own all more job tally desk.settled had now screen quit
+      | inr s ↦ adds_settled contents contents_after faults old new seat count 0 live stepped did made calls before after new.dirty is desk.written.told s owed all more job tally desk.settled had now screen quit
+    ]))
     (ap (λ (s : Screen). s.planned) screen ∙ desk.settled) (λ h. ap (λ (t : Tally). t.closed) tally ∙ desk.lost (sym (ap (λ (t : Tally). t.lost) tally) ∙ h))
     (λ h. ap (λ (t : Tally). t.due) tally ∙ desk.shut (sym (ap (λ (t : Tally). t.closed) tally) ∙ h)) room
+    (owed_on (left_by_end (Step live.id did) (Some (told live)) (left_dirty old.newest)) (left_dirty new.newest) (if ends did then None else Some stepped) new.job new.dirty new.dirty
+    (ap left_dirty more ∙ ap (λ j. left_by_end (Step live.id did) j (left_dirty old.newest)) (live_told opening contents faults old live desk is)) refl
+    (λ folder own. subst (λ j. IsOwner j folder) (sym job) (closed_owner old.tally.closed (if ends did then None else Some stepped) folder own))
+    (step_owed (left_dirty old.newest) live stepped did made live.id old.dirty new.dirty contents contents_after before after (told_ordered old.newest live (live_told opening contents faults old live desk is)) owed steps))
+  where
+    owed : IsOwed (left_dirty old.newest) (Some live) old.dirty
+    owed = subst (λ j. IsOwed (left_dirty old.newest) j old.dirty) is desk.owed
 
 pub room_left : (closed : Bool) (job : Option Running) (live : Running) (spare reserved left : ℕ) → job ≡ Some live → kept_room closed job ≤ spare → spare ≤ reserved → reserved ≤ left + 1 → kept_room closed None ≤ left
 room_left closed job live spare reserved left is had kept noted = go closed (subst (λ j. kept_room closed j ≤ spare) is had)
@@ -247,13 +292,17 @@ unknown_plans_nothing tree job key refusals before after asked planned unknown s
 pub desk_gave_up : (opening contents : Option CallLog) (faults : ℕ) (old new : Seen) (seat count : ℕ) (live : Running) (part : Option Route)
     → IsDesk opening contents faults old → old.job ≡ Some live → waits_on live.course ≡ false → part ≡ part_of live.work → faults_in faults old.newest ≤ count
     → new.newest ≡ entry seat old.tally.calls count 0 (Step live.id (Ended NoMemory part)) ∷ old.newest
-    → new.job ≡ None → new.tally ≡ record old.tally { job = None; unseen = true } → new.screen ≡ old.screen → new.quit ≡ old.quit → kept_room old.tally.closed None ≤ new.spare
+    → new.job ≡ None → new.tally ≡ record old.tally { job = None; unseen = true } → new.screen ≡ old.screen → new.quit ≡ old.quit → kept_room old.tally.closed None ≤ new.spare → new.dirty ≡ old.dirty
     → IsDesk opening contents faults new
-desk_gave_up opening contents faults old new seat count live part desk is ready part_is later more job tally screen quit room = record {
+desk_gave_up opening contents faults old new seat count live part desk is ready part_is later more job tally screen quit room dirty = record {
   written = written_more faults old new _ opening contents contents desk.written
       (adds_given_up contents contents faults old new seat count 0 live part is desk.written.told ready part_is more job tally desk.settled refl later screen quit);
   settled = ap (λ (s : Screen). s.planned) screen ∙ desk.settled;
   lost = λ h. ap (λ (t : Tally). t.closed) tally ∙ desk.lost (sym (ap (λ (t : Tally). t.lost) tally) ∙ h);
   shut = λ h. ap (λ (t : Tally). t.due) tally ∙ desk.shut (sym (ap (λ (t : Tally). t.closed) tally) ∙ h);
   room = subst (λ j. kept_room new.tally.closed j ≤ new.spare) (sym job) (subst (λ b. kept_room b None ≤ new.spare) (sym (ap (λ (t : Tally). t.closed) tally)) room);
+  owed = owed_on (left_by_end (Step live.id (Ended NoMemory part)) (Some (told live)) (left_dirty old.newest)) (left_dirty new.newest) None new.job old.dirty new.dirty
+      (ap left_dirty more ∙ ap (λ j. left_by_end (Step live.id (Ended NoMemory part)) j (left_dirty old.newest)) (live_told opening contents faults old live desk is)) dirty
+      (λ folder own. absurd own)
+      (given_up_owed live.id part (left_dirty old.newest) live old.dirty (subst (λ j. IsOwed (left_dirty old.newest) j old.dirty) is desk.owed));
 }

@@ -1,6 +1,7 @@
 -- What a desk keeps: its history is a session over its tree, and the rest of it is what the history says.
 use Rattle.std.specs.Prelude.{◌≡◌, ◌⊎◌, ℕ, ◌+◌, ◌*◌, ◌≤◌, Bool, true, false, MatchBool, is_some, if◌then◌else◌, List, [], ◌∷◌, ◌++◌, length, Option, Some, None, Result, Ok, Err}
 use Rattle.std.specs.Option.{option_map}
+use Rattle.mc_text.specs.Routes.{Route}
 use Rattle.tree_trait.specs.Change.{CallLog}
 use Rattle.tree_trait.specs.Answers.{HasRisen}
 use Rattle.tree_trait.specs.declared.devices.SinkError.{SinkError}
@@ -10,6 +11,7 @@ use Rattle.key_screen.specs.DecodedKeys.{decoded_keys}
 use Rattle.copy_move.specs.declared.history.Entry.{Entry}
 use Rattle.copy_move.specs.Jobs.{Running}
 use Rattle.copy_move.specs.Told.{told}
+use Rattle.copy_move.specs.Settling.{IsOwed, left_dirty}
 use Rattle.mc_ui.specs.Screens.{Screen}
 use Rattle.mc_desk.specs.declared.desk.Due.{Due}
 use Rattle.mc_desk.specs.declared.desk.Due.TheVariants.{Nothing, First, Job}
@@ -20,13 +22,14 @@ use Rattle.mc_desk.specs.declared.desk.StepReply.TheVariants.{Ended, Idle}
 use Rattle.mc_desk.specs.Tallies.{Tally, tally, faults_in, keys_in}
 use Rattle.mc_desk.specs.Sessions.{IsSession, EndAsked}
 
--- what can be seen of a desk: its entries, the newest first, and how many more find room; the screen; the live job; what the
--- history came to; the bytes since the last key; and whether the end was asked for
+-- what can be seen of a desk: its entries, the newest first, and how many more find room; the screen; the live job; the dirty
+-- folders; what the history came to; the bytes since the last key; and whether the end was asked for
 pub record Seen : Type 0 where
   pub newest : List Entry
   pub spare : ℕ
   pub screen : Screen
   pub job : Option Running
+  pub dirty : List Route
   pub tally : Tally
   pub pending : List ℕ
   pub quit : Bool
@@ -51,13 +54,15 @@ pub record IsWritten (opening contents : Option CallLog) (faults : ℕ) (desk : 
   pub quit : desk.quit ≡ true → EndAsked opening faults desk.newest
 
 -- What holds of a desk between two calls: besides, nothing that was asked for waits to be carried out, a desk that lost a key
--- is closed, on a closed one nothing is to be looked at, and the room is there.
+-- is closed, on a closed one nothing is to be looked at, the room is there, and the dirty folders are those of ended jobs and of
+-- the live one.
 pub record IsDesk (opening contents : Option CallLog) (faults : ℕ) (desk : Seen) : Type 0 where
   pub written : IsWritten opening contents faults desk
   pub settled : desk.screen.planned ≡ None
   pub lost : desk.tally.lost ≡ true → desk.tally.closed ≡ true
   pub shut : desk.tally.closed ≡ true → desk.tally.due ≡ None
   pub room : kept_room desk.tally.closed desk.job ≤ desk.spare
+  pub owed : IsOwed (left_dirty desk.newest) desk.job desk.dirty
 
 -- whether a draw has failed by now: earlier, or this one
 abbrev pub failed_by : Bool → Result ℕ SinkError → Bool

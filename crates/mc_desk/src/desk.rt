@@ -13,7 +13,7 @@ use crate::log::Log;
 use crate::opening::open;
 use crate::starts::{Start, StartError};
 use crate::tag::Tag;
-use copy_move::{History, Run};
+use copy_move::{Dirty, History, Run};
 use key_screen::KeyReader;
 use mc_text::Path;
 use mc_ui::Ui;
@@ -87,6 +87,7 @@ pub struct Desk<N: Tag, T: Tree, S: Sink, P: Spawner> {
     keys: KeyReader,
     ui: Ui,
     job: Option<Run>,
+    dirty: Dirty,
     log: Log,
     last_id: u32,
     calls: u64,
@@ -113,6 +114,7 @@ impl<N: Tag, T: Tree, S: Sink, P: Spawner> Model for Desk<N, T, S, P> {
       spare = d.log.spare;
       screen = d.ui;
       job = d.job;
+      dirty = d.dirty;
       tally = record {
         job = option_map told d.job;
         last = d.last_id;
@@ -131,6 +133,7 @@ impl<N: Tag, T: Tree, S: Sink, P: Spawner> Model for Desk<N, T, S, P> {
       spare = d.log.spare;
       screen = d.ui;
       job = d.job;
+      dirty = d.dirty;
       tally = record {
         job = option_map told d.job;
         last = d.last_id;
@@ -184,6 +187,7 @@ impl<N: Tag, T: Tree, S: Sink, P: Spawner> Desk<N, T, S, P> {
                 keys: KeyReader::new(),
                 ui,
                 job: None,
+                dirty: Dirty::new(alloc),
                 log,
                 last_id: 0,
                 calls: 0,

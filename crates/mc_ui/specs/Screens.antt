@@ -18,7 +18,7 @@ use Rattle.copy_move.specs.declared.history.Job.TheVariants as plan
 use Rattle.copy_move.specs.declared.history.PlanError.TheVariants.{TargetThere, TargetTooLong}
 use Rattle.copy_move.specs.declared.history.Refusal.{Refusal}
 use Rattle.copy_move.specs.declared.history.Refusal.TheVariants.{Tree, Plan}
-use Rattle.copy_move.specs.Jobs.{Running, MayAnswer, at_barrier, passes_over, trouble_on, waits_on}
+use Rattle.copy_move.specs.Jobs.{Running, MayAnswer, is_barred, passes_over, trouble_on, waits_on}
 use Rattle.mc_ui.specs.declared.asks.Ask.{Ask}
 use Rattle.mc_ui.specs.declared.asks.Ask.TheVariants as ask
 use Rattle.mc_ui.specs.declared.dialog.Dialog.{Dialog}
@@ -147,7 +147,7 @@ letter_of base = None
 -- a job's trouble can be answered so
 abbrev pub can_answer : Option Running → Answer → Bool
 can_answer None answer = false
-can_answer (Some job) answer = waits_on job.course && (if passes_over answer then (if at_barrier job.work then false else true) else true)
+can_answer (Some job) answer = waits_on job.course && (if passes_over answer then (if is_barred job.course job.work then false else true) else true)
 
 -- a key while a trouble is shown: a letter that can answer it does
 abbrev pub answered_box : Option Running → Option Answer → Base → Screen → Screen

@@ -2,7 +2,7 @@
 ghost use Rattle.std.specs.Prelude.{◌≡◌, ◌<◌, true, Option, Some, None, IsSome, ◌||◌, reverse, if◌then◌else◌};
 ghost use Rattle.std.specs.Option.{option_map};
 ghost use Rattle.copy_move.specs.Jobs.{closed_job};
-ghost use Rattle.copy_move.specs.Ranks.{rank};
+ghost use Rattle.copy_move.specs.Ranks.{rank_with};
 ghost use Rattle.copy_move.specs.Told.{if_closed, live_job, IsReady};
 ghost use Rattle.copy_move.specs.Replay.{IsReplayed};
 ghost use Rattle.copy_move.specs.Traces.{IsTracedTo};
@@ -45,8 +45,8 @@ impl<N: Tag, T: Tree, S: Sink, P: Spawner> Desk<N, T, S, P> {
         ensures same { (self.new.tally.closed ≡ self.old.tally.closed) × (self.new.tally.due ≡ self.old.tally.due) }
         ensures quit { self.new.quit ≡ self.old.quit }
         ensures reply { result ≡ (if can_step self.old.tally.job then StepReply.Did else idle_reply self.old.tally.closed) }
-        ensures nearer { self.old.tally.closed ≡ true → IsSome self.old.job → rank self.new.job < rank self.old.job }
-        ensures worked { IsReady self.old.job → rank self.new.job < rank self.old.job }
+        ensures nearer { self.old.tally.closed ≡ true → IsSome self.old.job → rank_with self.new.dirty self.new.job < rank_with self.old.dirty self.old.job }
+        ensures worked { IsReady self.old.job → rank_with self.new.dirty self.new.job < rank_with self.old.dirty self.old.job }
     {
         let Some(mut job) = self.job.take() else {
             return idle(self.closed);
@@ -70,7 +70,7 @@ impl<N: Tag, T: Tree, S: Sink, P: Spawner> Desk<N, T, S, P> {
             self.unseen = true;
             return StepReply::Did;
         }
-        let Stepped { did, calls } = job.step(alloc, &mut self.tree, &NoClaims);
+        let Stepped { did, calls } = job.step(alloc, &mut self.tree, &NoClaims, &mut self.dirty);
         self.calls = self.calls.saturating_add(calls);
         let ended = is_end(&did);
         self.stuck_at = stuck_at(alloc, &did);
@@ -111,6 +111,7 @@ impl<N: Tag, T: Tree, S: Sink, P: Spawner> Desk<N, T, S, P> {
             keys: _,
             ui: _,
             job: _,
+            dirty: _,
             log,
             last_id: _,
             calls: _,

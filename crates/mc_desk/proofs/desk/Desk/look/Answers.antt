@@ -27,7 +27,7 @@ invariant_of-self-in-Ok-drawn g c =
           (c.note.ensures.added ∙ ap (λ es. entry 0 inside.calls count c.after_draw-self-inside.result (Look c.in-Ok.refusals) ∷ es) c.reserve.ensures.same)
           (ap (λ d. let t : Tally = record { job = option_map told inside.job; last = inside.last_id; unseen = false; closed = inside.closed; due = d; lost = inside.lost; calls = inside.calls } in t)
           (c.after_look-self-inside.ensures ∙ ap (λ b. if b then awaited inside.due else None) (c.can_step.ensures ∙ sym (steps_told inside.job))))
-          refl refl c.look.ensures.settled refl room;
+          refl refl c.look.ensures.settled refl room refl;
       counted = search rules;
       screen = subst (λ b. Blames b g.N.Tag.sink_faults (g.S.Sink.fault_count c.draw-drawn.new.screen)) (sym c.failed_by-self-inside.ensures)
           (blames_drawn inside.failed c.draw-drawn.result g.N.Tag.sink_faults (g.S.Sink.fault_count inside.screen) (g.S.Sink.fault_count c.draw-drawn.new.screen) c.self.invariant.screen c.draw-drawn.ensures.later c.draw-drawn.ensures.fault);
@@ -49,7 +49,7 @@ invariant_of-self-in-Err g c =
           (c.note.ensures.added ∙ ap (λ es. entry 0 inside.calls count c.after_draw-self-inside.result (Look c.in-Ok.refusals) ∷ es) c.reserve.ensures.same)
           (ap (λ d. let t : Tally = record { job = option_map told inside.job; last = inside.last_id; unseen = false; closed = inside.closed; due = d; lost = inside.lost; calls = inside.calls } in t)
           (c.after_look-self-inside.ensures ∙ ap (λ b. if b then awaited inside.due else None) (c.can_step.ensures ∙ sym (steps_told inside.job))))
-          refl refl c.look.ensures.settled refl room;
+          refl refl c.look.ensures.settled refl room refl;
       counted = search rules;
       screen = subst (λ b. Blames b g.N.Tag.sink_faults (g.S.Sink.fault_count c.draw-drawn.new.screen)) (sym c.failed_by-self-inside.ensures)
           (blames_drawn inside.failed c.draw-drawn.result g.N.Tag.sink_faults (g.S.Sink.fault_count inside.screen) (g.S.Sink.fault_count c.draw-drawn.new.screen) c.self.invariant.screen c.draw-drawn.ensures.later c.draw-drawn.ensures.fault);

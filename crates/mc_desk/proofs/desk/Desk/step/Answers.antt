@@ -1,18 +1,19 @@
 -- A step is written down as it was made; a closed desk's job never waits.
-use Rattle.std.proofs.Common.{rules, ◌≡◌, ◌+◌, ◌^◌, ◌≤◌, ◌||◌, None, Some, refl, ap, sym, ◌∙◌, ◌∷◌, ◌<◌, length, subst, true, false, arith}
+use Rattle.std.proofs.Common.{rules, ◌≡◌, ◌+◌, ◌^◌, ◌≤◌, ◌||◌, Option, None, Some, List, refl, ap, sym, ◌∙◌, ◌∷◌, ◌<◌, length, subst, true, false, arith}
 use Rattle.std.specs.Prelude.{if◌then◌else◌}
 use Rattle.std.specs.Option.{option_map}
 use Rattle.std.proofs.lemmas.Bool.{both_ways}
+use Rattle.mc_text.specs.Routes.{Route}
 use Rattle.file_copy.specs.declared.report.Did.TheVariants.{Ended}
 use Rattle.file_copy.specs.declared.report.Ending.TheVariants.{NoMemory}
 use Rattle.copy_move.specs.declared.history.Event.TheVariants.{Step}
-use Rattle.copy_move.specs.Jobs.{ends, waits_on}
-use Rattle.copy_move.specs.Ranks.{rank}
+use Rattle.copy_move.specs.Jobs.{Running, ends, waits_on}
+use Rattle.copy_move.specs.Ranks.{rank_with}
 use Rattle.copy_move.specs.Told.{if_closed, told}
 use Rattle.mc_desk.specs.Tallies.{Tally}
 use Rattle.mc_desk.specs.Desks.{Seen, awaited}
 use Rattle.mc_desk.proofs.Adding.{entry}
-use Rattle.mc_desk.proofs.Ranking.{rank_left}
+use Rattle.mc_desk.proofs.Ranking.{given_up_falls, run_falls}
 use Rattle.mc_desk.proofs.Whole.{closed_goes_on, desk_gave_up, desk_stepped, room_left}
 use Rattle.mc_desk.proofs.desk.Desk.step.Goals as goal
 
@@ -38,7 +39,7 @@ invariant_of-self-then-is_err g c =
           ∙ ap (λ es. entry c.args.seat inside.calls count 0 (Step c.in-Some.job.id (Ended NoMemory c.give_up.result)) ∷ es) c.reserve.ensures.same)))
           none
           (ap (λ j. let t : Tally = record { job = option_map told j; last = inside.last_id; unseen = true; closed = inside.closed; due = awaited inside.due; lost = inside.lost; calls = inside.calls } in t) none)
-          refl refl (room_left inside.closed inside.job c.in-Some.job inside.log.spare c.reserve.new.self.spare c.note.new.self.spare is c.self.invariant.desk.room c.reserve.ensures.kept c.note.ensures.room);
+          refl refl (room_left inside.closed inside.job c.in-Some.job inside.log.spare c.reserve.new.self.spare c.note.new.self.spare is c.self.invariant.desk.room c.reserve.ensures.kept c.note.ensures.room) refl;
       counted = search rules;
       screen = c.self.invariant.screen;
     }
@@ -71,13 +72,21 @@ invariant_of-self-2 g c =
       screen = c.self.invariant.screen;
     }
 
+-- a step brings the job nearer to its end, or to trouble
+nearer : (old : Seen) (job : Running) (left after : Option Running) (dirty now : List Route) → old.job ≡ Some job → old.dirty ≡ dirty → left ≡ after → rank_with now after < rank_with dirty (Some job)
+    → rank_with now left < rank_with old.dirty old.job
+nearer old job left after dirty now is dirty_is left_is low =
+    subst (λ j. rank_with now left < rank_with old.dirty j) (sym is)
+    (subst (λ d. rank_with now left < rank_with d (Some job)) (sym dirty_is) (subst (λ j. rank_with now j < rank_with dirty (Some job)) (sym left_is) low))
+
 pub returns-clause-nearer : goal.returns-clause-nearer
 returns-clause-nearer g c closed live =
     let job = c.in-Some.job in
     let was : c.args.self.now.job ≡ Some job = sym (ap (λ (d : Seen). d.job) c.self.view_is) ∙ (sym c.take.ensures.value ∙ c.in-Some.is) in
     let now : c.left.result ≡ if_closed c.self.inside.closed (if ends c.step-did.result.did then None else Some c.step-did.new.self) =
     c.left.ensures ∙ ap (λ b. if_closed c.self.inside.closed (if b then None else Some c.step-did.new.self)) c.is_end-ended.ensures in
-    subst (λ j. rank c.left.result < rank j) (sym was) (subst (λ j. rank j < rank (Some job)) (sym now) (rank_left c.self.inside.closed job c.step-did.new.self c.step-did.result.did c.step-did.ensures.steps.falls))
+    nearer c.args.self.now job c.left.result _ c.self.inside.dirty c.step-did.new.dirty was (sym (ap (λ (d : Seen). d.dirty) c.self.view_is)) now
+    (run_falls _ c.self.inside.closed job c.step-did.new.self c.step-did.result.did _ _ _ _ _ _ _ c.step-did.ensures.steps)
 
 pub returns-clause-worked : goal.returns-clause-worked
 returns-clause-worked g c ready =
@@ -85,4 +94,5 @@ returns-clause-worked g c ready =
     let was : c.args.self.now.job ≡ Some job = sym (ap (λ (d : Seen). d.job) c.self.view_is) ∙ (sym c.take.ensures.value ∙ c.in-Some.is) in
     let now : c.left.result ≡ if_closed c.self.inside.closed (if ends c.step-did.result.did then None else Some c.step-did.new.self) =
     c.left.ensures ∙ ap (λ b. if_closed c.self.inside.closed (if b then None else Some c.step-did.new.self)) c.is_end-ended.ensures in
-    subst (λ j. rank c.left.result < rank j) (sym was) (subst (λ j. rank j < rank (Some job)) (sym now) (rank_left c.self.inside.closed job c.step-did.new.self c.step-did.result.did c.step-did.ensures.steps.falls))
+    nearer c.args.self.now job c.left.result _ c.self.inside.dirty c.step-did.new.dirty was (sym (ap (λ (d : Seen). d.dirty) c.self.view_is)) now
+    (run_falls _ c.self.inside.closed job c.step-did.new.self c.step-did.result.did _ _ _ _ _ _ _ c.step-did.ensures.steps)

@@ -30,7 +30,7 @@ invariant_of-self-in-Nothing g c =
       desk = desk_keyed g.N.Tag.opening (g.T.Tree.contents inside.tree) (g.T.Tree.contents c.key.new.tree) g.N.Tag.tree_faults _ _ count c.after_draw-self-inside.result c.args.key c.args.now c.self.invariant.desk
           unclosed looked c.key.ensures.same (omega (arith, counted, had, later)) c.in-Ok.act.refusals c.in-Ok.act.ask
           (λ h. let risen = c.in-Ok.ensures.fault h in omega (arith, counted, had, risen)) c.in-Ok.ensures.called c.in-Ok.ensures.leads c.key.ensures.settled room refl
-          c.note.ensures.added refl refl (ap (λ (a : Ask). with_ask a c.key.new.self) c.in-Nothing.is) (λ h. inl h);
+          c.note.ensures.added refl refl (ap (λ (a : Ask). with_ask a c.key.new.self) c.in-Nothing.is) (λ h. inl h) refl;
       counted = search rules;
       screen = subst (λ b. Blames b g.N.Tag.sink_faults (g.S.Sink.fault_count c.draw-drawn.new.screen)) (sym c.failed_by-self-inside.ensures)
           (blames_drawn inside.failed c.draw-drawn.result g.N.Tag.sink_faults (g.S.Sink.fault_count inside.screen) (g.S.Sink.fault_count c.draw-drawn.new.screen) c.self.invariant.screen c.draw-drawn.ensures.later c.draw-drawn.ensures.fault);
@@ -50,7 +50,7 @@ invariant_of-self-in-End g c =
       desk = desk_keyed g.N.Tag.opening (g.T.Tree.contents inside.tree) (g.T.Tree.contents c.key.new.tree) g.N.Tag.tree_faults _ _ count c.after_draw-self-inside.result c.args.key c.args.now c.self.invariant.desk
           unclosed looked c.key.ensures.same (omega (arith, counted, had, later)) c.in-Ok.act.refusals c.in-Ok.act.ask
           (λ h. let risen = c.in-Ok.ensures.fault h in omega (arith, counted, had, risen)) c.in-Ok.ensures.called c.in-Ok.ensures.leads c.key.ensures.settled room refl
-          c.note.ensures.added refl refl (ap (λ (a : Ask). with_ask a c.key.new.self) c.in-End.is) (λ h. inr (c.in-Ok.ensures.ends.0 c.in-End.is));
+          c.note.ensures.added refl refl (ap (λ (a : Ask). with_ask a c.key.new.self) c.in-End.is) (λ h. inr (c.in-Ok.ensures.ends.0 c.in-End.is)) refl;
       counted = search rules;
       screen = subst (λ b. Blames b g.N.Tag.sink_faults (g.S.Sink.fault_count c.draw-drawn.new.screen)) (sym c.failed_by-self-inside.ensures)
           (blames_drawn inside.failed c.draw-drawn.result g.N.Tag.sink_faults (g.S.Sink.fault_count inside.screen) (g.S.Sink.fault_count c.draw-drawn.new.screen) c.self.invariant.screen c.draw-drawn.ensures.later c.draw-drawn.ensures.fault);
@@ -75,7 +75,7 @@ invariant_of-self-in-Begin g c =
           c.in-Begin.confirmed c.saturating_add-id.result c.faults-in-Begin.result c.in-Begin.is asked.0 asked.1 c.in-Begin.confirmed.started
           (c.note-in-Begin.ensures.added
           ∙ ap (λ es. entry 0 inside.calls c.faults-in-Begin.result 0 (Began c.saturating_add-id.result c.in-Begin.confirmed.plan false) ∷ es) c.note.ensures.added)
-          (let again = c.faults-in-Begin.ensures in omega (arith, counted, again)) c.saturating_add-id.ensures refl refl refl;
+          (let again = c.faults-in-Begin.ensures in omega (arith, counted, again)) c.saturating_add-id.ensures refl refl refl refl;
       counted = search rules;
       screen = subst (λ b. Blames b g.N.Tag.sink_faults (g.S.Sink.fault_count c.draw-drawn.new.screen)) (sym c.failed_by-self-inside.ensures)
           (blames_drawn inside.failed c.draw-drawn.result g.N.Tag.sink_faults (g.S.Sink.fault_count inside.screen) (g.S.Sink.fault_count c.draw-drawn.new.screen) c.self.invariant.screen c.draw-drawn.ensures.later c.draw-drawn.ensures.fault);
@@ -105,7 +105,7 @@ invariant_of-self-in-Answer g c =
           ∙ ap (λ es. entry 0 inside.calls c.faults-in-Answer.result 0 (Order c.in-Some.job.id (Answered c.in-Answer.answer)) ∷ es) c.note.ensures.added))
           (let again = c.faults-in-Answer.ensures in omega (arith, counted, again)) (ap Some new)
           (ap (λ j. let t : Tally = record { job = Some (told j); last = inside.last_id; unseen = inside.unseen; closed = inside.closed; due = Some c.id-id.result; lost = inside.lost; calls = inside.calls } in t) new
-          ∙ ap (λ n. let t : Tally = record { job = Some (told (answered c.in-Answer.answer c.in-Some.job)); last = inside.last_id; unseen = inside.unseen; closed = inside.closed; due = Some n; lost = inside.lost; calls = inside.calls } in t) c.id-id.ensures) refl;
+          ∙ ap (λ n. let t : Tally = record { job = Some (told (answered c.in-Answer.answer c.in-Some.job)); last = inside.last_id; unseen = inside.unseen; closed = inside.closed; due = Some n; lost = inside.lost; calls = inside.calls } in t) c.id-id.ensures) refl refl;
       counted = search rules;
       screen = subst (λ b. Blames b g.N.Tag.sink_faults (g.S.Sink.fault_count c.draw-drawn.new.screen)) (sym c.failed_by-self-inside.ensures)
           (blames_drawn inside.failed c.draw-drawn.result g.N.Tag.sink_faults (g.S.Sink.fault_count inside.screen) (g.S.Sink.fault_count c.draw-drawn.new.screen) c.self.invariant.screen c.draw-drawn.ensures.later c.draw-drawn.ensures.fault);
