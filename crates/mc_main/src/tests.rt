@@ -352,3 +352,45 @@ fn a_full_mount_is_answered_by_letters(rt: HostRuntime) -> Result<(), Fail> {
     }
     Ok(())
 }
+
+/// A root with the folder `/a` and in it two files. The calls of these numbers fail.
+fn failing_tree(alloc: Global, fails: &[u64]) -> Result<MemTree, Fail> {
+    let folder = Path::parse(alloc, "/a")?;
+    let first = Path::parse(alloc, "/a/x")?;
+    let second = Path::parse(alloc, "/a/y")?;
+    let mut tree = MemTree::new(alloc, 0)?;
+    tree.put_folder(alloc, &folder, 0o755, 0)?;
+    tree.put_file(alloc, &first, 0o644, 0, b"hi")?;
+    tree.put_file(alloc, &second, 0o644, 0, b"ho")?;
+    tree.fail_calls(alloc, fails)?;
+    Ok(tree)
+}
+
+/// The steps of a run over such a tree with these keys.
+fn deleted(alloc: Global, fails: &[u64], keys: &str) -> Result<String, Fail> {
+    let words = words_of(alloc, "/a", None)?;
+    let tree = failing_tree(alloc, fails)?;
+    let outcome = run_mute(alloc, tree, words.as_slice(), keys, None, None)?;
+    steps_of(alloc, &outcome.history)
+}
+
+#[test]
+fn a_folder_that_an_aborted_job_left_is_synced_first(rt: HostRuntime) -> Result<(), Fail> {
+    let alloc = rt.alloc();
+    let both = format!(in alloc; "{DOWN}{F8}\rb{F8}\r{F10}")?;
+    let again = format!(in alloc; "{DOWN}{F8}\rb{F8}\rr{F10}")?;
+    // Two listings, a look, the removal, its sync (call 5), the abort's sync (6), two listings, a look, the mount of the
+    // job's folder and of the dirty one, and the sync of that (12).
+    for (fails, keys, told) in [
+        ([5, 0, 0], both.as_str(), "rtbarbf"),
+        ([5, 6, 0], both.as_str(), "rtbabrbf"),
+        ([5, 6, 12], again.as_str(), "rtbatbrbf"),
+    ] {
+        assert_eq!(rt;
+            deleted(alloc, fails.as_slice(), keys)?.as_str(),
+            told,
+            "{fails:?}"
+        );
+    }
+    Ok(())
+}

@@ -1,6 +1,6 @@
 -- The job comes nearer to its end; the screen, the keys and what is to be looked at stay.
 use Rattle.std.proofs.Common.{◌≡◌}
-use Rattle.copy_move.specs.Ranks.{rank}
+use Rattle.copy_move.specs.Ranks.{rank_with}
 use Rattle.mc_desk.specs.Desks.{KeepsKeys}
 use Rattle.mc_main.proofs.session.work_due.Given as goal
 
@@ -9,4 +9,4 @@ invariant-loop-desk g l =
     (l.desk.screen ≡ l.fn.desk.screen) × KeepsKeys l.fn.desk l.desk × (l.desk.tally.closed ≡ l.fn.desk.tally.closed) × (l.desk.tally.due ≡ l.fn.desk.tally.due)
 
 abbrev pub decreases-loop-desk : goal.decreases-loop-desk
-decreases-loop-desk g l = rank l.desk.job
+decreases-loop-desk g l = rank_with l.desk.dirty l.desk.job

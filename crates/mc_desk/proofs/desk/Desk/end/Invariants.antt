@@ -1,6 +1,6 @@
 -- The desk is closed, on the same screen, with the same keys; its job comes nearer to its end.
 use Rattle.std.proofs.Common.{◌≡◌, true}
-use Rattle.copy_move.specs.Ranks.{rank}
+use Rattle.copy_move.specs.Ranks.{rank_with}
 use Rattle.mc_desk.specs.Tallies.{keys_in}
 use Rattle.mc_desk.proofs.desk.Desk.end.Given as goal
 
@@ -8,4 +8,4 @@ abbrev pub invariant-loop-alloc : goal.invariant-loop-alloc
 invariant-loop-alloc g l = (l.desk.tally.closed ≡ true) × (l.desk.screen ≡ l.fn.self.screen) × (keys_in l.desk.newest ≡ keys_in l.fn.self.newest) × (l.desk.quit ≡ l.fn.self.quit)
 
 abbrev pub decreases-loop-alloc : goal.decreases-loop-alloc
-decreases-loop-alloc g l = rank l.desk.job
+decreases-loop-alloc g l = rank_with l.desk.dirty l.desk.job
