@@ -1,10 +1,11 @@
 -- What a look at a tree says of what can be seen of it.
-use Rattle.std.proofs.Common.{◌≡◌, ◌↔◌, ℕ, ◌≤◌, Bool, true, false, ◌&&◌, List, [], ◌∷◌, length, refl, sym, ◌∙◌, ap, subst, inl, Option, Some, None, IsSome, IfSome, Result, Ok, arith}
+use Rattle.std.proofs.Common.{◌≡◌, ◌↔◌, ℕ, ◌≤◌, Bool, true, false, ◌&&◌, List, ◌∷◌, length, refl, sym, ◌∙◌, ap, subst, inl, Option, Some, None, IsSome, IfSome, IfOk, IfErr, Result, Ok, Err, arith}
 use Rattle.std.specs.Prelude.{nat_le, option_and_then}
 use Rattle.std.specs.Option.{option_map, option_map_or}
 use Rattle.mc_text.specs.Routes.{Route, spelled}
 use Rattle.tree_trait.specs.declared.file_system.FileSystem.{FileSystem}
 use Rattle.tree_trait.specs.declared.calls.TreeError.{TreeError}
+use Rattle.tree_trait.specs.declared.calls.TreeError.TheVariants.{Missing}
 use Rattle.tree_trait.specs.declared.calls.Meta.{Meta}
 use Rattle.tree_trait.specs.declared.calls.Children.{Children}
 use Rattle.tree_trait.specs.Calls.{Stat, ListFolder}
@@ -14,12 +15,13 @@ use Rattle.tree_trait.specs.Change.{CallLog, current, found}
 use Rattle.tree_trait.specs.CrashImages.{Among}
 use Rattle.tree_trait.specs.Answers.{IsMeta, IsListing, IsAscending, IfKnown, Reads}
 use Rattle.tree_trait.proofs.Walking.{stat-found, list-found}
+use Rattle.file_copy.proofs.PermittedCalls.{stat_missing}
 use Rattle.mc_ui.specs.declared.dialog.Chosen.{Chosen}
 use Rattle.mc_ui.specs.declared.choosing.Choice.TheVariants.{File}
 use Rattle.mc_ui.specs.declared.reread.Reread.{Reread}
 use Rattle.mc_ui.specs.Choices.{IsChoice}
 use Rattle.mc_ui.specs.Panels.{ListsFolder}
-use Rattle.mc_ui.specs.Screens.{IsReread, MayAsk, is_file_spot, sight}
+use Rattle.mc_ui.specs.Screens.{IsReread, IsTaken, IsVacant, MayAsk, is_file_spot, sight}
 
 -- what `stat` says of a path is what can be seen there
 spot_kind : (log : CallLog) (path : Route) (meta : Meta) → refusal_of (current log) (Stat path) ≡ None → IsMeta (current log) path meta
@@ -52,15 +54,25 @@ file_choice contents current_is path chosen meta is same close reads file =
     subst (λ q. IsChoice (sight contents) q (File chosen)) (sym is) (may_ask contents path meta close reads file, same)
 
 -- something stands where a look was answered
-pub stands : (contents : Option CallLog) (path target : Route) (meta : Meta) → path ≡ target
-    → IfKnown contents (λ log. Reads log (Stat path) (let r : Result Meta TreeError = Ok meta in r) (IsMeta (current log) path))
-    → (view : View) → sight contents ≡ Some view → IsSome (view target).value
-stands None path target meta same reads view is = absurd cc
-stands (Some log) path target meta same reads view is =
+pub taken : (contents : Option CallLog) (path : Route) (result : Result Meta TreeError)
+    → IfKnown contents (λ log. Reads log (Stat path) result (IsMeta (current log) path)) → IfOk result (λ _meta. IsTaken (sight contents) path)
+taken contents path (Err e) reads = tt
+taken None path (Ok meta) reads = λ view is. absurd cc
+taken (Some log) path (Ok meta) reads = λ view is.
     let at = stat-found (current log) path (reads log refl).0 in
     let seen : visible_tree (current log) ≡ view = cc in
-    let there : IsSome (visible_tree (current log) path).value = subst (λ o. IsSome (option_map (λ i. value (node (current log) i)) o)) (sym at) refl in
-    subst (λ (v : View). IsSome (v target).value) seen (subst (λ p. IsSome (visible_tree (current log) p).value) same there)
+    subst (λ (v : View). IsSome (v path).value) seen (subst (λ o. IsSome (option_map (λ i. value (node (current log) i)) o)) (sym at) refl)
+
+-- nothing stands where a look was refused since nothing is there
+pub vacant : (contents : Option CallLog) (path : Route) (result : Result Meta TreeError)
+    → IfKnown contents (λ log. Reads log (Stat path) result (IsMeta (current log) path)) → IfErr result (λ e. e ≡ Missing → IsVacant (sight contents) path)
+vacant contents path (Ok meta) reads = tt
+vacant None path (Err e) reads = λ missing view is. absurd cc
+vacant (Some log) path (Err e) reads = λ missing view is.
+    let refused : refusal_of (current log) (Stat path) ≡ Some Missing =
+    subst (λ x. Reads log (Stat path) (let r : Result Meta TreeError = Err x in r) (IsMeta (current log) path)) missing (reads log refl) in
+    let seen : visible_tree (current log) ≡ view = cc in
+    subst (λ (v : View). (v path).value ≡ None) seen (ap (option_map (λ i. value (node (current log) i))) (stat_missing (current log) path refused))
 
 some_value : (o : Option ℕ) (s : FileSystem) → IsSome o ↔ IsSome (option_map (λ i. value (node s i)) o)
 some_value None s = (λ h. h, λ h. h)

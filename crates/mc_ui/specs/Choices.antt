@@ -12,7 +12,7 @@ use Rattle.mc_ui.specs.declared.choosing.Choice.{Choice}
 use Rattle.mc_ui.specs.declared.choosing.Choice.TheVariants.{Nothing, File, Refused}
 use Rattle.mc_ui.specs.declared.copying.CopyPlan.{CopyPlan}
 use Rattle.mc_ui.specs.declared.copying.CopyPlan.TheVariants.{Begins, Refuses}
-use Rattle.mc_ui.specs.Screens.{CopyRefused, MayAsk, copy_plan}
+use Rattle.mc_ui.specs.Screens.{CopyRefused, IsVacant, MayAsk, copy_plan}
 use Rattle.mc_ui.specs.Refused.{has_fault, is_fault}
 
 -- it is nothing that a box may ask of, or a file, or a look at it was refused
@@ -34,9 +34,10 @@ is_faulty Nothing = false
 is_faulty (File chosen) = false
 is_faulty (Refused path e) = is_fault e
 
--- what planning a copy comes to: it is begun as it was planned, under the next number, or it is refused
+-- what planning a copy comes to: it is begun as it was planned, under the next number, where nothing stands at its target,
+-- or it is refused
 abbrev pub PlanLeads : Option View → ℕ → Route → Route → CopyPlan → Type 0
-PlanLeads tree next path target (Begins confirmed) = (confirmed.plan ≡ copy_plan path target) × (confirmed.run.id ≡ next)
+PlanLeads tree next path target (Begins confirmed) = IsVacant tree target × (confirmed.plan ≡ copy_plan path target) × (confirmed.run.id ≡ next)
 PlanLeads tree next path target (Refuses refusal) = CopyRefused tree target refusal
 
 -- what it says of the tree's calls

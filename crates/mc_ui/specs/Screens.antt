@@ -121,15 +121,23 @@ in_delete_box base job path before =
 abbrev pub in_mask_box : Base → Route → Screen → Screen
 in_mask_box base path before = if is_enter base then record before { over = TargetBox path } else shut_box base before
 
+-- something stands at a path, as far as the tree can be seen
+abbrev pub IsTaken : Option View → Route → Type 0
+IsTaken tree path = (view : View) → tree ≡ Some view → IsSome (view path).value
+
+-- nothing stands at a path, as far as the tree can be seen
+abbrev pub IsVacant : Option View → Route → Type 0
+IsVacant tree path = (view : View) → tree ≡ Some view → (view path).value ≡ None
+
 -- a copy is refused: something stands at its target, the target's path is too long, or the look at it is refused
 abbrev pub CopyRefused : Option View → Route → Refusal → Type 0
-CopyRefused tree target (Plan (TargetThere there)) = (there ≡ target) × ((view : View) → tree ≡ Some view → IsSome (view target).value)
+CopyRefused tree target (Plan (TargetThere there)) = (there ≡ target) × IsTaken tree target
 CopyRefused tree target (Plan TargetTooLong) = 4096 < length (spelled target)
 CopyRefused tree target (Tree path e) = (path ≡ target) × (e ≢ Missing)
 
--- the target is accepted: the copy is planned, or refused, and then the box stays
+-- the target is accepted: the copy is planned where nothing stands there, or refused, and then the box stays
 abbrev pub PlansCopy : Option View → Route → Route → List Refusal → Screen → Screen → Type 0
-PlansCopy tree path target [] before after = after ≡ record before { over = NoBox; planned = Some (Begins (copy_plan path target)) }
+PlansCopy tree path target [] before after = IsVacant tree target × (after ≡ record before { over = NoBox; planned = Some (Begins (copy_plan path target)) })
 PlansCopy tree path target (refusal ∷ more) before after = CopyRefused tree target refusal × (more ≡ []) × (after ≡ before)
 
 -- a key while the target is shown

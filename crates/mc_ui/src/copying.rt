@@ -1,8 +1,10 @@
 //! The plans of the jobs that a box confirms.
 ghost use Rattle.std.specs.Prelude.{◌≡◌, ◌≢◌, ◌<◌, ◌≤◌, true, IfErr, IfOk, is_some, length};
 ghost use Rattle.mc_text.specs.Routes.{parent_of, spelled};
-ghost use Rattle.tree_trait.specs.Answers.{IfKnown, HasRisen};
-ghost use Rattle.mc_ui.specs.Screens.{copy_plan, delete_plan, sight, target_in};
+ghost use Rattle.tree_trait.specs.Calls.{Stat};
+ghost use Rattle.tree_trait.specs.Change.{current};
+ghost use Rattle.tree_trait.specs.Answers.{HasCause, HasRisen, IfKnown, IsMeta, Reads};
+ghost use Rattle.mc_ui.specs.Screens.{IsTaken, IsVacant, copy_plan, delete_plan, sight, target_in};
 ghost use Rattle.mc_ui.specs.Choices.{AfterLook, PlanCalls, PlanLeads, has_plan_fault};
 
 use crate::asks::Confirmed;
@@ -10,7 +12,7 @@ use crate::dialog::Chosen;
 use copy_move::{Job, Pair, Pairs, PlanError, Refusal, Run};
 use mc_text::{NoMemory, Path, PathError, Paths};
 use std::alloc::Global;
-use tree_trait::{Tree, TreeError};
+use tree_trait::{Meta, Tree, TreeError};
 
 /// What planning a copy comes to.
 #[derive(Debug, Drop)]
@@ -38,10 +40,21 @@ pub fn plan_copy<T: Tree>(
         Err(PathError::Memory) => return Err(NoMemory),
         Err(_) => return Ok(CopyPlan::Refuses(Refusal::Plan(PlanError::TargetTooLong))),
     };
-    match tree.stat(alloc, &target) {
+    match look_at(alloc, tree, &target) {
         Ok(_) => Ok(CopyPlan::Refuses(Refusal::Plan(PlanError::TargetThere(target)))),
         Err(error) => after_look(alloc, chosen, target, next, error),
     }
+}
+
+/// Looks whether something stands at a copy's target.
+fn look_at<T: Tree>(alloc: Global, tree: &mut T, target: &Path) -> Result<Meta, TreeError>
+    ensures there { IfOk result (λ _meta. IsTaken (sight (T.contents tree.old)) target.now) }
+    ensures nothing { IfErr result (λ e. e ≡ TreeError.Missing → IsVacant (sight (T.contents tree.old)) target.now) }
+    ensures answer { IfKnown (T.contents tree.old) (λ log. Reads log (Stat target.now) result (IsMeta (current log) target.now)) }
+    ensures cause { HasCause TreeError.Fault (T.fault_count tree.old) (T.fault_count tree.new) result }
+    ensures same { T.contents tree.new ≡ T.contents tree.old }
+{
+    tree.stat(alloc, target)
 }
 
 /// Where a file comes that is copied into a folder.
