@@ -122,15 +122,23 @@ impl Deletion {
         }
     }
 
+    /// The folder that is to be synced once the name is gone.
+    fn folder_to_sync(&self) -> &Path
+        ensures { parent_of self.now.path ≡ Some result.now }
+    {
+        &self.folder
+    }
+
     fn sync<T: Tree>(&mut self, alloc: Global, tree: &mut T) -> Stepped
         requires stage { self.old.stage ≡ Stage.Sync }
         ensures { DeletionStep self.old self.new result.did result.calls (T.contents tree.old)
             (T.contents tree.new) (T.fault_count tree.old) (T.fault_count tree.new) }
     {
-        let Ok(folder) = self.folder.copy(alloc) else {
+        let owed = self.folder_to_sync();
+        let Ok(folder) = owed.copy(alloc) else {
             return without_call(Did::Troubled(no_memory(true)));
         };
-        match tree.sync_folder(alloc, &self.folder) {
+        match tree.sync_folder(alloc, owed) {
             Ok(()) => {
                 self.stage = Stage::Finish;
                 with_call(Did::Barrier)
@@ -146,8 +154,9 @@ impl Deletion {
             (T.contents tree.new) (T.fault_count tree.old) (T.fault_count tree.new) }
     {
         let _ending = ending;
+        let answer = tree.sync_folder(alloc, self.folder_to_sync());
         self.stage = Stage::Finish;
-        tried(tree.sync_folder(alloc, &self.folder))
+        tried(answer)
     }
 }
 
