@@ -96,7 +96,8 @@ impl Deletion {
 
     /// The folder that holds the file.
     pub fn folder(&self) -> &Path
-        ensures { result.now ≡ folder_of self.now.path }
+        ensures holds { parent_of self.now.path ≡ Some result.now }
+        ensures is { result.now ≡ folder_of self.now.path }
     {
         &self.folder
     }
@@ -156,10 +157,11 @@ impl Deletion {
         ensures { DeletionStep self.old self.new result.did result.calls (T.contents tree.old)
             (T.contents tree.new) (T.fault_count tree.old) (T.fault_count tree.new) }
     {
-        let Ok(folder) = self.folder.copy(alloc) else {
+        let owed = self.folder();
+        let Ok(folder) = owed.copy(alloc) else {
             return without_call(Did::Troubled(no_memory(true)));
         };
-        match tree.sync_folder(alloc, &self.folder) {
+        match tree.sync_folder(alloc, owed) {
             Ok(()) => {
                 self.stage = Stage::Finish;
                 with_call(Did::Barrier)
@@ -175,8 +177,9 @@ impl Deletion {
             (T.contents tree.new) (T.fault_count tree.old) (T.fault_count tree.new) }
     {
         let _ending = ending;
+        let answer = tree.sync_folder(alloc, self.folder());
         self.stage = Stage::Finish;
-        tried(tree.sync_folder(alloc, &self.folder))
+        tried(answer)
     }
 }
 

@@ -10,7 +10,7 @@ use Rattle.file_copy.specs.declared.report.Cause.{Cause}
 use Rattle.file_copy.specs.declared.report.Cause.TheVariants.{Tree, TargetKind, SpecialSource, PartTaken, TooLong, Changed, Memory}
 use Rattle.file_copy.specs.declared.stop.Stop.{Stop}
 use Rattle.file_copy.specs.CallRuns.{AllDone, StopsAt, RunStops, HasMore, path_of}
-use Rattle.file_copy.specs.Stops.{Ran, ran_of, later_of}
+use Rattle.file_copy.specs.Stops.{Comes, Ran, calls_of, ran_of, later_of}
 
 -- one change more, or none where there was no memory
 pub one_more : (log : CallLog) (c : Change) (now : CallLog) → (let o : Option CallLog = Some (with_change log c) in o) ≡ Some now → HasMore log 1 now
@@ -210,3 +210,20 @@ ran_stopped xs ys b before after f0 f1 stop one = record {
   later = one.later;
   fault = one.fault;
 }
+
+-- the same of calls whose row is closed
+pub comes_few : (calls : List Call) (b : Bool) (r : Result ℕ Stop) (before after : Option CallLog) (f0 f1 : ℕ) → Comes calls b r before after f0 f1 → calls_of r ≤ length calls
+unfolding Comes
+comes_few calls b r before after f0 f1 h = h.few
+
+-- a call that was done, and then another
+pub comes_then : (x y : Call) (b : Bool) (before mid after : Option CallLog) (f0 f1 f2 : ℕ) (n : ℕ) (r told : Result ℕ Stop) → told ≡ later_of n r
+    → Comes (x ∷ []) b (Ok n) before mid f0 f1 → Comes (y ∷ []) b r mid after f1 f2 → Comes (x ∷ y ∷ []) b told before after f0 f2
+unfolding Comes
+comes_then x y b before mid after f0 f1 f2 n r told is one two = ran_told (x ∷ []) (y ∷ []) b before mid after f0 f1 f2 n r told is one two
+
+-- a call that stopped, and no other
+pub comes_stopped : (x y : Call) (b : Bool) (before after : Option CallLog) (f0 f1 : ℕ) (stop : Stop)
+    → Comes (x ∷ []) b (Err stop) before after f0 f1 → Comes (x ∷ y ∷ []) b (Err stop) before after f0 f1
+unfolding Comes
+comes_stopped x y b before after f0 f1 stop one = ran_stopped (x ∷ []) (y ∷ []) b before after f0 f1 stop one

@@ -64,3 +64,7 @@ pub record Ran (calls : List Call) (at_barrier : Bool) (result : Result ℕ Stop
   pub unknown : before ≡ None → after ≡ None
   pub later : faults ≤ faults_after
   pub fault : IfErr result (λ stop. stop.trouble.cause ≡ Tree refused.Fault → HasRisen faults faults_after)
+
+-- The same, as a word that stays closed: so the prover goes by lemmas from the calls of a row to the row.
+unfoldable pub Comes : List Call → Bool → Result ℕ Stop → Option CallLog → Option CallLog → ℕ → ℕ → Type 0
+Comes calls at_barrier result before after faults faults_after = Ran calls at_barrier result before after faults faults_after

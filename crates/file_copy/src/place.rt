@@ -2,7 +2,7 @@
 ghost use Rattle.std.specs.Prelude.{◌+◌, ◌≤◌, ◌^◌, ◌∷◌, [], length, true, false};
 ghost use Rattle.tree_trait.specs.Calls.{MakeFile, WriteAt, SetMode, Rename, RemoveFile, SyncFile, SyncFolder};
 ghost use Rattle.file_copy.specs.CopyCalls.{moding, placing};
-ghost use Rattle.file_copy.specs.Stops.{Ran};
+ghost use Rattle.file_copy.specs.Stops.{Comes, Ran};
 
 use crate::stop::{Stop, no_memory, ran, then, unmade};
 use mc_text::Path;
@@ -48,6 +48,7 @@ pub(crate) fn write_part<T: Tree>(
 }
 
 /// Brings a full part to the target. It is synced before it is renamed, so that no crash leaves half a target.
+#[tactic(auto, unfolding(crate::specs::Stops::Comes))]
 pub(crate) fn place<T: Tree>(
     alloc: Global,
     tree: &mut T,
@@ -80,13 +81,14 @@ fn give_mode<T: Tree>(alloc: Global, tree: &mut T, part: &Path, mode: u16) -> Re
     ran(tree.set_mode(alloc, part, mode), named, false)
 }
 
+#[tactic(auto, using(crate::proofs::Runs::comes_then, crate::proofs::Runs::comes_stopped, crate::proofs::Runs::comes_few))]
 fn sync_and_rename<T: Tree>(
     alloc: Global,
     tree: &mut T,
     part: &Path,
     target: &Path,
 ) -> Result<u64, Stop>
-    ensures { Ran (SyncFile part.now ∷ Rename part.now target.now ∷ []) false result (T.contents tree.old) (T.contents tree.new)
+    ensures { Comes (SyncFile part.now ∷ Rename part.now target.now ∷ []) false result (T.contents tree.old) (T.contents tree.new)
         (T.fault_count tree.old) (T.fault_count tree.new) }
 {
     match sync_part(alloc, tree, part) {
@@ -95,8 +97,9 @@ fn sync_and_rename<T: Tree>(
     }
 }
 
+#[tactic(auto, unfolding(crate::specs::Stops::Comes))]
 fn sync_part<T: Tree>(alloc: Global, tree: &mut T, part: &Path) -> Result<u64, Stop>
-    ensures { Ran (SyncFile part.now ∷ []) false result (T.contents tree.old) (T.contents tree.new)
+    ensures { Comes (SyncFile part.now ∷ []) false result (T.contents tree.old) (T.contents tree.new)
         (T.fault_count tree.old) (T.fault_count tree.new) }
 {
     let Ok(named) = part.copy(alloc) else {
@@ -105,13 +108,14 @@ fn sync_part<T: Tree>(alloc: Global, tree: &mut T, part: &Path) -> Result<u64, S
     ran(tree.sync_file(alloc, part), named, false)
 }
 
+#[tactic(auto, unfolding(crate::specs::Stops::Comes))]
 fn rename_part<T: Tree>(
     alloc: Global,
     tree: &mut T,
     part: &Path,
     target: &Path,
 ) -> Result<u64, Stop>
-    ensures { Ran (Rename part.now target.now ∷ []) false result (T.contents tree.old) (T.contents tree.new)
+    ensures { Comes (Rename part.now target.now ∷ []) false result (T.contents tree.old) (T.contents tree.new)
         (T.fault_count tree.old) (T.fault_count tree.new) }
 {
     let Ok(named) = target.copy(alloc) else {

@@ -1,6 +1,5 @@
 -- Without memory no call was made; a sync changes nothing that can be seen, refused or not.
-use Rattle.std.proofs.Common.{ap, sym, ◌∙◌, refl, arith, true, ◌≡◌, Some}
-use Rattle.mc_text.specs.Routes.{parent_of}
+use Rattle.std.proofs.Common.{ap, ◌∙◌, refl, arith, true}
 use Rattle.tree_trait.specs.declared.calls.TreeError.TheVariants as refused
 use Rattle.tree_trait.specs.Calls.{SyncFolder}
 use Rattle.file_copy.specs.declared.report.Did.TheVariants.{Troubled}
@@ -12,27 +11,24 @@ use Rattle.copy_move.proofs.deletion.Deletion.sync.Goals as goal
 
 pub returns-in_default : goal.returns-in_default
 returns-in_default g c =
-    let within : parent_of c.args.self.now.path ≡ Some c.self.inside.folder = sym (ap (λ (d : Deleting). parent_of d.path) c.self.view_is) ∙ c.self.invariant in
-    let t = trouble_at refused.Memory c.self.inside.folder true in
+    let t = trouble_at refused.Memory c.folder-owed.result.now true in
     steps_unmade c.args.self.now _ _ _ _ _ c.without_call.result.did c.without_call.result.calls t (ap (λ (s : Stepped). s.did) c.without_call.ensures ∙ ap Troubled c.no_memory.ensures)
-    (sync_at c.args.self.now c.self.inside.folder refused.Memory within c.requires.stage) refl
+    (sync_at c.args.self.now c.folder-owed.result.now refused.Memory c.folder-owed.ensures.holds c.requires.stage) refl
     (λ h. h) (omega arith) (λ h. absurd cc) (ap (λ (s : Stepped). s.calls) c.without_call.ensures) refl refl
 
 pub returns-in-Ok-sync_folder : goal.returns-in-Ok-sync_folder
 returns-in-Ok-sync_folder g c =
-    let within : parent_of c.args.self.now.path ≡ Some c.self.inside.folder = sym (ap (λ (d : Deleting). parent_of d.path) c.self.view_is) ∙ c.self.invariant in
-    steps_synced c.args.self.now _ _ _ _ _ c.with_call.result.did c.with_call.result.calls c.self.inside.folder (ap (λ (s : Stepped). s.did) c.with_call.ensures)
+    steps_synced c.args.self.now _ _ _ _ _ c.with_call.result.did c.with_call.result.calls c.folder-owed.result.now (ap (λ (s : Stepped). s.did) c.with_call.ensures)
     (ap (λ (s : Stepped). s.calls) c.with_call.ensures)
-    c.requires.stage within (ap (λ (d : Deleting). let k : Deleting = record d { stage = Finish } in k) c.self.view_is)
+    c.requires.stage c.folder-owed.ensures.holds (ap (λ (d : Deleting). let k : Deleting = record d { stage = Finish } in k) c.self.view_is)
     (λ log known. c.in-Ok-sync_folder.ensures.answer log known)
     c.sync_folder.ensures.stays_unknown c.sync_folder.ensures.cause.later
 
 pub returns-in-Err : goal.returns-in-Err
 returns-in-Err g c =
-    let within : parent_of c.args.self.now.path ≡ Some c.self.inside.folder = sym (ap (λ (d : Deleting). parent_of d.path) c.self.view_is) ∙ c.self.invariant in
-    let t = trouble_at c.in-Err.error c.self.inside.folder true in
+    let t = trouble_at c.in-Err.error c.folder-owed.result.now true in
     steps_refused c.args.self.now _ _ _ _ _ c.refused.result.did c.refused.result.calls t (c.refused.ensures.did ∙ ap (λ q. Troubled (trouble_at c.in-Err.error q true)) c.in-Ok.ensures)
-    (sync_at c.args.self.now c.self.inside.folder c.in-Err.error within c.requires.stage) refl
+    (sync_at c.args.self.now c.folder-owed.result.now c.in-Err.error c.folder-owed.ensures.holds c.requires.stage) refl
     c.sync_folder.ensures.stays_unknown c.sync_folder.ensures.cause.later (λ h. c.in-Err.ensures.cause.risen (err_is c.in-Err.error (fault-cause c.in-Err.error h)))
-    (SyncFolder c.self.inside.folder) c.in-Err.error c.refused.ensures.calls (ap (λ s. call_of s c.args.self.now.path) c.requires.stage ∙ sync_call c.args.self.now.path c.self.inside.folder within) refl
+    (SyncFolder c.folder-owed.result.now) c.in-Err.error c.refused.ensures.calls (ap (λ s. call_of s c.args.self.now.path) c.requires.stage ∙ sync_call c.args.self.now.path c.folder-owed.result.now c.folder-owed.ensures.holds) refl
     (λ log known. c.in-Err.ensures.answer log known)
