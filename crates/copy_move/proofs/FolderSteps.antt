@@ -170,7 +170,7 @@ skipped_stage deletion.Sync = refl
 skipped_stage deletion.Finish = refl
 skipped_stage deletion.PassedOver = refl
 
-skipped_dirty : (work : Work) → is_dirty (skipped work) ≡ is_dirty work
+pub skipped_dirty : (work : Work) → is_dirty (skipped work) ≡ is_dirty work
 skipped_dirty (Copy c) = refl
 skipped_dirty (Delete d) = skipped_stage d.stage
 

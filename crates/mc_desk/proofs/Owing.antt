@@ -107,7 +107,7 @@ among-append : (xs : List Route) (x y : Route) → Among (xs ++ x ∷ []) y → 
 among-append [] x y (inl is) = inr (sym is)
 among-append [] x y (inr none) = absurd none
 among-append (z ∷ xs) x y (inl is) = inl (inl is)
-among-append (z ∷ xs) x y (inr more) = elim (among-append xs x y more) [ | inl among ↦ inl (inr among) | inr is ↦ inr is ]
+among-append (z ∷ xs) x y (inr more) = elim (among-append xs x y more) [ inl among ↦ inl (inr among) | inr is ↦ inr is ]
 
 pub among-without : (folder : Route) (dirty : List Route) (kept : Route) → Among (without folder dirty) kept → Among dirty kept × (folder ≡ kept → ⊥)
 among-without folder [] kept h = absurd h
@@ -122,12 +122,12 @@ among-without folder (first ∷ more) kept h = go (λ among. among-without folde
 -- the job's folder, where it is dirty, or another
 changed_owes : (was now : Bool) (own : Route) (dirty : List Route) (kept : Route) (Left : Type 0) → (Among dirty kept → Left ⊎ ((own ≡ kept) × (was ≡ true))) → Among (with_change was now own dirty) kept → Left ⊎ ((own ≡ kept) × (now ≡ true))
 changed_owes true true own dirty kept Left had among = had among
-changed_owes false false own dirty kept Left had among = elim (had among) [ | inl left ↦ inl left | inr own ↦ absurd (false≢true own.1) ]
+changed_owes false false own dirty kept Left had among = elim (had among) [ inl left ↦ inl left | inr own ↦ absurd (false≢true own.1) ]
 changed_owes true false own dirty kept Left had among =
     let rest = among-without own dirty kept among in
-    elim (had rest.0) [ | inl left ↦ inl left | inr own_is ↦ absurd (rest.1 own_is.0) ]
+    elim (had rest.0) [ inl left ↦ inl left | inr own_is ↦ absurd (rest.1 own_is.0) ]
 changed_owes false true own dirty kept Left had among = elim (among-append dirty own kept among) [
-  | inl before ↦ elim (had before) [ | inl left ↦ inl left | inr own_is ↦ absurd (false≢true own_is.1) ]
+  | inl before ↦ elim (had before) [ inl left ↦ inl left | inr own_is ↦ absurd (false≢true own_is.1) ]
   | inr is ↦ inr (is, refl)
 ]
 
@@ -205,6 +205,35 @@ unchanged_end (Delete d) (Delete new) Aborted part t = absurd t
 unchanged_end (Delete d) (Delete new) Killed part t = absurd t
 unchanged_end (Delete d) (Delete new) NoMemory part t = absurd t
 
+-- a dirty folder is clean only after the report of its sync
+copy_synced : (c new : copying.Copying) (did : Did) → copying.Tells c did new → copying.is_dirty c.folder ≡ true → copying.is_dirty new.folder ≡ false → did ≡ Barrier
+copy_synced c new Barrier t was now = refl
+copy_synced c new (BeganPart part) t was now = absurd (true≢false (sym (ap (λ (n : copying.Copying). copying.is_dirty n.folder) t.1.1) ∙ now))
+copy_synced c new (Chunk count) (part, said, done, at, some, few, within, is) was now = absurd (true≢false (sym was ∙ (sym (ap (λ (n : copying.Copying). copying.is_dirty n.folder) is) ∙ now)))
+copy_synced c new (Placed path) (part, said, at, target, is) was now = absurd (true≢false (sym was ∙ (sym (ap (λ (n : copying.Copying). copying.is_dirty n.folder) is) ∙ now)))
+copy_synced c new (Cleaned part) (follows, at, is) was now = absurd (true≢false (sym was ∙ (sym (ap (λ (n : copying.Copying). copying.is_dirty n.folder) is) ∙ now)))
+copy_synced c new (Troubled trouble) t was now = absurd (true≢false (sym was ∙ (sym (ap (λ (n : copying.Copying). copying.is_dirty n.folder) t.1) ∙ now)))
+copy_synced c new (Ended ending part) t was now = absurd (true≢false (sym was ∙ (copy_finishes c new ending part t).1))
+copy_synced c new (Removed path) t was now = absurd t
+copy_synced c new (Skipped path cause) t was now = absurd t
+
+deletion_synced : (d new : deletions.Deleting) (did : Did) → deletions.Tells d did new → deletions.is_dirty d.stage ≡ true → deletions.is_dirty new.stage ≡ false → did ≡ Barrier
+deletion_synced d new Barrier t was now = refl
+deletion_synced d new (Removed path) t was now = absurd (true≢false (sym was ∙ ap deletions.is_dirty t.0))
+deletion_synced d new (Troubled trouble) t was now = absurd (true≢false (sym was ∙ (sym (ap (λ (n : deletions.Deleting). deletions.is_dirty n.stage) t.1) ∙ now)))
+deletion_synced d new (Ended ending part) t was now = absurd (true≢false (sym was ∙ (deletion_finishes d new ending part t).1))
+deletion_synced d new (BeganPart part) t was now = absurd t
+deletion_synced d new (Chunk count) t was now = absurd t
+deletion_synced d new (Placed path) t was now = absurd t
+deletion_synced d new (Skipped path cause) t was now = absurd t
+deletion_synced d new (Cleaned part) t was now = absurd t
+
+pub clean_before : (old new : Work) (did : Did) → WorkTells old did new → is_dirty old ≡ true → is_dirty new ≡ false → did ≡ Barrier
+clean_before (Copy c) (Copy new) did t was now = copy_synced c new did t was now
+clean_before (Copy c) (Delete new) did t was now = absurd t
+clean_before (Delete d) (Copy new) did t was now = absurd t
+clean_before (Delete d) (Delete new) did t was now = deletion_synced d new did t was now
+
 -- a last step ends as it was ordered
 winds_end : (ending how : Ending) (old new : Work) (part : Option Route) → WorkWinds ending old (Ended how part) new → how ≡ ending
 winds_end ending how (Copy c) (Copy new) part w = w.2
@@ -259,7 +288,7 @@ answered_owner answer id work (Ends ending) folder h = h
 pub owed_on : (left left_after : List Route) (job job_after : Option Running) (dirty dirty_after : List Route) → left_after ≡ left → dirty_after ≡ dirty → ((folder : Route) → IsOwner job folder → IsOwner job_after folder)
     → IsOwed left job dirty → IsOwed left_after job_after dirty_after
 owed_on left left_after job job_after dirty dirty_after left_is dirty_is owner owed folder among =
-    elim (owed folder (subst (λ d. Among d folder) dirty_is among)) [ | inl had ↦ inl (subst (λ l. Among l folder) (sym left_is) had) | inr own ↦ inr (owner folder own) ]
+    elim (owed folder (subst (λ d. Among d folder) dirty_is among)) [ inl had ↦ inl (subst (λ l. Among l folder) (sym left_is) had) | inr own ↦ inr (owner folder own) ]
 
 -- a job that has changed nothing owes nothing
 pub fresh_left : (left : List Route) (live : Running) (dirty : List Route) (folder : Route) → live.course ≡ GoesOn → Rattle.copy_move.specs.Jobs.is_fresh live.work ≡ true → IsOwed left (Some live) dirty → Among dirty folder → Among left folder
@@ -271,7 +300,7 @@ fresh_left left live dirty folder goes fresh owed among = elim (owed folder amon
 -- the end of a job for want of memory leaves its folder
 pub given_up_owed : (number : ℕ) (part : Option Route) (left : List Route) (live : Running) (dirty : List Route) → IsOwed left (Some live) dirty → IsOwed (left_by_end (Step number (Ended NoMemory part)) (Some (told live)) left) None dirty
 given_up_owed number part left live dirty owed folder among =
-    elim (owed folder among) [ | inl had ↦ inl (inr had) | inr own ↦ inl (inl (sym own.0 ∙ sym (told_folder live.work))) ]
+    elim (owed folder among) [ inl had ↦ inl (inr had) | inr own ↦ inl (inl (sym own.0 ∙ sym (told_folder live.work))) ]
 
 module _ (left : List Route) (live : Running) (dirty : List Route) (owed : IsOwed left (Some live) dirty) where
   -- the sync of a folder that an ended job left
@@ -292,7 +321,7 @@ module _ (left : List Route) (live : Running) (dirty : List Route) (owed : IsOwe
       (subst (λ b. Among left folder ⊎ IsOwner (if b then None else Some stepped) folder) (sym going) (owes folder among))
 
   had : (was : Bool) (own folder : Route) → own ≡ changed_folder live.work → (may_owe live.course live.work ≡ true → was ≡ true) → Among dirty folder → Among left folder ⊎ ((own ≡ folder) × (was ≡ true))
-  had was own folder own_is owes among = elim (owed folder among) [ | inl h ↦ inl h | inr o ↦ inr (own_is ∙ o.0, owes o.1) ]
+  had was own folder own_is owes among = elim (owed folder among) [ inl h ↦ inl h | inr o ↦ inr (own_is ∙ o.0, owes o.1) ]
 
   module _ (stepped : Running) (did : Did) (number : ℕ) (dirty_after : List Route) where
     abbrev Owes : Type 0
@@ -321,12 +350,12 @@ module _ (left : List Route) (live : Running) (dirty : List Route) (owed : IsOwe
             let clean : is_dirty stepped.work ≡ false = ap (λ (s : Running). is_dirty s.work) is ∙ (unchanged_end live.work work ending part t ∙ f.1) in
             let still : dirty_after ≡ dirty = leaves ∙ (ap (λ b. with_change b (is_dirty stepped.work) (changed_folder live.work) dirty) f.1 ∙ ap (λ b. with_change false b (changed_folder live.work) dirty) clean) in
             λ folder among.
-                inl (subst (λ d. Among (left_by_end (Step number d) (Some (told live)) left) folder) (sym same)
-                (subst (λ e. Among (left_by_end (Step number (Ended e part)) (Some (told live)) left) folder) (sym f.0)
-                (elim (owed folder (subst (λ d. Among d folder) still among)) [
-                  | inl h ↦ h
-                  | inr own ↦ absurd (false≢true (sym f.1 ∙ subst (λ c. may_owe c live.work ≡ true) goes own.1))
-                ])))
+            inl (subst (λ d. Among (left_by_end (Step number d) (Some (told live)) left) folder) (sym same)
+            (subst (λ e. Among (left_by_end (Step number (Ended e part)) (Some (told live)) left) folder) (sym f.0)
+            (elim (owed folder (subst (λ d. Among d folder) still among)) [
+              | inl h ↦ h
+              | inr own ↦ absurd (false≢true (sym f.1 ∙ subst (λ c. may_owe c live.work ≡ true) goes own.1))
+            ])))
         ended (BeganPart part) same = absurd (false≢true (sym (ap ends same) ∙ over))
         ended (Chunk bytes) same = absurd (false≢true (sym (ap ends same) ∙ over))
         ended (Placed path) same = absurd (false≢true (sym (ap ends same) ∙ over))
@@ -341,8 +370,10 @@ module _ (left : List Route) (live : Running) (dirty : List Route) (owed : IsOwe
     winds_up ending work refusal goes ordered winds is leaves false going = going_owed stepped did number dirty_after going (λ folder among.
         elim (owed folder (tried_among did refusal (changed_folder live.work) dirty folder (subst (λ d. Among d folder) leaves among))) [
           | inl h ↦ inl h
-          | inr own ↦ inr (ap (λ (s : Running). changed_folder s.work) is ∙ (winds_there ending live.work work did winds ∙ own.0),
-              ap (λ (s : Running). may_owe s.course s.work) is ∙ ap (λ c. may_owe c work) goes)
+          | inr own ↦ inr (
+            ap (λ (s : Running). changed_folder s.work) is ∙ (winds_there ending live.work work did winds ∙ own.0),
+            ap (λ (s : Running). may_owe s.course s.work) is ∙ ap (λ c. may_owe c work) goes,
+          )
         ])
     winds_up ending work refusal goes ordered winds is leaves true over = ended did refl
       where
@@ -350,12 +381,12 @@ module _ (left : List Route) (live : Running) (dirty : List Route) (owed : IsOwe
         ended (Ended how part) same =
             let how_is : how ≡ Aborted = winds_end ending how live.work work part (subst (λ d. WorkWinds ending live.work d work) same winds) ∙ subst IsOrdered goes ordered in
             λ folder among.
-                inl (subst (λ d. Among (left_by_end (Step number d) (Some (told live)) left) folder) (sym same)
-                (subst (λ e. Among (left_by_end (Step number (Ended e part)) (Some (told live)) left) folder) (sym how_is)
-                (elim (owed folder (tried_among did refusal (changed_folder live.work) dirty folder (subst (λ d. Among d folder) leaves among))) [
-                  | inl h ↦ inr h
-                  | inr own ↦ inl (sym own.0 ∙ sym (told_folder live.work))
-                ])))
+            inl (subst (λ d. Among (left_by_end (Step number d) (Some (told live)) left) folder) (sym same)
+            (subst (λ e. Among (left_by_end (Step number (Ended e part)) (Some (told live)) left) folder) (sym how_is)
+            (elim (owed folder (tried_among did refusal (changed_folder live.work) dirty folder (subst (λ d. Among d folder) leaves among))) [
+              | inl h ↦ inr h
+              | inr own ↦ inl (sym own.0 ∙ sym (told_folder live.work))
+            ])))
         ended (BeganPart part) same = absurd (false≢true (sym (ap ends same) ∙ over))
         ended (Chunk bytes) same = absurd (false≢true (sym (ap ends same) ∙ over))
         ended (Placed path) same = absurd (false≢true (sym (ap ends same) ∙ over))

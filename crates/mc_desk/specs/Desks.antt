@@ -8,10 +8,12 @@ use Rattle.tree_trait.specs.declared.devices.SinkError.{SinkError}
 use Rattle.tree_trait.specs.declared.devices.SinkError.TheVariants.{Fault, Memory}
 use Rattle.key_screen.specs.declared.keys.Key.{Key as KeyType}
 use Rattle.key_screen.specs.DecodedKeys.{decoded_keys}
+use Rattle.file_copy.specs.declared.report.Did.TheVariants.{Barrier}
+use Rattle.copy_move.specs.declared.history.Event.TheVariants.{Step}
 use Rattle.copy_move.specs.declared.history.Entry.{Entry}
 use Rattle.copy_move.specs.Jobs.{Running}
 use Rattle.copy_move.specs.Told.{told}
-use Rattle.copy_move.specs.Settling.{IsOwed, left_dirty}
+use Rattle.copy_move.specs.Settling.{IsOwed, changed_folder, left_dirty, without}
 use Rattle.mc_ui.specs.Screens.{Screen}
 use Rattle.mc_desk.specs.declared.desk.Due.{Due}
 use Rattle.mc_desk.specs.declared.desk.Due.TheVariants.{Nothing, First, Job}
@@ -97,6 +99,18 @@ HasKeysOf bytes newest = ((decoded_keys bytes).keys ≡ keys_in newest) ⊎ Lack
 pub record KeepsKeys (old new : Seen) : Type 0 where
   pub keys : keys_in new.newest ≡ keys_in old.newest
   pub pending : new.pending ≡ old.pending
+
+-- the newest entry is the report of a sync
+abbrev pub HasSynced : List Entry → Type 0
+HasSynced [] = ⊥
+HasSynced (e ∷ older) = (id : ℕ) × (e.what ≡ Step id Barrier)
+
+-- What a step makes of the dirty folders: the live job's may join them, and one leaves them only with the report of a sync.
+abbrev pub MovesDirty : Option Running → List Entry → List Route → List Route → Type 0
+MovesDirty job newest dirty dirty_after =
+    (dirty_after ≡ dirty)
+    ⊎ (((live : Running) × (job ≡ Some live) × (dirty_after ≡ dirty ++ changed_folder live.work ∷ []))
+    ⊎ ((folder : Route) × (dirty_after ≡ without folder dirty) × HasSynced newest))
 
 -- the answer of a step where no job can be stepped, by whether the desk is closed
 abbrev pub idle_reply : Bool → StepReply

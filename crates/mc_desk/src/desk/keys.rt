@@ -1,5 +1,5 @@
 //! Keys and looks: what a desk does for its user.
-ghost use Rattle.std.specs.Prelude.{◌≡◌, ◌≢◌, ◌+◌, ◌≤◌, ◌∷◌, ◌++◌, [], ℕ, List, true, false, if◌then◌else◌, IsTrue, IfOk, OnOk, Ok, Err, Some, None};
+ghost use Rattle.std.specs.Prelude.{◌≡◌, ◌≢◌, ◌+◌, ◌-◌, ◌^◌, min, ◌≤◌, ◌∷◌, ◌++◌, [], ℕ, List, true, false, if◌then◌else◌, IsTrue, IfOk, OnOk, Ok, Err, Some, None};
 ghost use Rattle.copy_move.specs.Told.{IsReady};
 ghost use Rattle.mc_ui.specs.Screens.{SameFolders, ShowsTrouble, plain_base};
 ghost use Rattle.mc_desk.specs.Tallies.{can_step, keys_in};
@@ -8,7 +8,7 @@ ghost use Rattle.mc_desk.specs.Desks.{failed_by, awaited, HasTaken, TakesByte, K
 use super::steps::{closed, closing};
 use super::{Desk, DeskError, DeskReply, Due};
 use crate::tag::Tag;
-use copy_move::{Entry, Event, JobOrder, Refusals, Run, Trouble};
+use copy_move::{Answer, Entry, Event, Job, JobOrder, Refusals, Run, Trouble};
 use key_screen::{Base, Fed, Key};
 use mc_text::Path;
 use mc_ui::{Ask, Confirmed, KeyAct, draw};
@@ -22,6 +22,7 @@ impl<N: Tag, T: Tree, S: Sink, P: Spawner> Desk<N, T, S, P> {
     pub fn byte(&mut self, alloc: Global, byte: u8, now: u64) -> Result<DeskReply, DeskError>
         requires looked { self.old.tally.due ≡ None }
         ensures folders { SameFolders self.old.screen self.new.screen }
+        ensures dirty { self.new.dirty ≡ self.old.dirty }
         ensures keys { (bytes : List ℕ) → HasTaken bytes self.old → TakesByte result bytes byte self.old self.new }
         ensures unclosed { OnOk result (self.new.tally.closed ≡ self.old.tally.closed) }
         ensures quit { result ≡ Ok DeskReply.Quit → self.old.tally.closed ≡ false → self.new.quit ≡ true }
@@ -50,6 +51,7 @@ impl<N: Tag, T: Tree, S: Sink, P: Spawner> Desk<N, T, S, P> {
     pub fn look(&mut self, alloc: Global) -> Result<(), DeskError>
         ensures folders { SameFolders self.old.screen self.new.screen }
         ensures keys { KeepsKeys self.old self.new }
+        ensures dirty { self.new.dirty ≡ self.old.dirty }
         ensures looked { OnOk result (can_step self.old.tally.job ≡ false → self.new.tally.due ≡ None) }
         ensures unclosed { OnOk result (self.new.tally.closed ≡ self.old.tally.closed) }
     {
@@ -111,12 +113,13 @@ impl<N: Tag, T: Tree, S: Sink, P: Spawner> Desk<N, T, S, P> {
         ensures folders { SameFolders self.old.screen self.new.screen }
         ensures keys { keys_in self.new.newest ≡ keys_in self.old.newest ++ key ∷ [] }
         ensures pending { self.new.pending ≡ self.old.pending }
+        ensures dirty { self.new.dirty ≡ self.old.dirty }
         ensures unclosed { OnOk result (self.new.tally.closed ≡ false) }
         ensures looked { OnOk result (plain_base key ≡ Base.Unknown → self.new.tally.due ≡ None) }
         ensures room { OnOk result (self.old.spare ≤ self.new.spare + 2) }
         ensures quit { result ≡ Ok DeskReply.Quit → self.new.quit ≡ true }
     {
-        let id = self.last_id.saturating_add(1);
+        let id = next_id(self.last_id);
         let Ok(act) = self.ui.key(alloc, &mut self.tree, &self.job, id, key) else {
             return self.lose_key(alloc, key, now);
         };
@@ -144,17 +147,8 @@ impl<N: Tag, T: Tree, S: Sink, P: Spawner> Desk<N, T, S, P> {
             }
             Ask::Begin(confirmed) => {
                 let Confirmed { plan, run } = confirmed;
-                self.log.note(Entry {
-                    seat: 0,
-                    calls: self.calls,
-                    faults: self.tree.faults(),
-                    shown: 0,
-                    what: Event::Began {
-                        job: id,
-                        plan,
-                        background: false,
-                    },
-                });
+                self.log
+                    .note(began(self.calls, self.tree.faults(), id, plan));
                 self.job = Some(run);
                 self.last_id = id;
                 self.due = Due::Job(id);
@@ -168,16 +162,8 @@ impl<N: Tag, T: Tree, S: Sink, P: Spawner> Desk<N, T, S, P> {
                 let Ok(()) = job.answer(answer) else {
                     unreachable!()
                 };
-                self.log.note(Entry {
-                    seat: 0,
-                    calls: self.calls,
-                    faults: self.tree.faults(),
-                    shown: 0,
-                    what: Event::Order {
-                        job: id,
-                        order: JobOrder::Answered(answer),
-                    },
-                });
+                self.log
+                    .note(ordered(self.calls, self.tree.faults(), id, answer));
                 self.job = Some(job);
                 self.due = Due::Job(id);
                 self.finish(drawn, DeskReply::Wait(id))
@@ -193,6 +179,7 @@ impl<N: Tag, T: Tree, S: Sink, P: Spawner> Desk<N, T, S, P> {
         ensures screen { self.new.screen ≡ self.old.screen }
         ensures keys { keys_in self.new.newest ≡ keys_in self.old.newest ++ key ∷ [] }
         ensures pending { self.new.pending ≡ self.old.pending }
+        ensures dirty { self.new.dirty ≡ self.old.dirty }
         ensures error { result ≡ Err DeskError.Memory }
     {
         let faults = self.tree.faults();
@@ -220,6 +207,7 @@ impl<N: Tag, T: Tree, S: Sink, P: Spawner> Desk<N, T, S, P> {
     fn redraw(&mut self, alloc: Global) -> Result<DeskReply, DeskError>
         ensures screen { self.new.screen ≡ self.old.screen }
         ensures keys { KeepsKeys self.old self.new }
+        ensures dirty { self.new.dirty ≡ self.old.dirty }
         ensures unclosed { OnOk result (self.new.tally.closed ≡ self.old.tally.closed) }
         ensures goes_on { result ≢ Ok DeskReply.Quit }
     {
@@ -237,6 +225,7 @@ impl<N: Tag, T: Tree, S: Sink, P: Spawner> Desk<N, T, S, P> {
     ) -> Result<DeskReply, DeskError>
         ensures screen { self.new.screen ≡ self.old.screen }
         ensures keys { KeepsKeys self.old self.new }
+        ensures dirty { self.new.dirty ≡ self.old.dirty }
         ensures same { OnOk result (self.new ≡ self.old) }
         ensures reply { IfOk result (λ answer. answer ≡ reply) }
         ensures quit { self.new.quit ≡ self.old.quit }
@@ -251,6 +240,7 @@ impl<N: Tag, T: Tree, S: Sink, P: Spawner> Desk<N, T, S, P> {
     fn fail(&mut self, error: SinkError) -> DeskError
         ensures screen { self.new.screen ≡ self.old.screen }
         ensures keys { KeepsKeys self.old self.new }
+        ensures dirty { self.new.dirty ≡ self.old.dirty }
         ensures quit { self.new.quit ≡ self.old.quit }
     {
         self.close();
@@ -258,6 +248,46 @@ impl<N: Tag, T: Tree, S: Sink, P: Spawner> Desk<N, T, S, P> {
             SinkError::Fault => DeskError::Screen,
             SinkError::Memory => DeskError::Memory,
         }
+    }
+}
+
+/// The number of the next job. There are 2^32 - 1; the last is given again.
+fn next_id(last: u32) -> u32
+    ensures { result ≡ min (last + 1) (2 ^ 32 - 1) }
+{
+    last.saturating_add(1)
+}
+
+/// The entry of a job that is begun.
+fn began(calls: u64, faults: u64, job: u32, plan: Job) -> Entry
+    ensures { result ≡ record { seat = 0; calls = calls; faults = faults; shown = 0; what = Event.Began job plan false } }
+{
+    Entry {
+        seat: 0,
+        calls,
+        faults,
+        shown: 0,
+        what: Event::Began {
+            job,
+            plan,
+            background: false,
+        },
+    }
+}
+
+/// The entry of an answer to a job's trouble.
+fn ordered(calls: u64, faults: u64, job: u32, answer: Answer) -> Entry
+    ensures { result ≡ record { seat = 0; calls = calls; faults = faults; shown = 0; what = Event.Order job (JobOrder.Answered answer) } }
+{
+    Entry {
+        seat: 0,
+        calls,
+        faults,
+        shown: 0,
+        what: Event::Order {
+            job,
+            order: JobOrder::Answered(answer),
+        },
     }
 }
 

@@ -8,7 +8,7 @@ ghost use Rattle.copy_move.specs.Replay.{IsReplayed};
 ghost use Rattle.copy_move.specs.Traces.{IsTracedTo};
 ghost use Rattle.mc_desk.specs.Sessions.{EndsSession, EndAsked};
 ghost use Rattle.mc_desk.specs.Tallies.{can_step, keys_in, has_lost};
-ghost use Rattle.mc_desk.specs.Desks.{Blames, KeepsKeys, idle_reply};
+ghost use Rattle.mc_desk.specs.Desks.{Blames, KeepsKeys, MovesDirty, idle_reply};
 ghost use Rattle.mc_desk.specs.Logs.{jobs_begun};
 
 use super::{Desk, Due, Ended, StepReply};
@@ -26,6 +26,7 @@ impl<N: Tag, T: Tree, S: Sink, P: Spawner> Desk<N, T, S, P> {
         ensures closed { self.new.tally.closed ≡ true }
         ensures screen { self.new.screen ≡ self.old.screen }
         ensures keys { KeepsKeys self.old self.new }
+        ensures dirty { self.new.dirty ≡ self.old.dirty }
         ensures quit { self.new.quit ≡ self.old.quit }
     {
         if self.closed {
@@ -42,6 +43,7 @@ impl<N: Tag, T: Tree, S: Sink, P: Spawner> Desk<N, T, S, P> {
     pub fn step(&mut self, alloc: Global, seat: u32) -> StepReply
         ensures screen { self.new.screen ≡ self.old.screen }
         ensures keys { KeepsKeys self.old self.new }
+        ensures dirty { MovesDirty self.old.job self.new.newest self.old.dirty self.new.dirty }
         ensures same { (self.new.tally.closed ≡ self.old.tally.closed) × (self.new.tally.due ≡ self.old.tally.due) }
         ensures quit { self.new.quit ≡ self.old.quit }
         ensures reply { result ≡ (if can_step self.old.tally.job then StepReply.Did else idle_reply self.old.tally.closed) }
@@ -86,6 +88,19 @@ impl<N: Tag, T: Tree, S: Sink, P: Spawner> Desk<N, T, S, P> {
         StepReply::Did
     }
 
+    /// Steps the job of a closed desk to its end.
+    fn work_off(&mut self, alloc: Global)
+        requires closed { self.old.tally.closed ≡ true }
+        ensures idle { self.new.job ≡ None }
+        ensures screen { self.new.screen ≡ self.old.screen }
+        ensures keys { keys_in self.new.newest ≡ keys_in self.old.newest }
+        ensures quit { self.new.quit ≡ self.old.quit }
+    {
+        while self.job.is_some() {
+            self.step(alloc, 0);
+        }
+    }
+
     /// Ends the session: the desk is closed, and its job stepped to the end.
     pub fn end(self, alloc: Global) -> Ended<T, S, P>
         ensures session { EndsSession N.opening N.tree_faults (reverse result.history.entries) (T.contents result.tree)
@@ -101,9 +116,7 @@ impl<N: Tag, T: Tree, S: Sink, P: Spawner> Desk<N, T, S, P> {
     {
         let mut desk = self;
         desk.close();
-        while desk.job.is_some() {
-            desk.step(alloc, 0);
-        }
+        desk.work_off(alloc);
         let Desk {
             tree,
             screen,

@@ -11,8 +11,9 @@ use Rattle.copy_move.specs.Jobs.{Running, ends, waits_on}
 use Rattle.copy_move.specs.Ranks.{rank_with}
 use Rattle.copy_move.specs.Told.{if_closed, told}
 use Rattle.mc_desk.specs.Tallies.{Tally}
-use Rattle.mc_desk.specs.Desks.{Seen, awaited}
+use Rattle.mc_desk.specs.Desks.{MovesDirty, Seen, awaited}
 use Rattle.mc_desk.proofs.Adding.{entry}
+use Rattle.mc_desk.proofs.Moving.{run_moves}
 use Rattle.mc_desk.proofs.Ranking.{given_up_falls, run_falls}
 use Rattle.mc_desk.proofs.Whole.{closed_goes_on, desk_gave_up, desk_stepped, room_left}
 use Rattle.mc_desk.proofs.desk.Desk.step.Goals as goal
@@ -96,3 +97,17 @@ returns-clause-worked g c ready =
     c.left.ensures ∙ ap (λ b. if_closed c.self.inside.closed (if b then None else Some c.step-did.new.self)) c.is_end-ended.ensures in
     nearer c.args.self.now job c.left.result _ c.self.inside.dirty c.step-did.new.dirty was (sym (ap (λ (d : Seen). d.dirty) c.self.view_is)) now
     (run_falls _ c.self.inside.closed job c.step-did.new.self c.step-did.result.did _ _ _ _ _ _ _ c.step-did.ensures.steps)
+
+pub returns-clause-dirty : goal.returns-clause-dirty
+returns-clause-dirty g c =
+    let inside = c.self.inside in
+    let did = c.step-did.result.did in
+    let calls = c.saturating_add-self-inside.result in
+    let count = c.faults-2.result in
+    let is : inside.job ≡ Some c.in-Some.job = sym c.take.ensures.value ∙ c.in-Some.is in
+    let more : c.note-2.new.self.newest ≡ entry c.args.seat calls count 0 (Step c.in-Some.job.id did) ∷ inside.log.newest =
+    c.note-2.ensures.added ∙ (ap (λ n. entry c.args.seat calls count 0 (Step n did) ∷ c.reserve.new.self.newest) c.id-id.ensures
+    ∙ ap (λ es. entry c.args.seat calls count 0 (Step c.in-Some.job.id did) ∷ es) c.reserve.ensures.same) in
+    subst (λ j. MovesDirty j c.note-2.new.self.newest c.args.self.now.dirty c.step-did.new.dirty) (ap (λ (d : Seen). d.job) c.self.view_is)
+    (subst (λ d. MovesDirty inside.job c.note-2.new.self.newest d c.step-did.new.dirty) (ap (λ (d : Seen). d.dirty) c.self.view_is)
+    (run_moves inside.job _ _ inside.dirty c.step-did.new.dirty c.args.seat calls count 0 c.in-Some.job.id did more _ c.in-Some.job c.step-did.new.self c.step-did.result.calls _ _ _ _ is c.step-did.ensures.steps))

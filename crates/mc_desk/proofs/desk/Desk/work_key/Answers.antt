@@ -1,5 +1,6 @@
 -- A key is written down as it was worked, and what it asked for directly after it.
 use Rattle.std.proofs.Common.{rules, ◌≡◌, ◌≤◌, ◌∷◌, false, Some, None, refl, ap, sym, subst, ◌∙◌, arith, inl, inr, Result, Ok, Err, OnOk}
+use Rattle.copy_move.specs.declared.history.Entry.{Entry}
 use Rattle.copy_move.specs.declared.history.Event.TheVariants.{Began, Order}
 use Rattle.copy_move.specs.declared.history.JobOrder.TheVariants.{Answered}
 use Rattle.copy_move.specs.Jobs.{MayAnswer, answered}
@@ -58,8 +59,8 @@ invariant_of-self-in-End g c =
 
 pub invariant_of-self-in-Begin : goal.invariant_of-self-in-Begin
 invariant_of-self-in-Begin g c =
-    let well : WellAsked c.saturating_add-id.result c.self.inside.job c.in-Ok.act.ask = c.in-Ok.ensures.asked in
-    let asked = subst (λ a. WellAsked c.saturating_add-id.result c.self.inside.job a) c.in-Begin.is well in
+    let well : WellAsked c.next_id-id.result c.self.inside.job c.in-Ok.act.ask = c.in-Ok.ensures.asked in
+    let asked = subst (λ a. WellAsked c.next_id-id.result c.self.inside.job a) c.in-Begin.is well in
     let inside = c.self.inside in
     let unclosed : inside.closed ≡ false = ap (λ (d : Seen). d.tally.closed) c.self.view_is ∙ c.requires.unclosed in
     let looked : awaited inside.due ≡ None = ap (λ (d : Seen). d.tally.due) c.self.view_is ∙ c.requires.looked in
@@ -72,10 +73,11 @@ invariant_of-self-in-Begin g c =
       desk = desk_began g.N.Tag.opening (g.T.Tree.contents inside.tree) (g.T.Tree.contents c.key.new.tree) g.N.Tag.tree_faults _ _ count c.after_draw-self-inside.result c.args.key c.args.now c.self.invariant.desk
           unclosed looked c.key.ensures.same (omega (arith, counted, had, later)) c.in-Ok.act.refusals c.in-Ok.act.ask
           (λ h. let risen = c.in-Ok.ensures.fault h in omega (arith, counted, had, risen)) c.in-Ok.ensures.called c.in-Ok.ensures.leads c.key.ensures.settled room refl
-          c.in-Begin.confirmed c.saturating_add-id.result c.faults-in-Begin.result c.in-Begin.is asked.0 asked.1 c.in-Begin.confirmed.started
+          c.in-Begin.confirmed c.next_id-id.result c.faults-in-Begin.result c.in-Begin.is asked.0 asked.1 c.in-Begin.confirmed.started
           (c.note-in-Begin.ensures.added
-          ∙ ap (λ es. entry 0 inside.calls c.faults-in-Begin.result 0 (Began c.saturating_add-id.result c.in-Begin.confirmed.plan false) ∷ es) c.note.ensures.added)
-          (let again = c.faults-in-Begin.ensures in omega (arith, counted, again)) c.saturating_add-id.ensures refl refl refl refl;
+          ∙ (ap (λ (e : Entry). e ∷ c.note.new.self.newest) c.began.ensures
+          ∙ ap (λ es. entry 0 inside.calls c.faults-in-Begin.result 0 (Began c.next_id-id.result c.in-Begin.confirmed.plan false) ∷ es) c.note.ensures.added))
+          (let again = c.faults-in-Begin.ensures in omega (arith, counted, again)) c.next_id-id.ensures refl refl refl refl;
       counted = search rules;
       screen = subst (λ b. Blames b g.N.Tag.sink_faults (g.S.Sink.fault_count c.draw-drawn.new.screen)) (sym c.failed_by-self-inside.ensures)
           (blames_drawn inside.failed c.draw-drawn.result g.N.Tag.sink_faults (g.S.Sink.fault_count inside.screen) (g.S.Sink.fault_count c.draw-drawn.new.screen) c.self.invariant.screen c.draw-drawn.ensures.later c.draw-drawn.ensures.fault);
@@ -83,10 +85,10 @@ invariant_of-self-in-Begin g c =
 
 pub invariant_of-self-in-Answer : goal.invariant_of-self-in-Answer
 invariant_of-self-in-Answer g c =
-    let well : WellAsked c.saturating_add-id.result c.self.inside.job c.in-Ok.act.ask = c.in-Ok.ensures.asked in
-    let asked = subst (λ a. WellAsked c.saturating_add-id.result c.self.inside.job a) c.in-Answer.is well in
+    let well : WellAsked c.next_id-id.result c.self.inside.job c.in-Ok.act.ask = c.in-Ok.ensures.asked in
+    let asked = subst (λ a. WellAsked c.next_id-id.result c.self.inside.job a) c.in-Answer.is well in
     let job : c.self.inside.job ≡ Some c.in-Some.job = sym c.take.ensures.value ∙ c.in-Some.is in
-    let may : MayAnswer c.in-Some.job c.in-Answer.answer = asked_live c.saturating_add-id.result c.self.inside.job c.in-Answer.answer c.in-Some.job job asked in
+    let may : MayAnswer c.in-Some.job c.in-Answer.answer = asked_live c.next_id-id.result c.self.inside.job c.in-Answer.answer c.in-Some.job job asked in
     let new : c.answer.new.self ≡ answered c.in-Answer.answer c.in-Some.job = c.in-Ok-answer.ensures.taken in
     let inside = c.self.inside in
     let unclosed : inside.closed ≡ false = ap (λ (d : Seen). d.tally.closed) c.self.view_is ∙ c.requires.unclosed in
@@ -101,8 +103,8 @@ invariant_of-self-in-Answer g c =
           unclosed looked c.key.ensures.same (omega (arith, counted, had, later)) c.in-Ok.act.refusals c.in-Ok.act.ask
           (λ h. let risen = c.in-Ok.ensures.fault h in omega (arith, counted, had, risen)) c.in-Ok.ensures.called c.in-Ok.ensures.leads c.key.ensures.settled room refl
           c.in-Answer.answer c.in-Some.job c.faults-in-Answer.result c.in-Answer.is job may
-          (c.note-in-Answer.ensures.added ∙ (ap (λ n. entry 0 inside.calls c.faults-in-Answer.result 0 (Order n (Answered c.in-Answer.answer)) ∷ c.note.new.self.newest) c.id-id.ensures
-          ∙ ap (λ es. entry 0 inside.calls c.faults-in-Answer.result 0 (Order c.in-Some.job.id (Answered c.in-Answer.answer)) ∷ es) c.note.ensures.added))
+          (c.note-in-Answer.ensures.added ∙ (ap (λ (e : Entry). e ∷ c.note.new.self.newest) c.ordered.ensures ∙ (ap (λ n. entry 0 inside.calls c.faults-in-Answer.result 0 (Order n (Answered c.in-Answer.answer)) ∷ c.note.new.self.newest) c.id-id.ensures
+          ∙ ap (λ es. entry 0 inside.calls c.faults-in-Answer.result 0 (Order c.in-Some.job.id (Answered c.in-Answer.answer)) ∷ es) c.note.ensures.added)))
           (let again = c.faults-in-Answer.ensures in omega (arith, counted, again)) (ap Some new)
           (ap (λ j. let t : Tally = record { job = Some (told j); last = inside.last_id; unseen = inside.unseen; closed = inside.closed; due = Some c.id-id.result; lost = inside.lost; calls = inside.calls } in t) new
           ∙ ap (λ n. let t : Tally = record { job = Some (told (answered c.in-Answer.answer c.in-Some.job)); last = inside.last_id; unseen = inside.unseen; closed = inside.closed; due = Some n; lost = inside.lost; calls = inside.calls } in t) c.id-id.ensures) refl refl;

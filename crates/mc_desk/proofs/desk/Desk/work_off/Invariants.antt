@@ -2,10 +2,10 @@
 use Rattle.std.proofs.Common.{◌≡◌, true}
 use Rattle.copy_move.specs.Ranks.{rank_with}
 use Rattle.mc_desk.specs.Tallies.{keys_in}
-use Rattle.mc_desk.proofs.desk.Desk.end.Given as goal
+use Rattle.mc_desk.proofs.desk.Desk.work_off.Given as goal
 
 abbrev pub invariant-loop-alloc : goal.invariant-loop-alloc
-invariant-loop-alloc g l = (l.desk.tally.closed ≡ true) × (l.desk.screen ≡ l.fn.self.screen) × (keys_in l.desk.newest ≡ keys_in l.fn.self.newest) × (l.desk.quit ≡ l.fn.self.quit)
+invariant-loop-alloc g l = (l.self.tally.closed ≡ true) × (l.self.screen ≡ l.fn.self.screen) × (keys_in l.self.newest ≡ keys_in l.fn.self.newest) × (l.self.quit ≡ l.fn.self.quit)
 
 abbrev pub decreases-loop-alloc : goal.decreases-loop-alloc
-decreases-loop-alloc g l = rank_with l.desk.dirty l.desk.job
+decreases-loop-alloc g l = rank_with l.self.dirty l.self.job

@@ -1,0 +1,67 @@
+-- A step moves the dirty folders as its report says.
+use Rattle.std.proofs.Common.{◌≡◌, ◌⊎◌, ℕ, Bool, true, false, List, [], ◌∷◌, ◌++◌, refl, sym, ◌∙◌, ap, subst, inl, inr, Option, Some, None}
+use Rattle.std.proofs.lemmas.Bool.{true≢false, false≢true}
+use Rattle.mc_text.specs.Routes.{Route}
+use Rattle.tree_trait.specs.declared.calls.TreeError.{TreeError}
+use Rattle.tree_trait.specs.Change.{CallLog}
+use Rattle.file_copy.specs.declared.report.Did.{Did}
+use Rattle.file_copy.specs.declared.report.Did.TheVariants.{Began, Chunk, Placed, Removed, Skipped, Cleaned, Barrier, Troubled, Ended}
+use Rattle.copy_move.specs.declared.history.Event.TheVariants.{Step}
+use Rattle.copy_move.specs.declared.history.Entry.{Entry}
+use Rattle.copy_move.specs.declared.work.Work.{Work}
+use Rattle.copy_move.specs.declared.run.Course.{Course}
+use Rattle.copy_move.specs.declared.run.Course.TheVariants.{GoesOn, InTrouble, Unsettled, Skips, Ends}
+use Rattle.copy_move.specs.Jobs.{Running, TellsOn, WorkTells}
+use Rattle.copy_move.specs.Settling.{after_try, changed_folder, is_dirty, with_change, without}
+use Rattle.copy_move.specs.Steps.{LeavesDirty, OwnStep, RunStep, SettlingStep, SyncsFolder}
+use Rattle.copy_move.proofs.FolderSteps.{skipped_dirty}
+use Rattle.mc_desk.specs.Desks.{HasSynced, MovesDirty}
+use Rattle.mc_desk.proofs.Adding.{entry}
+use Rattle.mc_desk.proofs.Owing.{clean_before}
+
+module _ (job : Option Running) (newest older : List Entry) (dirty dirty_after : List Route) (seat calls count shown number : ℕ) (did : Did) (more : newest ≡ entry seat calls count shown (Step number did) ∷ older) where
+  abbrev Moves : Type 0
+  Moves = MovesDirty job newest dirty dirty_after
+
+  synced : (folder : Route) → did ≡ Barrier → dirty_after ≡ without folder dirty → Moves
+  synced folder is left = inr (inr (folder, left, subst HasSynced (sym more) (number, ap (Step number) is)))
+
+  changes : (live : Running) (was now : Bool) → job ≡ Some live → (was ≡ true → now ≡ false → did ≡ Barrier) → dirty_after ≡ with_change was now (changed_folder live.work) dirty → Moves
+  changes live false true is reports left = inr (inl (live, is, left))
+  changes live true false is reports left = synced (changed_folder live.work) (reports refl refl) left
+  changes live false false is reports left = inl left
+  changes live true true is reports left = inl left
+
+  still : (own : Route) (was now : Bool) → now ≡ was → dirty_after ≡ with_change was now own dirty → dirty_after ≡ dirty
+  still own true true same left = left
+  still own false false same left = left
+  still own true false same left = absurd (false≢true same)
+  still own false true same left = absurd (true≢false same)
+
+  tries : (folder : Route) (refusal : Option TreeError) (d : Did) → did ≡ d → dirty_after ≡ after_try d refusal folder dirty → Moves
+  tries folder None Barrier is left = synced folder is left
+  tries folder (Some e) Barrier is left = inl left
+  tries folder refusal (Began part) is left = inl left
+  tries folder refusal (Chunk bytes) is left = inl left
+  tries folder refusal (Placed path) is left = inl left
+  tries folder refusal (Removed path) is left = inl left
+  tries folder refusal (Skipped path cause) is left = inl left
+  tries folder refusal (Cleaned part) is left = inl left
+  tries folder refusal (Troubled trouble) is left = inl left
+  tries folder refusal (Ended ending part) is left = inl left
+
+  pub run_moves : (unclaimed : Route → Type 0) (live stepped : Running) (made : ℕ) (before after : Option CallLog) (f0 f1 : ℕ) → job ≡ Some live
+      → RunStep unclaimed live stepped did made dirty dirty_after before after f0 f1 → Moves
+  run_moves unclaimed live stepped made before after f0 f1 is (inr s) = elim s.synced [ inl h ↦ synced s.folder h.0 h.2 | inr h ↦ inl h.3 ]
+  run_moves unclaimed live stepped made before after f0 f1 is (inl o) = by live.course o.own.tells o.leaves
+    where
+      by : (course : Course) → TellsOn course live did stepped → LeavesDirty course live.work did stepped.work dirty dirty_after before after → Moves
+      by GoesOn (work, tells, new_is) leaves =
+          changes live (is_dirty live.work) (is_dirty stepped.work) is
+          (λ was now. clean_before live.work work did tells was (sym (ap (λ (s : Running). is_dirty s.work) new_is) ∙ now)) leaves
+      by (InTrouble cause) tells leaves = absurd tells
+      by (Unsettled cause) tells leaves = absurd tells
+      by (Skips cause) (inl (did_is, new_is)) leaves =
+          inl (still (changed_folder live.work) (is_dirty live.work) (is_dirty stepped.work) (ap (λ (s : Running). is_dirty s.work) new_is ∙ skipped_dirty live.work) leaves)
+      by (Skips cause) (inr (did_is, new_is)) leaves = inl (still (changed_folder live.work) (is_dirty live.work) (is_dirty stepped.work) (ap (λ (s : Running). is_dirty s.work) new_is) leaves)
+      by (Ends ending) tells (refusal, leaves, told) = tries (changed_folder live.work) refusal did refl leaves
