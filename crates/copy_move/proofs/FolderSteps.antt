@@ -12,7 +12,7 @@ use Rattle.tree_trait.specs.Change.{CallLog, current}
 use Rattle.tree_trait.specs.Answers.{IfKnown, HasRisen, Performs}
 use Rattle.tree_trait.specs.CrashImages.{Among}
 use Rattle.file_copy.specs.declared.report.Cause.{Cause}
-use Rattle.file_copy.specs.declared.report.Cause.TheVariants.{Tree, Memory}
+use Rattle.file_copy.specs.declared.report.Cause.TheVariants.{Memory}
 use Rattle.file_copy.specs.declared.report.Ending.{Ending}
 use Rattle.file_copy.specs.declared.report.Ending.TheVariants.{Finished, Aborted, Killed, NoMemory}
 use Rattle.file_copy.specs.declared.report.Did.{Did}
@@ -36,10 +36,10 @@ use Rattle.copy_move.specs.declared.run.Course.{Course}
 use Rattle.copy_move.specs.declared.run.Course.TheVariants.{GoesOn, InTrouble, Unsettled, Skips, Ends}
 use Rattle.copy_move.specs.Deletions.{Deleting, DeletionCalls, calls_for, cause_of, trouble_at}
 use Rattle.copy_move.specs.Deletions as deletions
-use Rattle.copy_move.specs.Jobs.{Running, CallsOn, TellsOn, WorkTells, WorkWinds, WorkCalls, at_barrier, course_after, file_of, is_fresh, skipped}
-use Rattle.copy_move.specs.Ranks.{last_rank, rank_on, work_rank}
+use Rattle.copy_move.specs.Jobs.{Running, CallsOn, TellsOn, WorkTells, WorkWinds, WorkCalls, course_after, is_fresh, skipped}
+use Rattle.copy_move.specs.Ranks.{rank_on}
 use Rattle.copy_move.specs.Settling.{NoneOwed, after_try, changed_folder, is_dirty, with_change, without}
-use Rattle.copy_move.specs.Steps.{LeavesDirty, OwnStep, RunStep, SettlingStep, SkipSteps, StepsOn, SyncsFolder, WindingStep, WorkSkips, WorkSteps, WorkWindsUp}
+use Rattle.copy_move.specs.Steps.{LeavesDirty, OwnStep, SettlingStep, SkipSteps, WindingStep, WorkSteps, WorkWindsUp}
 use Rattle.copy_move.proofs.DeletionRuns.{counts_call, fault-cause, few_calls}
 use Rattle.copy_move.proofs.Falling.{passing_falls, trouble_falls, waiting_falls}
 use Rattle.copy_move.proofs.RunSteps.{run_ends, run_goes}

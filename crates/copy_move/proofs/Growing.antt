@@ -28,7 +28,6 @@ use Rattle.copy_move.specs.declared.history.Event.TheVariants as event
 use Rattle.copy_move.specs.declared.deletion.Stage.TheVariants.{Sync}
 use Rattle.copy_move.specs.Deletions.{Deleting, Answers, DeletionCalls, LastCalls, call_of}
 use Rattle.copy_move.specs.Jobs.{Running, CallsOn, WorkCalls, WorkLastCalls}
-use Rattle.copy_move.specs.Settling.{Settles}
 use Rattle.copy_move.specs.Traces.{EntryLeads, IsUnclaimed, StepLeads, EventLeads}
 use Rattle.copy_move.proofs.PlainTurns.{some_log}
 

@@ -1,6 +1,6 @@
 -- Folders in which jobs changed names and that no sync has brought onto the disk yet: what jobs leave there, and how a later
 -- job syncs them before it changes anything on that mount.
-use Rattle.std.specs.Prelude.{◌≡◌, ◌≢◌, ◌⊎◌, ℕ, Bool, true, false, not, List, filter, [], ◌∷◌, ◌++◌, Option, Some, None, Ok, Err}
+use Rattle.std.specs.Prelude.{◌≡◌, ◌⊎◌, ℕ, Bool, true, false, not, List, filter, [], ◌∷◌, ◌++◌, Option, Some, None, Ok, Err}
 use Rattle.mc_text.specs.Routes.{Route, same_path}
 use Rattle.tree_trait.specs.declared.file_system.FileSystem.{FileSystem}
 use Rattle.tree_trait.specs.declared.calls.TreeError.{TreeError}

@@ -6,6 +6,7 @@ mod dirty;
 mod history;
 mod laws;
 mod run;
+mod starting;
 #[cfg(test)]
 mod tests;
 mod work;

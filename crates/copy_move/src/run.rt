@@ -4,17 +4,18 @@ ghost use Rattle.std.specs.Prelude.{◌≡◌, ◌&&◌, Err, IfErr, IfOk, IsSom
 ghost use Rattle.tree_trait.specs.Change.{current};
 ghost use Rattle.tree_trait.specs.Answers.{IfKnown};
 ghost use Rattle.tree_trait.specs.CrashImages.{Among};
-ghost use Rattle.copy_move.specs.Jobs.{IsGoing, MayAnswer, answered, closed_job, course_after, ended_course, first_work, is_barred, is_fresh, part_of, passes_over, trouble_on, waits_on};
+ghost use Rattle.copy_move.specs.Jobs.{MayAnswer, answered, closed_job, course_after, ended_course, first_work, is_barred, is_fresh, part_of, passes_over, trouble_on, waits_on};
 ghost use Rattle.copy_move.specs.Settling.{NoneOwed, changed_folder};
 ghost use Rattle.copy_move.specs.Steps.{OwnStep, RunStep, SettlingStep, SkipSteps, WindingStep};
 ghost use Rattle.copy_move.specs.Told.{running};
 
-use crate::deletion::{Deletion, cause_of, no_memory, refused, with_call, without_call};
+use crate::deletion::{cause_of, no_memory, refused, with_call, without_call};
 use crate::dirty::Dirty;
-use crate::history::{Answer, AnswerError, Job, Pairs};
+use crate::history::{Answer, AnswerError, Job};
+use crate::starting::{copy_of, deletion_of};
 use crate::work::Work;
-use file_copy::{Cause, Did, Ending, FileCopy, LastStepped, PartTest, Stepped, Trouble};
-use mc_text::{NoMemory, Path, Paths};
+use file_copy::{Cause, Did, Ending, LastStepped, PartTest, Stepped, Trouble};
+use mc_text::{NoMemory, Path};
 use std::alloc::Global;
 use std::marker::Model;
 use tree_trait::Tree;
@@ -400,37 +401,4 @@ fn both(one: bool, other: bool) -> bool
     ensures { result ≡ (one && other) }
 {
     one && other
-}
-
-/// The copy of one file.
-fn copy_of(alloc: Global, pairs: &Pairs, id: u32) -> Result<Work, NoMemory>
-    requires { IsSome (first_work id (Job.Copy pairs.now)) }
-    ensures { IfOk result (λ work. (first_work id (Job.Copy pairs.now) ≡ Some work) × IsGoing work) }
-{
-    let [pair] = pairs.0.as_slice() else {
-        unreachable!()
-    };
-    let Some(source_folder) = pair.source.parent(alloc)? else {
-        unreachable!()
-    };
-    let Some(folder) = pair.target.parent(alloc)? else {
-        unreachable!()
-    };
-    let source = pair.source.copy(alloc)?;
-    let target = pair.target.copy(alloc)?;
-    Ok(Work::Copy(FileCopy::new(id, source, source_folder, target, folder)))
-}
-
-/// The deletion of one file.
-fn deletion_of(alloc: Global, paths: &Paths) -> Result<Work, NoMemory>
-    requires { IsSome (first_work 0 (Job.Delete paths.now)) }
-    ensures { IfOk result (λ work. (first_work 0 (Job.Delete paths.now) ≡ Some work) × IsGoing work) }
-{
-    let [path] = paths.as_slice() else {
-        unreachable!()
-    };
-    let Some(folder) = path.parent(alloc)? else {
-        unreachable!()
-    };
-    Ok(Work::Delete(Deletion::new(path.copy(alloc)?, folder)))
 }

@@ -1,5 +1,5 @@
 -- A step moves the dirty folders as its report says.
-use Rattle.std.proofs.Common.{◌≡◌, ◌⊎◌, ℕ, Bool, true, false, List, [], ◌∷◌, ◌++◌, refl, sym, ◌∙◌, ap, subst, inl, inr, Option, Some, None}
+use Rattle.std.proofs.Common.{◌≡◌, ℕ, Bool, true, false, List, ◌∷◌, refl, sym, ◌∙◌, ap, subst, inl, inr, Option, Some, None}
 use Rattle.std.proofs.lemmas.Bool.{true≢false, false≢true}
 use Rattle.mc_text.specs.Routes.{Route}
 use Rattle.tree_trait.specs.declared.calls.TreeError.{TreeError}
@@ -8,12 +8,11 @@ use Rattle.file_copy.specs.declared.report.Did.{Did}
 use Rattle.file_copy.specs.declared.report.Did.TheVariants.{Began, Chunk, Placed, Removed, Skipped, Cleaned, Barrier, Troubled, Ended}
 use Rattle.copy_move.specs.declared.history.Event.TheVariants.{Step}
 use Rattle.copy_move.specs.declared.history.Entry.{Entry}
-use Rattle.copy_move.specs.declared.work.Work.{Work}
 use Rattle.copy_move.specs.declared.run.Course.{Course}
 use Rattle.copy_move.specs.declared.run.Course.TheVariants.{GoesOn, InTrouble, Unsettled, Skips, Ends}
-use Rattle.copy_move.specs.Jobs.{Running, TellsOn, WorkTells}
+use Rattle.copy_move.specs.Jobs.{Running, TellsOn}
 use Rattle.copy_move.specs.Settling.{after_try, changed_folder, is_dirty, with_change, without}
-use Rattle.copy_move.specs.Steps.{LeavesDirty, OwnStep, RunStep, SettlingStep, SyncsFolder}
+use Rattle.copy_move.specs.Steps.{LeavesDirty, RunStep}
 use Rattle.copy_move.proofs.FolderSteps.{skipped_dirty}
 use Rattle.mc_desk.specs.Desks.{HasSynced, MovesDirty}
 use Rattle.mc_desk.proofs.Adding.{entry}

@@ -1,5 +1,5 @@
 -- How a session's screen opens.
-use Rattle.std.proofs.Common.{◌≡◌, ◌≤◌, List, [], refl, sym, subst, Option, None, Result, Ok}
+use Rattle.std.proofs.Common.{◌≡◌, ◌≤◌, [], refl, sym, subst, Option, None, Result, Ok}
 use Rattle.mc_text.specs.Routes.{Route}
 use Rattle.tree_trait.specs.declared.calls.TreeError.{TreeError}
 use Rattle.tree_trait.specs.declared.calls.Children.{Children}

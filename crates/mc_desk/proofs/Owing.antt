@@ -1,6 +1,6 @@
 -- Whose the dirty folders are: each was left by an ended job, or is the live job's.
 use Rattle.std.proofs.Common.{◌≡◌, ◌⊎◌, ℕ, Bool, true, false, not, List, [], ◌∷◌, ◌++◌, refl, sym, ◌∙◌, ap, subst, inl, inr, Option, Some, None}
-use Rattle.std.specs.Prelude.{⊤, if◌then◌else◌, filter, option_and_then}
+use Rattle.std.specs.Prelude.{⊤, if◌then◌else◌, option_and_then}
 use Rattle.std.specs.Option.{option_map}
 use Rattle.std.proofs.lemmas.Bool.{true≢false, false≢true}
 use Rattle.mc_text.specs.Routes.{Route, same_path}
@@ -13,7 +13,6 @@ use Rattle.file_copy.specs.declared.report.Ending.{Ending}
 use Rattle.file_copy.specs.declared.report.Ending.TheVariants.{Finished, Aborted, Killed, NoMemory}
 use Rattle.file_copy.specs.declared.report.Did.{Did}
 use Rattle.file_copy.specs.declared.report.Did.TheVariants.{Began as BeganPart, Chunk, Placed, Removed, Skipped, Cleaned, Barrier, Troubled, Ended}
-use Rattle.file_copy.specs.declared.report.Trouble.{Trouble}
 use Rattle.file_copy.specs.Copying as copying
 use Rattle.copy_move.specs.declared.history.Answer.{Answer}
 use Rattle.copy_move.specs.declared.history.Answer.TheVariants.{Retry, Skip, SkipAll, Abort}
@@ -29,8 +28,8 @@ use Rattle.copy_move.specs.declared.run.Course.{Course}
 use Rattle.copy_move.specs.declared.run.Course.TheVariants.{GoesOn, InTrouble, Unsettled, Skips, Ends}
 use Rattle.copy_move.specs.Deletions as deletions
 use Rattle.copy_move.specs.Jobs.{Running, TellsOn, WorkTells, WorkWinds, answered, closed_course, closed_job, course_after, ends, first_work, skipped, taken_anew}
-use Rattle.copy_move.specs.Told.{after_event, after_step, course_told, if_closed, is_closed, live_job, running, told, work_told}
-use Rattle.copy_move.specs.Settling.{IsOwed, IsOwner, after_try, changed_folder, is_dirty, left_by_end, left_dirty, may_owe, with_change, without}
+use Rattle.copy_move.specs.Told.{after_event, after_step, if_closed, is_closed, live_job, running, told, work_told}
+use Rattle.copy_move.specs.Settling.{IsOwed, IsOwner, after_try, changed_folder, is_dirty, left_by_end, may_owe, with_change, without}
 use Rattle.copy_move.specs.Steps.{LeavesDirty, OwnStep, SettlingStep, SyncsFolder}
 use Rattle.copy_move.proofs.FolderSteps.{fresh_clean, same_folder, winds_there}
 use Rattle.copy_move.proofs.Gone.{IsOrdered}

@@ -1,5 +1,5 @@
 -- A history begins no more jobs than it has entries.
-use Rattle.std.proofs.Common.{◌≡◌, ◌+◌, ap, sym, ◌∙◌}
+use Rattle.std.proofs.Common.{◌+◌, ap, sym, ◌∙◌}
 use Rattle.mc_desk.specs.Logs.{jobs_begun}
 use Rattle.mc_desk.proofs.Counting.{fits_count}
 use Rattle.mc_desk.proofs.log.jobs_begun.Goals as goal

@@ -1,5 +1,5 @@
 -- Each folder is still to come, or lies elsewhere; the tree is as it was.
-use Rattle.std.proofs.Common.{◌≡◌, ◌≤◌, ◌⊎◌, ℕ, length}
+use Rattle.std.proofs.Common.{◌≡◌, ◌≤◌, ◌⊎◌, length}
 use Rattle.mc_text.specs.Routes.{Route}
 use Rattle.tree_trait.specs.Change.{current}
 use Rattle.tree_trait.specs.Answers.{IfKnown}

@@ -14,7 +14,7 @@ use Rattle.mc_desk.specs.Tallies.{Tally}
 use Rattle.mc_desk.specs.Desks.{MovesDirty, Seen, awaited}
 use Rattle.mc_desk.proofs.Adding.{entry}
 use Rattle.mc_desk.proofs.Moving.{run_moves}
-use Rattle.mc_desk.proofs.Ranking.{given_up_falls, run_falls}
+use Rattle.mc_desk.proofs.Ranking.{run_falls}
 use Rattle.mc_desk.proofs.Whole.{closed_goes_on, desk_gave_up, desk_stepped, room_left}
 use Rattle.mc_desk.proofs.desk.Desk.step.Goals as goal
 
