@@ -36,11 +36,11 @@ def is_sane(terminal):
     return bool(modes & termios.ICANON) and bool(modes & termios.ECHO)
 
 
-def run(program, words, keys, largest=None):
+def run(program, words, keys, largest=None, user=None):
     """Runs the program on a terminal of its own; each key is sent once the screen has been quiet for a moment.
 
-    Answers the exit status, what was written, and whether the terminal was left sane. With `largest` no file of the program
-    may have more bytes than that.
+    Answers the exit status, what was written, and whether the terminal was left sane. In place of a key may stand what is to
+    be done then. With `largest` no file of the program may have more bytes than that; with `user` it runs as that user.
     """
     ours, theirs = pty.openpty()
     child = os.fork()
@@ -52,6 +52,9 @@ def run(program, words, keys, largest=None):
         if largest is not None:
             signal.signal(signal.SIGXFSZ, signal.SIG_IGN)
             resource.setrlimit(resource.RLIMIT_FSIZE, (largest, largest))
+        if user is not None:
+            os.setgid(user)
+            os.setuid(user)
         os.execv(program, [program] + words)
     written, status, waiting = b"", None, list(keys)
     end = time.monotonic() + PATIENCE
@@ -59,7 +62,11 @@ def run(program, words, keys, largest=None):
         got = read_some(ours, 0.2)
         written += got
         if not got and waiting and b"\x1b[2J" in written:
-            os.write(ours, waiting.pop(0))
+            key = waiting.pop(0)
+            if callable(key):
+                key()
+            else:
+                os.write(ours, key)
         done, how = os.waitpid(child, os.WNOHANG)
         if done:
             status = os.waitstatus_to_exitcode(how)
@@ -142,6 +149,32 @@ def check_copies(program, base, check):
         subprocess.run(["umount", small], check=True)
 
 
+def check_dirty_folder(program, base, check):
+    """A folder that may be changed and not read can't be synced: what an aborted deletion left there comes first."""
+    user = None
+    if os.geteuid() == 0:  # root may read all, so somebody else runs it, from where he may
+        user = 65534
+        os.chmod(base, 0o755)
+        program = shutil.copy(program, os.path.join(base, "program"))
+        os.chmod(program, 0o755)
+
+    for name, mode, left in [("left", 0o300, ["y"]), ("mended", 0o700, [])]:
+        folder = os.path.join(base, name)
+        os.mkdir(folder)
+        for file in "xy":
+            make_file(os.path.join(folder, file), 2, 0o644)
+        os.chmod(folder, 0o700)
+        if user is not None:
+            os.chown(folder, user, user)
+        shut, mended = (lambda: os.chmod(folder, 0o300)), (lambda: os.chmod(folder, mode))
+        first = [DOWN, F8, shut, ENTER, b"b", lambda: os.chmod(folder, 0o700), DOWN]
+        status, written, sane = run(program, [folder], first + [F8, mended, ENTER, F10, F10], user=user)
+        os.chmod(folder, 0o700)
+        what = f"a folder that an aborted job left, of mode {mode:o} then,"
+        check(f"{what} comes before the next deletion", status == 0 and sane and os.listdir(folder) == left)
+        check(f"{what} has its box", b"r Retry  b Abort" in written)
+
+
 def main():
     program = os.path.abspath(sys.argv[1])
     base = tempfile.mkdtemp()
@@ -174,6 +207,7 @@ def main():
         check("a folder is not deleted", status == 0 and os.path.isdir(os.path.join(base, "b", "d")))
 
         check_copies(program, base, check)
+        check_dirty_folder(program, base, check)
 
         for words, want, line in [
             ([os.path.join(base, "nowhere")], 2, b"no such file or folder"),

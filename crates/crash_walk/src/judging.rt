@@ -21,6 +21,7 @@ pub fn left_in<T: Tree>(alloc: Global, image: &mut T, scene: Scene) -> Result<St
     match scene {
         Scene::Deletion => left_of_deletion(alloc, image),
         Scene::Copy => left_of_copy(alloc, image),
+        Scene::LeftFolder => left_of_deletion(alloc, image),
     }
 }
 

@@ -1,5 +1,6 @@
-//! Walks through every moment of two sessions, of which one deletes a file and one copies a file, and through the crash
-//! images of each: what is left then? The expected lines stand in `stdout`.
+//! Walks through every moment of three sessions, of which one deletes a file, one copies a file, and one deletes two files of
+//! which the first is left unsynced, and through the crash images of each: what is left then? The expected lines stand in
+//! `stdout`.
 #![tactic(auto)]
 
 mod images;
@@ -14,10 +15,14 @@ fn main(rt: HostRuntime) -> Result<()> {
     let alloc = rt.alloc();
     let deletion = scene_lines(alloc, Scene::Deletion)?;
     let copy = scene_lines(alloc, Scene::Copy)?;
+    let left = scene_lines(alloc, Scene::LeftFolder)?;
     for line in deletion.iter() {
         println!(rt; "{line}")?;
     }
     for line in copy.iter() {
+        println!(rt; "{line}")?;
+    }
+    for line in left.iter() {
         println!(rt; "{line}")?;
     }
     Ok(())

@@ -1,4 +1,4 @@
-//! The two sessions: the trees that they begin with, and their keys.
+//! The three sessions: the trees that they begin with, and their keys.
 ghost use Rattle.std.specs.Prelude.{◌≡◌, []};
 
 use crate::images::walk;
@@ -15,6 +15,8 @@ pub enum Scene {
     Deletion,
     /// A file is copied from one folder into the other.
     Copy,
+    /// Two files are deleted. The sync after the first is refused, and so is that of its last steps; the second job makes it.
+    LeftFolder,
 }
 
 impl Scene {
@@ -23,6 +25,7 @@ impl Scene {
         match self {
             Scene::Deletion => "/a/x is deleted",
             Scene::Copy => "/s/e is copied into /t",
+            Scene::LeftFolder => "/a/x is deleted and /a not synced, then /a/y is deleted",
         }
     }
 
@@ -31,6 +34,7 @@ impl Scene {
         match self {
             Scene::Deletion => false,
             Scene::Copy => true,
+            Scene::LeftFolder => false,
         }
     }
 }
@@ -60,6 +64,12 @@ const DELETING: &[u8] = b"\x1b[B\x1b[19~\r\x1b[21~";
 /// Down, F5, Enter at the mask, Enter at the target, F10.
 const COPYING: &[u8] = b"\x1b[B\x1b[15~\r\r\x1b[21~";
 
+/// Down, F8, Enter, b in the box of the refused sync, F8, Enter, F10.
+const DELETING_BOTH: &[u8] = b"\x1b[B\x1b[19~\rb\x1b[19~\r\x1b[21~";
+
+/// The calls that are the first sync, after two listings, a look and the removal, and the one of the last steps.
+const REFUSED_SYNCS: &[u64] = &[5, 6];
+
 /// The lines of a session: its title, and what is left at each moment.
 pub fn scene_lines(alloc: Global, scene: Scene) -> Result<Vec<String>> {
     let tree = played(alloc, scene)?;
@@ -71,6 +81,7 @@ fn played(alloc: Global, scene: Scene) -> Result<MemTree> {
     match scene {
         Scene::Deletion => deletion(alloc),
         Scene::Copy => copy(alloc),
+        Scene::LeftFolder => left_folder(alloc),
     }
 }
 
@@ -82,6 +93,12 @@ fn deletion(alloc: Global) -> Result<MemTree> {
 fn copy(alloc: Global) -> Result<MemTree> {
     let tree = file_and_folder(alloc)?;
     after_keys(alloc, tree, "/s", "/t", COPYING)
+}
+
+fn left_folder(alloc: Global) -> Result<MemTree> {
+    let mut tree = two_files(alloc)?;
+    tree.fail_calls(alloc, REFUSED_SYNCS)?;
+    after_keys(alloc, tree, "/a", "/a", DELETING_BOTH)
 }
 
 /// The folder `/a` with two files.
