@@ -198,6 +198,7 @@ impl Run {
         work.into_part()
     }
 
+    /// An answer where a call of the work was refused.
     fn answer_trouble(&mut self, cause: Cause, answer: Answer) -> Result<(), AnswerError>
         requires course { self.old.course ≡ Course.InTrouble cause }
         ensures taken { OnOk result (self.new ≡ answered answer self.old) }
@@ -221,6 +222,7 @@ impl Run {
         Ok(())
     }
 
+    /// An answer where a folder that an ended job left couldn't be synced.
     fn answer_unsettled(&mut self, answer: Answer) -> Result<(), AnswerError>
         requires course { (cause : Cause) × (self.old.course ≡ Course.Unsettled cause) }
         ensures taken { OnOk result (self.new ≡ answered answer self.old) }
@@ -239,6 +241,7 @@ impl Run {
         Ok(())
     }
 
+    /// The next piece of the work, or what has to come before it.
     fn go_on<T: Tree, P: PartTest>(
         &mut self,
         alloc: Global,
@@ -257,7 +260,8 @@ impl Run {
         }
     }
 
-    /// Before the first change: a folder that an ended job left is synced, or all are.
+    /// The step of a job that has changed nothing yet: it syncs a folder that an ended job left on that mount, or may make its
+    /// first change where there is none.
     fn begin<T: Tree, P: PartTest>(
         &mut self,
         alloc: Global,
@@ -351,6 +355,7 @@ impl Run {
         stepped
     }
 
+    /// Reports that the file is left as it is.
     fn skip(&mut self, alloc: Global, cause: Cause) -> Stepped
         requires course { self.old.course ≡ Course.Skips cause }
         ensures skips { SkipSteps cause self.old self.new result.did result.calls }
@@ -360,6 +365,7 @@ impl Run {
         Stepped { did, calls: 0 }
     }
 
+    /// One of the last steps.
     fn wind_up<T: Tree>(
         &mut self,
         alloc: Global,

@@ -127,18 +127,15 @@ impl<N: Tag, T: Tree, S: Sink, P: Spawner> Desk<N, T, S, P> {
         let drawn = draw(alloc, &mut self.screen, &self.ui);
         self.shown = after_draw(self.shown, &drawn);
         self.failed = failed_by(self.failed, &drawn);
-        self.log.note(Entry {
-            seat: 0,
-            calls: self.calls,
-            faults: self.tree.faults(),
-            shown: self.shown,
-            what: Event::Key {
-                key,
-                now,
-                refusals,
-                lost: false,
-            },
-        });
+        let entry = keyed(
+            self.calls,
+            self.tree.faults(),
+            self.shown,
+            key,
+            now,
+            refusals,
+        );
+        self.log.note(entry);
         match ask {
             Ask::Nothing => self.finish(drawn, DeskReply::Go),
             Ask::End => {
@@ -256,6 +253,24 @@ fn next_id(last: u32) -> u32
     ensures { result ≡ min (last + 1) (2 ^ 32 - 1) }
 {
     last.saturating_add(1)
+}
+
+/// The entry of a key that was worked.
+fn keyed(calls: u64, faults: u64, shown: u128, key: Key, now: u64, refusals: Refusals) -> Entry
+    ensures { result ≡ record { seat = 0; calls = calls; faults = faults; shown = shown; what = Event.Key key now refusals false } }
+{
+    Entry {
+        seat: 0,
+        calls,
+        faults,
+        shown,
+        what: Event::Key {
+            key,
+            now,
+            refusals,
+            lost: false,
+        },
+    }
 }
 
 /// The entry of a job that is begun.

@@ -1,7 +1,7 @@
 -- A key is written down as it was worked, and what it asked for directly after it.
 use Rattle.std.proofs.Common.{rules, ◌≡◌, ◌≤◌, ◌∷◌, false, Some, None, refl, ap, sym, subst, ◌∙◌, arith, inl, inr, Result, Ok, Err, OnOk}
 use Rattle.copy_move.specs.declared.history.Entry.{Entry}
-use Rattle.copy_move.specs.declared.history.Event.TheVariants.{Began, Order}
+use Rattle.copy_move.specs.declared.history.Event.TheVariants.{Began, Key, Order}
 use Rattle.copy_move.specs.declared.history.JobOrder.TheVariants.{Answered}
 use Rattle.copy_move.specs.Jobs.{MayAnswer, answered}
 use Rattle.copy_move.specs.Told.{told}
@@ -27,11 +27,13 @@ invariant_of-self-in-Nothing g c =
     let had = c.self.invariant.counted in
     let later = c.key.ensures.later in
     let room : 2 ≤ c.note.new.self.spare = search rules in
+    let noted : c.note.new.self.newest ≡ entry 0 inside.calls count c.after_draw-self-inside.result (Key c.args.key c.args.now c.in-Ok.act.refusals false) ∷ inside.log.newest =
+    c.note.ensures.added ∙ ap (λ (e : Entry). e ∷ inside.log.newest) c.keyed-entry.ensures in
     record {
       desk = desk_keyed g.N.Tag.opening (g.T.Tree.contents inside.tree) (g.T.Tree.contents c.key.new.tree) g.N.Tag.tree_faults _ _ count c.after_draw-self-inside.result c.args.key c.args.now c.self.invariant.desk
           unclosed looked c.key.ensures.same (omega (arith, counted, had, later)) c.in-Ok.act.refusals c.in-Ok.act.ask
           (λ h. let risen = c.in-Ok.ensures.fault h in omega (arith, counted, had, risen)) c.in-Ok.ensures.called c.in-Ok.ensures.leads c.key.ensures.settled room refl
-          c.note.ensures.added refl refl (ap (λ (a : Ask). with_ask a c.key.new.self) c.in-Nothing.is) (λ h. inl h) refl;
+          noted refl refl (ap (λ (a : Ask). with_ask a c.key.new.self) c.in-Nothing.is) (λ h. inl h) refl;
       counted = search rules;
       screen = subst (λ b. Blames b g.N.Tag.sink_faults (g.S.Sink.fault_count c.draw-drawn.new.screen)) (sym c.failed_by-self-inside.ensures)
           (blames_drawn inside.failed c.draw-drawn.result g.N.Tag.sink_faults (g.S.Sink.fault_count inside.screen) (g.S.Sink.fault_count c.draw-drawn.new.screen) c.self.invariant.screen c.draw-drawn.ensures.later c.draw-drawn.ensures.fault);
@@ -47,11 +49,13 @@ invariant_of-self-in-End g c =
     let had = c.self.invariant.counted in
     let later = c.key.ensures.later in
     let room : 2 ≤ c.note.new.self.spare = search rules in
+    let noted : c.note.new.self.newest ≡ entry 0 inside.calls count c.after_draw-self-inside.result (Key c.args.key c.args.now c.in-Ok.act.refusals false) ∷ inside.log.newest =
+    c.note.ensures.added ∙ ap (λ (e : Entry). e ∷ inside.log.newest) c.keyed-entry.ensures in
     record {
       desk = desk_keyed g.N.Tag.opening (g.T.Tree.contents inside.tree) (g.T.Tree.contents c.key.new.tree) g.N.Tag.tree_faults _ _ count c.after_draw-self-inside.result c.args.key c.args.now c.self.invariant.desk
           unclosed looked c.key.ensures.same (omega (arith, counted, had, later)) c.in-Ok.act.refusals c.in-Ok.act.ask
           (λ h. let risen = c.in-Ok.ensures.fault h in omega (arith, counted, had, risen)) c.in-Ok.ensures.called c.in-Ok.ensures.leads c.key.ensures.settled room refl
-          c.note.ensures.added refl refl (ap (λ (a : Ask). with_ask a c.key.new.self) c.in-End.is) (λ h. inr (c.in-Ok.ensures.ends.0 c.in-End.is)) refl;
+          noted refl refl (ap (λ (a : Ask). with_ask a c.key.new.self) c.in-End.is) (λ h. inr (c.in-Ok.ensures.ends.0 c.in-End.is)) refl;
       counted = search rules;
       screen = subst (λ b. Blames b g.N.Tag.sink_faults (g.S.Sink.fault_count c.draw-drawn.new.screen)) (sym c.failed_by-self-inside.ensures)
           (blames_drawn inside.failed c.draw-drawn.result g.N.Tag.sink_faults (g.S.Sink.fault_count inside.screen) (g.S.Sink.fault_count c.draw-drawn.new.screen) c.self.invariant.screen c.draw-drawn.ensures.later c.draw-drawn.ensures.fault);
@@ -69,6 +73,8 @@ invariant_of-self-in-Begin g c =
     let had = c.self.invariant.counted in
     let later = c.key.ensures.later in
     let room : 2 ≤ c.note-in-Begin.new.self.spare = search rules in
+    let noted : c.note.new.self.newest ≡ entry 0 inside.calls count c.after_draw-self-inside.result (Key c.args.key c.args.now c.in-Ok.act.refusals false) ∷ inside.log.newest =
+    c.note.ensures.added ∙ ap (λ (e : Entry). e ∷ inside.log.newest) c.keyed-entry.ensures in
     record {
       desk = desk_began g.N.Tag.opening (g.T.Tree.contents inside.tree) (g.T.Tree.contents c.key.new.tree) g.N.Tag.tree_faults _ _ count c.after_draw-self-inside.result c.args.key c.args.now c.self.invariant.desk
           unclosed looked c.key.ensures.same (omega (arith, counted, had, later)) c.in-Ok.act.refusals c.in-Ok.act.ask
@@ -76,7 +82,7 @@ invariant_of-self-in-Begin g c =
           c.in-Begin.confirmed c.next_id-id.result c.faults-in-Begin.result c.in-Begin.is asked.0 asked.1 c.in-Begin.confirmed.started
           (c.note-in-Begin.ensures.added
           ∙ (ap (λ (e : Entry). e ∷ c.note.new.self.newest) c.began.ensures
-          ∙ ap (λ es. entry 0 inside.calls c.faults-in-Begin.result 0 (Began c.next_id-id.result c.in-Begin.confirmed.plan false) ∷ es) c.note.ensures.added))
+          ∙ ap (λ es. entry 0 inside.calls c.faults-in-Begin.result 0 (Began c.next_id-id.result c.in-Begin.confirmed.plan false) ∷ es) noted))
           (let again = c.faults-in-Begin.ensures in omega (arith, counted, again)) c.next_id-id.ensures refl refl refl refl;
       counted = search rules;
       screen = subst (λ b. Blames b g.N.Tag.sink_faults (g.S.Sink.fault_count c.draw-drawn.new.screen)) (sym c.failed_by-self-inside.ensures)
@@ -98,13 +104,15 @@ invariant_of-self-in-Answer g c =
     let had = c.self.invariant.counted in
     let later = c.key.ensures.later in
     let room : 2 ≤ c.note-in-Answer.new.self.spare = search rules in
+    let noted : c.note.new.self.newest ≡ entry 0 inside.calls count c.after_draw-self-inside.result (Key c.args.key c.args.now c.in-Ok.act.refusals false) ∷ inside.log.newest =
+    c.note.ensures.added ∙ ap (λ (e : Entry). e ∷ inside.log.newest) c.keyed-entry.ensures in
     record {
       desk = desk_ordered g.N.Tag.opening (g.T.Tree.contents inside.tree) (g.T.Tree.contents c.key.new.tree) g.N.Tag.tree_faults _ _ count c.after_draw-self-inside.result c.args.key c.args.now c.self.invariant.desk
           unclosed looked c.key.ensures.same (omega (arith, counted, had, later)) c.in-Ok.act.refusals c.in-Ok.act.ask
           (λ h. let risen = c.in-Ok.ensures.fault h in omega (arith, counted, had, risen)) c.in-Ok.ensures.called c.in-Ok.ensures.leads c.key.ensures.settled room refl
           c.in-Answer.answer c.in-Some.job c.faults-in-Answer.result c.in-Answer.is job may
           (c.note-in-Answer.ensures.added ∙ (ap (λ (e : Entry). e ∷ c.note.new.self.newest) c.ordered.ensures ∙ (ap (λ n. entry 0 inside.calls c.faults-in-Answer.result 0 (Order n (Answered c.in-Answer.answer)) ∷ c.note.new.self.newest) c.id-id.ensures
-          ∙ ap (λ es. entry 0 inside.calls c.faults-in-Answer.result 0 (Order c.in-Some.job.id (Answered c.in-Answer.answer)) ∷ es) c.note.ensures.added)))
+          ∙ ap (λ es. entry 0 inside.calls c.faults-in-Answer.result 0 (Order c.in-Some.job.id (Answered c.in-Answer.answer)) ∷ es) noted)))
           (let again = c.faults-in-Answer.ensures in omega (arith, counted, again)) (ap Some new)
           (ap (λ j. let t : Tally = record { job = Some (told j); last = inside.last_id; unseen = inside.unseen; closed = inside.closed; due = Some c.id-id.result; lost = inside.lost; calls = inside.calls } in t) new
           ∙ ap (λ n. let t : Tally = record { job = Some (told (answered c.in-Answer.answer c.in-Some.job)); last = inside.last_id; unseen = inside.unseen; closed = inside.closed; due = Some n; lost = inside.lost; calls = inside.calls } in t) c.id-id.ensures) refl refl;
