@@ -164,12 +164,7 @@ impl FileCopy {
     }
 
     /// Makes the next of the last steps of a job that is to end so. After the end the copy is to be let go.
-    pub fn wind_up<T: Tree>(
-        &mut self,
-        alloc: Global,
-        tree: &mut T,
-        ending: Ending,
-    ) -> LastStepped
+    pub fn wind_up<T: Tree>(&mut self, alloc: Global, tree: &mut T, ending: Ending) -> LastStepped
         ensures { WindsOn ending self.old self.new result.did result.calls result.left
             (T.contents tree.old) (T.contents tree.new) (T.fault_count tree.old) (T.fault_count tree.new) }
     {
