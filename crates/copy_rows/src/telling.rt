@@ -4,7 +4,7 @@ ghost use Rattle.file_copy.specs.LastSteps.{left_at};
 
 use crate::scene::{SOURCE, TARGET};
 use anyhow::{Result, bail};
-use file_copy::{Cause, Did, Ending, FileCopy, PartTest, Stepped, Trouble};
+use file_copy::{Cause, Did, Ending, FileCopy, PartTest, Trouble};
 use mc_text::Path;
 use std::alloc::Global;
 use std::convert::AsStr;
@@ -87,7 +87,7 @@ fn step<T: Tree>(
     ensures ready { left_at copy.new.stage ≡ None }
 {
     let stepped = copy.step(alloc, tree, &AllFree);
-    lines.push(step_line(alloc, &stepped)?)?;
+    lines.push(step_line(alloc, &stepped.did, stepped.calls)?)?;
     match cause_of(&stepped.did) {
         Some(cause) => answer_trouble(alloc, copy, cause, answer, lines),
         None => Ok(after(&stepped.did, answer)),
@@ -146,7 +146,7 @@ fn wind_up<T: Tree>(
     let mut copy = copy;
     for _ in 0..3 {
         let stepped = copy.wind_up(alloc, tree, Ending::Aborted);
-        lines.push(step_line(alloc, &stepped)?)?;
+        lines.push(step_line(alloc, &stepped.did, stepped.calls)?)?;
         if let Did::Ended { .. } = stepped.did {
             return Ok(());
         }
@@ -155,9 +155,9 @@ fn wind_up<T: Tree>(
 }
 
 /// What a step did, and how many changing calls it made.
-fn step_line(alloc: Global, stepped: &Stepped) -> Result<String> {
-    let did = told(alloc, &stepped.did)?;
-    Ok(format!(in alloc; "  {did}, calls {}", stepped.calls)?)
+fn step_line(alloc: Global, did: &Did, calls: u64) -> Result<String> {
+    let did = told(alloc, did)?;
+    Ok(format!(in alloc; "  {did}, calls {calls}")?)
 }
 
 /// What was done, in words.
