@@ -1,5 +1,5 @@
 -- One entry more is a session still.
-use Rattle.std.proofs.Common.{◌≡◌, ◌⊎◌, ℕ, ◌+◌, ◌≤◌, true, false, ◌||◌, List, [], ◌∷◌, length, refl, sym, ◌∙◌, ap, subst, inl, inr, Option, Some, None, arith}
+use Rattle.std.proofs.Common.{◌≡◌, ◌⊎◌, ℕ, ◌+◌, ◌≤◌, Bool, true, false, ◌||◌, List, [], ◌∷◌, length, refl, sym, ◌∙◌, ap, subst, inl, inr, Option, Some, None, arith}
 use Rattle.std.specs.Option.{option_map}
 use Rattle.mc_text.specs.Routes.{Route}
 use Rattle.tree_trait.specs.Change.{CallLog}
@@ -25,9 +25,9 @@ use Rattle.mc_desk.specs.Desks.{Seen, IsWritten, IsDesk}
 abbrev pub fresh : Tally
 fresh = record { job = None; last = 0; unseen = false; closed = false; due = Some 0; lost = false; calls = 0 }
 
-pub kept_opening : (opening contents : Option CallLog) (faults : ℕ) (left right : Route) (screen : Screen) (log : Logged) (dirty : List Route) (pending : List ℕ) → contents ≡ opening → IsOpened contents left right screen log → dirty ≡ []
-    → IsDesk opening contents faults (record { newest = log.newest; spare = log.spare; screen = screen; job = None; dirty = dirty; tally = fresh; pending = pending; quit = false })
-kept_opening opening contents faults left right screen log dirty pending same opened none = record {
+pub kept_opening : (opening contents : Option CallLog) (faults : ℕ) (left right : Route) (screen : Screen) (log : Logged) (dirty : List Route) (pending : List ℕ) (failed : Bool) → contents ≡ opening → IsOpened contents left right screen log → dirty ≡ []
+    → IsDesk opening contents faults (record { newest = log.newest; spare = log.spare; screen = screen; job = None; dirty = dirty; tally = fresh; pending = pending; quit = false; failed = failed })
+kept_opening opening contents faults left right screen log dirty pending failed same opened none = record {
   written = record {
     session = subst (λ es. IsSession opening faults es screen None contents) (sym opened.empty)
         (subst (λ o. IsSession o faults [] screen None contents) same (opened.opening, refl, refl));

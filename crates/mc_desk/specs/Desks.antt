@@ -19,13 +19,14 @@ use Rattle.mc_desk.specs.declared.desk.Due.{Due}
 use Rattle.mc_desk.specs.declared.desk.Due.TheVariants.{Nothing, First, Job}
 use Rattle.mc_desk.specs.declared.desk.DeskReply.{DeskReply}
 use Rattle.mc_desk.specs.declared.desk.DeskError.{DeskError}
+use Rattle.mc_desk.specs.declared.desk.DeskError.TheVariants as error
 use Rattle.mc_desk.specs.declared.desk.StepReply.{StepReply}
 use Rattle.mc_desk.specs.declared.desk.StepReply.TheVariants.{Ended, Idle}
 use Rattle.mc_desk.specs.Tallies.{Tally, tally, faults_in, keys_in}
 use Rattle.mc_desk.specs.Sessions.{IsSession, EndAsked}
 
 -- what can be seen of a desk: its entries, the newest first, and how many more find room; the screen; the live job; the dirty
--- folders; what the history came to; the bytes since the last key; and whether the end was asked for
+-- folders; what the history came to; the bytes since the last key; whether the end was asked for; and whether the screen failed
 pub record Seen : Type 0 where
   pub newest : List Entry
   pub spare : ℕ
@@ -35,6 +36,7 @@ pub record Seen : Type 0 where
   pub tally : Tally
   pub pending : List ℕ
   pub quit : Bool
+  pub failed : Bool
 
 -- what is to be looked at before the next key, by its number
 abbrev pub awaited : Due → Option ℕ
@@ -71,6 +73,10 @@ abbrev pub failed_by : Bool → Result ℕ SinkError → Bool
 failed_by before (Err Fault) = true
 failed_by before (Err Memory) = before
 failed_by before (Ok bytes) = before
+
+-- an answer that names the screen comes only where it failed
+abbrev pub BlamesScreen : {A : Type 0} → Result A DeskError → Bool → Type 0
+BlamesScreen result failed = result ≡ Err error.Screen → failed ≡ true
 
 -- A screen that failed has counted it since the opening; the count doesn't fall.
 abbrev pub Blames : Bool → ℕ → ℕ → Type 0

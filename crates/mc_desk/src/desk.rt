@@ -126,6 +126,7 @@ impl<N: Tag, T: Tree, S: Sink, P: Spawner> Model for Desk<N, T, S, P> {
       };
       pending = d.keys;
       quit = d.quit;
+      failed = d.failed;
     } };
 
     ghost invariant = { λ d. KeepsDesk N.opening (T.contents d.tree) (record {
@@ -145,6 +146,7 @@ impl<N: Tag, T: Tree, S: Sink, P: Spawner> Model for Desk<N, T, S, P> {
       };
       pending = d.keys;
       quit = d.quit;
+      failed = d.failed;
     }) N.tree_faults (T.fault_count d.tree) d.failed N.sink_faults (S.fault_count d.screen) };
 }
 

@@ -3,7 +3,7 @@ ghost use Rattle.std.specs.Prelude.{◌≡◌, ◌≢◌, ◌+◌, ◌-◌, ◌^
 ghost use Rattle.copy_move.specs.Told.{IsReady};
 ghost use Rattle.mc_ui.specs.Screens.{SameFolders, ShowsTrouble, plain_base};
 ghost use Rattle.mc_desk.specs.Tallies.{can_step, keys_in};
-ghost use Rattle.mc_desk.specs.Desks.{failed_by, awaited, HasTaken, TakesByte, KeepsKeys};
+ghost use Rattle.mc_desk.specs.Desks.{BlamesScreen, failed_by, awaited, HasTaken, TakesByte, KeepsKeys};
 
 use super::steps::{closed, closing};
 use super::{Desk, DeskError, DeskReply, Due};
@@ -23,6 +23,7 @@ impl<N: Tag, T: Tree, S: Sink, P: Spawner> Desk<N, T, S, P> {
         requires looked { self.old.tally.due ≡ None }
         ensures folders { SameFolders self.old.screen self.new.screen }
         ensures dirty { self.new.dirty ≡ self.old.dirty }
+        ensures screen_failed { BlamesScreen result self.new.failed }
         ensures keys { (bytes : List ℕ) → HasTaken bytes self.old → TakesByte result bytes byte self.old self.new }
         ensures unclosed { OnOk result (self.new.tally.closed ≡ self.old.tally.closed) }
         ensures quit { result ≡ Ok DeskReply.Quit → self.old.tally.closed ≡ false → self.new.quit ≡ true }
@@ -52,6 +53,7 @@ impl<N: Tag, T: Tree, S: Sink, P: Spawner> Desk<N, T, S, P> {
         ensures folders { SameFolders self.old.screen self.new.screen }
         ensures keys { KeepsKeys self.old self.new }
         ensures dirty { self.new.dirty ≡ self.old.dirty }
+        ensures screen_failed { BlamesScreen result self.new.failed }
         ensures looked { OnOk result (can_step self.old.tally.job ≡ false → self.new.tally.due ≡ None) }
         ensures unclosed { OnOk result (self.new.tally.closed ≡ self.old.tally.closed) }
     {
@@ -114,6 +116,7 @@ impl<N: Tag, T: Tree, S: Sink, P: Spawner> Desk<N, T, S, P> {
         ensures keys { keys_in self.new.newest ≡ keys_in self.old.newest ++ key ∷ [] }
         ensures pending { self.new.pending ≡ self.old.pending }
         ensures dirty { self.new.dirty ≡ self.old.dirty }
+        ensures screen_failed { BlamesScreen result self.new.failed }
         ensures unclosed { OnOk result (self.new.tally.closed ≡ false) }
         ensures looked { OnOk result (plain_base key ≡ Base.Unknown → self.new.tally.due ≡ None) }
         ensures room { OnOk result (self.old.spare ≤ self.new.spare + 2) }
@@ -205,6 +208,7 @@ impl<N: Tag, T: Tree, S: Sink, P: Spawner> Desk<N, T, S, P> {
         ensures screen { self.new.screen ≡ self.old.screen }
         ensures keys { KeepsKeys self.old self.new }
         ensures dirty { self.new.dirty ≡ self.old.dirty }
+        ensures screen_failed { BlamesScreen result self.new.failed }
         ensures unclosed { OnOk result (self.new.tally.closed ≡ self.old.tally.closed) }
         ensures goes_on { result ≢ Ok DeskReply.Quit }
     {
@@ -220,9 +224,11 @@ impl<N: Tag, T: Tree, S: Sink, P: Spawner> Desk<N, T, S, P> {
         drawn: Result<usize, SinkError>,
         reply: DeskReply,
     ) -> Result<DeskReply, DeskError>
+        requires screen_failed { drawn ≡ Err SinkError.Fault → self.old.failed ≡ true }
         ensures screen { self.new.screen ≡ self.old.screen }
         ensures keys { KeepsKeys self.old self.new }
         ensures dirty { self.new.dirty ≡ self.old.dirty }
+        ensures screen_failed { BlamesScreen result self.new.failed }
         ensures same { OnOk result (self.new ≡ self.old) }
         ensures reply { IfOk result (λ answer. answer ≡ reply) }
         ensures quit { self.new.quit ≡ self.old.quit }
@@ -235,9 +241,11 @@ impl<N: Tag, T: Tree, S: Sink, P: Spawner> Desk<N, T, S, P> {
 
     /// Closes the desk after a draw that failed.
     fn fail(&mut self, error: SinkError) -> DeskError
+        requires screen_failed { error ≡ SinkError.Fault → self.old.failed ≡ true }
         ensures screen { self.new.screen ≡ self.old.screen }
         ensures keys { KeepsKeys self.old self.new }
         ensures dirty { self.new.dirty ≡ self.old.dirty }
+        ensures error { result ≡ DeskError.Screen → self.new.failed ≡ true }
         ensures quit { self.new.quit ≡ self.old.quit }
     {
         self.close();

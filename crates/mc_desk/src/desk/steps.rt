@@ -27,6 +27,7 @@ impl<N: Tag, T: Tree, S: Sink, P: Spawner> Desk<N, T, S, P> {
         ensures screen { self.new.screen ≡ self.old.screen }
         ensures keys { KeepsKeys self.old self.new }
         ensures dirty { self.new.dirty ≡ self.old.dirty }
+        ensures failed { self.new.failed ≡ self.old.failed }
         ensures quit { self.new.quit ≡ self.old.quit }
     {
         if self.closed {
