@@ -45,17 +45,20 @@ def run(program, words, keys, largest=None, user=None):
     ours, theirs = pty.openpty()
     child = os.fork()
     if child == 0:
-        os.close(ours)
-        os.setsid()
-        for stream in (0, 1, 2):
-            os.dup2(theirs, stream)
-        if largest is not None:
-            signal.signal(signal.SIGXFSZ, signal.SIG_IGN)
-            resource.setrlimit(resource.RLIMIT_FSIZE, (largest, largest))
-        if user is not None:
-            os.setgid(user)
-            os.setuid(user)
-        os.execv(program, [program] + words)
+        try:
+            os.close(ours)
+            os.setsid()
+            for stream in (0, 1, 2):
+                os.dup2(theirs, stream)
+            if largest is not None:
+                signal.signal(signal.SIGXFSZ, signal.SIG_IGN)
+                resource.setrlimit(resource.RLIMIT_FSIZE, (largest, largest))
+            if user is not None:
+                os.setgid(user)
+                os.setuid(user)
+            os.execv(program, [program] + words)
+        finally:  # a child that can't become the program goes no further
+            os._exit(127)
     written, status, waiting = b"", None, list(keys)
     end = time.monotonic() + PATIENCE
     while status is None and time.monotonic() < end:
