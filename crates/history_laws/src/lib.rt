@@ -1,0 +1,16 @@
+//! Laws of sessions: what a crash leaves of one at each moment, and what its history tells of the tree. The functions do
+//! nothing: their contracts are laws of the definitions in `specs/`.
+#![tactic(auto)]
+
+ghost use Rattle.history_laws.specs.Safe.{ReplayLaw, SessionLaw};
+
+/// At each moment of a session, inside a call too, each path holds after a crash what the history says, or what it held
+/// before its last change, as long as that isn't on the disk; parts may be missing or hold anything.
+pub fn what_a_crash_leaves_of_a_session()
+    ensures { SessionLaw }
+{}
+
+/// What can be seen at its end is what the history makes of the opening, but for the parts of live jobs.
+pub fn what_a_session_shows()
+    ensures { ReplayLaw }
+{}
