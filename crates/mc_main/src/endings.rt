@@ -13,7 +13,7 @@ use crate::outcome::Outcome;
 use crate::session::{SessionEnd, run_session};
 use copy_move::{Entries, History};
 use mc_desk::{Desk, Ended, Refused, Side, StartError, Tag, cause_text};
-use mc_text::{NoMemory, Text};
+use mc_text::{NoMemory, Text, drawn};
 use std::alloc::Global;
 use tree_trait::{Clock, Sink, SinkError, Source, Spawner, Tree, TreeError};
 
@@ -101,7 +101,8 @@ pub fn refuse<T, S: Sink, P>(
     without_session(alloc, status, tree, screen, spawner)
 }
 
-/// Ends a run whose folder was refused: the line names it as it was typed, and the cause.
+/// Ends a run whose folder was refused: the line names it as it was typed, drawn so that no control character reaches the
+/// terminal, and the cause.
 pub fn refuse_start<T, S: Sink, P>(
     alloc: Global,
     words: &[Text],
@@ -139,7 +140,7 @@ fn start_line(
 ) -> Result<String, NoMemory> {
     let mut line = String::from_str(alloc, "mc: ")?;
     if let Some(word) = word_of(words, side) {
-        line.push_str(word.0.as_str())?;
+        line.push_str(drawn(alloc, word.0.as_str())?.0.as_str())?;
         line.push_str(": ")?;
     }
     line.push_str(cause_text(error))?;

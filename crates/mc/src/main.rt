@@ -1,19 +1,15 @@
-//! The program: the real devices, the terminal made raw and sane again, and one run.
+//! The program: the real devices, the terminal made raw and put back, and one run.
 #![tactic(auto)]
 
-mod endings;
-mod outcome;
-mod run;
-mod session;
 mod terminal;
-#[cfg(test)]
-mod tests;
-mod words;
 
-use crate::run::{Env, Gate, mc_run};
-use crate::terminal::{begin_line, clear_screen, make_raw, make_sane, put_usage, words_of};
+use crate::terminal::{
+    Terminal, begin_line, clear_screen, make_raw, put_back, put_usage, words_of,
+};
 use host_tree::{HostClock, HostTree, ShSpawner, StdinSource, StdoutSink};
+use mc_main::{Env, Gate, WordsError, mc_run, read_words};
 use mc_text::Text;
+use std::alloc::Global;
 use std::io;
 use std::marker::Brand;
 use std::process::ExitCode;
@@ -42,7 +38,11 @@ fn main(rt: HostRuntime) -> io::Result<ExitCode> {
     let mut keys = StdinSource::new(rt);
     let spawner = ShSpawner::new(rt);
     let clock = HostClock::new(rt);
-    make_raw(&rt);
+    let terminal = if are_refused(rt.alloc(), words.as_slice()) {
+        Terminal::Untouched
+    } else {
+        make_raw(&rt)
+    };
     let outcome = mc_run::<
         Brand,
         HostTree<HostRuntime>,
@@ -63,16 +63,20 @@ fn main(rt: HostRuntime) -> io::Result<ExitCode> {
         &Open,
     );
     let status = outcome.status;
-    if had_session(status) {
-        clear_screen(&rt);
-    } else {
-        begin_line(&rt);
+    match status {
+        // The usage line stands in a terminal that wasn't touched.
+        1 => {}
+        2 => begin_line(&rt),
+        _ => clear_screen(&rt),
     }
-    make_sane(&rt);
+    put_back(&rt, &terminal);
     Ok(ExitCode::from(status))
 }
 
-/// Whether the screen was drawn: a run that was refused leaves its line there.
-fn had_session(status: u8) -> bool {
-    status != 1 && status != 2
+/// Whether a run on these words prints the usage line, and does nothing else.
+fn are_refused(alloc: Global, words: &[Text]) -> bool {
+    match read_words(alloc, words) {
+        Ok(_) => false,
+        Err(error) => error == WordsError::Usage,
+    }
 }

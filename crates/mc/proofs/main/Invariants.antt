@@ -1,7 +1,7 @@
 -- The type names the folders of the words; the real devices tell nothing, and have not failed yet.
 use Rattle.std.proofs.Common.{None}
 use Rattle.mc_main.specs.Headline.{folders_in}
-use Rattle.mc_main.proofs.main.Given as goal
+use Rattle.mc.proofs.main.Given as goal
 
 abbrev pub ghosts-mc_run : goal.ghosts-mc_run
 ghosts-mc_run g a = record {
