@@ -6,7 +6,7 @@ use Rattle.copy_move.specs.Told.{told}
 use Rattle.mc_desk.specs.Tallies.{Tally}
 use Rattle.mc_desk.specs.Desks.{Seen}
 use Rattle.mc_desk.proofs.Naming.{due_is_live}
-use Rattle.mc_desk.proofs.desk.Desk.is_ready.Goals as goal
+use Rattle.mc_desk.proofs.session.Session.is_ready.Goals as goal
 
 pub returns-else-id-job-clause-due : goal.returns-else-id-job-clause-due
 returns-else-id-job-clause-due g c due =

@@ -1,27 +1,28 @@
 //! Steps of the job, and the end of a session.
-ghost use Rattle.std.specs.Prelude.{◌≡◌, ◌<◌, true, Option, Some, None, IsSome, ◌||◌, reverse, if◌then◌else◌};
+ghost use Rattle.std.specs.Prelude.{◌≡◌, ◌<◌, ◌≤◌, true, Option, Some, None, IsSome, ◌||◌, reverse, if◌then◌else◌};
 ghost use Rattle.std.specs.Option.{option_map};
 ghost use Rattle.copy_move.specs.Jobs.{closed_job};
 ghost use Rattle.copy_move.specs.Ranks.{rank_with};
 ghost use Rattle.copy_move.specs.Told.{if_closed, live_job, IsReady};
 ghost use Rattle.copy_move.specs.Replay.{IsReplayed};
 ghost use Rattle.copy_move.specs.Traces.{IsTracedTo};
-ghost use Rattle.mc_desk.specs.Sessions.{EndsSession, EndAsked};
-ghost use Rattle.mc_desk.specs.Tallies.{can_step, keys_in, has_lost};
-ghost use Rattle.mc_desk.specs.Desks.{Blames, KeepsKeys, MovesDirty, idle_reply};
+ghost use Rattle.mc_desk.specs.Sessions.{EndsSession};
+ghost use Rattle.mc_desk.specs.Tallies.{can_step, faults_in, keys_in, has_lost};
+ghost use Rattle.mc_desk.specs.Desks.{Blames, KeepsKeys, MovesDirty, RanNothing, idle_reply};
 ghost use Rattle.mc_desk.specs.Logs.{jobs_begun};
 
-use super::{Desk, Due, Ended, StepReply};
+use super::{Due, Session};
 use crate::claims::NoClaims;
+use crate::replies::{Ended, StepReply};
 use crate::tag::Tag;
 use copy_move::{Did, Ending, Entry, Event, Run, Stepped, is_end, stuck_at};
 use mc_text::Path;
 use std::alloc::Global;
 use tree_trait::{Sink, Spawner, Tree};
 
-impl<N: Tag, T: Tree, S: Sink, P: Spawner> Desk<N, T, S, P> {
-    /// Closes the desk: no more keys are taken, and a job that waits for an answer is aborted. It takes no memory. A closed
-    /// desk stays as it is.
+impl<N: Tag, T: Tree, S: Sink, P: Spawner> Session<N, T, S, P> {
+    /// Closes the session: no more keys are taken, and a job that waits for an answer is aborted. It takes no memory. A closed
+    /// one stays as it is.
     pub fn close(&mut self)
         ensures closed { self.new.tally.closed ≡ true }
         ensures screen { self.new.screen ≡ self.old.screen }
@@ -89,11 +90,10 @@ impl<N: Tag, T: Tree, S: Sink, P: Spawner> Desk<N, T, S, P> {
         StepReply::Did
     }
 
-    /// Steps the job of a closed desk to its end.
+    /// Steps the job of a closed session to its end.
     fn work_off(&mut self, alloc: Global)
         requires closed { self.old.tally.closed ≡ true }
         ensures idle { self.new.job ≡ None }
-        ensures screen { self.new.screen ≡ self.old.screen }
         ensures keys { keys_in self.new.newest ≡ keys_in self.old.newest }
         ensures quit { self.new.quit ≡ self.old.quit }
     {
@@ -102,23 +102,24 @@ impl<N: Tag, T: Tree, S: Sink, P: Spawner> Desk<N, T, S, P> {
         }
     }
 
-    /// Ends the session: the desk is closed, and its job stepped to the end.
+    /// Ends the session: it is closed, and its job stepped to the end.
     pub fn end(self, alloc: Global) -> Ended<T, S, P>
-        ensures session { EndsSession N.opening N.tree_faults (reverse result.history.entries) (T.contents result.tree)
-            self.screen.left.folder self.screen.right.folder }
+        ensures session { EndsSession N.start N.opening N.tree_faults (reverse result.history.entries) (T.contents result.tree) result.quit }
         ensures traced { IsTracedTo N.opening (T.contents result.tree) (reverse result.history.entries) None }
         ensures replayed { IsReplayed N.opening (T.contents result.tree) (reverse result.history.entries) }
         ensures idle { live_job (reverse result.history.entries) ≡ None }
         ensures counted { result.history.started ≡ jobs_begun result.history.entries }
         ensures keys { keys_in (reverse result.history.entries) ≡ keys_in self.newest }
         ensures lost { result.lost ≡ has_lost (reverse result.history.entries) }
-        ensures quit { self.quit ≡ true → EndAsked N.opening N.tree_faults (reverse result.history.entries) }
+        ensures quit { result.quit ≡ self.quit }
         ensures screen { Blames result.failed N.sink_faults (S.fault_count result.screen) }
+        ensures faults { faults_in N.tree_faults (reverse result.history.entries) ≤ T.fault_count result.tree }
+        ensures commands { RanNothing N.runs (P.runs result.spawner) N.spawner_faults (P.fault_count result.spawner) }
     {
-        let mut desk = self;
-        desk.close();
-        desk.work_off(alloc);
-        let Desk {
+        let mut session = self;
+        session.close();
+        session.work_off(alloc);
+        let Session {
             tree,
             screen,
             spawner,
@@ -127,6 +128,7 @@ impl<N: Tag, T: Tree, S: Sink, P: Spawner> Desk<N, T, S, P> {
             job: _,
             dirty: _,
             log,
+            taken: _,
             last_id: _,
             calls: _,
             shown: _,
@@ -138,7 +140,7 @@ impl<N: Tag, T: Tree, S: Sink, P: Spawner> Desk<N, T, S, P> {
             failed,
             lost,
             of: _,
-        } = desk;
+        } = session;
         Ended {
             tree,
             screen,

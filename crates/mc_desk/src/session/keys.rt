@@ -1,12 +1,13 @@
-//! Keys and looks: what a desk does for its user.
-ghost use Rattle.std.specs.Prelude.{◌≡◌, ◌≢◌, ◌+◌, ◌-◌, ◌^◌, min, ◌≤◌, ◌∷◌, ◌++◌, [], ℕ, List, true, false, if◌then◌else◌, IsTrue, IfOk, OnOk, Ok, Err, Some, None};
+//! Keys and looks: what a session does for its user.
+ghost use Rattle.std.specs.Prelude.{◌≡◌, ◌+◌, ◌-◌, ◌^◌, min, ◌≤◌, ◌∷◌, ◌++◌, [], ℕ, List, true, false, if◌then◌else◌, IsTrue, IfOk, OnOk, OnErr, Ok, Err, Some, None};
 ghost use Rattle.copy_move.specs.Told.{IsReady};
-ghost use Rattle.mc_ui.specs.Screens.{SameFolders, ShowsTrouble, plain_base};
+ghost use Rattle.mc_ui.specs.Screens.{ShowsTrouble, plain_base};
 ghost use Rattle.mc_desk.specs.Tallies.{can_step, keys_in};
-ghost use Rattle.mc_desk.specs.Desks.{BlamesScreen, failed_by, awaited, HasTaken, TakesByte, KeepsKeys};
+ghost use Rattle.mc_desk.specs.Desks.{BlamesScreen, CountsByte, failed_by, awaited, is_over, is_quit, HasTaken, TakesByte, KeepsKeys};
 
 use super::steps::{closed, closing};
-use super::{Desk, DeskError, DeskReply, Due};
+use super::{Due, Session};
+use crate::replies::{DeskError, DeskReply};
 use crate::tag::Tag;
 use copy_move::{Answer, Entry, Event, Job, JobOrder, Refusals, Run, Trouble};
 use key_screen::{Base, Fed, Key};
@@ -15,25 +16,35 @@ use mc_ui::{Ask, Confirmed, KeyAct, draw};
 use std::alloc::Global;
 use tree_trait::{Sink, SinkError, Spawner, Tree};
 
-impl<N: Tag, T: Tree, S: Sink, P: Spawner> Desk<N, T, S, P> {
-    /// Takes a byte of the keyboard and works the keys that it completes; the reply is that of the last. Each is drawn.
-    /// Where it finds no memory before the byte is taken, nothing changes; each other error closes the desk. A closed desk
-    /// takes no byte and answers `Quit`.
+impl<N: Tag, T: Tree, S: Sink, P: Spawner> Session<N, T, S, P> {
+    /// Takes a byte and works the keys that it completes; the reply is that of the last. Each is drawn. Where it finds no
+    /// memory before the byte is taken, nothing changes; each other error closes the session. One that is closed, or whose end
+    /// was asked, takes no byte and answers `Quit`.
     pub fn byte(&mut self, alloc: Global, byte: u8, now: u64) -> Result<DeskReply, DeskError>
         requires looked { self.old.tally.due ≡ None }
-        ensures folders { SameFolders self.old.screen self.new.screen }
         ensures dirty { self.new.dirty ≡ self.old.dirty }
         ensures screen_failed { BlamesScreen result self.new.failed }
-        ensures keys { (bytes : List ℕ) → HasTaken bytes self.old → TakesByte result bytes byte self.old self.new }
+        ensures over { is_over self.old ≡ true → self.new ≡ self.old }
+        ensures keys { is_over self.old ≡ false → (bytes : List ℕ) → HasTaken bytes self.old
+            → TakesByte result bytes byte self.old self.new }
+        ensures counted { is_over self.old ≡ false → CountsByte result self.old.taken self.new.taken }
+        ensures quit { IfOk result (λ reply. is_quit reply ≡ is_over self.new) }
         ensures unclosed { OnOk result (self.new.tally.closed ≡ self.old.tally.closed) }
-        ensures quit { result ≡ Ok DeskReply.Quit → self.old.tally.closed ≡ false → self.new.quit ≡ true }
     {
         if self.closed {
             return Ok(DeskReply::Quit);
         }
+        if self.quit {
+            return Ok(DeskReply::Quit);
+        }
+        // No history has room for the keys of more bytes than are counted.
+        let Some(taken) = self.taken.checked_add(1) else {
+            return Err(DeskError::Memory);
+        };
         if self.log.reserve(6).is_err() {
             return Err(DeskError::Memory);
         }
+        self.taken = taken;
         let Fed { first, second } = self.keys.feed(byte);
         let Some(first) = first else {
             return self.redraw(alloc);
@@ -48,16 +59,20 @@ impl<N: Tag, T: Tree, S: Sink, P: Spawner> Desk<N, T, S, P> {
         }
     }
 
-    /// Takes up what the job did, and draws. After the job's end the panel is read again. A closed desk stays as it is.
+    /// Takes up what the job did, and draws. After the job's end the panel is read again. A session that is closed, or whose
+    /// end was asked, stays as it is.
     pub fn look(&mut self, alloc: Global) -> Result<(), DeskError>
-        ensures folders { SameFolders self.old.screen self.new.screen }
         ensures keys { KeepsKeys self.old self.new }
         ensures dirty { self.new.dirty ≡ self.old.dirty }
         ensures screen_failed { BlamesScreen result self.new.failed }
         ensures looked { OnOk result (can_step self.old.tally.job ≡ false → self.new.tally.due ≡ None) }
         ensures unclosed { OnOk result (self.new.tally.closed ≡ self.old.tally.closed) }
+        ensures quit { self.new.quit ≡ self.old.quit }
     {
         if self.closed {
+            return Ok(());
+        }
+        if self.quit {
             return Ok(());
         }
         if self.log.reserve(3).is_err() {
@@ -110,17 +125,20 @@ impl<N: Tag, T: Tree, S: Sink, P: Spawner> Desk<N, T, S, P> {
     /// Works one key, writes it down, and begins the job that it asks for.
     fn work_key(&mut self, alloc: Global, key: Key, now: u64) -> Result<DeskReply, DeskError>
         requires unclosed { self.old.tally.closed ≡ false }
+        requires unasked { self.old.quit ≡ false }
         requires looked { self.old.tally.due ≡ None }
         requires room { 4 ≤ self.old.spare }
-        ensures folders { SameFolders self.old.screen self.new.screen }
         ensures keys { keys_in self.new.newest ≡ keys_in self.old.newest ++ key ∷ [] }
         ensures pending { self.new.pending ≡ self.old.pending }
+        ensures taken { self.new.taken ≡ self.old.taken }
         ensures dirty { self.new.dirty ≡ self.old.dirty }
         ensures screen_failed { BlamesScreen result self.new.failed }
         ensures unclosed { OnOk result (self.new.tally.closed ≡ false) }
+        ensures shut { OnErr result (self.new.tally.closed ≡ true) }
         ensures looked { OnOk result (plain_base key ≡ Base.Unknown → self.new.tally.due ≡ None) }
+        ensures unasked { OnOk result (plain_base key ≡ Base.Unknown → self.new.quit ≡ false) }
         ensures room { OnOk result (self.old.spare ≤ self.new.spare + 2) }
-        ensures quit { result ≡ Ok DeskReply.Quit → self.new.quit ≡ true }
+        ensures quit { IfOk result (λ reply. is_quit reply ≡ self.new.quit) }
     {
         let id = next_id(self.last_id);
         let Ok(act) = self.ui.key(alloc, &mut self.tree, &self.job, id, key) else {
@@ -171,15 +189,18 @@ impl<N: Tag, T: Tree, S: Sink, P: Spawner> Desk<N, T, S, P> {
         }
     }
 
-    /// Writes down that a key was lost for want of memory, and closes the desk.
+    /// Writes down that a key was lost for want of memory, and closes the session.
     fn lose_key(&mut self, alloc: Global, key: Key, now: u64) -> Result<DeskReply, DeskError>
         requires unclosed { self.old.tally.closed ≡ false }
+        requires unasked { self.old.quit ≡ false }
         requires looked { self.old.tally.due ≡ None }
         requires room { 3 ≤ self.old.spare }
         ensures screen { self.new.screen ≡ self.old.screen }
         ensures keys { keys_in self.new.newest ≡ keys_in self.old.newest ++ key ∷ [] }
         ensures pending { self.new.pending ≡ self.old.pending }
+        ensures taken { self.new.taken ≡ self.old.taken }
         ensures dirty { self.new.dirty ≡ self.old.dirty }
+        ensures closed { self.new.tally.closed ≡ true }
         ensures error { result ≡ Err DeskError.Memory }
     {
         let faults = self.tree.faults();
@@ -210,7 +231,9 @@ impl<N: Tag, T: Tree, S: Sink, P: Spawner> Desk<N, T, S, P> {
         ensures dirty { self.new.dirty ≡ self.old.dirty }
         ensures screen_failed { BlamesScreen result self.new.failed }
         ensures unclosed { OnOk result (self.new.tally.closed ≡ self.old.tally.closed) }
-        ensures goes_on { result ≢ Ok DeskReply.Quit }
+        ensures shut { OnErr result (self.new.tally.closed ≡ true) }
+        ensures quit { self.new.quit ≡ self.old.quit }
+        ensures goes_on { IfOk result (λ reply. is_quit reply ≡ false) }
     {
         let drawn = draw(alloc, &mut self.screen, &self.ui);
         self.shown = after_draw(self.shown, &drawn);
@@ -230,6 +253,7 @@ impl<N: Tag, T: Tree, S: Sink, P: Spawner> Desk<N, T, S, P> {
         ensures dirty { self.new.dirty ≡ self.old.dirty }
         ensures screen_failed { BlamesScreen result self.new.failed }
         ensures same { OnOk result (self.new ≡ self.old) }
+        ensures shut { OnErr result (self.new.tally.closed ≡ true) }
         ensures reply { IfOk result (λ answer. answer ≡ reply) }
         ensures quit { self.new.quit ≡ self.old.quit }
     {
@@ -239,13 +263,14 @@ impl<N: Tag, T: Tree, S: Sink, P: Spawner> Desk<N, T, S, P> {
         }
     }
 
-    /// Closes the desk after a draw that failed.
+    /// Closes the session after a draw that failed.
     fn fail(&mut self, error: SinkError) -> DeskError
         requires screen_failed { error ≡ SinkError.Fault → self.old.failed ≡ true }
         ensures screen { self.new.screen ≡ self.old.screen }
         ensures keys { KeepsKeys self.old self.new }
         ensures dirty { self.new.dirty ≡ self.old.dirty }
         ensures error { result ≡ DeskError.Screen → self.new.failed ≡ true }
+        ensures closed { self.new.tally.closed ≡ true }
         ensures quit { self.new.quit ≡ self.old.quit }
     {
         self.close();
