@@ -12,6 +12,7 @@ pub mod JobSteps
 pub mod Knowing
 pub mod MakingParts
 pub mod Moments
+pub mod Owing
 pub mod PartNodes
 pub mod Pending
 pub mod PlacingParts
