@@ -3,6 +3,7 @@ pub mod Changing
 pub mod CopySteps
 pub mod Deleted
 pub mod DeletionSteps
+pub mod Example
 pub mod Filling
 pub mod Fronts
 pub mod Histories
@@ -12,6 +13,7 @@ pub mod JobSteps
 pub mod Knowing
 pub mod MakingParts
 pub mod Moments
+pub mod Owing
 pub mod PartNodes
 pub mod Pending
 pub mod PlacingParts

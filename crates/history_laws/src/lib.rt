@@ -2,6 +2,7 @@
 //! nothing: their contracts are laws of the definitions in `specs/`.
 #![tactic(auto)]
 
+ghost use Rattle.history_laws.specs.Owed.{FirstChangeLaw, OwedLaw, StepLaw};
 ghost use Rattle.history_laws.specs.Safe.{ReplayLaw, SessionLaw};
 
 /// At each moment of a session, inside a call too, each path holds after a crash what the history says, or what it held
@@ -13,4 +14,19 @@ pub fn what_a_crash_leaves_of_a_session()
 /// What can be seen at its end is what the history makes of the opening, but for the parts of live jobs.
 pub fn what_a_session_shows()
     ensures { ReplayLaw }
+{}
+
+/// A path of which a change isn't on the disk yet lies in a dirty folder.
+pub fn where_doubt_lies()
+    ensures { OwedLaw }
+{}
+
+/// Once a job has made its first change, each change that isn't on the disk yet is in its own folder, or on another mount.
+pub fn what_a_first_change_leaves_in_doubt()
+    ensures { FirstChangeLaw }
+{}
+
+/// The machine's own step is one of which such a history tells.
+pub fn what_a_step_of_a_run_tells()
+    ensures { StepLaw }
 {}

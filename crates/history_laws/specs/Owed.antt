@@ -1,0 +1,41 @@
+-- What waits for a sync lies in a dirty folder, and a job's first change comes only where nothing waits on that mount.
+use Rattle.std.specs.Prelude.{◌≡◌, ◌⊎◌, ℕ, true, List, Some}
+use Rattle.mc_text.specs.Routes.{Route}
+use Rattle.tree_trait.specs.declared.calls.TreeError.TheVariants.{Missing}
+use Rattle.tree_trait.specs.Calls.{Stat}
+use Rattle.tree_trait.specs.Change.{CallLog, current}
+use Rattle.tree_trait.specs.CrashImages.{Among, all_settled}
+use Rattle.tree_trait.specs.Refusals.{refusal_of}
+use Rattle.tree_trait.specs.Shape.{IsTree}
+use Rattle.file_copy.specs.declared.report.Did.{Did}
+use Rattle.file_copy.specs.Copying.{folder_of}
+use Rattle.copy_move.specs.declared.history.Entry.{Entry}
+use Rattle.copy_move.specs.declared.run.Course.TheVariants.{GoesOn}
+use Rattle.copy_move.specs.Jobs.{Running, is_fresh}
+use Rattle.copy_move.specs.Settling.{IsMountOf, changed_folder}
+use Rattle.copy_move.specs.Steps.{RunStep}
+use Rattle.copy_move.specs.Traces.{IsUnclaimed}
+use Rattle.history_laws.specs.Doubt.{is_unsettled}
+use Rattle.history_laws.specs.Traces.{IsTraced, Stand, StepLeads, WorkLeads, unless_ended}
+
+-- Where each entry ends, a path of which a change isn't on the disk yet lies in a dirty folder.
+abbrev pub OwedLaw : Type 0
+OwedLaw = (opening now : CallLog) (newest : List Entry) (stand : Stand) (path : Route)
+    → IsTree (current opening) → all_settled opening.changes ≡ true → IsTraced opening newest stand now → is_unsettled now path ≡ true → Among stand.dirty (folder_of path)
+
+-- a folder lies on another mount than this one, or it was removed
+abbrev pub IsApart : CallLog → Route → Route → Type 0
+IsApart log folder other =
+    (refusal_of (current log) (Stat other) ≡ Some Missing) ⊎ ((number : ℕ) × IsMountOf (current log) folder number × (IsMountOf (current log) other number → ⊥))
+
+-- Once a job has made its first change, each change that isn't on the disk yet is in its own folder, or on another mount.
+abbrev pub FirstChangeLaw : Type 0
+FirstChangeLaw = (opening log now : CallLog) (older newest : List Entry) (was stand : Stand) (job new : Running) (did : Did) (path : Route)
+    → IsTree (current opening) → all_settled opening.changes ≡ true → IsTraced opening older was log → IsTraced opening newest stand now
+    → WorkLeads job did new was.dirty stand.dirty log now → job.course ≡ GoesOn → is_fresh job.work ≡ true → is_unsettled now path ≡ true
+    → (folder_of path ≡ changed_folder job.work) ⊎ IsApart log (changed_folder job.work) (folder_of path)
+
+-- The machine's own step is one of which such a history tells.
+abbrev pub StepLaw : Type 0
+StepLaw = (job new : Running) (did : Did) (calls : ℕ) (dirty dirty_after : List Route) (log now : CallLog) (faults faults_after : ℕ)
+    → RunStep IsUnclaimed job new did calls dirty dirty_after (Some log) (Some now) faults faults_after → StepLeads job did (unless_ended did new) dirty dirty_after log now
