@@ -147,7 +147,7 @@ closed_live live part (job ∷ []) h = h
 closed_live live part (job ∷ other ∷ jobs) h = absurd h
 
 -- the one job that is live
-only_job : (id : ℕ) (jobs : List Running) (job : Running) (told : Said) (dirty : List Route) (marks : Marks) (s : FileSystem) → IsJob id jobs job → JobsKnow told dirty marks s jobs → (jobs ≡ job ∷ []) × (job.id ≡ id)
+pub only_job : (id : ℕ) (jobs : List Running) (job : Running) (told : Said) (dirty : List Route) (marks : Marks) (s : FileSystem) → IsJob id jobs job → JobsKnow told dirty marks s jobs → (jobs ≡ job ∷ []) × (job.id ≡ id)
 only_job id [] job told dirty marks s is k = absurd is
 only_job id (first ∷ []) job told dirty marks s (inl here) k = (ap (λ j. j ∷ []) (sym here.1), ap (λ (j : Running). j.id) here.1 ∙ here.0)
 only_job id (first ∷ []) job told dirty marks s (inr none) k = absurd none

@@ -5,6 +5,7 @@ pub mod Deleted
 pub mod DeletionSteps
 pub mod Example
 pub mod Filling
+pub mod Finished
 pub mod Fronts
 pub mod Histories
 pub mod JobKnows

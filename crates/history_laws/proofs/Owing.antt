@@ -34,7 +34,7 @@ owed_law opening now newest stand path tree settled traced waits =
     let r = traced_reached opening tree settled newest stand now traced in
     listed _ stand.dirty r.marks now path r.kept.known waits
 
-in_filter : (keeps : Route → Bool) (q : Route) (routes : List Route) → Among (filter keeps routes) q → Among routes q
+pub in_filter : (keeps : Route → Bool) (q : Route) (routes : List Route) → Among (filter keeps routes) q → Among routes q
 in_filter keeps q [] among = absurd among
 in_filter keeps q (first ∷ routes) among = by (keeps first) refl among (in_filter keeps q routes)
   where

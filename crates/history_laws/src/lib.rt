@@ -2,7 +2,7 @@
 //! nothing: their contracts are laws of the definitions in `specs/`.
 #![tactic(auto)]
 
-ghost use Rattle.history_laws.specs.Owed.{FirstChangeLaw, OwedLaw, StepLaw};
+ghost use Rattle.history_laws.specs.Owed.{FinishedLaw, FirstChangeLaw, OwedLaw, StepLaw};
 ghost use Rattle.history_laws.specs.Safe.{ReplayLaw, SessionLaw};
 
 /// At each moment of a session, inside a call too, each path holds after a crash what the history says, or what it held
@@ -24,6 +24,11 @@ pub fn where_doubt_lies()
 /// Once a job has made its first change, each change that isn't on the disk yet is in its own folder, or on another mount.
 pub fn what_a_first_change_leaves_in_doubt()
     ensures { FirstChangeLaw }
+{}
+
+/// A job that may report that it is finished, and has changed something, has left nothing in its folder that isn't on the disk.
+pub fn what_a_finished_job_leaves()
+    ensures { FinishedLaw }
 {}
 
 /// The machine's own step is one of which such a history tells.
