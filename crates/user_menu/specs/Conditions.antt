@@ -114,7 +114,8 @@ before_others first (Some word) others = behind_joint first (joint_of word.word)
 
 abbrev pub from_term : Joint → Option FirstTerm → (Joint → List ℕ → Option (List Joined)) → Option (List Joined)
 from_term joint None others = None
-from_term joint (Some read) others = before_others (record { joint = joint; term = read.term }) (first_word read.rest) others
+from_term joint (Some read) others =
+    before_others (record { joint = joint; term = read.term }) (first_word read.rest) others
 
 -- the terms of a text, if they are `count` at most; the first is joined so
 abbrev pub terms_within : ℕ → PatternKind → Joint → List ℕ → Option (List Joined)

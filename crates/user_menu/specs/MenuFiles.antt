@@ -92,7 +92,8 @@ fault_from at after_title (BadCondition ∷ lines) = Some (fault.BadCondition at
 -- the first fault of a file: bytes that are no text, or else a line
 abbrev pub menu_fault : Bool → List ℕ → Option MenuError
 menu_fault shell_patterns bytes =
-    if is_utf8 bytes then fault_from 1 false (readings (kind_first shell_patterns) bytes) else Some (fault.NotText (utf8_valid_len bytes))
+    if is_utf8 bytes then fault_from 1 false (readings (kind_first shell_patterns) bytes)
+    else Some (fault.NotText (utf8_valid_len bytes))
 
 -- the bytes are a file of these entries
 pub record IsMenuFile (shell_patterns : Bool) (bytes : List ℕ) (entries : List MenuEntry) : Type 0 where

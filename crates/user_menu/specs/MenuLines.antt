@@ -23,7 +23,8 @@ condition_line kind purpose text = asked_if purpose (condition_of kind text)
 
 -- the condition behind the marks that say what it is for; a question mark there is skipped
 abbrev pub asked_line : PatternKind → Purpose → List ℕ → LineRead
-asked_line kind purpose text = option_map_or (condition_line kind purpose) (behind_word (codes "?") text) (condition_line kind purpose text)
+asked_line kind purpose text =
+    option_map_or (condition_line kind purpose) (behind_word (codes "?") text) (condition_line kind purpose text)
 
 -- a line that sets the kind of the patterns, or else a title
 abbrev pub title_line : List ℕ → LineRead
@@ -38,7 +39,8 @@ marks = (codes "+=", is_for.Both) ∷ (codes "=+", is_for.Both) ∷ (codes "+", 
 -- a line by the first of some marks with which it begins, or else another line
 abbrev pub by_mark : PatternKind → List (List ℕ × Purpose) → List ℕ → LineRead
 by_mark kind [] line = title_line line
-by_mark kind ((mark, purpose) ∷ others) line = option_map_or (asked_line kind purpose) (behind_word mark line) (by_mark kind others line)
+by_mark kind ((mark, purpose) ∷ others) line =
+    option_map_or (asked_line kind purpose) (behind_word mark line) (by_mark kind others line)
 
 -- a line that is neither passed over nor a command
 abbrev pub word_line : PatternKind → List ℕ → LineRead

@@ -45,7 +45,8 @@ answer_of s here other question entry =
 -- how an entry stands
 abbrev pub standing_of : FileSystem → Fact → Fact → MenuEntry → Standing
 standing_of s here other entry =
-    if answer_of s here other asks.Shown entry then (if answer_of s here other asks.Default entry then Default else Shown) else Hidden
+    if answer_of s here other asks.Shown entry then
+    (if answer_of s here other asks.Default entry then Default else Shown) else Hidden
 
 -- the numbers of the entries that are shown, counted from `at`
 abbrev pub shown_places : ℕ → List Standing → List ℕ
@@ -66,14 +67,15 @@ abbrev pub chosen : List Standing → of_menu.Shown
 chosen standings = record { entries = shown_places 0 standings; default = first_default 0 standings }
 
 -- what is shown of a menu
-abbrev pub shown_of : FileSystem → List MenuEntry → Fact → Fact → of_menu.Shown
-shown_of s menu here other = chosen (map (standing_of s here other) menu)
+abbrev pub shown_entries : FileSystem → List MenuEntry → Fact → Fact → of_menu.Shown
+shown_entries s menu here other = chosen (map (standing_of s here other) menu)
 
 -- what is shown with one entry more
 abbrev pub with_standing : of_menu.Shown → ℕ → Standing → of_menu.Shown
 with_standing shown place Hidden = shown
 with_standing shown place Shown = record { entries = shown.entries ++ place ∷ []; default = shown.default }
-with_standing shown place Default = record { entries = shown.entries ++ place ∷ []; default = Some (unwrap_or shown.default place) }
+with_standing shown place Default =
+    record { entries = shown.entries ++ place ∷ []; default = Some (unwrap_or shown.default place) }
 
 -- a fact of each test of some conditions, and of each test of a menu
 abbrev pub EachTestAsked : (Test → Type 0) → List Asked → Type 0

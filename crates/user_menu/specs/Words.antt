@@ -30,7 +30,8 @@ pub record FirstWord : Type 0 where
 -- the first word of a text without leading blanks
 abbrev pub cut_word : List ℕ → Option FirstWord
 cut_word [] = None
-cut_word (byte ∷ text) = Some (record { word = before_first is_blank (byte ∷ text); rest = after_first is_blank (byte ∷ text) })
+cut_word (byte ∷ text) =
+    Some (record { word = before_first is_blank (byte ∷ text); rest = after_first is_blank (byte ∷ text) })
 
 -- the first run of bytes without blanks and tabs
 abbrev pub first_word : List ℕ → Option FirstWord

@@ -17,7 +17,8 @@ use text_scan::first_line;
 /// fault decides: first bytes that are no UTF-8, then the first line that is wrong.
 pub fn parse_menu(alloc: Global, bytes: &[u8], shell_patterns: bool) -> Result<Menu, MenuError>
     ensures read { IfOk result (λ menu. IsMenuFile shell_patterns bytes.now menu) }
-    ensures refused { IfErr result (λ e. e ≢ MenuError.Memory → menu_fault shell_patterns bytes.now ≡ Some e) }
+    ensures refused { IfErr result (λ e.
+        e ≢ MenuError.Memory → menu_fault shell_patterns bytes.now ≡ Some e) }
 {
     match str::from_utf8(bytes) {
         Ok(text) => parse_text(alloc, text, kind_first(shell_patterns)),
@@ -47,7 +48,8 @@ struct Draft {
 fn parse_text(alloc: Global, text: &str, first: PatternKind) -> Result<Menu, MenuError>
     ensures entries { IfOk result (λ menu. menu ≡ entries_of (readings first text.now)) }
     ensures faultless { IfOk result (λ _. fault_from 1 false (readings first text.now) ≡ None) }
-    ensures refused { IfErr result (λ e. e ≢ MenuError.Memory → fault_from 1 false (readings first text.now) ≡ Some e) }
+    ensures refused { IfErr result (λ e.
+        e ≢ MenuError.Memory → fault_from 1 false (readings first text.now) ≡ Some e) }
 {
     let mut draft = Draft {
         entries: Vec::new(alloc),
@@ -78,9 +80,11 @@ fn kind_after(kind: PatternKind, read: &LineRead) -> PatternKind
 
 /// Takes what the line `at` says.
 fn take_line(alloc: Global, draft: &mut Draft, read: LineRead, at: usize) -> Result<(), MenuError>
-    ensures said { OnOk result ((lines : List LineRead) → continued draft.new lines ≡ continued draft.old (read ∷ lines)) }
+    ensures said { OnOk result ((lines : List LineRead) →
+        continued draft.new lines ≡ continued draft.old (read ∷ lines)) }
     ensures goes_on { OnOk result ((lines : List LineRead) →
-        fault_from (at + 1) (has_entry draft.new) lines ≡ fault_from at (has_entry draft.old) (read ∷ lines)) }
+        fault_from (at + 1) (has_entry draft.new) lines
+        ≡ fault_from at (has_entry draft.old) (read ∷ lines)) }
     ensures refused { IfErr result (λ e. e ≢ MenuError.Memory → (lines : List LineRead) →
         fault_from at (has_entry draft.old) (read ∷ lines) ≡ Some e) }
 {
@@ -120,7 +124,8 @@ fn begin_entry(alloc: Global, draft: &mut Draft, title: Text) -> Result<(), NoMe
 /// Puts a command line at the end of the last entry.
 fn add_line(alloc: Global, entries: &mut Vec<Entry>, line: Text) -> Result<(), NoMemory>
     requires { 0 < vec_len entries.old }
-    ensures extended { OnOk result ((more : List (List ℕ)) → extended entries.new.items more ≡ extended entries.old.items (line ∷ more)) }
+    ensures extended { OnOk result ((more : List (List ℕ)) →
+        extended entries.new.items more ≡ extended entries.old.items (line ∷ more)) }
     ensures same_entries { OnOk result (vec_len entries.new ≡ vec_len entries.old) }
 {
     let last = entries.len() - 1;

@@ -39,7 +39,11 @@ impl Entry {
 
     /// Puts a command line behind the others.
     pub fn add_line(&mut self, alloc: Global, line: Text) -> Result<(), NoMemory>
-        ensures { OnOk result (self.new ≡ record { conditions = self.old.conditions; title = self.old.title; commands = with_line self.old.commands line }) }
+        ensures { OnOk result (self.new ≡ record {
+          conditions = self.old.conditions;
+          title = self.old.title;
+          commands = with_line self.old.commands line;
+        }) }
     {
         let commands = self.commands.take();
         self.commands = Some(with_line(commands, line)?);

@@ -18,7 +18,8 @@ pub fn is_program<T: Tree>(
     folder: &Path,
     argument: &str,
 ) -> Result<bool, TreeError>
-    ensures answer { IfKnown (T.contents tree.old) (λ log. IfOk result (λ is. is ≡ is_program (current log) folder.now argument.now)) }
+    ensures answer { IfKnown (T.contents tree.old) (λ log.
+        IfOk result (λ is. is ≡ is_program (current log) folder.now argument.now)) }
     ensures same { T.contents tree.new ≡ T.contents tree.old }
     ensures cause { HasCause TreeError.Fault (T.fault_count tree.old) (T.fault_count tree.new) result }
     ensures refused { IfErr result (λ e. (e ≡ TreeError.Memory) ⊎ (e ≡ TreeError.Fault)) }

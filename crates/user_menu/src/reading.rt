@@ -60,7 +60,8 @@ fn take_term<'a>(
     joint: Joint,
     text: &'a str,
 ) -> Result<Course<'a>, NoMemory>
-    ensures taken { IfOk result (λ course. onto_terms terms.old.items (terms_of kind joint text.now) ≡ terms_at kind terms.new.items course) }
+    ensures taken { IfOk result (λ course.
+        onto_terms terms.old.items (terms_of kind joint text.now) ≡ terms_at kind terms.new.items course) }
     ensures shorter { IfOk result (IsBehind text.now) }
 {
     match read_term(alloc, kind, text)? {
@@ -76,7 +77,8 @@ fn take_joined<'a>(
     behind: &'a str,
 ) -> Result<Course<'a>, NoMemory>
     ensures taken { IfOk result (λ course. (kind : PatternKind) →
-        onto_terms terms.old.items (before_others joined (first_word behind.now) (terms_of kind)) ≡ terms_at kind terms.new.items course) }
+        onto_terms terms.old.items (before_others joined (first_word behind.now) (terms_of kind))
+        ≡ terms_at kind terms.new.items course) }
     ensures shorter { IfOk result (IsBehind behind.now) }
 {
     terms.push(joined)?;

@@ -3,7 +3,7 @@ ghost use Rattle.std.specs.Prelude.{◌≡◌, ◌⊎◌, ◌∷◌, ◌++◌, [
 ghost use Rattle.tree_trait.specs.declared.file_system.FileSystem.{FileSystem};
 ghost use Rattle.tree_trait.specs.Answers.{HasCause};
 ghost use Rattle.user_menu.specs.Facts.{IsAskedOf, AsksNoTree};
-ghost use Rattle.user_menu.specs.ShownEntries.{standing_of, shown_of, EachTestAsked, EachTestIn};
+ghost use Rattle.user_menu.specs.ShownEntries.{standing_of, shown_entries, EachTestAsked, EachTestIn};
 
 use crate::choosing::{Standing, chosen};
 use crate::fact::Fact;
@@ -23,7 +23,7 @@ pub fn shown<T: Tree>(
     other: &Fact,
 ) -> Result<Shown, TreeError>
     ensures answer { (s : FileSystem) → EachTestIn (IsAskedOf (T.contents tree.old) s) menu.now
-        → IfOk result (λ shown. shown ≡ shown_of s menu.now here.now other.now) }
+        → IfOk result (λ shown. shown ≡ shown_entries s menu.now here.now other.now) }
 
     // A look changes nothing, and where no condition asks for a program the tree isn't touched.
     ensures same { T.contents tree.new ≡ T.contents tree.old }

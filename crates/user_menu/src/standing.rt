@@ -29,7 +29,8 @@ pub fn standing_of<T: Tree>(
     here: &Fact,
     other: &Fact,
 ) -> Result<Standing, TreeError>
-    ensures answer { (s : FileSystem) → EachTestAsked (IsAskedOf (T.contents tree.old) s) entry.now.conditions
+    ensures answer { (s : FileSystem) →
+        EachTestAsked (IsAskedOf (T.contents tree.old) s) entry.now.conditions
         → IfOk result (λ standing. standing ≡ standing_of s here.now other.now entry.now) }
     ensures same { T.contents tree.new ≡ T.contents tree.old }
     ensures unasked { EachTestAsked AsksNoTree entry.now.conditions → tree.new ≡ tree.old }
@@ -54,7 +55,8 @@ fn answer_of<T: Tree>(
     here: &Fact,
     other: &Fact,
 ) -> Result<bool, TreeError>
-    ensures answer { (s : FileSystem) → EachTestAsked (IsAskedOf (T.contents tree.old) s) entry.now.conditions
+    ensures answer { (s : FileSystem) →
+        EachTestAsked (IsAskedOf (T.contents tree.old) s) entry.now.conditions
         → IfOk result (λ answer. answer ≡ answer_of s here.now other.now question entry.now) }
     ensures same { T.contents tree.new ≡ T.contents tree.old }
     ensures unasked { EachTestAsked AsksNoTree entry.now.conditions → tree.new ≡ tree.old }

@@ -58,8 +58,10 @@ fn read_signs(text: &str) -> (Sense, &str)
 
 /// What the sign or blank with which a text begins makes of the sense, and the text behind it.
 fn read_sign(text: &str) -> Option<(Sense, &str)>
-    ensures sense { MatchOption result (sense_of text.now ≡ Sense.Plain) (λ (turn, rest). sense_of text.now ≡ turned turn (sense_of rest.now)) }
-    ensures behind { MatchOption result (behind_signs text.now ≡ text.now) (λ (turn, rest). behind_signs text.now ≡ behind_signs rest.now) }
+    ensures sense { MatchOption result (sense_of text.now ≡ Sense.Plain)
+        (λ (turn, rest). sense_of text.now ≡ turned turn (sense_of rest.now)) }
+    ensures behind { MatchOption result (behind_signs text.now ≡ text.now)
+        (λ (turn, rest). behind_signs text.now ≡ behind_signs rest.now) }
     ensures shorter { IfSome result (λ (turn, rest). length rest.now < length text.now) }
 {
     if let Some(rest) = behind_word(text, "!") {
