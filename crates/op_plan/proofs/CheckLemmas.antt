@@ -1,26 +1,20 @@
 -- The checks of a plan, from what the code finds.
-use Rattle.std.proofs.Common.{◌≡◌, ℕ, ◌+◌, ◌<◌, ◌≤◌, zero, suc, Bool, true, false, cond, List, [], ◌∷◌, ◌++◌, length, map, take, drop, get_or, Option, Some, None, Result, Ok, Err, refl, sym, ap, ◌∙◌, subst, inl, inr, ⊎_elim, arith}
+use Rattle.std.proofs.Common.{◌≡◌, ℕ, ◌+◌, ◌<◌, ◌≤◌, zero, suc, Bool, true, false, cond, List, [], ◌∷◌, ◌++◌, length, map, take, drop, get_or, Option, Some, None, Ok, Err, refl, sym, ap, ◌∙◌, subst, arith}
 use Rattle.std.specs.Prelude.{◌||◌, not, nat_lt, option_map, slice_get}
 use Rattle.std.specs.List.{list_any, find, position, position_or_len}
 use Rattle.std.specs.Str.{bytes_eq}
 use Rattle.std.proofs.Math.Seq.{drop-cons}
-use Rattle.std.proofs.lemmas.Bool.{false≢true, or_left, or_right, or_parts}
-use Rattle.std.proofs.lemmas.List.{get_or_default, length-take-le, take-map, length-map, get_or-map, drop_all}
+use Rattle.std.proofs.lemmas.Bool.{or_parts}
+use Rattle.std.proofs.lemmas.List.{get_or_default, take-map, length-map, get_or-map, drop_all}
 use Rattle.std.proofs.lemmas.List.Folds.{list_any_more}
-use Rattle.std.proofs.lemmas.List.Quantifiers.{position-Some}
 use Rattle.std.proofs.lemmas.Option.{slice_get-get_or}
 use Rattle.mc_text.specs.Routes.{Route, same_path}
-use Rattle.tree_trait.specs.declared.calls.TreeError.{TreeError}
-use Rattle.tree_trait.specs.declared.file_system.FileSystem.{FileSystem}
-use Rattle.tree_trait.specs.Calls.{Stat}
-use Rattle.tree_trait.specs.Refusals.{refusal_of}
 use Rattle.op_plan.specs.declared.job.Pair.{Pair}
-use Rattle.op_plan.specs.declared.error.PlanError.{PlanError}
-use Rattle.op_plan.specs.declared.error.PlanError.TheVariants.{Nested, Source, SameFile, IntoItself, TwoToOne}
-use Rattle.op_plan.specs.Meeting.{meet, has_two, first_two, first_across, with_first}
+use Rattle.op_plan.specs.declared.error.PlanError.TheVariants.{Nested, SameFile, TwoToOne}
+use Rattle.op_plan.specs.Meeting.{meet, has_two, first_across, with_first}
 use Rattle.op_plan.specs.Sorting.{AreFirst}
 use Rattle.op_plan.specs.Answering.{unless}
-use Rattle.op_plan.specs.Checks.{nested, none_nested, there_or, all_there, sources_in, targets_from, pair, paired, none_same, into_itself, none_across, two_to_one, none_twice}
+use Rattle.op_plan.specs.Checks.{nested, none_nested, sources_in, targets_from, pair, paired, none_same, two_to_one, none_twice}
 use Rattle.op_plan.proofs.Paths.{bool_same, same_name, same_name-from}
 use Rattle.op_plan.proofs.Twos.{first_two-none, two-found, two-map, find-position, position-none}
 

@@ -1,12 +1,12 @@
 -- Masks, read character by character, and filled piece by piece.
-use Rattle.std.proofs.Common.{◌≡◌, ◌≢◌, ℕ, ◌+◌, ◌<◌, ◌≤◌, suc, Bool, true, false, List, [], ◌∷◌, ◌++◌, length, drop, get_or, Option, Some, None, cond, refl, sym, ap, ◌∙◌, subst, append_assoc, add-one, arith}
+use Rattle.std.proofs.Common.{◌≡◌, ◌≢◌, ℕ, ◌+◌, ◌<◌, ◌≤◌, suc, Bool, true, false, List, [], ◌∷◌, ◌++◌, length, drop, get_or, cond, refl, sym, ap, ◌∙◌, subst, append_assoc, arith}
 use Rattle.std.specs.Prelude.{◌==◌}
 use Rattle.std.proofs.Math.Seq.{drop-cons}
 use Rattle.std.proofs.lemmas.List.{drop_all, append-nil}
 use Rattle.std.proofs.lemmas.Bool.Decides.{nat_tests}
 use Rattle.op_plan.specs.declared.mask.MaskPiece.{MaskPiece}
 use Rattle.op_plan.specs.declared.mask.MaskPiece.TheVariants.{OpenBackslash}
-use Rattle.op_plan.specs.Masks.{pieces_behind, quoted_piece, plain_piece, taken, added, before, with_rest, filled}
+use Rattle.op_plan.specs.Masks.{pieces_behind, quoted_piece, plain_piece}
 
 next-drop : {A : Type 0} (xs : List A) (n : ℕ) (x : A) → n < length xs → x ≡ get_or xs n x → drop n xs ≡ x ∷ drop (n + 1) xs
 next-drop {A} xs n x within is_x =

@@ -1,5 +1,5 @@
 -- The checks of a plan, each with the first sources that show it.
-use Rattle.std.specs.Prelude.{ℕ, Bool, true, false, if◌then◌else◌, nat_lt, List, [], ◌∷◌, length, map, Option, Some, None, option_map, Result, Ok, Err}
+use Rattle.std.specs.Prelude.{ℕ, Bool, if◌then◌else◌, nat_lt, List, [], ◌∷◌, length, map, Option, Some, None, option_map, Result, Ok, Err}
 use Rattle.std.specs.List.{list_any, find}
 use Rattle.mc_text.specs.Routes.{Route, spelled, same_path}
 use Rattle.tree_trait.specs.declared.calls.TreeError.{TreeError}

@@ -1,5 +1,5 @@
 -- Paths that meet: one is the other, or lies below it.
-use Rattle.std.specs.Prelude.{Bool, true, false, ◌||◌, List, [], ◌∷◌, ◌++◌, Option, Some, None}
+use Rattle.std.specs.Prelude.{Bool, false, ◌||◌, List, [], ◌∷◌, ◌++◌, Option, Some, None}
 use Rattle.std.specs.List.{list_any, find}
 use Rattle.mc_text.specs.Routes.{Route, is_prefix}
 

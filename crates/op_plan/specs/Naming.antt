@@ -1,5 +1,5 @@
 -- Which sources a mask leaves in, and how their targets are named (mc(1), "Copy, Rename, ..": masks).
-use Rattle.std.specs.Prelude.{ℕ, Bool, true, false, if◌then◌else◌, List, [], ◌∷◌, ◌++◌, Option, Some, None, option_map, option_and_then, is_none, filter, chars}
+use Rattle.std.specs.Prelude.{ℕ, Bool, false, if◌then◌else◌, List, [], ◌∷◌, Option, Some, None, option_map, option_and_then, is_none, filter, chars}
 use Rattle.std.specs.Result.{result_ok}
 use Rattle.std.specs.Option.{option_map_or}
 use Rattle.mc_text.specs.Names.{name_fault}

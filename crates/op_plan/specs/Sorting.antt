@@ -1,6 +1,6 @@
 -- Paths in an order in which each comes directly before all that lies below it: by their names from the root on, which are
 -- compared byte by byte.
-use Rattle.std.specs.Prelude.{◌≡◌, ℕ, ◌<◌, Bool, true, false, ◌||◌, List, [], ◌∷◌, length, take, reverse, Option, Some, None}
+use Rattle.std.specs.Prelude.{◌≡◌, ℕ, ◌<◌, Bool, false, ◌||◌, List, [], ◌∷◌, length, take, reverse, Option, Some, None}
 use Rattle.std.specs.List.{position, slice_get}
 use Rattle.std.specs.Cmp.Lexicographic.{slice_cmp}
 use Rattle.std.specs.declared.cmp.Ordering.{Ordering}

@@ -1,5 +1,5 @@
 -- Which jobs may be begun.
-use Rattle.std.specs.Prelude.{◌≡◌, ◌≢◌, ℕ, ◌≤◌, Bool, false, List, []}
+use Rattle.std.specs.Prelude.{◌≡◌, ◌≢◌, ◌≤◌, false, List, []}
 use Rattle.std.specs.List.{list_any}
 use Rattle.mc_text.specs.Routes.{Route}
 use Rattle.tree_trait.specs.Answers.{IsLinkText}

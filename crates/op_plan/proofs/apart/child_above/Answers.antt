@@ -1,8 +1,7 @@
 -- the names from the root on are the path's, turned round
-use Rattle.std.proofs.Common.{◌≡◌, ◌<◌, ◌≤◌, ◌∙◌, sym, ap, ℕ, List, Some, length, reverse, get_or, arith}
-use Rattle.std.proofs.lemmas.List.{length-reverse, reverse-reverse, get_or_default}
+use Rattle.std.proofs.Common.{◌≡◌, ◌<◌, ◌∙◌, sym, ap, ℕ, List, Some, length, reverse, get_or, arith}
+use Rattle.std.proofs.lemmas.List.{length-reverse, reverse-reverse}
 use Rattle.mc_text.specs.Routes.{Route}
-use Rattle.op_plan.specs.Checks.{child_above}
 use Rattle.op_plan.proofs.ChildLemmas.{child-at, child-outside, child-short}
 use Rattle.op_plan.proofs.apart.child_above.Goals as goal
 use Rattle.op_plan.proofs.apart.child_above.Goals.{else-is_prefix_of-via-then-is_prefix_of+else-depth-names, else-is_prefix_of-via-else-is_prefix_of}

@@ -2,7 +2,7 @@
 use Rattle.std.proofs.Common.{◌≡◌, ◌<◌, ◌++◌, [], ◌∷◌, ◌∙◌, sym, ap, length, List, arith}
 use Rattle.mc_text.specs.Routes.{Route}
 use Rattle.op_plan.specs.declared.job.Pair.{Pair}
-use Rattle.op_plan.specs.Checks.{pair, paired}
+use Rattle.op_plan.specs.Checks.{pair}
 use Rattle.op_plan.proofs.CheckLemmas.{paired-more}
 use Rattle.op_plan.proofs.apart.paired.Goals as goal
 

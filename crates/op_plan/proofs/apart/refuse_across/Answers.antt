@@ -1,12 +1,12 @@
 -- a source that meets no target's name meets no target, and one that meets a target meets a first one
-use Rattle.std.proofs.Common.{◌≡◌, ◌∙◌, sym, ap, true, false, drop, Some, None, Err, Option}
+use Rattle.std.proofs.Common.{◌≡◌, ◌∙◌, sym, ap, false, None, Err}
 use Rattle.std.specs.Prelude.{option_map}
 use Rattle.std.specs.List.{list_any, position}
 use Rattle.std.specs.BTreeSet.{contains_text}
 use Rattle.mc_text.specs.Routes.{Route}
 use Rattle.op_plan.specs.declared.job.Pair.{Pair}
 use Rattle.op_plan.specs.declared.error.PlanError.TheVariants.{IntoItself}
-use Rattle.op_plan.specs.Meeting.{meet, first_across}
+use Rattle.op_plan.specs.Meeting.{meet}
 use Rattle.op_plan.specs.Answering.{unless}
 use Rattle.op_plan.specs.Checks.{sources_in, targets_from, into_itself}
 use Rattle.op_plan.proofs.Twos.{any-map, position-none}

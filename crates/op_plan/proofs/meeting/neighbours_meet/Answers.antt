@@ -1,5 +1,4 @@
-use Rattle.std.proofs.Common.{◌≡◌, ◌∙◌, sym, true, false, arith}
-use Rattle.mc_text.specs.Routes.{is_prefix}
+use Rattle.std.proofs.Common.{◌∙◌, sym, arith}
 use Rattle.op_plan.proofs.Sorted.{neighbours-at, neighbours-step, neighbours-all}
 use Rattle.op_plan.proofs.meeting.neighbours_meet.Goals as goal
 

@@ -1,5 +1,5 @@
 -- two that meet are found by their positions
-use Rattle.std.proofs.Common.{◌≡◌, ◌∙◌, ap, sym, subst, Err, Option, ℕ}
+use Rattle.std.proofs.Common.{◌∙◌, ap, sym, subst, Err}
 use Rattle.mc_text.specs.Routes.{Route}
 use Rattle.op_plan.specs.declared.error.PlanError.TheVariants.{Nested}
 use Rattle.op_plan.specs.Sorting.{AreFirst, IsFirstMeeting}
