@@ -6,6 +6,7 @@ Needs the standard library of Python 3 alone.
 import fcntl
 import os
 import pty
+import re
 import resource
 import select
 import shutil
@@ -175,6 +176,17 @@ def check_copies(program, base, check):
         subprocess.run(["umount", small], check=True)
 
 
+def check_rows(program, base, check):
+    """A row of a box ends where the screen does."""
+    folder = os.path.join(base, "l" * 60, "m" * 60)
+    os.makedirs(folder)
+    make_file(os.path.join(folder, "x"), 1, 0o644)
+    status, written, _ = run(program, [folder], [DOWN, F5, ENTER, F10, F10])
+    rows = re.findall(rb"\x1b\[20;1H([^\x1b]*)", written)
+    cut = folder.encode()[:79] + b"~"
+    check("a long path is cut in its box", status == 0 and cut in rows and all(len(row) == 80 for row in rows))
+
+
 def for_somebody(program, base):
     """The program where somebody else may run it."""
     os.chmod(base, 0o755)
@@ -304,6 +316,7 @@ def main():
         check("a folder is not deleted", status == 0 and os.path.isdir(os.path.join(base, "b", "d")))
 
         check_copies(program, base, check)
+        check_rows(program, base, check)
         check_dirty_folder(program, base, check)
         check_set_id_bits(program, base, check)
         check_stty(program, base, check)
