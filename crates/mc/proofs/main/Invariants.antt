@@ -4,7 +4,7 @@ use Rattle.mc_main.specs.Headline.{folders_in}
 use Rattle.mc.proofs.main.Given as goal
 
 abbrev pub ghosts-mc_run : goal.ghosts-mc_run
-ghosts-mc_run g a = record {
+ghosts-mc_run a = record {
   start = folders_in a.words.now;
   opening = None;
   stream = None;
