@@ -1,0 +1,4 @@
+pub mod ChangeLemmas
+pub mod SpliceLemmas
+pub mod LineLemmas
+pub mod UnitLemmas

@@ -1,0 +1,46 @@
+-- What each command makes of a text that is edited, or why it is refused. Own; mcedit(1) has the keys without their rules.
+use Rattle.std.specs.Prelude.{ℕ, List, [], ◌∷◌, ◌+◌, length, encode_utf8, Result, Ok, Err}
+use Rattle.gap_text.specs.PointedText.{PointedText}
+use Rattle.mc_edit.specs.declared.command.EditCmd.{EditCmd}
+use Rattle.mc_edit.specs.declared.command.EditCmd.TheVariants as Cmd
+use Rattle.mc_edit.specs.declared.error.EditError.{EditError}
+use Rattle.mc_edit.specs.Edits.{EditedText, spliced, settled, undone_by, redone_by, marked_at}
+use Rattle.mc_edit.specs.Lines.{line_start, line_end}
+use Rattle.mc_edit.specs.Moves.{left_of, right_of, up_of, down_of, repeated}
+
+-- the point goes to a place
+abbrev pub moved : EditedText → ℕ → Result EditedText EditError
+moved edited at = Ok (record edited { text = record { bytes = edited.text.bytes; point = at } })
+
+-- the bytes from one place up to another give way to new ones, and the point stands at `point`
+abbrev pub replaced : EditedText → ℕ → ℕ → List ℕ → ℕ → Result EditedText EditError
+replaced edited from to new point =
+    settled (record { bytes = spliced edited.text.bytes from to new; point = point }) edited
+
+-- new bytes are put before the point
+abbrev pub typed : EditedText → List ℕ → Result EditedText EditError
+typed edited new = replaced edited edited.text.point edited.text.point new (edited.text.point + length new)
+
+-- the bytes from one place up to another are taken out, and the point stands there
+abbrev pub removed : EditedText → ℕ → ℕ → Result EditedText EditError
+removed edited from to = replaced edited from to [] from
+
+-- what a command leaves
+abbrev pub after_command : EditCmd → EditedText → Result EditedText EditError
+after_command (Cmd.Insert character) edited = typed edited (encode_utf8 character)
+after_command Cmd.NewLine edited = typed edited (10 ∷ [])
+after_command Cmd.Backspace edited = removed edited (left_of edited.text.bytes edited.text.point) edited.text.point
+after_command Cmd.DeleteUnder edited = removed edited edited.text.point (right_of edited.text.bytes edited.text.point)
+after_command Cmd.Left edited = moved edited (left_of edited.text.bytes edited.text.point)
+after_command Cmd.Right edited = moved edited (right_of edited.text.bytes edited.text.point)
+after_command Cmd.Up edited = moved edited (up_of edited.text.bytes edited.text.point)
+after_command Cmd.Down edited = moved edited (down_of edited.text.bytes edited.text.point)
+after_command Cmd.LineStart edited = moved edited (line_start edited.text.bytes edited.text.point)
+after_command Cmd.LineEnd edited = moved edited (line_end edited.text.bytes edited.text.point)
+after_command (Cmd.PageUp count) edited = moved edited (repeated (up_of edited.text.bytes) count edited.text.point)
+after_command (Cmd.PageDown count) edited = moved edited (repeated (down_of edited.text.bytes) count edited.text.point)
+after_command Cmd.TextStart edited = moved edited 0
+after_command Cmd.TextEnd edited = moved edited (length edited.text.bytes)
+after_command Cmd.Mark edited = Ok (record edited { block = marked_at edited.text.point edited.block })
+after_command Cmd.Undo edited = undone_by edited.past edited
+after_command Cmd.Redo edited = redone_by edited.future edited

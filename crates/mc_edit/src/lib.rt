@@ -1,0 +1,17 @@
+//! A text that is edited by commands, with a block, undo and redo.
+#![tactic(auto)]
+
+mod block;
+mod changes;
+mod columns;
+mod command;
+mod editor;
+mod error;
+mod lines;
+mod moves;
+mod units;
+
+pub use block::Block;
+pub use command::EditCmd;
+pub use editor::{Editor, LARGEST_TEXT, UNDO_DEPTH};
+pub use error::EditError;
