@@ -1,20 +1,18 @@
 -- Changes read as texts, when one is made, taken back, or made again.
-use Rattle.std.proofs.Common.{◌≡◌, ℕ, zero, suc, ◌+◌, ◌-◌, ◌≤◌, ◌<◌, Bool, true, false, nat_lt, List, [], ◌∷◌, ◌++◌, length, take, drop, slice_range, refl, sym, ap, ◌∙◌, arith, subst, Ok, Err, Some, None, slice_get, Option}
+use Rattle.std.proofs.Common.{◌≡◌, ℕ, zero, suc, ◌+◌, ◌-◌, ◌≤◌, ◌<◌, true, false, List, [], ◌∷◌, length, take, slice_range, refl, sym, ap, ◌∙◌, arith, subst, Ok, Err, Some, None, slice_get}
 use Rattle.std.proofs.lemmas.Bool.{cond-true, cond-false, lt-ltb, le-ltb}
 use Rattle.std.specs.Str.{bytes_eq}
-use Rattle.std.proofs.lemmas.Bool.Decides.{nat_tests}
 use Rattle.std.proofs.lemmas.Slice.Eq.{bytes_eq-Decides}
 use Rattle.gap_text.specs.PointedText.{PointedText}
 use Rattle.gap_text.specs.UndoHistory.{UndoHistory, noted, undone, redone}
 use Rattle.gap_text.specs.declared.change.Change.{Change}
-use Rattle.mc_edit.specs.declared.error.EditError.{EditError}
 use Rattle.mc_edit.specs.declared.error.EditError.TheVariants.{TooLarge, NothingToUndo, NothingToRedo}
 use Rattle.mc_edit.specs.declared.block.Block.{Block}
-use Rattle.mc_edit.specs.declared.block.Block.TheVariants.{Absent, Open, Fixed}
+use Rattle.mc_edit.specs.declared.block.Block.TheVariants.{Absent}
 use Rattle.mc_edit.specs.Edits.{Edit, EditedText, spliced, largest_text, undo_depth, changed, settled, undone_by, redone_by}
 use Rattle.mc_edit.specs.Commands.{replaced}
-use Rattle.mc_edit.specs.Changes.{unmade, made, edit_between, edits_back, edits_on, Leads, LeadHere, LeadOn, IsWithin, IsEditor}
-use Rattle.mc_edit.proofs.SpliceLemmas.{three_parts, length-between, length-spliced, spliced-back, bytes_eq-spliced}
+use Rattle.mc_edit.specs.Changes.{unmade, made, edit_between, edits_back, edits_on, Leads, LeadHere, LeadOn, IsEditor}
+use Rattle.mc_edit.proofs.SpliceLemmas.{length-between, length-spliced, spliced-back, bytes_eq-spliced}
 
 -- a value that an editor shows
 abbrev pub edited : List ℕ → ℕ → Block → List Change → List Change → EditedText
@@ -122,9 +120,10 @@ module _ (new : PointedText) (old : EditedText) where
 -- a change that is taken back
 module _ (bytes : List ℕ) (change : Change) (older later : List Change) where
   pub LeadOn-back : Leads change (unmade change bytes) bytes → LeadOn bytes later → LeadOn (unmade change bytes) (change ∷ later)
-  LeadOn-back leads on =
-      (subst (λ (new : List ℕ). Leads change (unmade change bytes) new) (sym leads.forth) leads,
-      subst (λ (new : List ℕ). LeadOn new later) (sym leads.forth) on)
+  LeadOn-back leads on = (
+    subst (λ (new : List ℕ). Leads change (unmade change bytes) new) (sym leads.forth) leads,
+    subst (λ (new : List ℕ). LeadOn new later) (sym leads.forth) on,
+  )
 
   pub undone-back : (point : ℕ) (block : Block) → Leads change (unmade change bytes) bytes
       → undone_by (edits_back bytes (change ∷ older)) (edited bytes point block (change ∷ older) later)
@@ -139,9 +138,10 @@ module _ (bytes : List ℕ) (change : Change) (older later : List Change) where
 
   -- a change that is made again
   pub LeadHere-on : Leads change bytes (made change bytes) → LeadHere bytes older → LeadHere (made change bytes) (change ∷ older)
-  LeadHere-on leads here =
-      (subst (λ (old : List ℕ). Leads change old (made change bytes)) (sym leads.back) leads,
-      subst (λ (old : List ℕ). LeadHere old older) (sym leads.back) here)
+  LeadHere-on leads here = (
+    subst (λ (old : List ℕ). Leads change old (made change bytes)) (sym leads.back) leads,
+    subst (λ (old : List ℕ). LeadHere old older) (sym leads.back) here,
+  )
 
   pub redone-on : (point : ℕ) (block : Block) → Leads change bytes (made change bytes)
       → redone_by (edits_on bytes (change ∷ later)) (edited bytes point block older (change ∷ later))

@@ -1,11 +1,11 @@
 -- Where a line begins and ends, byte by byte.
-use Rattle.std.proofs.Common.{◌≡◌, ℕ, zero, suc, ◌+◌, ◌-◌, ◌<◌, ◌≤◌, Bool, true, false, not, List, [], ◌∷◌, ◌++◌, length, take, drop, get_or, refl, sym, ap, ◌∙◌, arith, cond, length-drop, reverse, add-one}
+use Rattle.std.proofs.Common.{◌≡◌, ℕ, zero, suc, ◌+◌, ◌<◌, ◌≤◌, Bool, true, false, not, List, [], ◌∷◌, ◌++◌, length, take, drop, get_or, refl, ap, ◌∙◌, arith, cond, length-drop, drop-drop, add-one}
 use Rattle.std.specs.List.{prefix_len, suffix_len, position_or_len}
 use Rattle.std.proofs.Math.ListN.{drop_of_length-le}
-use Rattle.std.proofs.lemmas.Bool.{cond-true, cond-false}
+use Rattle.std.proofs.lemmas.Bool.{cond-true, cond-false, eq-eqb, ne_eqb}
 use Rattle.std.proofs.Math.Seq.{take-suc, drop-cons}
 use Rattle.std.proofs.lemmas.List.{reverse-append}
-use Rattle.mc_edit.specs.Lines.{is_newline, line_start, line_end}
+use Rattle.mc_edit.specs.Lines.{is_newline, line_start, line_end, start_of_line}
 
 abbrev pub in_line : ℕ → Bool
 in_line byte = not (is_newline byte)
@@ -60,3 +60,26 @@ line_start-below bytes at = omega arith
 
 pub line_end-within : (bytes : List ℕ) (at : ℕ) → at ≤ length bytes → line_end bytes at ≤ length bytes
 line_end-within bytes at inside = omega (arith, prefix_within (drop at bytes), length-drop at bytes)
+
+module _ (bytes : List ℕ) (start : ℕ) (inside : start ≤ length bytes) where
+  -- from the last line on no line leads further
+  pub start_of_line-last : (lines : ℕ) → line_end bytes start ≡ length bytes → start_of_line lines (drop start bytes) ≡ 0
+  start_of_line-last zero ends = refl
+  start_of_line-last (suc lines) ends =
+      let all : position_or_len is_newline (drop start bytes) ≡ length (drop start bytes) = omega (arith, length-drop start bytes) in
+      cond-true _ _ _ (eq-eqb _ _ all)
+
+  -- a newline leads to the line behind it
+  pub start_of_line-further : (lines : ℕ) → (line_end bytes start ≡ length bytes → ⊥)
+      → start + start_of_line (suc lines) (drop start bytes)
+      ≡ line_end bytes start + 1 + start_of_line lines (drop (line_end bytes start + 1) bytes)
+  start_of_line-further lines goes_on =
+      let end = position_or_len is_newline (drop start bytes) in
+      let some : end ≡ length (drop start bytes) → ⊥ =
+      λ (all : end ≡ length (drop start bytes)). goes_on (omega (arith, length-drop start bytes)) in
+      let behind : drop (end + 1) (drop start bytes) ≡ drop (line_end bytes start + 1) bytes =
+      let place : start + (end + 1) ≡ line_end bytes start + 1 = omega arith in
+      drop-drop (end + 1) start bytes ∙ ap (λ n. drop n bytes) place in
+      ap (λ n. start + n) (cond-false _ _ _ (ne_eqb _ _ some))
+      ∙ ap (λ l. start + (end + 1 + start_of_line lines l)) behind
+      ∙ omega arith

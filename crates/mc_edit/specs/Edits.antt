@@ -1,5 +1,5 @@
 -- A text that is edited: its point, its block, its past and its future. Own; mcedit(1) has undo without its rules.
-use Rattle.std.specs.Prelude.{ℕ, ◌+◌, nat_lt, List, [], ◌∷◌, ◌++◌, take, drop, length, Result, Ok, Err, if◌then◌else◌}
+use Rattle.std.specs.Prelude.{ℕ, ◌==◌, min, max, nat_lt, Option, Some, None, List, [], ◌∷◌, ◌++◌, take, drop, length, Result, Ok, Err, if◌then◌else◌}
 use Rattle.std.specs.Str.{bytes_eq}
 use Rattle.gap_text.specs.PointedText.{PointedText, opened}
 use Rattle.mc_edit.specs.declared.block.Block.{Block}
@@ -69,3 +69,13 @@ redone_by (edit ∷ later) edited =
 abbrev pub marked_at : ℕ → Block → Block
 marked_at point (Open start) = Fixed start point
 marked_at point _ = Open point
+
+-- what lies between two places, in their order; where they are one there is nothing
+abbrev pub span_between : ℕ → ℕ → Option (ℕ × ℕ)
+span_between one other = if one == other then None else Some (min one other, max one other)
+
+-- the places between which the block lies; an open one ends at the point, and an empty one counts as none
+abbrev pub block_span : Block → ℕ → Option (ℕ × ℕ)
+block_span Absent point = None
+block_span (Open start) point = span_between start point
+block_span (Fixed start end) point = span_between start end

@@ -1,3 +1,4 @@
+pub mod Brackets
 pub mod Changes
 pub mod Columns
 pub mod Commands

@@ -1,5 +1,5 @@
 -- Where a point goes: by a unit, by a line, by a page. Own; mcedit(1) has the keys without their rules.
-use Rattle.std.specs.Prelude.{ℕ, zero, suc, ◌+◌, ◌-◌, ◌==◌, nat_lt, List, length, if◌then◌else◌, slice_range}
+use Rattle.std.specs.Prelude.{ℕ, zero, suc, ◌+◌, ◌-◌, ◌==◌, nat_lt, List, length, if◌then◌else◌}
 use Rattle.mc_edit.specs.Lines.{line_start, line_end, line_at}
 use Rattle.mc_edit.specs.Units.{units, end_after, start_before}
 use Rattle.mc_edit.specs.Columns.{column_of, place_in_column}

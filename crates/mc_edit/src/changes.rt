@@ -30,7 +30,12 @@ pub fn take_back(text: &mut GapText, change: &Change) -> Result<(), NoMemory>
     ensures same { OnErr result (text.new.bytes ≡ text.old.bytes) }
 {
     let inserted = slice_of(&change.inserted);
-    put(text, change.at, change.at + inserted.len(), slice_of(&change.removed))
+    put(
+        text,
+        change.at,
+        change.at + inserted.len(),
+        slice_of(&change.removed),
+    )
 }
 
 /// Makes a change again in the text from which it leads on.
@@ -41,7 +46,12 @@ pub fn make_again(text: &mut GapText, change: &Change) -> Result<(), NoMemory>
     ensures same { OnErr result (text.new.bytes ≡ text.old.bytes) }
 {
     let removed = slice_of(&change.removed);
-    put(text, change.at, change.at + removed.len(), slice_of(&change.inserted))
+    put(
+        text,
+        change.at,
+        change.at + removed.len(),
+        slice_of(&change.inserted),
+    )
 }
 
 /// Whether the two have the same bytes.

@@ -1,4 +1,5 @@
 //! The commands of an editor.
+use mc_text::Bytes;
 
 /// What a key asks of the text.
 #[derive(Debug, Drop)]
@@ -18,6 +19,17 @@ pub enum EditCmd {
     TextStart,
     TextEnd,
     Mark,
+    CopyBlock,
+    MoveBlock,
+    DeleteBlock,
+    DeleteLine,
+    DeleteToEnd,
     Undo,
     Redo,
+    /// Goes to the next place behind the point where the bytes stand.
+    Find(Bytes),
+    /// Lines count from 1, and 0 counts as 1.
+    GoLine(u64),
+    /// Goes to the bracket that belongs to the one at the point.
+    Bracket,
 }

@@ -1,4 +1,5 @@
 //! A text that is edited by commands.
+mod blocks;
 mod moving;
 mod typing;
 
@@ -109,7 +110,12 @@ impl Editor {
             self.point = splice.point;
             return Ok(());
         }
-        let Splice { from, to, new, point } = splice;
+        let Splice {
+            from,
+            to,
+            new,
+            point,
+        } = splice;
         let size = from + (slice_of(&new).len() + (self.text.len() - to));
         if size > LARGEST_TEXT {
             return Err(EditError::TooLarge(size as u64));
@@ -184,8 +190,16 @@ impl Editor {
             EditCmd::TextStart => self.text_start(),
             EditCmd::TextEnd => self.text_end(),
             EditCmd::Mark => self.mark(),
+            EditCmd::CopyBlock => return self.copy_block(alloc),
+            EditCmd::MoveBlock => return self.move_block(alloc),
+            EditCmd::DeleteBlock => return self.delete_block(alloc),
+            EditCmd::DeleteLine => return self.delete_line(alloc),
+            EditCmd::DeleteToEnd => return self.delete_to_end(alloc),
             EditCmd::Undo => return self.undo(),
             EditCmd::Redo => return self.redo(),
+            EditCmd::Find(what) => return self.find(what),
+            EditCmd::GoLine(line) => self.go_line(*line),
+            EditCmd::Bracket => return self.bracket(),
         }
         Ok(())
     }

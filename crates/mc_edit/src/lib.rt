@@ -2,6 +2,7 @@
 #![tactic(auto)]
 
 mod block;
+mod brackets;
 mod changes;
 mod columns;
 mod command;

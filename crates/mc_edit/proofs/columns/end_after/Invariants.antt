@@ -1,5 +1,5 @@
 -- What the units that are left will make of it is what all of them make.
-use Rattle.std.proofs.Common.{◌≡◌, ◌+◌, ◌*◌, ◌≤◌, length}
+use Rattle.std.proofs.Common.{◌≡◌, ◌+◌, ◌≤◌, length}
 use Rattle.std.specs.List.{concat}
 use Rattle.mc_edit.specs.Units.{units, units_left}
 use Rattle.mc_edit.specs.Units.{end_after}

@@ -1,5 +1,4 @@
 -- What is no text isn't shown, and a text is shown if it can be drawn.
-use Rattle.std.proofs.Common.{◌∙◌}
 use Rattle.mc_edit.proofs.UnitLemmas.{not_shown, shown-text}
 use Rattle.mc_edit.proofs.columns.shown.Goals as goal
 

@@ -1,9 +1,7 @@
 -- A splice changes the text unless it puts in what it takes out.
-use Rattle.std.proofs.Common.{◌≡◌, ◌+◌, ◌-◌, ◌<◌, ◌≤◌, List, ℕ, length, sym, ap, arith, subst, ◌∙◌}
-use Rattle.gap_text.specs.UndoHistory.{UndoHistory, noted}
-use Rattle.mc_edit.specs.declared.block.Block.TheVariants.{Absent}
+use Rattle.std.proofs.Common.{◌≡◌, ◌+◌, ◌-◌, ◌≤◌, List, ℕ, length, sym, ap, arith, subst, ◌∙◌}
+use Rattle.gap_text.specs.UndoHistory.{noted}
 use Rattle.mc_edit.specs.Edits.{EditedText, spliced, largest_text}
-use Rattle.mc_edit.specs.Changes.{IsEditor}
 use Rattle.mc_edit.proofs.SpliceLemmas.{length-spliced}
 use Rattle.mc_edit.proofs.ChangeLemmas.{splice-same, splice-large, splice-changed, splice_change, IsEditor-spliced, largest_is}
 use Rattle.mc_edit.proofs.editor.Editor.splice.Goals as goal
