@@ -1,3 +1,4 @@
+pub mod ReplacingLemmas
 pub mod ChangeLemmas
 pub mod SpliceLemmas
 pub mod LineLemmas

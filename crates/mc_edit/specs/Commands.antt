@@ -1,5 +1,5 @@
 -- What each command makes of a text that is edited, or why it is refused. Own; mcedit(1) has the keys without their rules.
-use Rattle.std.specs.Prelude.{ℕ, List, [], ◌∷◌, ◌++◌, ◌+◌, ◌-◌, nat_lt, length, slice_range, encode_utf8, Option, Some, None, Result, Ok, Err, if◌then◌else◌}
+use Rattle.std.specs.Prelude.{ℕ, List, [], ◌∷◌, ◌++◌, ◌==◌, drop, ◌+◌, ◌-◌, nat_lt, length, slice_range, encode_utf8, Option, Some, None, Result, Ok, Err, if◌then◌else◌}
 use Rattle.mc_edit.specs.declared.command.EditCmd.{EditCmd}
 use Rattle.mc_edit.specs.declared.command.EditCmd.TheVariants as Cmd
 use Rattle.mc_edit.specs.declared.error.EditError.{EditError}
@@ -7,6 +7,8 @@ use Rattle.mc_edit.specs.declared.error.EditError.TheVariants.{NoBlock, NotFound
 use Rattle.gap_text.specs.Places.{first_place}
 use Rattle.mc_edit.specs.Edits.{EditedText, spliced, settled, undone_by, redone_by, marked_at, block_span}
 use Rattle.mc_edit.specs.Lines.{line_start, line_end, line_past, start_of_line}
+use Rattle.memchr.specs.Find.{matches}
+use Rattle.mc_edit.specs.Replacing.{replaced_run, last_end}
 use Rattle.mc_edit.specs.Brackets.{partner_of}
 use Rattle.mc_edit.specs.Moves.{left_of, right_of, up_of, down_of, repeated}
 
@@ -55,6 +57,21 @@ abbrev pub block_deleted : Option (ℕ × ℕ) → EditedText → Result EditedT
 block_deleted None edited = Err NoBlock
 block_deleted (Some (start, end)) edited = removed edited start end
 
+-- each of these places behind the point gives way, and the point stands behind the last of them
+abbrev pub places_replaced : List ℕ → List ℕ → List ℕ → EditedText → Result EditedText EditError
+places_replaced [] what new edited = Err NotFound
+places_replaced (place ∷ places) what new edited =
+    let bytes = edited.text.bytes in
+    let point = edited.text.point in
+    let run = replaced_run (drop point bytes) what new 0 (place ∷ places) in
+    replaced edited point (point + last_end what 0 (place ∷ places)) run (point + length run)
+
+-- all places of some bytes, from the point on; no bytes have none
+abbrev pub all_replaced : List ℕ → List ℕ → EditedText → Result EditedText EditError
+all_replaced what new edited =
+    if length what == 0 then Err NotFound
+    else places_replaced (matches (drop edited.text.point edited.text.bytes) what 0) what new edited
+
 -- what a command leaves
 abbrev pub after_command : EditCmd → EditedText → Result EditedText EditError
 after_command (Cmd.Insert character) edited = typed edited (encode_utf8 character)
@@ -81,5 +98,6 @@ after_command Cmd.DeleteToEnd edited = removed edited edited.text.point (line_en
 after_command Cmd.Undo edited = undone_by edited.past edited
 after_command Cmd.Redo edited = redone_by edited.future edited
 after_command (Cmd.Find what) edited = found (first_place edited.text.bytes what (edited.text.point + 1)) edited
+after_command (Cmd.ReplaceAll what new) edited = all_replaced what new edited
 after_command (Cmd.GoLine line) edited = moved edited (start_of_line (line - 1) edited.text.bytes)
 after_command Cmd.Bracket edited = found (partner_of edited.text.bytes edited.text.point) edited

@@ -5,5 +5,6 @@ pub mod Commands
 pub mod Edits
 pub mod Lines
 pub mod Moves
+pub mod Replacing
 pub mod Splices
 pub mod Units

@@ -28,6 +28,8 @@ pub enum EditCmd {
     Redo,
     /// Goes to the next place behind the point where the bytes stand.
     Find(Bytes),
+    /// Puts the second bytes in place of each of the first, from the point on.
+    ReplaceAll(Bytes, Bytes),
     /// Lines count from 1, and 0 counts as 1.
     GoLine(u64),
     /// Goes to the bracket that belongs to the one at the point.

@@ -1,5 +1,6 @@
 //! A text that is edited by commands.
 mod blocks;
+mod finding;
 mod moving;
 mod typing;
 
@@ -198,6 +199,7 @@ impl Editor {
             EditCmd::Undo => return self.undo(),
             EditCmd::Redo => return self.redo(),
             EditCmd::Find(what) => return self.find(what),
+            EditCmd::ReplaceAll(what, new) => return self.replace_all(alloc, what, new),
             EditCmd::GoLine(line) => self.go_line(*line),
             EditCmd::Bracket => return self.bracket(),
         }

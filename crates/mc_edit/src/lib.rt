@@ -10,6 +10,7 @@ mod editor;
 mod error;
 mod lines;
 mod moves;
+mod replacing;
 mod units;
 
 pub use block::Block;

@@ -1,19 +1,14 @@
 //! The commands that move the point.
-ghost use Rattle.std.specs.Prelude.{◌≡◌, ◌+◌, ◌-◌, ◌≤◌, IfSome, IfErr, OnOk, OnErr, Ok, Err, length};
+ghost use Rattle.std.specs.Prelude.{◌≡◌, ◌-◌, IfErr, OnOk, OnErr, Ok, length};
 ghost use Rattle.mc_edit.specs.declared.error.EditError.TheVariants.{Memory};
-ghost use Rattle.mc_edit.specs.Commands.{moved, found};
-ghost use Rattle.gap_text.specs.Places.{first_place};
-ghost use Rattle.mc_edit.specs.Brackets.{partner_of};
+ghost use Rattle.mc_edit.specs.Commands.{moved};
 ghost use Rattle.mc_edit.specs.Lines.{line_start, line_end, start_of_line};
 ghost use Rattle.mc_edit.specs.Moves.{left_of, right_of, up_of, down_of, repeated};
 
 use super::Editor;
-use crate::brackets::partner_of;
 use crate::error::EditError;
-use crate::lines::{line_end, line_start, slice_of, start_of_line};
+use crate::lines::{line_end, line_start, start_of_line};
 use crate::moves::{down_of, left_of, page_down, page_up, right_of, up_of};
-use gap_text::GapText;
-use mc_text::Bytes;
 use std::alloc::Global;
 
 impl Editor {
@@ -104,42 +99,4 @@ impl Editor {
     {
         self.point = start_of_line(&self.text, line);
     }
-
-    /// The point goes to the first place behind it where the bytes stand.
-    pub(super) fn find(&mut self, what: &Bytes) -> Result<(), EditError>
-        ensures done { OnOk result (found (first_place self.old.text.bytes what.now (self.old.text.point + 1)) self.old ≡ Ok self.new) }
-        ensures refused { IfErr result (λ error.
-            found (first_place self.old.text.bytes what.now (self.old.text.point + 1)) self.old ≡ Err error) }
-        ensures same { OnErr result (self.new ≡ self.old) }
-    {
-        let Some(at) = place_behind(&self.text, self.point, slice_of(what)) else {
-            return Err(EditError::NotFound);
-        };
-        self.point = at;
-        Ok(())
-    }
-
-    /// The point goes to the bracket that belongs to the one at the point.
-    pub(super) fn bracket(&mut self) -> Result<(), EditError>
-        ensures done { OnOk result (found (partner_of self.old.text.bytes self.old.text.point) self.old ≡ Ok self.new) }
-        ensures refused { IfErr result (λ error. found (partner_of self.old.text.bytes self.old.text.point) self.old ≡ Err error) }
-        ensures same { OnErr result (self.new ≡ self.old) }
-    {
-        let Some(at) = partner_of(&self.text, self.point) else {
-            return Err(EditError::NotFound);
-        };
-        self.point = at;
-        Ok(())
-    }
-}
-
-/// The first place behind the point where the bytes stand.
-#[tactic(auto, unfolding(crate::specs::Edits::largest_text))]
-fn place_behind(text: &GapText, point: usize, what: &[u8]) -> Option<usize>
-    requires { point ≤ length text.now.bytes }
-    ensures value { result ≡ first_place text.now.bytes what.now (point + 1) }
-    ensures within { IfSome result (λ at. at ≤ length text.now.bytes) }
-{
-    let _len = text.len();
-    text.find(point + 1, what)
 }
