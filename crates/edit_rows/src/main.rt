@@ -89,7 +89,7 @@ fn main(rt: HostRuntime) -> Result<()> {
     let alloc = rt.alloc();
     let played = all_played(alloc, ROWS)?;
     let limits = limits::shown(alloc)?;
-    println!(rt; "{played}{limits}")?;
+    print!(rt; "{played}{limits}")?;
     Ok(())
 }
 

@@ -1,3 +1,4 @@
+pub mod PageLemmas
 pub mod ReplacingLemmas
 pub mod ChangeLemmas
 pub mod SpliceLemmas

@@ -5,6 +5,7 @@ pub mod Commands
 pub mod Edits
 pub mod Lines
 pub mod Moves
+pub mod Pages
 pub mod Replacing
 pub mod Splices
 pub mod Units

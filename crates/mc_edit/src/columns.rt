@@ -1,5 +1,5 @@
 //! The places and the columns of a line.
-ghost use Rattle.std.specs.Prelude.{◌≡◌, ◌<◌, ◌≤◌, ◌^◌, true, false, length, MatchOption, IfSome};
+ghost use Rattle.std.specs.Prelude.{◌≡◌, ◌*◌, ◌<◌, ◌≤◌, ◌^◌, true, false, length, MatchOption, IfSome};
 ghost use Rattle.std.specs.Str.{bytes_eq};
 ghost use Rattle.std.specs.List.{list_any};
 ghost use Rattle.std.specs.Str.{chars};
@@ -49,7 +49,8 @@ pub fn end_after(line: &[u8], at: usize) -> usize
 /// The column in which the unit that holds the place begins, or the columns of the line.
 pub fn column_of(line: &[u8], at: usize) -> usize
     requires { length line.now < 2 ^ 60 }
-    ensures { result ≡ column_of 0 0 at (units line.now) }
+    ensures value { result ≡ column_of 0 0 at (units line.now) }
+    ensures bound { result ≤ 8 * length line.now }
 {
     let mut start = 0;
     let mut column = 0;

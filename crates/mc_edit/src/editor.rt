@@ -3,6 +3,7 @@ mod blocks;
 mod finding;
 mod moving;
 mod typing;
+mod viewing;
 
 ghost use Rattle.std.specs.Prelude.{◌≡◌, ◌≢◌, ◌+◌, ◌≤◌, ◌<◌, [], IfOk, OnOk, IfErr, OnErr, Ok, Err, length};
 ghost use Rattle.mc_edit.specs.declared.error.EditError.TheVariants.{Memory, TooLarge};
@@ -18,6 +19,7 @@ use gap_text::{Change, GapText, Undo};
 use mc_text::{Bytes, NoMemory};
 use std::alloc::Global;
 use std::marker::Model;
+pub use viewing::EditView;
 
 /// So many bytes a text may have.
 pub const LARGEST_TEXT: usize = 16_777_216;

@@ -10,10 +10,11 @@ mod editor;
 mod error;
 mod lines;
 mod moves;
+mod pages;
 mod replacing;
 mod units;
 
 pub use block::Block;
 pub use command::EditCmd;
-pub use editor::{Editor, LARGEST_TEXT, UNDO_DEPTH};
+pub use editor::{EditView, Editor, LARGEST_TEXT, UNDO_DEPTH};
 pub use error::EditError;

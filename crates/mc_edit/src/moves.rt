@@ -1,5 +1,5 @@
 //! Where a point goes: by a unit, by a line, by a page.
-ghost use Rattle.std.specs.Prelude.{◌≡◌, ◌≤◌, ◌<◌, ◌^◌, length, IfOk};
+ghost use Rattle.std.specs.Prelude.{◌≡◌, ◌*◌, ◌≤◌, ◌<◌, ◌^◌, length, IfOk};
 ghost use Rattle.mc_edit.specs.Moves.{right_of, left_of, up_of, down_of, column_at, place_at, repeated};
 
 use crate::columns::{column_of, end_after, place_in_column, start_before};
@@ -69,10 +69,11 @@ pub fn down_of(alloc: Global, text: &GapText, at: usize) -> Result<usize, NoMemo
 }
 
 /// The column of a place in its line.
-fn column_at(alloc: Global, text: &GapText, at: usize) -> Result<usize, NoMemory>
+pub fn column_at(alloc: Global, text: &GapText, at: usize) -> Result<usize, NoMemory>
     requires within { at ≤ length text.now.bytes }
     requires small { length text.now.bytes < 2 ^ 60 }
-    ensures { IfOk result (λ column. column ≡ column_at text.now.bytes at) }
+    ensures value { IfOk result (λ column. column ≡ column_at text.now.bytes at) }
+    ensures bound { IfOk result (λ column. column ≤ 8 * length text.now.bytes) }
 {
     let start = line_start(text, at);
     let line = text.range(alloc, start, line_end(text, at))?;
