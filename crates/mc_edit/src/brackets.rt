@@ -45,7 +45,8 @@ fn opening_of(byte: u8) -> Option<u8>
 /// The partner of an opening bracket, behind it.
 fn partner_behind(text: &GapText, at: usize, ours: u8, partner: u8) -> Option<usize>
     requires { at < length text.now.bytes }
-    ensures value { result ≡ place_behind at (partner_away ours partner 0 1 (drop (at + 1) text.now.bytes)) }
+    ensures value { result ≡ place_behind at (partner_away ours partner 0 1 (drop
+        (at + 1) text.now.bytes)) }
     ensures within { IfSome result (λ place. place ≤ length text.now.bytes) }
 {
     let mut open = 0usize;
@@ -67,7 +68,8 @@ fn partner_behind(text: &GapText, at: usize, ours: u8, partner: u8) -> Option<us
 /// The partner of a closing bracket, before it.
 fn partner_before(text: &GapText, at: usize, ours: u8, partner: u8) -> Option<usize>
     requires { at < length text.now.bytes }
-    ensures value { result ≡ place_before at (partner_away ours partner 0 1 (reverse (take at text.now.bytes))) }
+    ensures value { result ≡ place_before at (partner_away ours partner 0 1 (reverse
+        (take at text.now.bytes))) }
     ensures within { IfSome result (λ place. place ≤ length text.now.bytes) }
 {
     let mut open = 0usize;

@@ -103,9 +103,11 @@ impl Editor {
     fn splice(&mut self, alloc: Global, splice: Splice) -> Result<(), EditError>
         requires ordered { splice.from ≤ splice.to }
         requires within { splice.to ≤ length self.old.text.bytes }
-        requires point { splice.point ≤ length (spliced self.old.text.bytes splice.from splice.to splice.new) }
+        requires point { splice.point ≤ length
+            (spliced self.old.text.bytes splice.from splice.to splice.new) }
         ensures done { OnOk result (after_splice splice self.old ≡ Ok self.new) }
-        ensures refused { IfErr result (λ error. error ≢ Memory → after_splice splice self.old ≡ Err error) }
+        ensures refused { IfErr result (λ error. error ≢ Memory → after_splice splice self.old
+            ≡ Err error) }
         ensures same { OnErr result (self.new ≡ self.old) }
     {
         let removed = self.text.range(alloc, splice.from, splice.to)?;
@@ -139,7 +141,8 @@ impl Editor {
     /// Takes the newest change back.
     fn undo(&mut self) -> Result<(), EditError>
         ensures done { OnOk result (undone_by self.old.past self.old ≡ Ok self.new) }
-        ensures refused { IfErr result (λ error. error ≢ Memory → undone_by self.old.past self.old ≡ Err error) }
+        ensures refused { IfErr result (λ error. error ≢ Memory → undone_by self.old.past self.old
+            ≡ Err error) }
         ensures same { OnErr result (self.new ≡ self.old) }
     {
         let Some(change) = self.undo.next_undone() else {
@@ -156,7 +159,8 @@ impl Editor {
     /// Makes the change again that was taken back last.
     fn redo(&mut self) -> Result<(), EditError>
         ensures done { OnOk result (redone_by self.old.future self.old ≡ Ok self.new) }
-        ensures refused { IfErr result (λ error. error ≢ Memory → redone_by self.old.future self.old ≡ Err error) }
+        ensures refused { IfErr result (λ error. error ≢ Memory
+            → redone_by self.old.future self.old ≡ Err error) }
         ensures same { OnErr result (self.new ≡ self.old) }
     {
         let Some(change) = self.undo.next_redone() else {
@@ -174,7 +178,8 @@ impl Editor {
     /// it moves over, and of the bytes between the last change and this one.
     pub fn command(&mut self, alloc: Global, cmd: &EditCmd) -> Result<(), EditError>
         ensures done { OnOk result (after_command cmd.now self.old ≡ Ok self.new) }
-        ensures refused { IfErr result (λ error. error ≢ Memory → after_command cmd.now self.old ≡ Err error) }
+        ensures refused { IfErr result (λ error. error ≢ Memory → after_command cmd.now self.old
+            ≡ Err error) }
         ensures same { OnErr result (self.new ≡ self.old) }
     {
         match cmd {

@@ -29,7 +29,8 @@ pub fn rows_from(
     requires within { at ≤ length text.now.bytes }
     requires small { length text.now.bytes < 2 ^ 40 }
     requires narrow { sight.right < 2 ^ 60 }
-    ensures { IfOk result (λ rows. rows ≡ rows_from text.now.bytes sight.left sight.right lines at) }
+    ensures { IfOk result (λ rows. rows
+        ≡ rows_from text.now.bytes sight.left sight.right lines at) }
 {
     let mut rows = Rows::new(alloc);
     let mut at = at;
@@ -99,7 +100,8 @@ fn columns_in_sight(sight: Sight, column: usize, columns: usize) -> usize
 /// A unit as it is, blanks for a tab, and else a dot.
 #[tactic(auto, unfolding(crate::specs::Pages::unit_text))]
 fn push_unit(row: &mut String, columns: usize, unit: &[u8]) -> Result<(), AllocError>
-    ensures { IfOk result (λ _. string_bytes row.new ≡ string_bytes row.old ++ unit_text columns unit.now) }
+    ensures { IfOk result (λ _. string_bytes row.new
+        ≡ string_bytes row.old ++ unit_text columns unit.now) }
 {
     if unit == b"\t".as_slice() {
         return push_blanks(row, columns);

@@ -22,7 +22,8 @@ pub fn replaced_run(
     new: &[u8],
 ) -> Result<ReplacedRun, NoMemory>
     requires { 0 < length what.now }
-    ensures bytes { IfOk result (λ run. run.bytes ≡ replaced_run text.now what.now new.now 0 (matches text.now what.now 0)) }
+    ensures bytes { IfOk result (λ run. run.bytes ≡ replaced_run text.now what.now new.now 0
+        (matches text.now what.now 0)) }
     ensures end { IfOk result (λ run. run.end ≡ last_end what.now 0 (matches text.now what.now 0)) }
     ensures within { IfOk result (λ run. run.end ≤ length text.now) }
 {
@@ -41,7 +42,8 @@ fn build(
     requires some { 0 < width }
     ensures bytes { IfOk result (λ run. run.bytes
         ≡ replaced_run text.now finder.now new.now 0 (matches text.now finder.now 0)) }
-    ensures end { IfOk result (λ run. run.end ≡ last_end finder.now 0 (matches text.now finder.now 0)) }
+    ensures end { IfOk result (λ run. run.end ≡ last_end finder.now 0
+        (matches text.now finder.now 0)) }
     ensures within { IfOk result (λ run. run.end ≤ length text.now) }
 {
     let mut bytes = Vec::new(alloc);

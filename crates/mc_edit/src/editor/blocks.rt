@@ -14,7 +14,8 @@ use std::alloc::Global;
 impl Editor {
     /// The block's bytes are put at the point, which stays before them.
     pub(super) fn copy_block(&mut self, alloc: Global) -> Result<(), EditError>
-        ensures done { OnOk result (block_copied (block_span self.old.block self.old.text.point) self.old ≡ Ok self.new) }
+        ensures done { OnOk result (block_copied
+            (block_span self.old.block self.old.text.point) self.old ≡ Ok self.new) }
         ensures refused { IfErr result (λ error. error ≢ Memory →
             block_copied (block_span self.old.block self.old.text.point) self.old ≡ Err error) }
         ensures same { OnErr result (self.new ≡ self.old) }
@@ -37,7 +38,8 @@ impl Editor {
 
     /// The block is taken out, and the point stands where it began.
     pub(super) fn delete_block(&mut self, alloc: Global) -> Result<(), EditError>
-        ensures done { OnOk result (block_deleted (block_span self.old.block self.old.text.point) self.old ≡ Ok self.new) }
+        ensures done { OnOk result (block_deleted
+            (block_span self.old.block self.old.text.point) self.old ≡ Ok self.new) }
         ensures refused { IfErr result (λ error. error ≢ Memory →
             block_deleted (block_span self.old.block self.old.text.point) self.old ≡ Err error) }
         ensures same { OnErr result (self.new ≡ self.old) }
@@ -50,7 +52,8 @@ impl Editor {
 
     /// The block and the bytes between it and the point change places.
     pub(super) fn move_block(&mut self, alloc: Global) -> Result<(), EditError>
-        ensures done { OnOk result (block_moved (block_span self.old.block self.old.text.point) self.old ≡ Ok self.new) }
+        ensures done { OnOk result (block_moved
+            (block_span self.old.block self.old.text.point) self.old ≡ Ok self.new) }
         ensures refused { IfErr result (λ error. error ≢ Memory →
             block_moved (block_span self.old.block self.old.text.point) self.old ≡ Err error) }
         ensures same { OnErr result (self.new ≡ self.old) }
@@ -107,7 +110,8 @@ fn changed_places(
     requires below { first ≤ second }
     requires ordered { second ≤ third }
     requires within { third ≤ length text.now.bytes }
-    ensures { IfOk result (λ bytes. bytes ≡ slice_range text.now.bytes second third ++ slice_range text.now.bytes first second) }
+    ensures { IfOk result (λ bytes. bytes
+        ≡ slice_range text.now.bytes second third ++ slice_range text.now.bytes first second) }
 {
     let back = text.range(alloc, second, third)?;
     let front = text.range(alloc, first, second)?;

@@ -17,7 +17,8 @@ use std::alloc::Global;
 impl Editor {
     /// The point goes to the first place behind it where the bytes stand.
     pub(super) fn find(&mut self, what: &Bytes) -> Result<(), EditError>
-        ensures done { OnOk result (found (first_place self.old.text.bytes what.now (self.old.text.point + 1)) self.old ≡ Ok self.new) }
+        ensures done { OnOk result (found (first_place self.old.text.bytes what.now
+            (self.old.text.point + 1)) self.old ≡ Ok self.new) }
         ensures refused { IfErr result (λ error.
             found (first_place self.old.text.bytes what.now (self.old.text.point + 1)) self.old ≡ Err error) }
         ensures same { OnErr result (self.new ≡ self.old) }
@@ -31,8 +32,10 @@ impl Editor {
 
     /// The point goes to the bracket that belongs to the one at the point.
     pub(super) fn bracket(&mut self) -> Result<(), EditError>
-        ensures done { OnOk result (found (partner_of self.old.text.bytes self.old.text.point) self.old ≡ Ok self.new) }
-        ensures refused { IfErr result (λ error. found (partner_of self.old.text.bytes self.old.text.point) self.old ≡ Err error) }
+        ensures done { OnOk result (found
+            (partner_of self.old.text.bytes self.old.text.point) self.old ≡ Ok self.new) }
+        ensures refused { IfErr result (λ error. found
+            (partner_of self.old.text.bytes self.old.text.point) self.old ≡ Err error) }
         ensures same { OnErr result (self.new ≡ self.old) }
     {
         let Some(at) = partner_of(&self.text, self.point) else {
@@ -50,7 +53,8 @@ impl Editor {
         new: &Bytes,
     ) -> Result<(), EditError>
         ensures done { OnOk result (all_replaced what.now new.now self.old ≡ Ok self.new) }
-        ensures refused { IfErr result (λ error. error ≢ Memory → all_replaced what.now new.now self.old ≡ Err error) }
+        ensures refused { IfErr result (λ error. error ≢ Memory
+            → all_replaced what.now new.now self.old ≡ Err error) }
         ensures same { OnErr result (self.new ≡ self.old) }
     {
         let what = slice_of(what);

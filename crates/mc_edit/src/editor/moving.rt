@@ -13,7 +13,8 @@ use std::alloc::Global;
 
 impl Editor {
     pub(super) fn left(&mut self, alloc: Global) -> Result<(), EditError>
-        ensures done { OnOk result (moved self.old (left_of self.old.text.bytes self.old.text.point) ≡ Ok self.new) }
+        ensures done { OnOk result (moved self.old
+            (left_of self.old.text.bytes self.old.text.point) ≡ Ok self.new) }
         ensures refused { IfErr result (λ error. error ≡ Memory) }
         ensures same { OnErr result (self.new ≡ self.old) }
     {
@@ -22,7 +23,8 @@ impl Editor {
     }
 
     pub(super) fn right(&mut self, alloc: Global) -> Result<(), EditError>
-        ensures done { OnOk result (moved self.old (right_of self.old.text.bytes self.old.text.point) ≡ Ok self.new) }
+        ensures done { OnOk result (moved self.old
+            (right_of self.old.text.bytes self.old.text.point) ≡ Ok self.new) }
         ensures refused { IfErr result (λ error. error ≡ Memory) }
         ensures same { OnErr result (self.new ≡ self.old) }
     {
@@ -32,7 +34,8 @@ impl Editor {
 
     #[tactic(auto, unfolding(crate::specs::Edits::largest_text))]
     pub(super) fn up(&mut self, alloc: Global) -> Result<(), EditError>
-        ensures done { OnOk result (moved self.old (up_of self.old.text.bytes self.old.text.point) ≡ Ok self.new) }
+        ensures done { OnOk result (moved self.old (up_of self.old.text.bytes self.old.text.point)
+            ≡ Ok self.new) }
         ensures refused { IfErr result (λ error. error ≡ Memory) }
         ensures same { OnErr result (self.new ≡ self.old) }
     {
@@ -42,7 +45,8 @@ impl Editor {
 
     #[tactic(auto, unfolding(crate::specs::Edits::largest_text))]
     pub(super) fn down(&mut self, alloc: Global) -> Result<(), EditError>
-        ensures done { OnOk result (moved self.old (down_of self.old.text.bytes self.old.text.point) ≡ Ok self.new) }
+        ensures done { OnOk result (moved self.old
+            (down_of self.old.text.bytes self.old.text.point) ≡ Ok self.new) }
         ensures refused { IfErr result (λ error. error ≡ Memory) }
         ensures same { OnErr result (self.new ≡ self.old) }
     {
@@ -52,7 +56,8 @@ impl Editor {
 
     #[tactic(auto, unfolding(crate::specs::Edits::largest_text))]
     pub(super) fn page_up(&mut self, alloc: Global, count: u16) -> Result<(), EditError>
-        ensures done { OnOk result (moved self.old (repeated (up_of self.old.text.bytes) count self.old.text.point) ≡ Ok self.new) }
+        ensures done { OnOk result (moved self.old (repeated
+            (up_of self.old.text.bytes) count self.old.text.point) ≡ Ok self.new) }
         ensures refused { IfErr result (λ error. error ≡ Memory) }
         ensures same { OnErr result (self.new ≡ self.old) }
     {
@@ -62,7 +67,8 @@ impl Editor {
 
     #[tactic(auto, unfolding(crate::specs::Edits::largest_text))]
     pub(super) fn page_down(&mut self, alloc: Global, count: u16) -> Result<(), EditError>
-        ensures done { OnOk result (moved self.old (repeated (down_of self.old.text.bytes) count self.old.text.point) ≡ Ok self.new) }
+        ensures done { OnOk result (moved self.old (repeated
+            (down_of self.old.text.bytes) count self.old.text.point) ≡ Ok self.new) }
         ensures refused { IfErr result (λ error. error ≡ Memory) }
         ensures same { OnErr result (self.new ≡ self.old) }
     {
@@ -71,7 +77,8 @@ impl Editor {
     }
 
     pub(super) fn line_start(&mut self)
-        ensures { moved self.old (line_start self.old.text.bytes self.old.text.point) ≡ Ok self.new }
+        ensures { moved self.old (line_start self.old.text.bytes self.old.text.point)
+            ≡ Ok self.new }
     {
         self.point = line_start(&self.text, self.point);
     }

@@ -15,7 +15,8 @@ use std::alloc::Global;
 impl Editor {
     pub(super) fn insert(&mut self, alloc: Global, character: char) -> Result<(), EditError>
         ensures done { OnOk result (typed self.old (encode_utf8 character) ≡ Ok self.new) }
-        ensures refused { IfErr result (λ error. error ≢ Memory → typed self.old (encode_utf8 character) ≡ Err error) }
+        ensures refused { IfErr result (λ error. error ≢ Memory → typed self.old
+            (encode_utf8 character) ≡ Err error) }
         ensures same { OnErr result (self.new ≡ self.old) }
     {
         let mut room = [0; 4];
@@ -27,7 +28,8 @@ impl Editor {
     pub(super) fn put_in(&mut self, alloc: Global, new: &[u8]) -> Result<(), EditError>
         requires { length new.now ≤ 16777216 }
         ensures done { OnOk result (typed self.old new.now ≡ Ok self.new) }
-        ensures refused { IfErr result (λ error. error ≢ Memory → typed self.old new.now ≡ Err error) }
+        ensures refused { IfErr result (λ error. error ≢ Memory → typed self.old new.now
+            ≡ Err error) }
         ensures same { OnErr result (self.new ≡ self.old) }
     {
         let point = self.point;
@@ -43,7 +45,8 @@ impl Editor {
     }
 
     pub(super) fn backspace(&mut self, alloc: Global) -> Result<(), EditError>
-        ensures done { OnOk result (removed self.old (left_of self.old.text.bytes self.old.text.point) self.old.text.point ≡ Ok self.new) }
+        ensures done { OnOk result (removed self.old
+            (left_of self.old.text.bytes self.old.text.point) self.old.text.point ≡ Ok self.new) }
         ensures refused { IfErr result (λ error. error ≢ Memory →
             removed self.old (left_of self.old.text.bytes self.old.text.point) self.old.text.point ≡ Err error) }
         ensures same { OnErr result (self.new ≡ self.old) }
@@ -53,7 +56,8 @@ impl Editor {
     }
 
     pub(super) fn delete_under(&mut self, alloc: Global) -> Result<(), EditError>
-        ensures done { OnOk result (removed self.old self.old.text.point (right_of self.old.text.bytes self.old.text.point) ≡ Ok self.new) }
+        ensures done { OnOk result (removed self.old self.old.text.point
+            (right_of self.old.text.bytes self.old.text.point) ≡ Ok self.new) }
         ensures refused { IfErr result (λ error. error ≢ Memory →
             removed self.old self.old.text.point (right_of self.old.text.bytes self.old.text.point) ≡ Err error) }
         ensures same { OnErr result (self.new ≡ self.old) }
@@ -72,7 +76,8 @@ impl Editor {
         requires ordered { from ≤ to }
         requires within { to ≤ length self.old.text.bytes }
         ensures done { OnOk result (removed self.old from to ≡ Ok self.new) }
-        ensures refused { IfErr result (λ error. error ≢ Memory → removed self.old from to ≡ Err error) }
+        ensures refused { IfErr result (λ error. error ≢ Memory → removed self.old from to
+            ≡ Err error) }
         ensures same { OnErr result (self.new ≡ self.old) }
     {
         self.splice(
@@ -88,7 +93,8 @@ impl Editor {
 
     /// The point's line is taken out with its newline, and the point stands where the line began.
     pub(super) fn delete_line(&mut self, alloc: Global) -> Result<(), EditError>
-        ensures done { OnOk result (removed self.old (line_start self.old.text.bytes self.old.text.point)
+        ensures done { OnOk result (removed self.old
+            (line_start self.old.text.bytes self.old.text.point)
             (line_past self.old.text.bytes self.old.text.point) ≡ Ok self.new) }
         ensures refused { IfErr result (λ error. error ≢ Memory →
             removed self.old (line_start self.old.text.bytes self.old.text.point)
