@@ -1,5 +1,5 @@
 //! A text with a point, kept in one block with a gap at the point.
-ghost use Rattle.std.specs.Prelude.{◌≡◌, ◌+◌, ◌^◌, ◌<◌, ◌≤◌, ◌++◌, length, take, drop, slice_index, vec_len};
+ghost use Rattle.std.specs.Prelude.{◌≡◌, ◌+◌, ◌^◌, ◌<◌, ◌≤◌, ◌++◌, length, take, drop, slice_index, slice_range, vec_len};
 ghost use Rattle.std.specs.Prelude.{IfOk, OnOk, OnErr};
 ghost use Rattle.gap_text.specs.Places.{first_place, IsLeastPlace};
 ghost use Rattle.gap_text.specs.PointedText.{opened, moved_to, inserted, deleted};
@@ -142,6 +142,23 @@ impl GapText {
         Ok(Bytes(bytes))
     }
 
+    /// The bytes from one place up to another, as one list. Takes time linear in them.
+    pub fn range(&self, alloc: Global, from: usize, to: usize) -> Result<Bytes, NoMemory>
+        requires ordered { from ≤ to }
+        requires within { to ≤ length self.now.bytes }
+        ensures { IfOk result (λ bytes. bytes ≡ slice_range self.now.bytes from to) }
+    {
+        let (front, back) = (self.front(), self.back());
+        let mut bytes = Vec::with_capacity(alloc, to - from)?;
+        bytes.extend_from_slice(part_of(front, from, to))?;
+        bytes.extend_from_slice(part_of(
+            back,
+            from.saturating_sub(front.len()),
+            to.saturating_sub(front.len()),
+        ))?;
+        Ok(Bytes(bytes))
+    }
+
     fn move_back(&mut self, at: usize)
         requires { at ≤ self.old.point }
         ensures { self.new ≡ moved_to self.old at }
@@ -174,6 +191,15 @@ impl GapText {
     {
         &self.room[self.gap_end..]
     }
+}
+
+/// What a half has of the bytes from one place up to another.
+fn part_of(half: &[u8], from: usize, to: usize) -> &[u8]
+    requires { from ≤ to }
+    ensures { result.now ≡ slice_range half.now from to }
+{
+    let end = to.min(half.len());
+    &half[from.min(end)..end]
 }
 
 /// Makes the gap from `start` to `end` at least `count` bytes long, and gives its new end. The bytes around it stay.

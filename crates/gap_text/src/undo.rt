@@ -82,19 +82,22 @@ impl Undo {
         }
     }
 
-    fn next_undone(&self) -> Option<&Change>
+    /// The change that an undo would take back.
+    pub fn next_undone(&self) -> Option<&Change>
         ensures { option_copied result ≡ slice_get self.now.past 0 }
     {
         self.past.front()
     }
 
-    fn next_redone(&self) -> Option<&Change>
+    /// The change that a redo would make again.
+    pub fn next_redone(&self) -> Option<&Change>
         ensures { option_copied result ≡ slice_get self.now.future 0 }
     {
         self.future.front()
     }
 
-    fn step_back(&mut self) -> bool
+    /// Takes the newest change from the past to what was undone, if there is one. It takes no memory.
+    pub fn step_back(&mut self) -> bool
         ensures after { self.new ≡ undone self.old }
         ensures shown { slice_get self.old.past 0 ≡ (if result then slice_get self.new.future 0 else None) }
     {
@@ -105,7 +108,8 @@ impl Undo {
         true
     }
 
-    fn step_forward(&mut self) -> bool
+    /// Takes the change that was undone last back into the past, if there is one. It takes no memory.
+    pub fn step_forward(&mut self) -> bool
         ensures after { self.new ≡ redone self.old }
         ensures shown { slice_get self.old.future 0 ≡ (if result then slice_get self.new.past 0 else None) }
     {

@@ -1,0 +1,6 @@
+pub mod PageLemmas
+pub mod ReplacingLemmas
+pub mod ChangeLemmas
+pub mod SpliceLemmas
+pub mod LineLemmas
+pub mod UnitLemmas

@@ -1,0 +1,101 @@
+-- Places in the rest of a text, and the run that is built place by place.
+use Rattle.std.proofs.Common.{◌≡◌, ℕ, ◌+◌, ◌-◌, ◌<◌, ◌≤◌, List, [], ◌∷◌, ◌++◌, length, drop, get_or, refl, sym, ap, ◌∙◌, arith, length-drop, slice_range, append_assoc, append-nil, Some, None}
+use Rattle.std.proofs.lemmas.List.{get_or-drop}
+use Rattle.memchr.specs.Find.{OccursAt, FindsNeedle, matches, match_len}
+use Rattle.memchr.proofs.lemmas.MatchLemmas.{matches-none, matches-first}
+use Rattle.std.proofs.Common.{Err}
+use Rattle.std.proofs.lemmas.Bool.{cond-false, ne_eqb}
+use Rattle.mc_edit.specs.declared.error.EditError.TheVariants.{NotFound}
+use Rattle.mc_edit.specs.Edits.{EditedText}
+use Rattle.mc_edit.specs.Commands.{places_replaced, all_replaced}
+use Rattle.mc_edit.specs.Replacing.{replaced_run, last_end}
+
+module _ (text what : List ℕ) (from : ℕ) (inside : from ≤ length text) where
+  OccursAt-further : (at : ℕ) → OccursAt (drop from text) what at → OccursAt text what (from + at)
+  OccursAt-further at occurs =
+      record {
+        fits = omega (arith, occurs.fits, length-drop from text);
+        reads = λ j below.
+            let place : from + at + j ≡ from + (at + j) = omega arith in
+            ap (λ n. get_or text n 0) place ∙ sym (get_or-drop from text (at + j) 0) ∙ occurs.reads j below;
+      }
+
+  OccursAt-rest : (at : ℕ) → from ≤ at → OccursAt text what at → OccursAt (drop from text) what (at - from)
+  OccursAt-rest at low occurs =
+      record {
+        fits = omega (arith, occurs.fits, length-drop from text);
+        reads = λ j below.
+            let place : from + (at - from + j) ≡ at + j = omega arith in
+            get_or-drop from text (at - from + j) 0 ∙ ap (λ n. get_or text n 0) place ∙ occurs.reads j below;
+      }
+
+  -- the first place of the rest is the first of the text from there on
+  pub FindsNeedle-some : (at : ℕ) → FindsNeedle (drop from text) what 0 (Some at) → FindsNeedle text what from (Some (from + at))
+  FindsNeedle-some at finds = (
+    record {
+      low = omega arith;
+      high = omega (arith, finds.0.high, length-drop from text);
+      before = λ k low below occurs. finds.0.before (k - from) (omega arith) (omega arith) (OccursAt-rest k low occurs);
+    },
+    OccursAt-further at finds.1,
+  )
+
+  pub FindsNeedle-none : FindsNeedle (drop from text) what 0 None → FindsNeedle text what from None
+  FindsNeedle-none nowhere k low below occurs =
+      nowhere (k - from) (omega arith) (omega (arith, length-drop from text)) (OccursAt-rest k low occurs)
+
+module _ (text what : List ℕ) (some : 0 < length what) (from : ℕ) where
+  -- the places from one on, when the next is found
+  pub matches-next : (at : ℕ) → FindsNeedle text what from (Some at) → matches text what from ≡ at ∷ matches text what (at + length what)
+  matches-next at finds =
+      let wide : match_len what ≡ length what = omega arith in
+      matches-first text what from at finds.0 finds.1 ∙ ap (λ n. at ∷ matches text what (at + n)) wide
+
+  pub matches-over : FindsNeedle text what from None → matches text what from ≡ []
+  matches-over nowhere = matches-none text what from nowhere
+
+  module _ (new so_far : List ℕ) where
+    -- a place leads the run on
+    pub run-next : (at : ℕ) → FindsNeedle text what from (Some at)
+        → ((so_far ++ slice_range text from at) ++ new)
+        ++ replaced_run text what new (at + length what) (matches text what (at + length what))
+        ≡ so_far ++ replaced_run text what new from (matches text what from)
+    run-next at finds =
+        let left = replaced_run text what new (at + length what) (matches text what (at + length what)) in
+        let part = slice_range text from at in
+        append_assoc (so_far ++ part) new left
+        ∙ append_assoc so_far part (new ++ left)
+        ∙ ap (λ places. so_far ++ replaced_run text what new from places) (sym (matches-next at finds))
+
+    -- without a further place the run is whole
+    pub run-over : FindsNeedle text what from None → so_far ≡ so_far ++ replaced_run text what new from (matches text what from)
+    run-over nowhere =
+        sym (append-nil so_far) ∙ ap (λ places. so_far ++ replaced_run text what new from places) (sym (matches-over nowhere))
+
+  pub end-next : (at : ℕ) → FindsNeedle text what from (Some at)
+      → last_end what (at + length what) (matches text what (at + length what)) ≡ last_end what from (matches text what from)
+  end-next at finds = ap (λ places. last_end what from places) (sym (matches-next at finds))
+
+  pub end-over : FindsNeedle text what from None → from ≡ last_end what from (matches text what from)
+  end-over nowhere = ap (λ places. last_end what from places) (sym (matches-over nowhere))
+
+last_end-low : (what : List ℕ) (from : ℕ) (places : List ℕ) → (low : ℕ) → low ≤ from → ((place : ℕ) → low ≤ place + length what) → low ≤ last_end what from places
+last_end-low what from [] low below each = below
+last_end-low what from (place ∷ places) low below each = last_end-low what (place + length what) places low (each place) each
+
+-- where the last place ends at the start there is none
+none-ends : (what places : List ℕ) → 0 < length what → last_end what 0 places ≡ 0 → places ≡ []
+none-ends what [] some ends = refl
+none-ends what (place ∷ places) some ends =
+    absurd (omega (arith, last_end-low what (place + length what) places 1 (omega arith) (λ at. omega arith)))
+
+module _ (what new rest : List ℕ) (some : 0 < length what) (e : EditedText) (is_rest : rest ≡ drop e.text.point e.text.bytes) where
+  shown : all_replaced what new e ≡ places_replaced (matches rest what 0) what new e
+  shown =
+      cond-false _ _ _ (ne_eqb _ _ (λ (none : length what ≡ 0). omega arith))
+      ∙ ap (λ l. places_replaced (matches l what 0) what new e) (sym is_rest)
+
+  -- without a place nothing is found
+  pub all_replaced-none : (end : ℕ) → end ≡ last_end what 0 (matches rest what 0) → end ≡ 0 → all_replaced what new e ≡ Err NotFound
+  all_replaced-none end is_end zero_end =
+      shown ∙ ap (λ places. places_replaced places what new e) (none-ends what (matches rest what 0) some (sym is_end ∙ zero_end))

@@ -1,0 +1,11 @@
+pub mod Brackets
+pub mod Changes
+pub mod Columns
+pub mod Commands
+pub mod Edits
+pub mod Lines
+pub mod Moves
+pub mod Pages
+pub mod Replacing
+pub mod Splices
+pub mod Units
