@@ -1,9 +1,12 @@
 """Tries the built program on a pseudo-terminal, as a person would: keys in, files looked at afterwards.
 
-Usage: terminal_check.py PROGRAM. Needs the standard library of Python 3 alone.
+Usage: terminal_check.py PROGRAM STARTER. The starter, `./mc`, starts the program and puts the terminal back after a signal.
+Needs the standard library of Python 3 alone.
 """
+import fcntl
 import os
 import pty
+import re
 import resource
 import select
 import shutil
@@ -19,6 +22,7 @@ DOWN, F5, F8, F10, ENTER = b"\x1b[B", b"\x1b[15~", b"\x1b[19~", b"\x1b[21~", b"\
 COPY = [DOWN, F5, ENTER, ENTER]
 USAGE = b"usage: mc [-b] [-V] [-h] [-P FILE] [-v FILE | -e FILE | --drill N | DIR1 [DIR2]]"
 PATIENCE = 20.0
+SOMEBODY = 65534
 
 
 def read_some(terminal, seconds):
@@ -31,34 +35,51 @@ def read_some(terminal, seconds):
         return b""
 
 
-def is_sane(terminal):
-    modes = termios.tcgetattr(terminal)[3]
-    return bool(modes & termios.ICANON) and bool(modes & termios.ECHO)
+def own_terminal():
+    """A terminal with settings that `stty sane` takes away: text of UTF-8, and an erase key of the user's own."""
+    ours, theirs = pty.openpty()
+    modes = termios.tcgetattr(theirs)
+    modes[0] |= getattr(termios, "IUTF8", 0x4000)
+    modes[6][termios.VERASE] = b"\x08"
+    termios.tcsetattr(theirs, termios.TCSANOW, modes)
+    return ours, theirs, termios.tcgetattr(theirs)
 
 
-def run(program, words, keys, largest=None, user=None):
+def start(program, words, ours, theirs, largest=None, user=None, folders=None):
+    """Starts the program on a terminal, of which it is the session's leader."""
+    child = os.fork()
+    if child != 0:
+        return child
+    try:
+        os.close(ours)
+        os.setsid()
+        for stream in (0, 1, 2):
+            os.dup2(theirs, stream)
+        fcntl.ioctl(0, termios.TIOCSCTTY, 0)
+        os.close(theirs)
+        if largest is not None:
+            signal.signal(signal.SIGXFSZ, signal.SIG_IGN)
+            resource.setrlimit(resource.RLIMIT_FSIZE, (largest, largest))
+        if user is not None:
+            os.setgroups([])
+            os.setgid(user)
+            os.setuid(user)
+        if folders is not None:
+            os.environ["PATH"] = folders
+        os.execv(program, [program] + words)
+    finally:  # a child that can't become the program goes no further
+        os._exit(127)
+
+
+def run(program, words, keys, **settings):
     """Runs the program on a terminal of its own; each key is sent once the screen has been quiet for a moment.
 
-    Answers the exit status, what was written, and whether the terminal was left sane. In place of a key may stand what is to
-    be done then. With `largest` no file of the program may have more bytes than that; with `user` it runs as that user.
+    Answers the exit status, what was written, and whether the terminal is as it was. In place of a key may stand what is to
+    be done then; it is given the number of the process. With `largest` no file of the program may have more bytes than
+    that; with `user` it runs as that user; `folders` is where it looks for commands.
     """
-    ours, theirs = pty.openpty()
-    child = os.fork()
-    if child == 0:
-        try:
-            os.close(ours)
-            os.setsid()
-            for stream in (0, 1, 2):
-                os.dup2(theirs, stream)
-            if largest is not None:
-                signal.signal(signal.SIGXFSZ, signal.SIG_IGN)
-                resource.setrlimit(resource.RLIMIT_FSIZE, (largest, largest))
-            if user is not None:
-                os.setgid(user)
-                os.setuid(user)
-            os.execv(program, [program] + words)
-        finally:  # a child that can't become the program goes no further
-            os._exit(127)
+    ours, theirs, before = own_terminal()
+    child = start(program, words, ours, theirs, **settings)
     written, status, waiting = b"", None, list(keys)
     end = time.monotonic() + PATIENCE
     while status is None and time.monotonic() < end:
@@ -67,7 +88,7 @@ def run(program, words, keys, largest=None, user=None):
         if not got and waiting and b"\x1b[2J" in written:
             key = waiting.pop(0)
             if callable(key):
-                key()
+                key(child)
             else:
                 os.write(ours, key)
         done, how = os.waitpid(child, os.WNOHANG)
@@ -76,15 +97,15 @@ def run(program, words, keys, largest=None, user=None):
     if status is None:
         os.kill(child, 9)
         os.waitpid(child, 0)
+    same = termios.tcgetattr(theirs) == before
     while True:
         got = read_some(ours, 0.1)
         if not got:
             break
         written += got
-    sane = is_sane(theirs)
     os.close(ours)
     os.close(theirs)
-    return status, written, sane
+    return status, written, same
 
 
 def make_file(path, size, mode):
@@ -109,9 +130,9 @@ def check_copies(program, base, check):
         os.mkdir(target)
         make_file(os.path.join(source, "x"), size, mode)
         before = facts(os.path.join(source, "x"))
-        status, _, sane = run(program, [source, target], COPY + [F10])
+        status, _, same = run(program, [source, target], COPY + [F10])
         what = f"a file of {size} bytes and mode {mode:o}"
-        check(f"{what} is copied", status == 0 and sane and facts(os.path.join(target, "x")) == before)
+        check(f"{what} is copied", status == 0 and same and facts(os.path.join(target, "x")) == before)
         check(f"{what} stays, and no part does", facts(os.path.join(source, "x")) == before and os.listdir(target) == ["x"])
 
     source, target = os.path.join(base, "s"), os.path.join(base, "t")
@@ -148,18 +169,103 @@ def check_copies(program, base, check):
     try:
         status, written, _ = run(program, [source, small], COPY + [b"s", F10])
         check("on a full mount a copy is skipped", status == 0 and os.listdir(small) == [] and b"no space left" in written)
+        subprocess.run(["mount", "-o", "remount,ro", small], check=True)
+        status, written, _ = run(program, [source, small], COPY + [b"s", F10])
+        check("on a read-only mount a copy is denied", status == 0 and os.listdir(small) == [] and b"permission denied" in written)
     finally:
         subprocess.run(["umount", small], check=True)
+
+
+def check_rows(program, base, check):
+    """A row of a box ends where the screen does."""
+    folder = os.path.join(base, "l" * 60, "m" * 60)
+    os.makedirs(folder)
+    make_file(os.path.join(folder, "x"), 1, 0o644)
+    status, written, _ = run(program, [folder], [DOWN, F5, ENTER, F10, F10])
+    rows = re.findall(rb"\x1b\[20;1H([^\x1b]*)", written)
+    cut = folder.encode()[:79] + b"~"
+    check("a long path is cut in its box", status == 0 and cut in rows and all(len(row) == 80 for row in rows))
+
+
+def for_somebody(program, base):
+    """The program where somebody else may run it."""
+    os.chmod(base, 0o755)
+    copy = shutil.copy(program, os.path.join(base, "program"))
+    os.chmod(copy, 0o755)
+    return copy
+
+
+def check_set_id_bits(program, base, check):
+    """The system takes set-id bits from a file at a write by somebody who isn't root."""
+    user = None
+    if os.geteuid() == 0:
+        user = SOMEBODY
+        program = for_somebody(program, base)
+    for mode in (0o4755, 0o2755, 0o6711):
+        folders = [os.path.join(base, f"{side}{mode:o}") for side in "st"]
+        for folder in folders:
+            os.mkdir(folder)
+        file = os.path.join(folders[0], "x")
+        make_file(file, 70000, 0o644)
+        if user is not None:
+            for path in folders + [file]:
+                os.chown(path, user, user)
+        os.chmod(file, mode)
+        status, _, _ = run(program, folders, COPY + [F10], user=user)
+        check(f"a copy keeps mode {mode:o}", status == 0 and facts(os.path.join(folders[1], "x")) == facts(file))
+
+
+def check_stty(program, base, check):
+    """What is asked of `stty`, by one that writes it down."""
+    real = shutil.which("stty")
+    said = os.path.join(base, "said")
+    for asked, broken in [("the modes", ":"), ("nothing", 'test "$1" = -g && exit 1')]:
+        folder = os.path.join(base, f"commands of {asked}")
+        os.mkdir(folder)
+        with open(os.path.join(folder, "stty"), "w") as file:
+            file.write(f'#!/bin/sh\necho "$1" >>{said}\n{broken}\nexec {real} "$@"\n')
+        os.chmod(file.name, 0o755)
+        folders = folder + os.pathsep + os.environ["PATH"]
+        for words in ([], ["relative"], ["/nowhere", "relative"]):
+            status, written, _ = run(program, words, [], folders=folders)
+            check(f"refused words {words} touch no terminal", status == 1 and USAGE in written and not os.path.exists(said))
+        status, _, same = run(program, ["/"], [F10], folders=folders)
+        with open(said) as file:
+            lines = file.read().split()
+        os.remove(said)
+        ends_sane = lines[-1] == "sane"
+        check(f"where stty says {asked}", status == 0 and lines[:2] == ["-g", "raw"] and ends_sane != same and len(lines) == 3)
+
+
+def check_signals(starter, base, check):
+    """After a signal the terminal is as it was, and what comes next stands on a line of its own."""
+
+    def below(process):
+        with open(f"/proc/{process}/task/{process}/children") as file:
+            return [int(number) for number in file.read().split()]
+
+    aims = [
+        ("the starter", lambda process, sent: os.kill(process, sent)),
+        ("the program", lambda process, sent: os.kill(below(process)[0], sent)),
+        ("both", lambda process, sent: os.killpg(process, sent)),
+    ]
+    for sent in (signal.SIGTERM, signal.SIGHUP, signal.SIGINT):
+        for name, aim in aims:
+            status, written, same = run(starter, [base], [DOWN, lambda process: aim(process, sent)])
+            ended = status is not None and status > 128
+            check(f"{sent.name} to {name}: the terminal is as it was", ended and same and written.endswith(b"\r\n"))
+    status, _, same = run(starter, [base], [DOWN, F10])
+    check("the starter ends with the program's status", status == 0 and same)
+    status, written, same = run(starter, ["relative"], [])
+    check("and says what the program says", status == 1 and USAGE in written and same)
 
 
 def check_dirty_folder(program, base, check):
     """A folder that may be changed and not read can't be synced: what an aborted deletion left there comes first."""
     user = None
-    if os.geteuid() == 0:  # root may read all, so somebody else runs it, from where he may
-        user = 65534
-        os.chmod(base, 0o755)
-        program = shutil.copy(program, os.path.join(base, "program"))
-        os.chmod(program, 0o755)
+    if os.geteuid() == 0:  # root may read all
+        user = SOMEBODY
+        program = for_somebody(program, base)
 
     for name, mode, left in [("left", 0o300, ["y"]), ("mended", 0o700, [])]:
         folder = os.path.join(base, name)
@@ -169,17 +275,17 @@ def check_dirty_folder(program, base, check):
         os.chmod(folder, 0o700)
         if user is not None:
             os.chown(folder, user, user)
-        shut, mended = (lambda: os.chmod(folder, 0o300)), (lambda: os.chmod(folder, mode))
-        first = [DOWN, F8, shut, ENTER, b"b", lambda: os.chmod(folder, 0o700), DOWN]
-        status, written, sane = run(program, [folder], first + [F8, mended, ENTER, F10, F10], user=user)
+        shut, mended = (lambda _: os.chmod(folder, 0o300)), (lambda _: os.chmod(folder, mode))
+        first = [DOWN, F8, shut, ENTER, b"b", lambda _: os.chmod(folder, 0o700), DOWN]
+        status, written, same = run(program, [folder], first + [F8, mended, ENTER, F10, F10], user=user)
         os.chmod(folder, 0o700)
         what = f"a folder that an aborted job left, of mode {mode:o} then,"
-        check(f"{what} comes before the next deletion", status == 0 and sane and os.listdir(folder) == left)
+        check(f"{what} comes before the next deletion", status == 0 and same and os.listdir(folder) == left)
         check(f"{what} has its box", b"r Retry  b Abort" in written)
 
 
 def main():
-    program = os.path.abspath(sys.argv[1])
+    program, starter = os.path.abspath(sys.argv[1]), os.path.abspath(sys.argv[2])
     base = tempfile.mkdtemp()
     passed, failed = 0, 0
 
@@ -196,13 +302,13 @@ def main():
         os.mkdir(folder)
         with open(os.path.join(folder, "x"), "w") as file:
             file.write("hi")
-        status, _, sane = run(program, [folder], [DOWN, F8, F10, F10])
-        check("a box that is shut deletes nothing", status == 0 and os.listdir(folder) == ["x"] and sane)
-        status, written, sane = run(program, [folder], [DOWN, F8, ENTER, F10])
+        status, _, same = run(program, [folder], [DOWN, F8, F10, F10])
+        check("a box that is shut deletes nothing", status == 0 and os.listdir(folder) == ["x"] and same)
+        status, written, same = run(program, [folder], [DOWN, F8, ENTER, F10])
         check("the status is 0", status == 0)
         check("the name was shown", b"x" in written)
         check("the file is deleted", os.listdir(folder) == [])
-        check("the terminal is sane again", sane)
+        check("the terminal is as it was", same)
 
         os.mkdir(os.path.join(base, "b"))
         os.mkdir(os.path.join(base, "b", "d"))
@@ -210,11 +316,16 @@ def main():
         check("a folder is not deleted", status == 0 and os.path.isdir(os.path.join(base, "b", "d")))
 
         check_copies(program, base, check)
+        check_rows(program, base, check)
         check_dirty_folder(program, base, check)
+        check_set_id_bits(program, base, check)
+        check_stty(program, base, check)
+        check_signals(starter, base, check)
 
         for words, want, line in [
             ([os.path.join(base, "nowhere")], 2, b"no such file or folder"),
             (["/nowhere"], 2, b"mc: /nowhere: no such file or folder"),
+            (["/no\x1b[31mwhere\n"], 2, b"mc: /no?[31mwhere?: no such file or folder"),
             ([os.path.join(base, "file")], 2, b"not a folder"),
             ([], 1, USAGE),
             (["-v", "a"], 1, USAGE),
@@ -226,8 +337,8 @@ def main():
         ]:
             if words and words[0].endswith("/file"):
                 open(words[0], "w").close()
-            status, written, sane = run(program, words, [])
-            check(f"{words} ends with {want}", status == want and line in written and sane)
+            status, written, same = run(program, words, [])
+            check(f"{words} ends with {want}", status == want and line in written and same)
     finally:
         shutil.rmtree(base)
     print(f"terminal: {passed} passed, {failed} failed")

@@ -7,8 +7,6 @@ mod history;
 mod laws;
 mod run;
 mod starting;
-#[cfg(test)]
-mod tests;
 mod work;
 
 pub use deletion::{Deletion, Stage};

@@ -9,8 +9,6 @@ mod file;
 mod line;
 mod pattern;
 mod rule;
-#[cfg(test)]
-mod tests;
 mod words;
 
 pub use act::{Act, action};

@@ -4,8 +4,6 @@
 mod change;
 mod gap;
 mod places;
-#[cfg(test)]
-mod tests;
 mod undo;
 
 pub use change::Change;

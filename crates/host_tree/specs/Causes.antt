@@ -1,6 +1,6 @@
 -- What the kinds of the system's errors mean for a tree (POSIX.1-2017, 2.3 Error Numbers, by Linux's names in `errno.h`).
 use Rattle.std.specs.declared.io.ErrorKind.{ErrorKind}
-use Rattle.std.specs.declared.io.ErrorKind.TheVariants.{NotFound, NotADirectory, PermissionDenied, AlreadyExists, IsADirectory, DirectoryNotEmpty, ResourceBusy, CrossesDevices, StorageFull, QuotaExceeded, OutOfMemory, InvalidInput}
+use Rattle.std.specs.declared.io.ErrorKind.TheVariants.{NotFound, NotADirectory, PermissionDenied, ReadOnlyFilesystem, AlreadyExists, IsADirectory, DirectoryNotEmpty, ResourceBusy, CrossesDevices, StorageFull, QuotaExceeded, OutOfMemory, InvalidInput}
 use Rattle.tree_trait.specs.declared.calls.TreeError.{TreeError}
 use Rattle.tree_trait.specs.declared.calls.TreeError.TheVariants.{Missing, NotFolder, Denied, Exists, IsFolder, NotEmpty, Mounted, CrossMount, NoSpace, IntoItself, Fault, Memory}
 
@@ -9,6 +9,7 @@ abbrev pub cause_of_kind : ErrorKind → TreeError
 cause_of_kind NotFound = Missing
 cause_of_kind NotADirectory = NotFolder
 cause_of_kind PermissionDenied = Denied
+cause_of_kind ReadOnlyFilesystem = Denied
 cause_of_kind AlreadyExists = Exists
 cause_of_kind IsADirectory = IsFolder
 cause_of_kind DirectoryNotEmpty = NotEmpty

@@ -14,7 +14,7 @@ pub fn cause_of(error: &io::Error) -> TreeError
     match error.kind() {
         ErrorKind::NotFound => TreeError::Missing,
         ErrorKind::NotADirectory => TreeError::NotFolder,
-        ErrorKind::PermissionDenied => TreeError::Denied,
+        ErrorKind::PermissionDenied | ErrorKind::ReadOnlyFilesystem => TreeError::Denied,
         ErrorKind::AlreadyExists => TreeError::Exists,
         ErrorKind::IsADirectory => TreeError::IsFolder,
         ErrorKind::DirectoryNotEmpty => TreeError::NotEmpty,

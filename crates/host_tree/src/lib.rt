@@ -17,8 +17,6 @@ mod real_path;
 mod sh_spawner;
 mod stdin_source;
 mod stdout_sink;
-#[cfg(test)]
-mod tests;
 mod tree;
 mod writing;
 

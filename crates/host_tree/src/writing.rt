@@ -55,11 +55,11 @@ where
     ) -> Result<(), TreeError> {
         if let Some(open) = self.kept.at(path) {
             if open.access == Access::Write {
-                return put_into(&open.file, offset, bytes);
+                return put_with_mode(&open.file, offset, bytes);
             }
         }
         let open = self.open_to_write(alloc, path)?;
-        let answer = put_into(&open.file, offset, bytes);
+        let answer = put_with_mode(&open.file, offset, bytes);
         self.kept.keep(open);
         answer
     }
@@ -131,6 +131,24 @@ fn create<R: Files>(rt: &R, text: &str, mode: u16) -> Result<R::File, TreeError>
             .mode(u32::from(mode))
             .open(rt, text),
     )
+}
+
+/// The bits of a mode that lend a program the rights of its owner and of its group.
+const SET_ID_BITS: u32 = 0o6000;
+
+/// Writes bytes at an offset of a file, and leaves its mode: where the writer isn't root, the system takes the set-id bits away at
+/// a write, and they are set again.
+fn put_with_mode<F: FileExt + OpenFile>(
+    file: &F,
+    offset: u64,
+    bytes: &[u8],
+) -> Result<(), TreeError> {
+    let before = answer_of(file.metadata())?.permissions();
+    let written = put_into(file, offset, bytes);
+    if before.mode() & SET_ID_BITS != 0 {
+        answer_of(file.set_permissions(before))?;
+    }
+    written
 }
 
 /// Writes bytes at an offset of a file. With no bytes the file reaches up to the offset at least.

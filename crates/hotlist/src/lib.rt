@@ -10,8 +10,6 @@ mod lines;
 mod list;
 mod places;
 mod print;
-#[cfg(test)]
-mod tests;
 
 pub use error::{HotEditError, HotError};
 pub use file::parse_hotlist;

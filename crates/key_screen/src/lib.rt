@@ -6,10 +6,6 @@ mod characters;
 mod control;
 mod drawn;
 mod grid;
-#[cfg(test)]
-mod grid_tests;
-#[cfg(test)]
-mod key_tests;
 mod keys;
 mod laws;
 mod reader;

@@ -3,7 +3,6 @@ use Rattle.std.proofs.Common.{◌≡◌, ◌⊎◌, ℕ, ◌+◌, ◌-◌, ◌^�
 use Rattle.std.specs.Prelude.{if◌then◌else◌, option_and_then}
 use Rattle.std.specs.Option.{option_map}
 use Rattle.key_screen.specs.declared.keys.Key.{Key as KeyType}
-use Rattle.key_screen.specs.declared.keys.Base.TheVariants.{F}
 use Rattle.mc_text.specs.Routes.{Route}
 use Rattle.tree_trait.specs.declared.calls.TreeError.{TreeError}
 use Rattle.tree_trait.specs.Calls.{Stat, ListFolder, SyncFolder}
@@ -30,10 +29,11 @@ use Rattle.copy_move.specs.Traces.{AreRefused, IsUnclaimed}
 use Rattle.copy_move.specs.Traces as traces
 use Rattle.copy_move.proofs.StillTelling.{performs_tells, step_tells}
 use Rattle.copy_move.proofs.Telling.{answered_told, began_told, closed_told, fresh_told, step_told, sync_told}
-use Rattle.mc_ui.specs.Screens.{NoBox, Begins, Answers, KeyLeads, LookLeads, plain_base, sight}
+use Rattle.mc_ui.specs.Screens.{Begins, Answers, Ends, KeyLeads, LookLeads, Screen, sight}
 use Rattle.mc_ui.specs.Refused.{has_fault}
 use Rattle.mc_desk.specs.Tallies.{Tally, faults_in, can_step, end_unseen_event}
-use Rattle.mc_desk.specs.Desks.{Seen}
+use Rattle.mc_desk.specs.Desks.{Seen, noted, with_end}
+use Rattle.mc_desk.specs.Sessions.{MayEnd}
 use Rattle.mc_desk.proofs.Answering.{may_answer_told, part_told, waits_told}
 use Rattle.mc_desk.proofs.Keeping.{Adds, Leads}
 use Rattle.mc_desk.proofs.Owing.{fresh_left}
@@ -47,6 +47,36 @@ open_tally t unclosed = ap (λ b. let r : Tally = record t { job = if_closed b t
 
 open_job : (closed : Bool) (job : Option Running) → closed ≡ false → job ≡ if_closed closed job
 open_job closed job unclosed = ap (λ b. if_closed b job) (sym unclosed)
+
+-- where the end wasn't asked for, nothing is noted on the screen
+pub unasked_screen : (desk : Seen) → desk.quit ≡ false → noted desk ≡ desk.screen
+unasked_screen desk unasked = ap (λ b. with_end b desk.screen) unasked
+
+-- what is noted stays
+same_noted : (old new : Seen) → new.screen ≡ old.screen → new.quit ≡ old.quit → noted new ≡ noted old
+same_noted old new screen quit = ap (λ b. with_end b new.screen) quit ∙ ap (with_end old.quit) screen
+
+-- nothing else waits than the end
+may_end : (desk : Seen) → desk.screen.planned ≡ None → MayEnd (noted desk).planned
+may_end desk settled = go desk.quit
+  where
+    go : (b : Bool) → MayEnd (with_end b desk.screen).planned
+    go true = inr refl
+    go false = inl settled
+
+-- the screen has noted whether the end was asked for
+pub end_noted : (quit : Bool) (screen : Screen) → screen.planned ≡ None → (with_end quit screen).planned ≡ (if quit then Some Ends else None)
+end_noted true screen settled = refl
+end_noted false screen settled = settled
+
+unplanned : (desk : Seen) → desk.quit ≡ false → desk.screen.planned ≡ None → (noted desk).planned ≡ None
+unplanned desk unasked settled = ap (λ (s : Screen). s.planned) (unasked_screen desk unasked) ∙ settled
+
+-- what was asked for is carried out
+carried_out : (old new : Seen) → new.screen ≡ (let s : Screen = record old.screen { planned = None } in s) → new.quit ≡ old.quit → old.quit ≡ false
+    → noted new ≡ (let s : Screen = record (noted old) { planned = None } in s)
+carried_out old new screen quit unasked =
+    unasked_screen new (quit ∙ unasked) ∙ (screen ∙ ap (λ (s : Screen). let c : Screen = record s { planned = None } in c) (sym (unasked_screen old unasked)))
 
 module _ (contents contents_after : Option CallLog) (same : contents_after ≡ contents) where
   same_log : (log now : CallLog) → contents ≡ Some log → contents_after ≡ Some now → now ≡ log
@@ -65,37 +95,37 @@ module _ (contents contents_after : Option CallLog) (faults : ℕ) (old new : Se
   pub adds_key : (key : KeyType) (now : ℕ) (refusals : List Refusal) → new.newest ≡ entry seat old.tally.calls count shown (Key key now refusals false) ∷ old.newest → new.tally ≡ old.tally → new.job ≡ old.job
       → new.tally.job ≡ option_map told new.job → old.tally.closed ≡ false → old.tally.due ≡ None → old.tally.lost ≡ false → old.screen.planned ≡ None → contents_after ≡ contents
       → faults_in faults old.newest ≤ count → (has_fault refusals ≡ true → HasRisen (faults_in faults old.newest) count) → IfKnown contents (λ log. AreRefused Stat log refusals)
-      → KeyLeads (sight contents) old.tally.job key refusals old.screen new.screen
-      → (new.quit ≡ true → (old.quit ≡ true) ⊎ ((plain_base key ≡ F 10) × (old.screen.over ≡ NoBox)))
+      → KeyLeads (sight contents) old.tally.job key refusals old.screen (noted new) → old.quit ≡ false
       → Adds contents contents_after faults old new (entry seat old.tally.calls count shown (Key key now refusals false))
-  adds_key key now refusals more tally job tells unclosed looked unlost settled same later fault refused leads quit = record {
+  adds_key key now refusals more tally job tells unclosed looked unlost settled same later fault refused leads unasked = record {
     more = more;
     tally = tally ∙ open_tally old.tally unclosed;
     told = tells;
-    timely = settled;
+    timely = unplanned old unasked settled;
     counts = record { later = later; fault = fault; calls = omega arith; most = omega arith };
-    leads = (record { unclosed = unclosed; looked = looked; unlost = unlost }, leads);
+    leads = (
+      record { unclosed = unclosed; looked = looked; unlost = unlost },
+      subst (λ s. KeyLeads (sight contents) old.tally.job key refusals s (noted new)) (sym (unasked_screen old unasked)) leads,
+    );
     traced = leads_on contents contents_after same old new (entry seat old.tally.calls count shown (Key key now refusals false)) old.job refl (λ log known. (refl, refl, refused log known)) (job ∙ open_job old.tally.closed old.job unclosed);
     unknown = still_unknown contents contents_after same;
-    quit = quit;
   }
 
   -- a key that was lost
   pub adds_lost : (key : KeyType) (now : ℕ) → new.newest ≡ entry seat old.tally.calls count shown (Key key now [] true) ∷ old.newest
       → new.tally ≡ record old.tally { lost = true } → new.job ≡ old.job → new.tally.job ≡ option_map told new.job
       → old.tally.closed ≡ false → old.tally.due ≡ None → old.tally.lost ≡ false → old.screen.planned ≡ None → contents_after ≡ contents
-      → faults_in faults old.newest ≤ count → new.screen ≡ old.screen → new.quit ≡ old.quit
+      → faults_in faults old.newest ≤ count → new.screen ≡ old.screen → new.quit ≡ old.quit → old.quit ≡ false
       → Adds contents contents_after faults old new (entry seat old.tally.calls count shown (Key key now [] true))
-  adds_lost key now more tally job tells unclosed looked unlost settled same later screen quit = record {
+  adds_lost key now more tally job tells unclosed looked unlost settled same later screen quit unasked = record {
     more = more;
     tally = tally ∙ ap (λ b. let r : Tally = record old.tally { job = if_closed b old.tally.job; lost = true } in r) (sym unclosed);
     told = tells;
-    timely = settled;
+    timely = unplanned old unasked settled;
     counts = record { later = later; fault = λ h. absurd cc; calls = omega arith; most = omega arith };
-    leads = (record { unclosed = unclosed; looked = looked; unlost = unlost }, screen);
+    leads = (record { unclosed = unclosed; looked = looked; unlost = unlost }, same_noted old new screen quit);
     traced = leads_on contents contents_after same old new (entry seat old.tally.calls count shown (Key key now [] true)) old.job refl (λ log known. (refl, refl, tt)) (job ∙ open_job old.tally.closed old.job unclosed);
     unknown = still_unknown contents contents_after same;
-    quit = λ h. inl (sym quit ∙ h);
   }
 
   -- a look
@@ -103,28 +133,31 @@ module _ (contents contents_after : Option CallLog) (faults : ℕ) (old new : Se
       → new.tally ≡ record old.tally { unseen = false; due = if can_step old.tally.job then old.tally.due else None } → new.job ≡ old.job → new.tally.job ≡ option_map told new.job
       → old.tally.closed ≡ false → old.screen.planned ≡ None → contents_after ≡ contents
       → faults_in faults old.newest ≤ count → (has_fault refusals ≡ true → HasRisen (faults_in faults old.newest) count) → IfKnown contents (λ log. AreRefused ListFolder log refusals)
-      → LookLeads (sight contents) old.tally.job old.tally.unseen refusals old.screen new.screen → new.quit ≡ old.quit
+      → LookLeads (sight contents) old.tally.job old.tally.unseen refusals old.screen new.screen → new.quit ≡ old.quit → old.quit ≡ false
       → Adds contents contents_after faults old new (entry seat old.tally.calls count shown (Look refusals))
-  adds_look refusals more tally job tells unclosed settled same later fault refused leads quit = record {
+  adds_look refusals more tally job tells unclosed settled same later fault refused leads quit unasked = record {
     more = more;
     tally = tally
         ∙ ap (λ b. let r : Tally = record old.tally { job = if_closed b old.tally.job; unseen = false; due = if can_step old.tally.job then old.tally.due else None } in r) (sym unclosed);
     told = tells;
-    timely = settled;
+    timely = unplanned old unasked settled;
     counts = record { later = later; fault = fault; calls = omega arith; most = omega arith };
-    leads = (unclosed, leads);
+    leads = (
+      unclosed,
+      subst (λ s. LookLeads (sight contents) old.tally.job old.tally.unseen refusals s (noted new)) (sym (unasked_screen old unasked))
+          (subst (λ s. LookLeads (sight contents) old.tally.job old.tally.unseen refusals old.screen s) (sym (unasked_screen new (quit ∙ unasked))) leads),
+    );
     traced = leads_on contents contents_after same old new (entry seat old.tally.calls count shown (Look refusals)) old.job refl (λ log known. (refl, refl, refused log known)) (job ∙ open_job old.tally.closed old.job unclosed);
     unknown = still_unknown contents contents_after same;
-    quit = λ h. inl (sym quit ∙ h);
   }
 
   -- a job that was begun
   pub adds_began : (id : ℕ) (plan : Job) (run : Running) → new.newest ≡ entry seat old.tally.calls count shown (Began id plan false) ∷ old.newest
       → option_map (running id) (first_work id plan) ≡ Some run → new.job ≡ Some run → new.tally ≡ record old.tally { job = Some (told run); last = id; due = Some id }
       → old.tally.closed ≡ false → old.tally.job ≡ None → old.screen.planned ≡ Some (Begins plan) → contents_after ≡ contents → faults_in faults old.newest ≤ count
-      → id ≡ min (old.tally.last + 1) (2 ^ 32 - 1) → new.screen ≡ record old.screen { planned = None } → new.quit ≡ old.quit
+      → id ≡ min (old.tally.last + 1) (2 ^ 32 - 1) → new.screen ≡ record old.screen { planned = None } → new.quit ≡ old.quit → old.quit ≡ false
       → Adds contents contents_after faults old new (entry seat old.tally.calls count shown (Began id plan false))
-  adds_began id plan run more started job tally unclosed idle planned same later id_is screen quit = record {
+  adds_began id plan run more started job tally unclosed idle planned same later id_is screen quit unasked = record {
     more = more;
     tally = tally
         ∙ (ap (λ j. let r : Tally = record old.tally { job = j; last = id; due = Some id } in r) begun
@@ -132,10 +165,16 @@ module _ (contents contents_after : Option CallLog) (faults : ℕ) (old new : Se
     told = ap (λ (t : Tally). t.job) tally ∙ sym (ap (option_map told) job);
     timely = tt;
     counts = record { later = later; fault = λ h. absurd h; calls = omega arith; most = omega arith };
-    leads = (planned, idle, some_work (first_work id plan) started, refl, id_is, screen);
+    leads = (
+      ap (λ (s : Screen). s.planned) (unasked_screen old unasked) ∙ planned,
+      idle,
+      some_work (first_work id plan) started,
+      refl,
+      id_is,
+      carried_out old new screen quit unasked,
+    );
     traced = leads_on contents contents_after same old new (entry seat old.tally.calls count shown (Began id plan false)) (Some run) refl (λ log known. (sym started, refl)) (job ∙ open_job old.tally.closed (Some run) unclosed);
     unknown = still_unknown contents contents_after same;
-    quit = λ h. inl (sym quit ∙ h);
   }
     where
       begun : Some (told run) ≡ option_map (running id) (first_work id plan)
@@ -150,9 +189,9 @@ module _ (contents contents_after : Option CallLog) (faults : ℕ) (old new : Se
       → old.job ≡ Some live → MayAnswer live answer → old.tally.job ≡ option_map told old.job → new.job ≡ Some (answered answer live)
       → new.tally ≡ record old.tally { job = Some (told (answered answer live)); due = Some live.id }
       → old.tally.closed ≡ false → old.screen.planned ≡ Some (Answers answer) → contents_after ≡ contents → faults_in faults old.newest ≤ count
-      → new.screen ≡ record old.screen { planned = None } → new.quit ≡ old.quit
+      → new.screen ≡ record old.screen { planned = None } → new.quit ≡ old.quit → old.quit ≡ false
       → Adds contents contents_after faults old new (entry seat old.tally.calls count shown (Order live.id (Answered answer)))
-  adds_order answer live more is may tells job tally unclosed planned same later screen quit = record {
+  adds_order answer live more is may tells job tally unclosed planned same later screen quit unasked = record {
     more = more;
     tally = tally
         ∙ (ap (λ j. let r : Tally = record old.tally { job = j; due = Some live.id } in r) (ap Some (answered_told answer live) ∙ sym (ap (option_map (answered answer)) told_is))
@@ -161,11 +200,14 @@ module _ (contents contents_after : Option CallLog) (faults : ℕ) (old new : Se
     told = ap (λ (t : Tally). t.job) tally ∙ sym (ap (option_map told) job);
     timely = tt;
     counts = record { later = later; fault = λ h. absurd h; calls = omega arith; most = omega arith };
-    leads = (planned, (told live, told_is, refl, may_answer_told live answer may), screen);
+    leads = (
+      ap (λ (s : Screen). s.planned) (unasked_screen old unasked) ∙ planned,
+      (told live, told_is, refl, may_answer_told live answer may),
+      carried_out old new screen quit unasked,
+    );
     traced = leads_on contents contents_after same old new (entry seat old.tally.calls count shown (Order live.id (Answered answer))) (Some (answered answer live)) refl
         (λ log known. (sym (ap (option_map (answered answer)) is), refl)) (job ∙ open_job old.tally.closed (Some (answered answer live)) unclosed);
     unknown = still_unknown contents contents_after same;
-    quit = λ h. inl (sym quit ∙ h);
   }
     where
       told_is : old.tally.job ≡ Some (told live)
@@ -180,12 +222,11 @@ module _ (contents contents_after : Option CallLog) (faults : ℕ) (old new : Se
     more = more;
     tally = tally;
     told = tells;
-    timely = settled;
+    timely = may_end old settled;
     counts = record { later = later; fault = λ h. absurd h; calls = omega arith; most = omega arith };
-    leads = screen;
+    leads = same_noted old new screen quit;
     traced = leads_on contents contents_after same old new (entry seat old.tally.calls count shown Closed) old.job refl (λ log known. (refl, refl)) job;
     unknown = still_unknown contents contents_after same;
-    quit = λ h. inl (sym quit ∙ h);
   }
 
   unseen_step : (id : ℕ) (did : Did) (b : Bool) → (ends did || b) ≡ end_unseen_event (Step id did) b
@@ -218,14 +259,14 @@ module _ (contents contents_after : Option CallLog) (faults : ℕ) (old new : Se
         (ap (option_map told) job ∙ (closed_told old.tally.closed (if ends did then None else Some stepped)
         ∙ ap (if_closed old.tally.closed) (step_told live stepped did steps.tells ∙ sym (ap (λ j. option_and_then (after_step did) j) told_is)))) (unseen_step live.id did old.tally.unseen);
     told = ap (λ (t : Tally). t.job) tally;
-    timely = settled;
+    timely = may_end old settled;
     counts = record {
       later = let l = steps.later in omega (arith, l, had, now);
       fault = λ h. let risen = steps.fault h in omega (arith, risen, had, now);
       calls = omega (arith, calls_is);
       most = let few = steps.few in omega (arith, calls_is, few);
     };
-    leads = (screen, (told live, told_is, refl, inl (live, stepped, refl, steps.tells)));
+    leads = (same_noted old new screen quit, (told live, told_is, refl, inl (live, stepped, refl, steps.tells)));
     traced = λ log known.
         let called = steps.called log known in
         let known_after = step_tells IsUnclaimed live did stepped log contents_after called in
@@ -239,7 +280,6 @@ module _ (contents contents_after : Option CallLog) (faults : ℕ) (old new : Se
           omega (arith, counted, calls_is),
         );
     unknown = steps.unknown;
-    quit = λ h. inl (sym quit ∙ h);
   }
     where
       told_is : old.tally.job ≡ Some (told live)
@@ -259,14 +299,14 @@ module _ (contents contents_after : Option CallLog) (faults : ℕ) (old new : Se
         (ap (option_map told) (job ∙ ap (if_closed old.tally.closed) goes_on) ∙ (closed_told old.tally.closed (Some stepped)
         ∙ ap (if_closed old.tally.closed) (sync_told live s.folder did (Some stepped) s.fresh reported ∙ sym (ap (λ j. option_and_then (after_step did) j) told_is)))) (unseen_step live.id did old.tally.unseen);
     told = ap (λ (t : Tally). t.job) tally;
-    timely = settled;
+    timely = may_end old settled;
     counts = record {
       later = let l = s.later in omega (arith, l, had, now);
       fault = λ h. let risen = s.fault h in omega (arith, risen, had, now);
       calls = omega (arith, calls_is);
       most = let few = s.few in omega (arith, calls_is, few);
     };
-    leads = (screen, (told live, told_is, refl, inr (inr (s.goes, fresh_told live.work ∙ s.fresh, reports s.synced))));
+    leads = (same_noted old new screen quit, (told live, told_is, refl, inr (inr (s.goes, fresh_told live.work ∙ s.fresh, reports s.synced))));
     traced = λ log known.
         let here = tells_on log known s.synced in
         let counted = s.counted log known here.0 here.1 in (
@@ -289,7 +329,6 @@ module _ (contents contents_after : Option CallLog) (faults : ℕ) (old new : Se
           omega (arith, counted, calls_is),
         );
     unknown = s.unknown;
-    quit = λ h. inl (sym quit ∙ h);
   }
     where
       told_is : old.tally.job ≡ Some (told live)
@@ -336,13 +375,12 @@ module _ (contents contents_after : Option CallLog) (faults : ℕ) (old new : Se
     more = more;
     tally = tally ∙ stepped_tally old.tally _ _ _ _ old.tally.calls (none_left old.tally.closed ∙ ap (if_closed old.tally.closed) (sym (ap (λ j. option_and_then (after_step (Ended NoMemory part)) j) told_is))) refl;
     told = ap (λ (t : Tally). t.job) tally ∙ sym (ap (option_map told) job);
-    timely = settled;
+    timely = may_end old settled;
     counts = record { later = later; fault = λ h. absurd h; calls = omega arith; most = omega arith };
-    leads = (screen, (told live, told_is, refl, inr (inl (waits_told live ∙ ready, ap (Ended NoMemory) (part_is ∙ sym (part_told live))))));
+    leads = (same_noted old new screen quit, (told live, told_is, refl, inr (inl (waits_told live ∙ ready, ap (Ended NoMemory) (part_is ∙ sym (part_told live))))));
     traced = leads_on contents contents_after same old new (entry seat old.tally.calls count shown (Step live.id (Ended NoMemory part))) None refl
         (λ log known. subst (λ j. traces.EventLeads j (Step live.id (Ended NoMemory part)) None log log) (sym is) (inr (ap (Ended NoMemory) part_is, refl, refl))) (job ∙ none_left old.tally.closed);
     unknown = still_unknown contents contents_after same;
-    quit = λ h. inl (sym quit ∙ h);
   }
     where
       told_is : old.tally.job ≡ Some (told live)

@@ -1,5 +1,5 @@
 -- One entry more is a session still.
-use Rattle.std.proofs.Common.{◌≡◌, ◌⊎◌, ℕ, ◌+◌, ◌≤◌, Bool, true, false, ◌||◌, List, [], ◌∷◌, length, refl, sym, ◌∙◌, ap, subst, inl, inr, Option, Some, None, arith}
+use Rattle.std.proofs.Common.{◌≡◌, ℕ, ◌+◌, ◌≤◌, Bool, false, ◌||◌, List, [], ◌∷◌, length, refl, sym, ◌∙◌, ap, subst, Option, Some, None, arith}
 use Rattle.std.specs.Option.{option_map}
 use Rattle.mc_text.specs.Routes.{Route}
 use Rattle.tree_trait.specs.Change.{CallLog}
@@ -14,34 +14,42 @@ use Rattle.copy_move.specs.Settling.{left_dirty}
 use Rattle.copy_move.specs.Crashes.{calls_in}
 use Rattle.copy_move.specs.Traces.{IsTraced, IsTracedTo}
 use Rattle.copy_move.specs.Traces as traces
-use Rattle.mc_ui.specs.Screens.{Screen, NoBox, sight}
+use Rattle.mc_ui.specs.Screens.{Screen, sight}
+use Rattle.mc_desk.specs.declared.starts.Start.{Start}
 use Rattle.mc_desk.specs.Logs.{Logged}
 use Rattle.mc_desk.specs.Tallies.{Tally, tally, after_entry, most_calls, faults_in}
-use Rattle.mc_desk.specs.Sessions.{IsSession, Traces, EventLeads, IsTimely, Counts, IsQuitKey, EndAsked}
+use Rattle.mc_desk.specs.Sessions.{IsSession, Traces, BeginsIn, EventLeads, IsTimely, Counts, folders_of}
 use Rattle.mc_desk.specs.Starts.{IsOpened}
-use Rattle.mc_desk.specs.Desks.{Seen, IsWritten, IsDesk}
+use Rattle.mc_desk.specs.Desks.{Seen, IsWritten, IsDesk, noted}
 
 -- a desk on which nothing happened yet
 abbrev pub fresh : Tally
 fresh = record { job = None; last = 0; unseen = false; closed = false; due = Some 0; lost = false; calls = 0 }
 
-pub kept_opening : (opening contents : Option CallLog) (faults : ℕ) (left right : Route) (screen : Screen) (log : Logged) (dirty : List Route) (pending : List ℕ) (failed : Bool) → contents ≡ opening → IsOpened contents left right screen log → dirty ≡ []
-    → IsDesk opening contents faults (record { newest = log.newest; spare = log.spare; screen = screen; job = None; dirty = dirty; tally = fresh; pending = pending; quit = false; failed = failed })
-kept_opening opening contents faults left right screen log dirty pending failed same opened none = record {
+pub kept_opening : (start : Option Start) (opening contents : Option CallLog) (faults : ℕ) (folders : Start) (screen : Screen) (log : Logged) (dirty : List Route) (taken : ℕ) (pending : List ℕ) (failed : Bool) → BeginsIn start folders
+    → contents ≡ opening → IsOpened contents folders.left folders.right screen log → dirty ≡ []
+    → IsDesk start opening contents faults
+    (record { newest = log.newest; spare = log.spare; screen = screen; job = None; dirty = dirty; tally = fresh; taken = taken; pending = pending; quit = false; failed = failed })
+kept_opening start opening contents faults folders screen log dirty taken pending failed named same opened none = record {
   written = record {
-    session = subst (λ es. IsSession opening faults es screen None contents) (sym opened.empty)
-        (subst (λ o. IsSession o faults [] screen None contents) same (opened.opening, refl, refl));
+    session = subst (λ es. IsSession start opening faults es screen None contents) (sym opened.empty)
+        (subst (λ o. IsSession start o faults [] screen None contents) same (opened.opening, opened_in, refl, refl));
     tally = ap tally (sym opened.empty);
     told = refl;
     calls = omega arith;
-    quit = λ asked. absurd cc;
   };
   settled = opened.opening.planned;
+  asked = λ asked. absurd cc;
   lost = λ lost. absurd cc;
   shut = λ closed. absurd cc;
   room = let h = opened.room in omega (arith, h);
   owed = λ folder among. absurd (subst (λ d. Among d folder) none among);
 }
+  where
+    opened_in : BeginsIn start (folders_of screen)
+    opened_in known is =
+        named known is ∙ (ap (λ l. let s : Start = record { left = l; right = folders.right } in s) (sym opened.left_is)
+        ∙ ap (λ l. let s : Start = record { left = screen.left.folder; right = l } in s) (sym opened.right_is))
 
 -- what an entry says of the tree and of the live job, where the tree tells
 abbrev pub Leads : Option CallLog → Option CallLog → Seen → Seen → Entry → Type 0
@@ -54,43 +62,42 @@ pub record Adds (contents contents_after : Option CallLog) (faults : ℕ) (old n
   pub more : new.newest ≡ e ∷ old.newest
   pub tally : new.tally ≡ after_entry e old.tally
   pub told : new.tally.job ≡ option_map told new.job
-  pub timely : IsTimely e.what old.screen
+  pub timely : IsTimely e.what (noted old)
   pub counts : Counts (faults_in faults old.newest) old.tally.calls e
-  pub leads : EventLeads (sight contents) old.tally e.what old.screen new.screen
+  pub leads : EventLeads (sight contents) old.tally e.what (noted old) (noted new)
   pub traced : Leads contents contents_after old new e
   pub unknown : contents ≡ None → contents_after ≡ None
-  pub quit : new.quit ≡ true → (old.quit ≡ true) ⊎ (IsQuitKey e.what × (old.screen.over ≡ NoBox))
 
 -- a tree that told nothing at the opening never does
-still_none : (faults : ℕ) (newest : List Entry) (screen : Screen) (job : Option Running) (contents : Option CallLog) → IsSession None faults newest screen job contents → contents ≡ None
-still_none faults [] screen job contents h = h.2
-still_none faults (e ∷ older) screen job contents (before, was, stood, session, enters) = enters.traced
+still_none : (start : Option Start) (faults : ℕ) (newest : List Entry) (screen : Screen) (job : Option Running) (contents : Option CallLog) → IsSession start None faults newest screen job contents → contents ≡ None
+still_none start faults [] screen job contents h = h.3
+still_none start faults (e ∷ older) screen job contents (before, was, stood, session, enters) = enters.traced
 
 -- a session is a trace of its tree's calls
-pub session_traced : (opening : CallLog) (faults : ℕ) (newest : List Entry) (screen : Screen) (job : Option Running) (contents : Option CallLog) → IsSession (Some opening) faults newest screen job contents
+pub session_traced : (start : Option Start) (opening : CallLog) (faults : ℕ) (newest : List Entry) (screen : Screen) (job : Option Running) (contents : Option CallLog) → IsSession start (Some opening) faults newest screen job contents
     → (now : CallLog) × (contents ≡ Some now) × IsTraced opening newest job now
-session_traced opening faults [] screen job contents (opens, none, same) = (opening, same, (none, refl))
-session_traced opening faults (e ∷ older) screen job contents (before, was, stood, session, enters) =
-    let had = session_traced opening faults older before was stood session in
+session_traced start opening faults [] screen job contents (opens, named, none, same) = (opening, same, (none, refl))
+session_traced start opening faults (e ∷ older) screen job contents (before, was, stood, session, enters) =
+    let had = session_traced start opening faults older before was stood session in
     let t = enters.traced in
     let log_is : had.0 ≡ t.0 = let both : Some had.0 ≡ Some t.0 = sym had.1 ∙ t.2 in cc in
     (t.1, t.3, (was, t.0, subst (λ l. IsTraced opening older was l) log_is had.2, t.4))
 
-pub session_traced_to : (opening : Option CallLog) (faults : ℕ) (newest : List Entry) (screen : Screen) (job : Option Running) (contents : Option CallLog) → IsSession opening faults newest screen job contents
+pub session_traced_to : (start : Option Start) (opening : Option CallLog) (faults : ℕ) (newest : List Entry) (screen : Screen) (job : Option Running) (contents : Option CallLog) → IsSession start opening faults newest screen job contents
     → IsTracedTo opening contents newest job
-session_traced_to None faults newest screen job contents h = still_none faults newest screen job contents h
-session_traced_to (Some opening) faults newest screen job contents h = session_traced opening faults newest screen job contents h
+session_traced_to start None faults newest screen job contents h = still_none start faults newest screen job contents h
+session_traced_to start (Some opening) faults newest screen job contents h = session_traced start opening faults newest screen job contents h
 
 traced_length : (opening now : CallLog) (newest : List Entry) (job : Option Running) → IsTraced opening newest job now → length now.changes ≡ length opening.changes + calls_in newest
 traced_length opening now [] job h = let same = ap (λ (l : CallLog). length l.changes) h.1 in omega (arith, same)
 traced_length opening now (e ∷ older) job h = h.3.counts
 
 module _ (faults : ℕ) (old new : Seen) (e : Entry) where
-  traced_more : (opening contents contents_after : Option CallLog) → IsWritten opening contents faults old → Adds contents contents_after faults old new e
+  traced_more : (start : Option Start) (opening contents contents_after : Option CallLog) → IsWritten start opening contents faults old → Adds contents contents_after faults old new e
       → Traces opening e old.newest old.job contents new.job contents_after
-  traced_more None contents contents_after written adds = adds.unknown (still_none faults old.newest old.screen old.job contents written.session)
-  traced_more (Some opening) contents contents_after written adds =
-      let had = session_traced opening faults old.newest old.screen old.job contents written.session in
+  traced_more start None contents contents_after written adds = adds.unknown (still_none start faults old.newest (noted old) old.job contents written.session)
+  traced_more start (Some opening) contents contents_after written adds =
+      let had = session_traced start opening faults old.newest (noted old) old.job contents written.session in
       let t = adds.traced had.0 had.1 in
       let closed : old.tally.closed ≡ is_closed old.newest = ap (λ (t : Tally). t.closed) written.tally in
       let calls : old.tally.calls ≡ calls_in old.newest = ap (λ (t : Tally). t.calls) written.tally in
@@ -116,18 +123,18 @@ module _ (faults : ℕ) (old new : Seen) (e : Entry) where
   three_calls (Step id did) = omega arith
   three_calls Closed = omega arith
 
-  pub written_more : (opening contents contents_after : Option CallLog) → IsWritten opening contents faults old → Adds contents contents_after faults old new e → IsWritten opening contents_after faults new
-  written_more opening contents contents_after written adds = record {
-    session = subst (λ es. IsSession opening faults es new.screen new.job contents_after) (sym adds.more) (
-      old.screen,
+  pub written_more : (start : Option Start) (opening contents contents_after : Option CallLog) → IsWritten start opening contents faults old → Adds contents contents_after faults old new e → IsWritten start opening contents_after faults new
+  written_more start opening contents contents_after written adds = record {
+    session = subst (λ es. IsSession start opening faults es (noted new) new.job contents_after) (sym adds.more) (
+      noted old,
       old.job,
       contents,
       written.session,
       record {
         timely = adds.timely;
         counts = subst (λ n. Counts (faults_in faults old.newest) n e) (ap (λ (t : Tally). t.calls) written.tally) adds.counts;
-        leads = subst (λ t. EventLeads (sight contents) t e.what old.screen new.screen) written.tally adds.leads;
-        traced = traced_more opening contents contents_after written adds;
+        leads = subst (λ t. EventLeads (sight contents) t e.what (noted old) (noted new)) written.tally adds.leads;
+        traced = traced_more start opening contents contents_after written adds;
       },
     );
     tally = adds.tally ∙ (ap (after_entry e) written.tally ∙ ap tally (sym adds.more));
@@ -139,10 +146,4 @@ module _ (faults : ℕ) (old new : Seen) (e : Entry) where
         let had = written.calls in
         let size : length new.newest ≡ length old.newest + 1 = ap length adds.more ∙ omega arith in
         omega (arith, is, three, most, had, size);
-    quit = λ asked.
-        subst (λ es. EndAsked opening faults es) (sym adds.more) (
-        elim (adds.quit asked) [
-          | inl before ↦ inr (written.quit before)
-          | inr now ↦ inl (now.0, (old.screen, old.job, contents, written.session, now.1))
-        ]);
   }

@@ -1,14 +1,13 @@
 -- A byte joins the bytes that were taken.
-use Rattle.std.proofs.Common.{◌≡◌, ℕ, false, List, [], ◌∷◌, ◌++◌, refl, sym, ◌∙◌, ap, subst, inl, inr, Some, None, Result, Ok, Err}
-use Rattle.std.specs.Prelude.{MatchBool}
+use Rattle.std.proofs.Common.{◌≡◌, ℕ, ◌+◌, true, List, [], ◌∷◌, ◌++◌, refl, sym, ◌∙◌, ap, inl, inr, Some, None, Result, Ok, Err}
 use Rattle.key_screen.specs.declared.keys.Key.{Key}
 use Rattle.key_screen.specs.declared.keys.Fed.{Fed}
 use Rattle.key_screen.specs.DecodedKeys.{Decoded, decoded_keys, followed_by, listed, keys_fed}
 use Rattle.key_screen.proofs.CutLemmas.{decoded_keys-append}
-use Rattle.mc_desk.specs.declared.desk.DeskReply.{DeskReply}
-use Rattle.mc_desk.specs.declared.desk.DeskError.{DeskError}
+use Rattle.mc_desk.specs.declared.replies.DeskReply.{DeskReply}
+use Rattle.mc_desk.specs.declared.replies.DeskError.{DeskError}
 use Rattle.mc_desk.specs.Tallies.{keys_in}
-use Rattle.mc_desk.specs.Desks.{Seen, HasTaken, TakesByte}
+use Rattle.mc_desk.specs.Desks.{Seen, HasTaken, Joins, TakesByte}
 
 decoded : List Key → List ℕ → Decoded
 decoded keys rest = record { keys = keys; rest = rest }
@@ -29,19 +28,21 @@ append_two : (xs : List Key) (x y : Key) → xs ++ x ∷ y ∷ [] ≡ (xs ++ x �
 append_two [] x y = refl
 append_two (z ∷ xs) x y = ap (λ ys. z ∷ ys) (append_two xs x y)
 
-module _ (bytes : List ℕ) (byte : ℕ) (old new : Seen) (fed : Fed) (rest : List ℕ) (taken : HasTaken bytes old) (unclosed : old.tally.closed ≡ false)
-    (now : decoded_keys (old.pending ++ byte ∷ []) ≡ record { keys = keys_fed fed; rest = rest }) (pending : new.pending ≡ rest) where
+module _ (bytes : List ℕ) (byte : ℕ) (old new : Seen) (fed : Fed) (rest : List ℕ) (taken : HasTaken bytes old)
+    (now : decoded_keys (old.pending ++ byte ∷ []) ≡ record { keys = keys_fed fed; rest = rest }) (pending : new.pending ≡ rest) (counted : new.taken ≡ old.taken + 1) where
   all : decoded_keys (bytes ++ byte ∷ []) ≡ record { keys = keys_in old.newest ++ keys_fed fed; rest = rest }
   all = fed_taken bytes byte (keys_in old.newest) old.pending rest fed taken now
 
   -- the keys of the history are all of them
-  whole : keys_in new.newest ≡ keys_in old.newest ++ keys_fed fed → HasTaken (bytes ++ byte ∷ []) new
-  whole keys =
-      all ∙ (ap (λ ks. let d : Decoded = record { keys = ks; rest = rest } in d) (sym keys) ∙ ap (λ r. let d : Decoded = record { keys = keys_in new.newest; rest = r } in d) (sym pending))
+  joins : keys_in new.newest ≡ keys_in old.newest ++ keys_fed fed → Joins bytes byte old new
+  joins keys = record {
+    counted = counted;
+    keys = all ∙ (ap (λ ks. let d : Decoded = record { keys = ks; rest = rest } in d) (sym keys) ∙ ap (λ r. let d : Decoded = record { keys = keys_in new.newest; rest = r } in d) (sym pending));
+  }
 
   pub takes_all : (r : Result DeskReply DeskError) → keys_in new.newest ≡ keys_in old.newest ++ keys_fed fed → TakesByte r bytes byte old new
-  takes_all (Ok reply) keys = subst (λ b. MatchBool b (HasTaken bytes new) (HasTaken (bytes ++ byte ∷ []) new)) (sym unclosed) (whole keys)
-  takes_all (Err error) keys = inr (inl (ap (λ (d : Decoded). d.keys) all ∙ sym keys))
+  takes_all (Ok reply) keys = joins keys
+  takes_all (Err error) keys = inr (inl (joins keys))
 
   -- no key was completed
   pub takes_none : (r : Result DeskReply DeskError) → fed.first ≡ None → fed.second ≡ None → keys_in new.newest ≡ keys_in old.newest → TakesByte r bytes byte old new
@@ -61,12 +62,22 @@ module _ (bytes : List ℕ) (byte : ℕ) (old new : Seen) (fed : Fed) (rest : Li
       ∙ ap (λ ks. keys_in old.newest ++ ks) (sym (ap (λ f. listed f ++ listed fed.second) first ∙ ap (λ s. key ∷ listed s) second))))
 
   -- two keys were completed, and working the first failed
-  pub lacks_second : (error : DeskError) (key next : Key) → fed.first ≡ Some key → fed.second ≡ Some next → keys_in new.newest ≡ keys_in old.newest ++ key ∷ []
+  pub lacks_second : (error : DeskError) (key next : Key) → fed.first ≡ Some key → fed.second ≡ Some next → keys_in new.newest ≡ keys_in old.newest ++ key ∷ [] → new.tally.closed ≡ true
       → TakesByte (let r : Result DeskReply DeskError = Err error in r) bytes byte old new
-  lacks_second error key next first second keys =
-      inr (inr (
-        next,
-        ap (λ (d : Decoded). d.keys) all
-            ∙ (ap (λ ks. keys_in old.newest ++ ks) (ap (λ f. listed f ++ listed fed.second) first ∙ ap (λ s. key ∷ listed s) second)
-            ∙ (append_two (keys_in old.newest) key next ∙ ap (λ ks. ks ++ next ∷ []) (sym keys))),
-      ))
+  lacks_second error key next first second keys closed =
+      let before : keys_in old.newest ≡ (decoded_keys bytes).keys = sym (ap (λ (d : Decoded). d.keys) taken) in
+      inr (inr record {
+        counted = counted;
+        closed = closed;
+        lacks = record {
+          front = bytes;
+          last = byte;
+          first = key;
+          second = next;
+          bytes_are = refl;
+          completed = ap (λ (d : Decoded). d.keys) all
+              ∙ (ap (λ ks. keys_in old.newest ++ ks) (ap (λ f. listed f ++ listed fed.second) first ∙ ap (λ s. key ∷ listed s) second)
+              ∙ ap (λ ks. ks ++ key ∷ next ∷ []) before);
+          has = keys ∙ ap (λ ks. ks ++ key ∷ []) before;
+        };
+      })

@@ -1,9 +1,9 @@
 -- The entries of a desk leave a whole desk.
-use Rattle.std.proofs.Common.{◌≡◌, ◌⊎◌, ℕ, ◌+◌, ◌-◌, ◌^◌, ◌≤◌, min, Bool, true, false, ◌||◌, List, [], ◌∷◌, length, refl, sym, ◌∙◌, ap, subst, inl, inr, Option, Some, None, arith}
+use Rattle.std.proofs.Common.{◌≡◌, ℕ, ◌+◌, ◌-◌, ◌^◌, ◌≤◌, min, Bool, true, false, ◌||◌, List, [], ◌∷◌, length, refl, sym, ◌∙◌, ap, subst, inl, inr, Option, Some, None, arith}
 use Rattle.std.specs.Prelude.{if◌then◌else◌}
 use Rattle.std.specs.Option.{option_map}
 use Rattle.key_screen.specs.declared.keys.Key.{Key as KeyType}
-use Rattle.key_screen.specs.declared.keys.Base.TheVariants.{F, Unknown}
+use Rattle.key_screen.specs.declared.keys.Base.TheVariants.{Unknown}
 use Rattle.mc_text.specs.Routes.{Route}
 use Rattle.tree_trait.specs.Calls.{Stat, ListFolder}
 use Rattle.tree_trait.specs.FileSystem.{View}
@@ -31,9 +31,10 @@ use Rattle.mc_ui.specs.declared.asks.Confirmed.{Confirmed}
 use Rattle.mc_ui.specs.Screens.{Box, Screen, NoBox, DeleteBox, MaskBox, TargetBox, TroubleBox, Planned, Begins, Answers, ByBox, KeyLeads, LooksAgain, ShowsTrouble, WellAsked, plain_base, sight, with_ask}
 use Rattle.mc_ui.specs.Refused.{has_fault}
 use Rattle.mc_desk.specs.Tallies.{Tally, faults_in, can_step}
-use Rattle.mc_desk.specs.Desks.{Seen, kept_room, IsWritten, IsDesk}
+use Rattle.mc_desk.specs.declared.starts.Start.{Start}
+use Rattle.mc_desk.specs.Desks.{Seen, kept_room, IsWritten, IsDesk, noted}
 use Rattle.copy_move.proofs.Gone.{IsOrdered}
-use Rattle.mc_desk.proofs.Adding.{adds_began, adds_closed, adds_given_up, adds_key, adds_look, adds_lost, adds_order, adds_settled, adds_step, entry}
+use Rattle.mc_desk.proofs.Adding.{adds_began, adds_closed, adds_given_up, adds_key, adds_look, adds_lost, adds_order, adds_settled, adds_step, entry, unasked_screen}
 use Rattle.mc_desk.proofs.Answering.{shows_told}
 use Rattle.mc_desk.proofs.Keeping.{written_more}
 use Rattle.mc_desk.proofs.Owing.{answered_owner, closed_owner, given_up_owed, own_owed, owed_on, settling_owed, told_ordered}
@@ -46,14 +47,14 @@ room_two false None = omega arith
 room_two false (Some job) = omega arith
 
 -- a written desk on which nothing waits is whole
-desk_of : (opening contents : Option CallLog) (faults : ℕ) (desk : Seen) → IsWritten opening contents faults desk → desk.screen.planned ≡ None → (desk.tally.lost ≡ true → desk.tally.closed ≡ true)
-    → (desk.tally.closed ≡ true → desk.tally.due ≡ None) → 2 ≤ desk.spare → IsOwed (left_dirty desk.newest) desk.job desk.dirty → IsDesk opening contents faults desk
-desk_of opening contents faults desk written settled lost shut room owed =
-    record { written = written; settled = settled; lost = lost; shut = shut; room = let two = room_two desk.tally.closed desk.job in omega (arith, two, room); owed = owed }
+desk_of : (start : Option Start) (opening contents : Option CallLog) (faults : ℕ) (desk : Seen) → IsWritten start opening contents faults desk → desk.screen.planned ≡ None → (desk.tally.lost ≡ true → desk.tally.closed ≡ true)
+    → (desk.quit ≡ true → desk.tally.due ≡ None) → (desk.tally.closed ≡ true → desk.tally.due ≡ None) → 2 ≤ desk.spare → IsOwed (left_dirty desk.newest) desk.job desk.dirty → IsDesk start opening contents faults desk
+desk_of start opening contents faults desk written settled lost asked shut room owed =
+    record { written = written; settled = settled; asked = asked; lost = lost; shut = shut; room = let two = room_two desk.tally.closed desk.job in omega (arith, two, room); owed = owed }
 
 -- the live job that the history of a desk tells of
-live_told : (opening contents : Option CallLog) (faults : ℕ) (old : Seen) (live : Running) → IsDesk opening contents faults old → old.job ≡ Some live → live_job old.newest ≡ Some (told live)
-live_told opening contents faults old live desk is = sym (ap (λ (t : Tally). t.job) desk.written.tally) ∙ (desk.written.told ∙ ap (option_map told) is)
+live_told : (start : Option Start) (opening contents : Option CallLog) (faults : ℕ) (old : Seen) (live : Running) → IsDesk start opening contents faults old → old.job ≡ Some live → live_job old.newest ≡ Some (told live)
+live_told start opening contents faults old live desk is = sym (ap (λ (t : Tally). t.job) desk.written.tally) ∙ (desk.written.told ∙ ap (option_map told) is)
 
 -- where no job ended, the folders are owed as they were
 owed_still : (old new : Seen) → left_dirty new.newest ≡ left_dirty old.newest → new.dirty ≡ old.dirty → ((folder : Route) → IsOwner old.job folder → IsOwner new.job folder) → IsOwed (left_dirty old.newest) old.job old.dirty
@@ -72,8 +73,8 @@ never_waits None live is = absurd cc
 never_waits (Some job) live is = let same : closed_job job ≡ live = cc in sym (ap (λ (j : Running). waits_on j.course) same) ∙ closed_waits job.course
 
 -- a closed desk's job never waits
-pub closed_goes_on : (opening contents : Option CallLog) (faults : ℕ) (old : Seen) (live : Running) → IsDesk opening contents faults old → old.tally.closed ≡ true → old.job ≡ Some live → waits_on live.course ≡ false
-closed_goes_on opening contents faults old live desk closed is =
+pub closed_goes_on : (start : Option Start) (opening contents : Option CallLog) (faults : ℕ) (old : Seen) (live : Running) → IsDesk start opening contents faults old → old.tally.closed ≡ true → old.job ≡ Some live → waits_on live.course ≡ false
+closed_goes_on start opening contents faults old live desk closed is =
     waits old.newest (sym (ap (λ (t : Tally). t.closed) desk.written.tally) ∙ closed)
     (sym (ap (λ (t : Tally). t.job) desk.written.tally) ∙ (desk.written.told ∙ ap (option_map told) is))
   where
@@ -82,8 +83,8 @@ closed_goes_on opening contents faults old live desk closed is =
     waits (e ∷ older) shut at = never_waits (after_event e.what (live_job older)) (told live) (ap (λ b. if_closed b (after_event e.what (live_job older))) (sym shut) ∙ at)
 
 -- an open desk has lost no key
-unlost : (opening contents : Option CallLog) (faults : ℕ) (old : Seen) → IsDesk opening contents faults old → old.tally.closed ≡ false → old.tally.lost ≡ false
-unlost opening contents faults old desk unclosed = go old.tally.lost refl
+unlost : (start : Option Start) (opening contents : Option CallLog) (faults : ℕ) (old : Seen) → IsDesk start opening contents faults old → old.tally.closed ≡ false → old.tally.lost ≡ false
+unlost start opening contents faults old desk unclosed = go old.tally.lost refl
   where
     go : (b : Bool) → old.tally.lost ≡ b → b ≡ false
     go false is = refl
@@ -96,20 +97,21 @@ last_room : (job : Option Running) → kept_room true job ≤ 1
 last_room None = omega arith
 last_room (Some job) = omega arith
 
-module _ (opening contents contents_after : Option CallLog) (faults : ℕ) (old new : Seen) (count shown : ℕ) (key : KeyType) (now : ℕ) (desk : IsDesk opening contents faults old)
-    (unclosed : old.tally.closed ≡ false) (looked : old.tally.due ≡ None) (same : contents_after ≡ contents) (later : faults_in faults old.newest ≤ count) where
+module _ (start : Option Start) (opening contents contents_after : Option CallLog) (faults : ℕ) (old new : Seen) (count shown : ℕ) (key : KeyType) (now : ℕ) (desk : IsDesk start opening contents faults old)
+    (unclosed : old.tally.closed ≡ false) (unasked : old.quit ≡ false) (looked : old.tally.due ≡ None) (same : contents_after ≡ contents) (later : faults_in faults old.newest ≤ count) where
   -- a key that was lost, and the end of keys
   pub desk_lost : new.newest ≡ entry 0 old.tally.calls count 0 Closed ∷ (entry 0 old.tally.calls count shown (Key key now [] true) ∷ old.newest)
       → new.tally ≡ record old.tally { job = option_map closed_job old.tally.job; closed = true; due = None; lost = true } → new.job ≡ option_map closed_job old.job → new.tally.job ≡ option_map told new.job
       → new.screen ≡ old.screen → new.quit ≡ old.quit → 1 ≤ new.spare → new.dirty ≡ old.dirty
-      → IsDesk opening contents_after faults new
+      → IsDesk start opening contents_after faults new
   desk_lost more is job tells screen quit room dirty = record {
     written =
-        written_more faults mid new _ opening contents_after contents_after
-        (written_more faults old mid _ opening contents contents_after desk.written
-        (adds_lost contents contents_after faults old mid 0 count shown key now refl refl refl desk.written.told unclosed looked (unlost opening contents faults old desk unclosed) desk.settled same later refl refl))
+        written_more faults mid new _ start opening contents_after contents_after
+        (written_more faults old mid _ start opening contents contents_after desk.written
+        (adds_lost contents contents_after faults old mid 0 count shown key now refl refl refl desk.written.told unclosed looked (unlost start opening contents faults old desk unclosed) desk.settled same later refl refl unasked))
         (adds_closed contents_after contents_after faults mid new 0 count 0 more is job tells desk.settled refl (omega arith) screen quit);
     settled = ap (λ (s : Screen). s.planned) screen ∙ desk.settled;
+    asked = λ h. ap (λ (t : Tally). t.due) is;
     lost = λ h. ap (λ (t : Tally). t.closed) is;
     shut = λ h. ap (λ (t : Tally). t.due) is;
     room = let closed = ap (λ (t : Tally). t.closed) is in rw closed (let one = last_room new.job in omega (arith, one, room));
@@ -123,26 +125,29 @@ module _ (opening contents contents_after : Option CallLog) (faults : ℕ) (old 
       (refused : IfKnown contents (λ log. AreRefused Stat log refusals)) (leads : KeyLeads (sight contents) old.tally.job key refusals old.screen (with_ask asked new.screen))
       (settled : new.screen.planned ≡ None) (room : 2 ≤ new.spare) (tells : new.tally.job ≡ option_map told new.job) where
     -- a key that was worked
-    pub desk_keyed : new.newest ≡ entry 0 old.tally.calls count shown (Key key now refusals false) ∷ old.newest → new.tally ≡ old.tally → new.job ≡ old.job → with_ask asked new.screen ≡ new.screen
-        → (new.quit ≡ true → (old.quit ≡ true) ⊎ ((plain_base key ≡ F 10) × (old.screen.over ≡ NoBox))) → new.dirty ≡ old.dirty → IsDesk opening contents_after faults new
-    desk_keyed more is job asks quit dirty =
-        desk_of opening contents_after faults new
-        (written_more faults old new _ opening contents contents_after desk.written
-        (adds_key contents contents_after faults old new 0 count shown key now refusals more is job tells unclosed looked (unlost opening contents faults old desk unclosed) desk.settled same later fault refused
-        (subst (λ s. KeyLeads (sight contents) old.tally.job key refusals old.screen s) asks leads) quit))
-        settled (λ h. ap (λ (t : Tally). t.closed) is ∙ desk.lost (sym (ap (λ (t : Tally). t.lost) is) ∙ h))
+    pub desk_keyed : new.newest ≡ entry 0 old.tally.calls count shown (Key key now refusals false) ∷ old.newest → new.tally ≡ old.tally → new.job ≡ old.job → with_ask asked new.screen ≡ noted new
+        → new.dirty ≡ old.dirty → IsDesk start opening contents_after faults new
+    desk_keyed more is job asks dirty =
+        desk_of start opening contents_after faults new
+        (written_more faults old new _ start opening contents contents_after desk.written
+        (adds_key contents contents_after faults old new 0 count shown key now refusals more is job tells unclosed looked (unlost start opening contents faults old desk unclosed) desk.settled same later fault refused
+        (subst (λ s. KeyLeads (sight contents) old.tally.job key refusals old.screen s) asks leads) unasked))
+        settled (λ h. ap (λ (t : Tally). t.closed) is ∙ desk.lost (sym (ap (λ (t : Tally). t.lost) is) ∙ h)) (λ h. ap (λ (t : Tally). t.due) is ∙ looked)
         (λ h. ap (λ (t : Tally). t.due) is ∙ desk.shut (sym (ap (λ (t : Tally). t.closed) is) ∙ h)) room
         (owed_still old new (ap left_dirty more) dirty (λ folder own. subst (λ j. IsOwner j folder) (sym job) own) desk.owed)
+
+    not_asked : new.quit ≡ true → new.quit ≡ old.quit → ⊥
+    not_asked h quit = let no = unasked in cc
 
     -- the key, on a screen on which what it asked is still to be carried out
     abbrev keyed : Screen → Seen
     keyed screen = record old { newest = entry 0 old.tally.calls count shown (Key key now refusals false) ∷ old.newest; screen = screen }
 
-    keyed_written : (screen : Screen) → with_ask asked new.screen ≡ screen → IsWritten opening contents_after faults (keyed screen)
+    keyed_written : (screen : Screen) → with_ask asked new.screen ≡ screen → IsWritten start opening contents_after faults (keyed screen)
     keyed_written screen asks =
-        written_more faults old (keyed screen) _ opening contents contents_after desk.written
-        (adds_key contents contents_after faults old (keyed screen) 0 count shown key now refusals refl refl refl desk.written.told unclosed looked (unlost opening contents faults old desk unclosed) desk.settled same later fault
-        refused (subst (λ s. KeyLeads (sight contents) old.tally.job key refusals old.screen s) asks leads) (λ h. inl h))
+        written_more faults old (keyed screen) _ start opening contents contents_after desk.written
+        (adds_key contents contents_after faults old (keyed screen) 0 count shown key now refusals refl refl refl desk.written.told unclosed looked (unlost start opening contents faults old desk unclosed) desk.settled same later fault
+        refused (subst (λ s. KeyLeads (sight contents) old.tally.job key refusals old.screen s) (asks ∙ sym (unasked_screen (keyed screen) unasked)) leads) unasked)
 
     -- a key that confirmed a job, and the job that it begins
     pub desk_began : (confirmed : Confirmed) (id began_count : ℕ) → asked ≡ ask.Begin confirmed → confirmed.run.id ≡ id → old.job ≡ None
@@ -150,14 +155,14 @@ module _ (opening contents contents_after : Option CallLog) (faults : ℕ) (old 
         → new.newest ≡ entry 0 old.tally.calls began_count 0 (Began id confirmed.plan false) ∷ (entry 0 old.tally.calls count shown (Key key now refusals false) ∷ old.newest)
         → count ≤ began_count → id ≡ min (old.tally.last + 1) (2 ^ 32 - 1) → new.job ≡ Some confirmed.run
         → new.tally ≡ record old.tally { job = Some (told confirmed.run); last = id; due = Some id } → new.quit ≡ old.quit → new.dirty ≡ old.dirty
-        → IsDesk opening contents_after faults new
+        → IsDesk start opening contents_after faults new
     desk_began confirmed id began_count asks number idle started more counted id_is job is quit dirty =
-        desk_of opening contents_after faults new
-        (written_more faults (keyed screen) new _ opening contents_after contents_after (keyed_written screen (ap (λ a. with_ask a new.screen) asks))
+        desk_of start opening contents_after faults new
+        (written_more faults (keyed screen) new _ start opening contents_after contents_after (keyed_written screen (ap (λ a. with_ask a new.screen) asks))
         (adds_began contents_after contents_after faults (keyed screen) new 0 began_count 0 id confirmed.plan confirmed.run more
         (subst (λ n. option_map (running n) (first_work n confirmed.plan) ≡ Some confirmed.run) number started) job is unclosed (desk.written.told ∙ ap (option_map told) idle) refl refl counted id_is
-        (cleared new.screen settled) quit))
-        settled (λ h. ap (λ (t : Tally). t.closed) is ∙ desk.lost (sym (ap (λ (t : Tally). t.lost) is) ∙ h))
+        (cleared new.screen settled) quit unasked))
+        settled (λ h. ap (λ (t : Tally). t.closed) is ∙ desk.lost (sym (ap (λ (t : Tally). t.lost) is) ∙ h)) (λ h. absurd (not_asked h quit))
         (λ h. absurd (let shut = ap (λ (t : Tally). t.closed) is in cc)) room
         (owed_still old new (ap left_dirty more) dirty (λ folder own. absurd (subst (λ j. IsOwner j folder) idle own)) desk.owed)
       where
@@ -169,12 +174,12 @@ module _ (opening contents contents_after : Option CallLog) (faults : ℕ) (old 
         → new.newest ≡ entry 0 old.tally.calls order_count 0 (Order live.id (Answered answer)) ∷ (entry 0 old.tally.calls count shown (Key key now refusals false) ∷ old.newest)
         → count ≤ order_count → new.job ≡ Some (answered answer live)
         → new.tally ≡ record old.tally { job = Some (told (answered answer live)); due = Some live.id } → new.quit ≡ old.quit → new.dirty ≡ old.dirty
-        → IsDesk opening contents_after faults new
+        → IsDesk start opening contents_after faults new
     desk_ordered answer live order_count asks was may more counted job is quit dirty =
-        desk_of opening contents_after faults new
-        (written_more faults (keyed screen) new _ opening contents_after contents_after (keyed_written screen (ap (λ a. with_ask a new.screen) asks))
-        (adds_order contents_after contents_after faults (keyed screen) new 0 order_count 0 answer live more was may desk.written.told job is unclosed refl refl counted (cleared new.screen settled) quit))
-        settled (λ h. ap (λ (t : Tally). t.closed) is ∙ desk.lost (sym (ap (λ (t : Tally). t.lost) is) ∙ h))
+        desk_of start opening contents_after faults new
+        (written_more faults (keyed screen) new _ start opening contents_after contents_after (keyed_written screen (ap (λ a. with_ask a new.screen) asks))
+        (adds_order contents_after contents_after faults (keyed screen) new 0 order_count 0 answer live more was may desk.written.told job is unclosed refl refl counted (cleared new.screen settled) quit unasked))
+        settled (λ h. ap (λ (t : Tally). t.closed) is ∙ desk.lost (sym (ap (λ (t : Tally). t.lost) is) ∙ h)) (λ h. absurd (not_asked h quit))
         (λ h. absurd (let shut = ap (λ (t : Tally). t.closed) is in cc)) room
         (owed_still old new (ap left_dirty more) dirty
         (λ folder own. subst (λ j. IsOwner j folder) (sym job) (answered_owner answer live.id live.work live.course folder (subst (λ j. IsOwner j folder) was own))) desk.owed)
@@ -187,14 +192,15 @@ closed_room None spare spare_after had left = omega (arith, had, left)
 closed_room (Some job) spare spare_after had left = omega (arith, had, left)
 
 -- the end of keys, written down in the room that was kept for it
-pub desk_closed : (opening contents : Option CallLog) (faults : ℕ) (old new : Seen) (count : ℕ) → IsDesk opening contents faults old → old.tally.closed ≡ false → faults_in faults old.newest ≤ count
+pub desk_closed : (start : Option Start) (opening contents : Option CallLog) (faults : ℕ) (old new : Seen) (count : ℕ) → IsDesk start opening contents faults old → old.tally.closed ≡ false → faults_in faults old.newest ≤ count
     → new.newest ≡ entry 0 old.tally.calls count 0 Closed ∷ old.newest
     → new.tally ≡ record old.tally { job = option_map closed_job old.tally.job; closed = true; due = None } → new.job ≡ option_map closed_job old.job → new.tally.job ≡ option_map told new.job
-    → new.screen ≡ old.screen → new.quit ≡ old.quit → old.spare ≤ new.spare + 1 → new.dirty ≡ old.dirty → IsDesk opening contents faults new
-desk_closed opening contents faults old new count desk unclosed later more is job tells screen quit left dirty = record {
-  written = written_more faults old new _ opening contents contents desk.written
+    → new.screen ≡ old.screen → new.quit ≡ old.quit → old.spare ≤ new.spare + 1 → new.dirty ≡ old.dirty → IsDesk start opening contents faults new
+desk_closed start opening contents faults old new count desk unclosed later more is job tells screen quit left dirty = record {
+  written = written_more faults old new _ start opening contents contents desk.written
       (adds_closed contents contents faults old new 0 count 0 more is job tells desk.settled refl later screen quit);
   settled = ap (λ (s : Screen). s.planned) screen ∙ desk.settled;
+  asked = λ h. ap (λ (t : Tally). t.due) is;
   lost = λ h. ap (λ (t : Tally). t.closed) is;
   shut = λ h. ap (λ (t : Tally). t.due) is;
   room = subst (λ b. kept_room b new.job ≤ new.spare) (sym (ap (λ (t : Tally). t.closed) is)) (subst (λ j. kept_room true j ≤ new.spare) (sym job)
@@ -203,19 +209,19 @@ desk_closed opening contents faults old new count desk unclosed later more is jo
 }
 
 -- a look, written down
-pub desk_looked : (opening contents contents_after : Option CallLog) (faults : ℕ) (old new : Seen) (count shown : ℕ) (refusals : List Refusal) (trouble : Option Trouble) → IsDesk opening contents faults old
+pub desk_looked : (start : Option Start) (opening contents contents_after : Option CallLog) (faults : ℕ) (old new : Seen) (count shown : ℕ) (refusals : List Refusal) (trouble : Option Trouble) → IsDesk start opening contents faults old
     → old.tally.closed ≡ false → contents_after ≡ contents → faults_in faults old.newest ≤ count → (has_fault refusals ≡ true → HasRisen (faults_in faults old.newest) count)
     → IfKnown contents (λ log. AreRefused ListFolder log refusals) → ShowsTrouble old.job trouble → LooksAgain (sight contents) old.tally.unseen trouble refusals old.screen new.screen
     → new.newest ≡ entry 0 old.tally.calls count shown (Look refusals) ∷ old.newest
     → new.tally ≡ record old.tally { unseen = false; due = if can_step old.tally.job then old.tally.due else None } → new.job ≡ old.job → new.tally.job ≡ option_map told new.job
-    → new.screen.planned ≡ None → new.quit ≡ old.quit → 2 ≤ new.spare → new.dirty ≡ old.dirty
-    → IsDesk opening contents_after faults new
-desk_looked opening contents contents_after faults old new count shown refusals trouble desk unclosed same later fault refused shows leads more is job tells settled quit room dirty =
-    desk_of opening contents_after faults new
-    (written_more faults old new _ opening contents contents_after desk.written
+    → new.screen.planned ≡ None → new.quit ≡ old.quit → 2 ≤ new.spare → new.dirty ≡ old.dirty → old.quit ≡ false
+    → IsDesk start opening contents_after faults new
+desk_looked start opening contents contents_after faults old new count shown refusals trouble desk unclosed same later fault refused shows leads more is job tells settled quit room dirty unasked =
+    desk_of start opening contents_after faults new
+    (written_more faults old new _ start opening contents contents_after desk.written
     (adds_look contents contents_after faults old new 0 count shown refusals more is job tells unclosed desk.settled same later fault refused
-    (trouble, subst (λ j. ShowsTrouble j trouble) (sym desk.written.told) (shows_told old.job trouble shows), leads) quit))
-    settled (λ h. ap (λ (t : Tally). t.closed) is ∙ desk.lost (sym (ap (λ (t : Tally). t.lost) is) ∙ h)) (λ h. absurd (let shut = ap (λ (t : Tally). t.closed) is in cc)) room
+    (trouble, subst (λ j. ShowsTrouble j trouble) (sym desk.written.told) (shows_told old.job trouble shows), leads) quit unasked))
+    settled (λ h. ap (λ (t : Tally). t.closed) is ∙ desk.lost (sym (ap (λ (t : Tally). t.lost) is) ∙ h)) (λ h. absurd (let no = unasked in cc)) (λ h. absurd (let shut = ap (λ (t : Tally). t.closed) is in cc)) room
     (owed_still old new (ap left_dirty more) dirty (λ folder own. subst (λ j. IsOwner j folder) (sym job) own) desk.owed)
 
 -- a step makes at most three changing calls
@@ -234,27 +240,28 @@ step_owed left live stepped did made number dirty dirty_after contents contents_
     settling_owed left live dirty owed stepped did made number dirty_after contents contents_after before after s (if ends did then None else Some stepped)
 
 -- a step of the job, written down
-pub desk_stepped : (opening contents contents_after : Option CallLog) (faults : ℕ) (old new : Seen) (seat count made calls before after : ℕ) (live stepped : Running) (did : Did)
-    → IsDesk opening contents faults old → old.job ≡ Some live → RunStep IsUnclaimed live stepped did made old.dirty new.dirty contents contents_after before after → length old.newest + 3 ≤ 2 ^ 56
+pub desk_stepped : (start : Option Start) (opening contents contents_after : Option CallLog) (faults : ℕ) (old new : Seen) (seat count made calls before after : ℕ) (live stepped : Running) (did : Did)
+    → IsDesk start opening contents faults old → old.job ≡ Some live → RunStep IsUnclaimed live stepped did made old.dirty new.dirty contents contents_after before after → length old.newest + 3 ≤ 2 ^ 56
     → calls ≡ min (old.tally.calls + made) (2 ^ 64 - 1) → faults_in faults old.newest ≤ before → after ≡ count
     → new.newest ≡ entry seat calls count 0 (Step live.id did) ∷ old.newest
     → new.job ≡ if_closed old.tally.closed (if ends did then None else Some stepped)
     → new.tally ≡ record old.tally { job = option_map told new.job; unseen = ends did || old.tally.unseen; calls = calls } → new.screen ≡ old.screen
-    → new.quit ≡ old.quit → 2 ≤ new.spare → IsDesk opening contents_after faults new
-desk_stepped opening contents contents_after faults old new seat count made calls before after live stepped did desk is steps fits calls_is had now more job tally screen quit room =
+    → new.quit ≡ old.quit → 2 ≤ new.spare → IsDesk start opening contents_after faults new
+desk_stepped start opening contents contents_after faults old new seat count made calls before after live stepped did desk is steps fits calls_is had now more job tally screen quit room =
     let all : calls ≡ old.tally.calls + made =
     let few = desk.written.calls in let three = few_made live stepped did made old.dirty new.dirty contents contents_after before after steps in omega (arith, calls_is, three, fits, few) in
-    desk_of opening contents_after faults new
-    (written_more faults old new _ opening contents contents_after desk.written (elim steps [
+    desk_of start opening contents_after faults new
+    (written_more faults old new _ start opening contents contents_after desk.written (elim steps [
       | inl o ↦ adds_step contents contents_after faults old new seat count 0 live stepped did made calls before after is desk.written.told o.own all more job tally desk.settled had now screen quit
       | inr s ↦ adds_settled contents contents_after faults old new seat count 0 live stepped did made calls before after new.dirty is desk.written.told s owed all more job tally desk.settled had now screen quit
     ]))
     (ap (λ (s : Screen). s.planned) screen ∙ desk.settled) (λ h. ap (λ (t : Tally). t.closed) tally ∙ desk.lost (sym (ap (λ (t : Tally). t.lost) tally) ∙ h))
+    (λ h. ap (λ (t : Tally). t.due) tally ∙ desk.asked (sym quit ∙ h))
     (λ h. ap (λ (t : Tally). t.due) tally ∙ desk.shut (sym (ap (λ (t : Tally). t.closed) tally) ∙ h)) room
     (owed_on (left_by_end (Step live.id did) (Some (told live)) (left_dirty old.newest)) (left_dirty new.newest) (if ends did then None else Some stepped) new.job new.dirty new.dirty
-    (ap left_dirty more ∙ ap (λ j. left_by_end (Step live.id did) j (left_dirty old.newest)) (live_told opening contents faults old live desk is)) refl
+    (ap left_dirty more ∙ ap (λ j. left_by_end (Step live.id did) j (left_dirty old.newest)) (live_told start opening contents faults old live desk is)) refl
     (λ folder own. subst (λ j. IsOwner j folder) (sym job) (closed_owner old.tally.closed (if ends did then None else Some stepped) folder own))
-    (step_owed (left_dirty old.newest) live stepped did made live.id old.dirty new.dirty contents contents_after before after (told_ordered old.newest live (live_told opening contents faults old live desk is)) owed steps))
+    (step_owed (left_dirty old.newest) live stepped did made live.id old.dirty new.dirty contents contents_after before after (told_ordered old.newest live (live_told start opening contents faults old live desk is)) owed steps))
   where
     owed : IsOwed (left_dirty old.newest) (Some live) old.dirty
     owed = subst (λ j. IsOwed (left_dirty old.newest) j old.dirty) is desk.owed
@@ -289,20 +296,21 @@ unknown_plans_nothing tree job key refusals before after asked planned unknown s
     cc
 
 -- the end of a job for want of memory, written down in the room that was kept for it
-pub desk_gave_up : (opening contents : Option CallLog) (faults : ℕ) (old new : Seen) (seat count : ℕ) (live : Running) (part : Option Route)
-    → IsDesk opening contents faults old → old.job ≡ Some live → waits_on live.course ≡ false → part ≡ part_of live.work → faults_in faults old.newest ≤ count
+pub desk_gave_up : (start : Option Start) (opening contents : Option CallLog) (faults : ℕ) (old new : Seen) (seat count : ℕ) (live : Running) (part : Option Route)
+    → IsDesk start opening contents faults old → old.job ≡ Some live → waits_on live.course ≡ false → part ≡ part_of live.work → faults_in faults old.newest ≤ count
     → new.newest ≡ entry seat old.tally.calls count 0 (Step live.id (Ended NoMemory part)) ∷ old.newest
     → new.job ≡ None → new.tally ≡ record old.tally { job = None; unseen = true } → new.screen ≡ old.screen → new.quit ≡ old.quit → kept_room old.tally.closed None ≤ new.spare → new.dirty ≡ old.dirty
-    → IsDesk opening contents faults new
-desk_gave_up opening contents faults old new seat count live part desk is ready part_is later more job tally screen quit room dirty = record {
-  written = written_more faults old new _ opening contents contents desk.written
+    → IsDesk start opening contents faults new
+desk_gave_up start opening contents faults old new seat count live part desk is ready part_is later more job tally screen quit room dirty = record {
+  written = written_more faults old new _ start opening contents contents desk.written
       (adds_given_up contents contents faults old new seat count 0 live part is desk.written.told ready part_is more job tally desk.settled refl later screen quit);
   settled = ap (λ (s : Screen). s.planned) screen ∙ desk.settled;
+  asked = λ h. ap (λ (t : Tally). t.due) tally ∙ desk.asked (sym quit ∙ h);
   lost = λ h. ap (λ (t : Tally). t.closed) tally ∙ desk.lost (sym (ap (λ (t : Tally). t.lost) tally) ∙ h);
   shut = λ h. ap (λ (t : Tally). t.due) tally ∙ desk.shut (sym (ap (λ (t : Tally). t.closed) tally) ∙ h);
   room = subst (λ j. kept_room new.tally.closed j ≤ new.spare) (sym job) (subst (λ b. kept_room b None ≤ new.spare) (sym (ap (λ (t : Tally). t.closed) tally)) room);
   owed = owed_on (left_by_end (Step live.id (Ended NoMemory part)) (Some (told live)) (left_dirty old.newest)) (left_dirty new.newest) None new.job old.dirty new.dirty
-      (ap left_dirty more ∙ ap (λ j. left_by_end (Step live.id (Ended NoMemory part)) j (left_dirty old.newest)) (live_told opening contents faults old live desk is)) dirty
+      (ap left_dirty more ∙ ap (λ j. left_by_end (Step live.id (Ended NoMemory part)) j (left_dirty old.newest)) (live_told start opening contents faults old live desk is)) dirty
       (λ folder own. absurd own)
       (given_up_owed live.id part (left_dirty old.newest) live old.dirty (subst (λ j. IsOwed (left_dirty old.newest) j old.dirty) is desk.owed));
 }

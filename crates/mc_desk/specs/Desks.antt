@@ -1,9 +1,10 @@
 -- What a desk keeps: its history is a session over its tree, and the rest of it is what the history says.
-use Rattle.std.specs.Prelude.{◌≡◌, ◌⊎◌, ℕ, ◌+◌, ◌*◌, ◌≤◌, Bool, true, false, MatchBool, is_some, if◌then◌else◌, List, [], ◌∷◌, ◌++◌, length, Option, Some, None, Result, Ok, Err}
+use Rattle.std.specs.Prelude.{◌≡◌, ◌⊎◌, ℕ, ◌+◌, ◌*◌, ◌≤◌, Bool, true, false, ◌||◌, is_some, if◌then◌else◌, List, [], ◌∷◌, ◌++◌, length, take, slice_get, Option, Some, None, Result, Ok, Err}
 use Rattle.std.specs.Option.{option_map}
 use Rattle.mc_text.specs.Routes.{Route}
 use Rattle.tree_trait.specs.Change.{CallLog}
-use Rattle.tree_trait.specs.Answers.{HasRisen}
+use Rattle.tree_trait.specs.Answers.{HasRisen, IfKnown}
+use Rattle.tree_trait.specs.declared.devices.Command.{Command}
 use Rattle.tree_trait.specs.declared.devices.SinkError.{SinkError}
 use Rattle.tree_trait.specs.declared.devices.SinkError.TheVariants.{Fault, Memory}
 use Rattle.key_screen.specs.declared.keys.Key.{Key as KeyType}
@@ -14,19 +15,22 @@ use Rattle.copy_move.specs.declared.history.Entry.{Entry}
 use Rattle.copy_move.specs.Jobs.{Running}
 use Rattle.copy_move.specs.Told.{told}
 use Rattle.copy_move.specs.Settling.{IsOwed, changed_folder, left_dirty, without}
-use Rattle.mc_ui.specs.Screens.{Screen}
-use Rattle.mc_desk.specs.declared.desk.Due.{Due}
-use Rattle.mc_desk.specs.declared.desk.Due.TheVariants.{Nothing, First, Job}
-use Rattle.mc_desk.specs.declared.desk.DeskReply.{DeskReply}
-use Rattle.mc_desk.specs.declared.desk.DeskError.{DeskError}
-use Rattle.mc_desk.specs.declared.desk.DeskError.TheVariants as error
-use Rattle.mc_desk.specs.declared.desk.StepReply.{StepReply}
-use Rattle.mc_desk.specs.declared.desk.StepReply.TheVariants.{Ended, Idle}
+use Rattle.mc_ui.specs.Screens.{Screen, Ends}
+use Rattle.mc_desk.specs.declared.session.Due.{Due}
+use Rattle.mc_desk.specs.declared.session.Due.TheVariants.{Nothing, First, Job}
+use Rattle.mc_desk.specs.declared.replies.DeskReply.{DeskReply}
+use Rattle.mc_desk.specs.declared.replies.DeskReply.TheVariants.{Go, Wait, Quit}
+use Rattle.mc_desk.specs.declared.starts.Start.{Start}
+use Rattle.mc_desk.specs.declared.replies.DeskError.{DeskError}
+use Rattle.mc_desk.specs.declared.replies.DeskError.TheVariants as error
+use Rattle.mc_desk.specs.declared.replies.StepReply.{StepReply}
+use Rattle.mc_desk.specs.declared.replies.StepReply.TheVariants.{Ended, Idle}
 use Rattle.mc_desk.specs.Tallies.{Tally, tally, faults_in, keys_in}
-use Rattle.mc_desk.specs.Sessions.{IsSession, EndAsked}
+use Rattle.mc_desk.specs.Sessions.{IsSession}
 
 -- what can be seen of a desk: its entries, the newest first, and how many more find room; the screen; the live job; the dirty
--- folders; what the history came to; the bytes since the last key; whether the end was asked for; and whether the screen failed
+-- folders; what the history came to; how many bytes were taken, and those since the last key; whether the end was asked for; and
+-- whether the screen failed
 pub record Seen : Type 0 where
   pub newest : List Entry
   pub spare : ℕ
@@ -34,6 +38,7 @@ pub record Seen : Type 0 where
   pub job : Option Running
   pub dirty : List Route
   pub tally : Tally
+  pub taken : ℕ
   pub pending : List ℕ
   pub quit : Bool
   pub failed : Bool
@@ -48,21 +53,29 @@ awaited (Job id) = Some id
 abbrev pub kept_room : Bool → Option Running → ℕ
 kept_room closed job = (if closed then 0 else 1) + (if is_some job then 1 else 0)
 
--- What is written down is a session over the tree, which was opened with the one contents, and so many faults, and has the
--- other now, and the rest of the desk is what the history says.
-pub record IsWritten (opening contents : Option CallLog) (faults : ℕ) (desk : Seen) : Type 0 where
-  pub session : IsSession opening faults desk.newest desk.screen desk.job contents
+-- the screen, on which the end is noted once it was asked for
+abbrev pub with_end : Bool → Screen → Screen
+with_end true screen = record screen { planned = Some Ends }
+with_end false screen = screen
+
+abbrev pub noted : Seen → Screen
+noted desk = with_end desk.quit desk.screen
+
+-- What is written down is a session in the folders in which it began, over the tree, which was opened with the one contents, and
+-- so many faults, and has the other now; and the rest of the desk is what the history says.
+pub record IsWritten (start : Option Start) (opening contents : Option CallLog) (faults : ℕ) (desk : Seen) : Type 0 where
+  pub session : IsSession start opening faults desk.newest (noted desk) desk.job contents
   pub tally : desk.tally ≡ tally desk.newest
   pub told : desk.tally.job ≡ option_map told desk.job
   pub calls : desk.tally.calls ≤ 3 * length desk.newest
-  pub quit : desk.quit ≡ true → EndAsked opening faults desk.newest
 
--- What holds of a desk between two calls: besides, nothing that was asked for waits to be carried out, a desk that lost a key
--- is closed, on a closed one nothing is to be looked at, the room is there, and the dirty folders are those of ended jobs and of
--- the live one.
-pub record IsDesk (opening contents : Option CallLog) (faults : ℕ) (desk : Seen) : Type 0 where
-  pub written : IsWritten opening contents faults desk
+-- What holds of a desk between two calls: besides, nothing that was asked for waits to be carried out but the end, a desk that
+-- lost a key is closed, where the end was asked for or the desk is closed nothing is to be looked at, the room is there, and the
+-- dirty folders are those of ended jobs and of the live one.
+pub record IsDesk (start : Option Start) (opening contents : Option CallLog) (faults : ℕ) (desk : Seen) : Type 0 where
+  pub written : IsWritten start opening contents faults desk
   pub settled : desk.screen.planned ≡ None
+  pub asked : desk.quit ≡ true → desk.tally.due ≡ None
   pub lost : desk.tally.lost ≡ true → desk.tally.closed ≡ true
   pub shut : desk.tally.closed ≡ true → desk.tally.due ≡ None
   pub room : kept_room desk.tally.closed desk.job ≤ desk.spare
@@ -83,28 +96,73 @@ abbrev pub Blames : Bool → ℕ → ℕ → Type 0
 Blames false opening now = opening ≤ now
 Blames true opening now = HasRisen opening now
 
--- what a desk keeps of its devices: its tree and its screen
-pub record KeepsDesk (opening contents : Option CallLog) (seen : Seen) (faults faults_now : ℕ) (failed : Bool) (sink_opening sink_now : ℕ) : Type 0 where
-  pub desk : IsDesk opening contents faults seen
+-- no command ran, and none failed
+pub record RanNothing (runs runs_now : Option (List Command)) (faults faults_now : ℕ) : Type 0 where
+  pub ran : runs_now ≡ runs
+  pub failed : faults_now ≡ faults
+
+-- what a session keeps of its devices: its tree, its screen, and its spawner
+pub record KeepsDesk (start : Option Start) (opening contents : Option CallLog) (seen : Seen) (faults faults_now : ℕ) (failed : Bool) (sink_opening sink_now : ℕ)
+    (runs runs_now : Option (List Command)) (spawner_opening spawner_now : ℕ) : Type 0 where
+  pub desk : IsDesk start opening contents faults seen
   pub counted : faults_in faults seen.newest ≤ faults_now
   pub screen : Blames failed sink_opening sink_now
+  pub spawner : RanNothing runs runs_now spawner_opening spawner_now
 
 -- the bytes that the keyboard gave are the keys of the history and those since the last key
 abbrev pub HasTaken : List ℕ → Seen → Type 0
 HasTaken bytes desk = decoded_keys bytes ≡ record { keys = keys_in desk.newest; rest = desk.pending }
 
--- the keys of the history are those of the bytes, but for the last of two keys that one byte completed
-abbrev pub LacksLast : List ℕ → List Entry → Type 0
-LacksLast bytes newest = (key : KeyType) × ((decoded_keys bytes).keys ≡ keys_in newest ++ key ∷ [])
+-- the last of these bytes completed two keys, of which the history lacks the second
+pub record LacksSecond (bytes : List ℕ) (newest : List Entry) : Type 0 where
+  pub front : List ℕ
+  pub last : ℕ
+  pub first : KeyType
+  pub second : KeyType
+  pub bytes_are : bytes ≡ front ++ last ∷ []
+  pub completed : (decoded_keys bytes).keys ≡ (decoded_keys front).keys ++ first ∷ second ∷ []
+  pub has : keys_in newest ≡ (decoded_keys front).keys ++ first ∷ []
 
--- the keys of the history are those of the bytes, or lack the last of two
-abbrev pub HasKeysOf : List ℕ → List Entry → Type 0
-HasKeysOf bytes newest = ((decoded_keys bytes).keys ≡ keys_in newest) ⊎ LacksLast bytes newest
+-- Of what the keyboard gives so many bytes were taken, from its front, and their keys are those of the history; in a closed
+-- session the history may lack the second of two that the last byte completed.
+pub record Reads (bytes : List ℕ) (taken : ℕ) (closed : Bool) (newest : List Entry) : Type 0 where
+  pub some : taken ≤ length bytes
+  pub keys : ((decoded_keys (take taken bytes)).keys ≡ keys_in newest) ⊎ ((closed ≡ true) × LacksSecond (take taken bytes) newest)
 
--- no key was taken
+-- the same of a desk, with the bytes since the last key
+pub record TookOf (bytes : List ℕ) (desk : Seen) : Type 0 where
+  pub some : desk.taken ≤ length bytes
+  pub keys : HasTaken (take desk.taken bytes) desk ⊎ ((desk.tally.closed ≡ true) × LacksSecond (take desk.taken bytes) desk.newest)
+
+abbrev pub IsFed : Option (List ℕ) → Seen → Type 0
+IsFed stream desk = IfKnown stream (λ bytes. TookOf bytes desk)
+
+-- the next byte after so many is this one
+abbrev pub IsNext : List ℕ → ℕ → ℕ → Type 0
+IsNext bytes taken byte = slice_get bytes taken ≡ Some byte
+
+-- a call that takes no byte; what is closed stays so
 pub record KeepsKeys (old new : Seen) : Type 0 where
   pub keys : keys_in new.newest ≡ keys_in old.newest
   pub pending : new.pending ≡ old.pending
+  pub taken : new.taken ≡ old.taken
+  pub shut : old.tally.closed ≡ true → new.tally.closed ≡ true
+
+-- the session takes no more keys: it is closed, or its end was asked for
+abbrev pub is_over : Seen → Bool
+is_over desk = desk.tally.closed || desk.quit
+
+-- the answer that the session is over
+abbrev pub is_quit : DeskReply → Bool
+is_quit Go = false
+is_quit (Wait job) = false
+is_quit Quit = true
+
+-- nothing was taken, and the session is not over
+pub record IsFresh (desk : Seen) : Type 0 where
+  pub none : desk.newest ≡ []
+  pub taken : desk.taken ≡ 0
+  pub goes_on : is_over desk ≡ false
 
 -- the newest entry is the report of a sync
 abbrev pub HasSynced : List Entry → Type 0
@@ -123,8 +181,29 @@ abbrev pub idle_reply : Bool → StepReply
 idle_reply true = Ended
 idle_reply false = Idle
 
--- A byte joins those that were taken, unless the desk is closed. Where the call failed, either it was not taken, or of the
--- keys that it completed the second may lack.
+-- a byte was counted; where the call failed perhaps not
+abbrev pub CountsByte : Result DeskReply DeskError → ℕ → ℕ → Type 0
+CountsByte (Ok reply) before after = after ≡ before + 1
+CountsByte (Err error) before after = (after ≡ before) ⊎ (after ≡ before + 1)
+
+-- a byte joins those that were taken
+pub record Joins (bytes : List ℕ) (byte : ℕ) (old new : Seen) : Type 0 where
+  pub counted : new.taken ≡ old.taken + 1
+  pub keys : HasTaken (bytes ++ byte ∷ []) new
+
+-- it was not taken
+pub record Stays (bytes : List ℕ) (old new : Seen) : Type 0 where
+  pub counted : new.taken ≡ old.taken
+  pub keys : HasTaken bytes new
+
+-- it was taken; the session is closed, and of two keys that the byte completed the history lacks the second
+pub record Cuts (bytes : List ℕ) (byte : ℕ) (old new : Seen) : Type 0 where
+  pub counted : new.taken ≡ old.taken + 1
+  pub closed : new.tally.closed ≡ true
+  pub lacks : LacksSecond (bytes ++ byte ∷ []) new.newest
+
+-- What becomes of a byte of a session that isn't over. Where the call failed, either it was not taken, or of the keys that it
+-- completed the second may lack.
 abbrev pub TakesByte : Result DeskReply DeskError → List ℕ → ℕ → Seen → Seen → Type 0
-TakesByte (Ok reply) bytes byte old new = MatchBool old.tally.closed (HasTaken bytes new) (HasTaken (bytes ++ byte ∷ []) new)
-TakesByte (Err error) bytes byte old new = HasTaken bytes new ⊎ HasKeysOf (bytes ++ byte ∷ []) new.newest
+TakesByte (Ok reply) bytes byte old new = Joins bytes byte old new
+TakesByte (Err error) bytes byte old new = Stays bytes old new ⊎ (Joins bytes byte old new ⊎ Cuts bytes byte old new)

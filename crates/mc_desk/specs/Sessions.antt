@@ -1,11 +1,9 @@
 -- A session, as its history tells it: each entry follows from those before it, and from the tree as it stands then. Histories
 -- stand newest first here.
-use Rattle.std.specs.Prelude.{◌≡◌, ◌⊎◌, ℕ, ◌+◌, ◌-◌, ◌^◌, ◌≤◌, min, true, false, ⊤, List, [], ◌∷◌, IsSome, Option, Some, None}
-use Rattle.mc_text.specs.Routes.{Route}
+use Rattle.std.specs.Prelude.{◌≡◌, ◌⊎◌, ℕ, ◌+◌, ◌-◌, ◌^◌, ◌≤◌, min, Bool, true, false, ⊤, if◌then◌else◌, List, [], ◌∷◌, IsSome, Option, Some, None}
 use Rattle.tree_trait.specs.FileSystem.{View}
 use Rattle.tree_trait.specs.Change.{CallLog}
-use Rattle.tree_trait.specs.Answers.{HasRisen}
-use Rattle.key_screen.specs.declared.keys.Base.TheVariants.{F}
+use Rattle.tree_trait.specs.Answers.{HasRisen, IfKnown}
 use Rattle.file_copy.specs.CopySteps.{IsFault}
 use Rattle.copy_move.specs.declared.history.Event.{Event}
 use Rattle.copy_move.specs.declared.history.Event.TheVariants.{Key, Look, Began, Order, Step, Closed}
@@ -16,7 +14,8 @@ use Rattle.copy_move.specs.Told.{IsAllowedStep}
 use Rattle.copy_move.specs.Traces.{Follows}
 use Rattle.copy_move.specs.Crashes.{calls_in}
 use Rattle.mc_ui.specs.Refused.{has_fault}
-use Rattle.mc_ui.specs.Screens.{Screen, NoBox, Begins, Answers, plain_base, sight, KeyLeads, LookLeads, IsOpening}
+use Rattle.mc_ui.specs.Screens.{Screen, Planned, Begins, Answers, Ends, sight, KeyLeads, LookLeads, IsOpening}
+use Rattle.mc_desk.specs.declared.starts.Start.{Start}
 use Rattle.mc_desk.specs.Tallies.{Tally, tally, most_calls, faults_in}
 
 -- no key is worked in a closed session, where something is to be looked at, or after one was lost
@@ -51,11 +50,19 @@ TellsFault (Order id order) = ⊥
 TellsFault (Step id did) = IsFault did
 TellsFault Closed = ⊥
 
--- nothing that was asked for waits to be carried out, but where it is
+-- nothing that was asked for waits to be carried out, but the end of the session
+abbrev pub MayEnd : Option Planned → Type 0
+MayEnd planned = (planned ≡ None) ⊎ (planned ≡ Some Ends)
+
+-- What was asked for is carried out before anything else is done. Once the end was asked for, only steps and the closing
+-- follow.
 abbrev pub IsTimely : Event → Screen → Type 0
+IsTimely (Key key now refusals lost) before = before.planned ≡ None
+IsTimely (Look refusals) before = before.planned ≡ None
 IsTimely (Began id plan background) before = ⊤
 IsTimely (Order id order) before = ⊤
-IsTimely event before = before.planned ≡ None
+IsTimely (Step id did) before = MayEnd before.planned
+IsTimely Closed before = MayEnd before.planned
 
 -- The counts of an entry. The tree's faults don't fall, and rise where the entry tells of one. Only a step makes changing
 -- calls, and at most three.
@@ -80,27 +87,24 @@ pub record Enters (opening : Option CallLog) (faults : ℕ) (e : Entry) (older :
   pub leads : EventLeads (sight stood) (tally older) e.what before screen
   pub traced : Traces opening e older was stood job contents
 
--- These entries are a session over a tree that had these contents at the opening, and had failed so often then; it has come to
--- this screen, this live job and these contents.
-abbrev pub IsSession : Option CallLog → ℕ → List Entry → Screen → Option Running → Option CallLog → Type 0
-IsSession opening faults [] screen job contents = IsOpening (sight opening) screen × (job ≡ None) × (contents ≡ opening)
-IsSession opening faults (e ∷ older) screen job contents =
-    (before : Screen) × (was : Option Running) × (stood : Option CallLog) × IsSession opening faults older before was stood
+-- the folders of the two panels
+abbrev pub folders_of : Screen → Start
+folders_of screen = record { left = screen.left.folder; right = screen.right.folder }
+
+-- the session begins in the folders that were named, where they are known
+abbrev pub BeginsIn : Option Start → Start → Type 0
+BeginsIn start folders = IfKnown start (λ named. named ≡ folders)
+
+-- These entries are a session that began in these folders, over a tree that had these contents then, and had failed so often;
+-- it has come to this screen, this live job and these contents.
+abbrev pub IsSession : Option Start → Option CallLog → ℕ → List Entry → Screen → Option Running → Option CallLog → Type 0
+IsSession start opening faults [] screen job contents = IsOpening (sight opening) screen × BeginsIn start (folders_of screen) × (job ≡ None) × (contents ≡ opening)
+IsSession start opening faults (e ∷ older) screen job contents =
+    (before : Screen) × (was : Option Running) × (stood : Option CallLog) × IsSession start opening faults older before was stood
     × Enters opening faults e older before was stood screen job contents
 
--- the key asks for the end
-abbrev pub IsQuitKey : Event → Type 0
-IsQuitKey (Key key now refusals false) = plain_base key ≡ F 10
-IsQuitKey event = ⊥
-
--- the end was asked for: by F10 while no box was open
-abbrev pub EndAsked : Option CallLog → ℕ → List Entry → Type 0
-EndAsked opening faults [] = ⊥
-EndAsked opening faults (e ∷ older) =
-    (IsQuitKey e.what × ((before : Screen) × (was : Option Running) × (stood : Option CallLog) × IsSession opening faults older before was stood × (before.over ≡ NoBox)))
-    ⊎ EndAsked opening faults older
-
--- these entries are a session in these folders, no job is live at its end, and nothing that was asked for was left undone
-abbrev pub EndsSession : Option CallLog → ℕ → List Entry → Option CallLog → Route → Route → Type 0
-EndsSession opening faults newest contents left right =
-    (screen : Screen) × (screen.left.folder ≡ left) × (screen.right.folder ≡ right) × (screen.planned ≡ None) × IsSession opening faults newest screen None contents
+-- These entries are a session in these folders, no job is live at its end, and nothing that was asked for was left undone.
+-- Whether the end was asked for, its screen has noted.
+abbrev pub EndsSession : Option Start → Option CallLog → ℕ → List Entry → Option CallLog → Bool → Type 0
+EndsSession start opening faults newest contents asked =
+    (screen : Screen) × (screen.planned ≡ (if asked then Some Ends else None)) × IsSession start opening faults newest screen None contents

@@ -1,158 +1,46 @@
-//! The desk: the devices of a session, its screen, its job and its history. Every call leaves it whole.
-ghost use Rattle.std.specs.Prelude.{◌≡◌, ◌≤◌, false, true, [], IfOk, IfErr, OnOk, None};
+//! The desk: a session, and how many bytes of the keyboard it has taken. These are the first that the keyboard gives.
+ghost use Rattle.std.specs.Prelude.{◌≡◌, ◌<◌, ◌≤◌, false, true, [], Option, IfOk, IfErr, IsSome, IsTrue, OnOk, None, Some, if◌then◌else◌, reverse};
 ghost use Rattle.tree_trait.specs.Calls.{ListFolder};
 ghost use Rattle.tree_trait.specs.Refusals.{refusal_of};
 ghost use Rattle.tree_trait.specs.Change.{current};
 ghost use Rattle.tree_trait.specs.Answers.{IfKnown, HasRisen};
+ghost use Rattle.copy_move.specs.Ranks.{rank_with};
+ghost use Rattle.copy_move.specs.Told.{live_job, IsReady};
+ghost use Rattle.copy_move.specs.Replay.{IsReplayed};
+ghost use Rattle.copy_move.specs.Traces.{IsTracedTo};
+ghost use Rattle.mc_desk.specs.Logs.{jobs_begun};
+ghost use Rattle.mc_desk.specs.Sessions.{BeginsIn, EndsSession};
 ghost use Rattle.mc_desk.specs.Starts.{IsStartCause, is_start_fault};
+ghost use Rattle.mc_desk.specs.Tallies.{can_step, faults_in, has_lost};
+ghost use Rattle.mc_desk.specs.Desks.{Blames, BlamesScreen, CountsByte, IsFresh, IsNext, KeepsKeys, MovesDirty, RanNothing, Reads, idle_reply, is_over, is_quit};
 
-mod keys;
-mod steps;
-
-use crate::log::Log;
-use crate::opening::open;
-use crate::starts::{Start, StartError};
+use crate::replies::{DeskError, DeskReply, Ended, Refused, StepReply};
+use crate::session::Session;
+use crate::starts::Start;
 use crate::tag::Tag;
-use copy_move::{Dirty, History, Run};
-use key_screen::KeyReader;
-use mc_text::Path;
-use mc_ui::Ui;
 use std::alloc::Global;
-use std::marker::{Model, PhantomData};
-use thiserror::Error;
+use std::marker::Model;
 use tree_trait::{Sink, Spawner, Tree};
-
-/// A start that was refused gives the devices back.
-#[derive(Drop)]
-pub struct Refused<T, S, P> {
-    pub error: StartError,
-    pub tree: T,
-    pub screen: S,
-    pub spawner: P,
-}
-
-/// What the session is to do next: go on, work the foreground job of this number, or end.
-#[derive(Clone, Copy, Debug, Drop, PartialEq, Eq)]
-pub enum DeskReply {
-    Go,
-    Wait(u32),
-    Quit,
-}
-
-/// Why a call on the desk failed. But for want of memory that left all as it was, the desk is closed then.
-#[derive(Clone, Copy, Debug, Drop, Error, PartialEq, Eq)]
-pub enum DeskError {
-    #[error("the screen failed")]
-    Screen,
-    #[error("out of memory")]
-    Memory,
-}
-
-/// What a step came to: an entry was added, or no job is ready, and then whether the desk is closed.
-#[derive(Clone, Copy, Debug, Drop, PartialEq, Eq)]
-pub enum StepReply {
-    Did,
-    Idle,
-    Ended,
-}
-
-/// What is to be looked at before the next key is taken.
-#[derive(Clone, Copy, Debug, Drop, PartialEq, Eq)]
-enum Due {
-    Nothing,
-    /// The opening frame.
-    First,
-    /// This job, once it isn't ready.
-    Job(u32),
-}
-
-/// What a session leaves: its devices, its history, and whether the end was asked, the screen failed, or a key was lost.
-#[derive(Drop)]
-pub struct Ended<T, S, P> {
-    pub tree: T,
-    pub screen: S,
-    pub spawner: P,
-    pub history: History,
-    pub quit: bool,
-    pub failed: bool,
-    pub lost: bool,
-}
 
 /// A desk. `N` names the world as the session found it.
 #[derive(Drop)]
 pub struct Desk<N: Tag, T: Tree, S: Sink, P: Spawner> {
-    tree: T,
-    screen: S,
-    spawner: P,
-    keys: KeyReader,
-    ui: Ui,
-    job: Option<Run>,
-    dirty: Dirty,
-    log: Log,
-    last_id: u32,
-    calls: u64,
-    shown: u128,
-    unseen: bool,
-    stuck_at: Option<Path>,
-    due: Due,
-    closed: bool,
-    quit: bool,
-    failed: bool,
-    lost: bool,
-    of: PhantomData<N>,
+    session: Session<N, T, S, P>,
 }
 
 impl<N: Tag, T: Tree, S: Sink, P: Spawner> Model for Desk<N, T, S, P> {
-    ghost use Rattle.std.specs.Option.{option_map};
-    ghost use Rattle.copy_move.specs.Told.{told};
-    ghost use Rattle.mc_desk.specs.Desks.{Seen, KeepsDesk, awaited};
+    ghost use Rattle.mc_desk.specs.Desks.{Seen, IsFed};
 
     ghost Value = { Seen };
 
-    ghost view = { λ d. record {
-      newest = d.log.newest;
-      spare = d.log.spare;
-      screen = d.ui;
-      job = d.job;
-      dirty = d.dirty;
-      tally = record {
-        job = option_map told d.job;
-        last = d.last_id;
-        unseen = d.unseen;
-        closed = d.closed;
-        due = awaited d.due;
-        lost = d.lost;
-        calls = d.calls;
-      };
-      pending = d.keys;
-      quit = d.quit;
-      failed = d.failed;
-    } };
+    ghost view = { λ d. d.session };
 
-    ghost invariant = { λ d. KeepsDesk N.opening (T.contents d.tree) (record {
-      newest = d.log.newest;
-      spare = d.log.spare;
-      screen = d.ui;
-      job = d.job;
-      dirty = d.dirty;
-      tally = record {
-        job = option_map told d.job;
-        last = d.last_id;
-        unseen = d.unseen;
-        closed = d.closed;
-        due = awaited d.due;
-        lost = d.lost;
-        calls = d.calls;
-      };
-      pending = d.keys;
-      quit = d.quit;
-      failed = d.failed;
-    }) N.tree_faults (T.fault_count d.tree) d.failed N.sink_faults (S.fault_count d.screen) };
+    ghost invariant = { λ d. IsFed N.stream d.session };
 }
 
 impl<N: Tag, T: Tree, S: Sink, P: Spawner> Desk<N, T, S, P> {
     /// Opens a session in two folders. It is refused as `list` of the first is that can't be listed, or for want of memory;
-    /// the tree is as it was then.
+    /// the devices are as they were then, but for the tree's count of faults.
     pub fn begin(
         alloc: Global,
         start: Start,
@@ -160,49 +48,124 @@ impl<N: Tag, T: Tree, S: Sink, P: Spawner> Desk<N, T, S, P> {
         screen: S,
         spawner: P,
     ) -> Result<Desk<N, T, S, P>, Refused<T, S, P>>
+        // The type names what there is.
+        requires start { BeginsIn N.start start }
         requires opening { T.contents tree ≡ N.opening }
         requires faults { N.tree_faults ≤ T.fault_count tree }
+        requires given { S.given screen ≡ N.given }
         requires sink { N.sink_faults ≤ S.fault_count screen }
-        ensures opened { IfOk result (λ desk. desk.newest ≡ []) }
-        ensures left { IfOk result (λ desk. desk.screen.left.folder ≡ start.left) }
-        ensures right { IfOk result (λ desk. desk.screen.right.folder ≡ start.right) }
-        ensures fresh { IfOk result (λ desk. (desk.pending ≡ []) × (desk.tally.closed ≡ false)) }
+        requires runs { P.runs spawner ≡ N.runs }
+        requires spawner { P.fault_count spawner ≡ N.spawner_faults }
+
+        ensures fresh { IfOk result IsFresh }
         ensures permitted { IfKnown (T.contents tree) (λ log.
             OnOk result ((refusal_of (current log) (ListFolder start.left) ≡ None) × (refusal_of (current log) (ListFolder start.right) ≡ None))) }
         ensures cause { IfKnown (T.contents tree) (λ log. IfErr result (λ r. IsStartCause (current log) start.left start.right r.error)) }
         ensures fault { IfErr result (λ r. is_start_fault r.error ≡ true → HasRisen (T.fault_count tree) (T.fault_count r.tree)) }
         ensures same { IfErr result (λ r. T.contents r.tree ≡ T.contents tree) }
+        ensures later { IfErr result (λ r. T.fault_count tree ≤ T.fault_count r.tree) }
         ensures same_screen { IfErr result (λ r. r.screen ≡ screen) }
+        ensures same_spawner { IfErr result (λ r. r.spawner ≡ spawner) }
     {
-        let mut tree = tree;
-        match open(alloc, &mut tree, start) {
-            Err(error) => Err(Refused {
-                error,
-                tree,
-                screen,
-                spawner,
-            }),
-            Ok((ui, log)) => Ok(Desk {
-                tree,
-                screen,
-                spawner,
-                keys: KeyReader::new(),
-                ui,
-                job: None,
-                dirty: Dirty::new(alloc),
-                log,
-                last_id: 0,
-                calls: 0,
-                shown: 0,
-                unseen: false,
-                stuck_at: None,
-                due: Due::First,
-                closed: false,
-                quit: false,
-                failed: false,
-                lost: false,
-                of: PhantomData,
-            }),
+        match Session::begin(alloc, start, tree, screen, spawner) {
+            Ok(session) => Ok(Desk { session }),
+            Err(refused) => Err(refused),
         }
+    }
+
+    /// Takes the next byte of the keyboard and works the keys that it completes; the reply is that of the last. Each is drawn.
+    /// Where it finds no memory before the byte is taken, nothing changes; each other error closes the desk. One that is
+    /// closed, or whose end was asked, takes no byte and answers `Quit`.
+    pub fn byte(&mut self, alloc: Global, byte: u8, now: u64) -> Result<DeskReply, DeskError>
+        requires looked { self.old.tally.due ≡ None }
+        requires next { IfKnown N.stream (λ bytes. IsNext bytes self.old.taken byte) }
+
+        ensures quit { IfOk result (λ reply. is_quit reply ≡ is_over self.new) }
+        ensures over { is_over self.old ≡ true → self.new ≡ self.old }
+        ensures taken { is_over self.old ≡ false → CountsByte result self.old.taken self.new.taken }
+        ensures unclosed { OnOk result (self.new.tally.closed ≡ self.old.tally.closed) }
+        ensures dirty { self.new.dirty ≡ self.old.dirty }
+        ensures screen_failed { BlamesScreen result self.new.failed }
+    {
+        self.session.byte(alloc, byte, now)
+    }
+
+    /// Takes up what the job did, and draws. After the job's end the panel is read again. A desk that is closed, or whose end
+    /// was asked, stays as it is.
+    pub fn look(&mut self, alloc: Global) -> Result<(), DeskError>
+        ensures looked { OnOk result (can_step self.old.tally.job ≡ false → self.new.tally.due ≡ None) }
+        ensures keys { KeepsKeys self.old self.new }
+        ensures unclosed { OnOk result (self.new.tally.closed ≡ self.old.tally.closed) }
+        ensures quit { self.new.quit ≡ self.old.quit }
+        ensures dirty { self.new.dirty ≡ self.old.dirty }
+        ensures screen_failed { BlamesScreen result self.new.failed }
+    {
+        self.session.look(alloc)
+    }
+
+    /// What is to be looked at before the next byte: the job of this number, or 0 for the opening frame.
+    pub fn due(&self) -> Option<u32>
+        ensures { result ≡ self.now.tally.due }
+    {
+        self.session.due()
+    }
+
+    /// Whether this job is live and can be stepped.
+    pub fn is_ready(&self, job: u32) -> bool
+        ensures ready { IsTrue result → IsReady self.now.job }
+        ensures due { self.now.tally.due ≡ Some job → result ≡ can_step self.now.tally.job }
+    {
+        self.session.is_ready(job)
+    }
+
+    /// Makes one step of the job, if it is ready: `Did` where an entry was added. Without memory for the entry no call of
+    /// the tree is made, and the job ends by the entry for which room was kept.
+    pub fn step(&mut self, alloc: Global, seat: u32) -> StepReply
+        ensures reply { result ≡ (if can_step self.old.tally.job then StepReply.Did else idle_reply self.old.tally.closed) }
+        ensures screen { self.new.screen ≡ self.old.screen }
+        ensures keys { KeepsKeys self.old self.new }
+        ensures dirty { MovesDirty self.old.job self.new.newest self.old.dirty self.new.dirty }
+        ensures same { (self.new.tally.closed ≡ self.old.tally.closed) × (self.new.tally.due ≡ self.old.tally.due) }
+        ensures quit { self.new.quit ≡ self.old.quit }
+        ensures nearer { self.old.tally.closed ≡ true → IsSome self.old.job → rank_with self.new.dirty self.new.job < rank_with self.old.dirty self.old.job }
+        ensures worked { IsReady self.old.job → rank_with self.new.dirty self.new.job < rank_with self.old.dirty self.old.job }
+    {
+        self.session.step(alloc, seat)
+    }
+
+    /// Closes the desk: no more keys are taken, and a job that waits for an answer is aborted. It takes no memory. A closed
+    /// desk stays as it is.
+    pub fn close(&mut self)
+        ensures closed { self.new.tally.closed ≡ true }
+        ensures screen { self.new.screen ≡ self.old.screen }
+        ensures keys { KeepsKeys self.old self.new }
+        ensures dirty { self.new.dirty ≡ self.old.dirty }
+        ensures failed { self.new.failed ≡ self.old.failed }
+        ensures quit { self.new.quit ≡ self.old.quit }
+    {
+        self.session.close();
+    }
+
+    /// Ends the session: the desk is closed, and its job stepped to the end.
+    pub fn end(self, alloc: Global) -> Ended<T, S, P>
+        // The history is a session over the tree, and no job is live at its end.
+        ensures session { EndsSession N.start N.opening N.tree_faults (reverse result.history.entries) (T.contents result.tree) result.quit }
+        ensures traced { IsTracedTo N.opening (T.contents result.tree) (reverse result.history.entries) None }
+        ensures replayed { IsReplayed N.opening (T.contents result.tree) (reverse result.history.entries) }
+        ensures idle { live_job (reverse result.history.entries) ≡ None }
+        ensures counted { result.history.started ≡ jobs_begun result.history.entries }
+
+        // Its keys are those of the bytes that were taken.
+        ensures keys { IfKnown N.stream (λ bytes. Reads bytes self.taken self.tally.closed (reverse result.history.entries)) }
+        ensures lost { result.lost ≡ has_lost (reverse result.history.entries) }
+        ensures quit { result.quit ≡ self.quit }
+
+        // The devices' counts of faults, and the commands.
+        ensures screen { Blames result.failed N.sink_faults (S.fault_count result.screen) }
+        ensures faults { faults_in N.tree_faults (reverse result.history.entries) ≤ T.fault_count result.tree }
+        ensures commands { RanNothing N.runs (P.runs result.spawner) N.spawner_faults (P.fault_count result.spawner) }
+    {
+        let Desk { session } = self;
+        session.end(alloc)
     }
 }

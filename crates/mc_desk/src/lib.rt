@@ -5,14 +5,17 @@ mod claims;
 mod desk;
 mod log;
 mod opening;
+mod replies;
+mod session;
 mod starts;
 mod tag;
 
-pub use desk::{Desk, DeskError, DeskReply, Ended, Refused, StepReply};
+pub use desk::Desk;
 pub use log::Log;
 pub use mc_ui::{
     Ask, Choice, Chosen, Confirmed, CopyPlan, Dialog, KeyAct, Panel, Reread, Ui, cause_text,
     choose, draw, list_again, plan_copy,
 };
+pub use replies::{DeskError, DeskReply, Ended, Refused, StepReply};
 pub use starts::{Side, Start, StartError};
 pub use tag::Tag;

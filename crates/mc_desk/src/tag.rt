@@ -6,6 +6,10 @@ pub trait Tag {
     ghost use Rattle.std.specs.Prelude.{ℕ, List, Option};
     ghost use Rattle.tree_trait.specs.Change.{CallLog};
     ghost use Rattle.tree_trait.specs.declared.devices.Command.{Command};
+    ghost use Rattle.mc_desk.specs.declared.starts.Start.{Start};
+
+    /// The folders of the two panels, where they are known.
+    ghost start: { Option Start };
 
     /// What the tree has been through, where that is known.
     ghost opening: { Option CallLog };
@@ -31,6 +35,8 @@ pub trait Tag {
 
 impl Tag for Brand {
     ghost use Rattle.std.specs.Prelude.{None};
+
+    ghost start = { None };
 
     ghost opening = { None };
 

@@ -10,8 +10,6 @@ mod list_box;
 mod mode_box;
 mod question_box;
 mod shut;
-#[cfg(test)]
-mod tests;
 
 pub use input_line::InputLine;
 pub use list_box::ListBox;

@@ -1,5 +1,5 @@
 -- What a run promises, from what its session does, or where none began.
-use Rattle.std.proofs.Common.{◌≡◌, ◌≢◌, ◌⊎◌, ℕ, List, [], refl, sym, ◌∙◌, subst, inl, inr, Option, Some, None, IsSome}
+use Rattle.std.proofs.Common.{◌≡◌, ◌⊎◌, ◌≤◌, ℕ, Bool, true, List, [], refl, sym, ◌∙◌, subst, inl, inr, Option, Some, None, IsSome}
 use Rattle.tree_trait.specs.Calls.{ListFolder}
 use Rattle.tree_trait.specs.Refusals.{refusal_of}
 use Rattle.tree_trait.specs.Change.{CallLog, current}
@@ -10,10 +10,12 @@ use Rattle.copy_move.specs.Replay.{IsReplayed}
 use Rattle.copy_move.proofs.Crashed.{deletions_law}
 use Rattle.copy_move.proofs.PlainMoments.{plain_law}
 use Rattle.copy_move.proofs.ReplayedTo.{replayed_to}
-use Rattle.mc_text.specs.Routes.{Route}
 use Rattle.mc_desk.specs.declared.starts.Start.{Start}
 use Rattle.mc_desk.specs.Sessions.{EndsSession}
-use Rattle.mc_main.specs.Headline.{IsPlainlySafeRun, IsRun, IsSafeRun, IsStatusOr, MayRefuseStart, IsComplete}
+use Rattle.mc_desk.specs.Tallies.{faults_in}
+use Rattle.mc_main.specs.declared.session.SessionEnd.{SessionEnd}
+use Rattle.mc_main.specs.declared.session.SessionEnd.TheVariants.{Quit, KeysEnded}
+use Rattle.mc_main.specs.Headline.{IsPlainlySafeRun, IsSafeRun, IsStatusOf, IsStatusOr, MayRefuseStart, IsComplete, RanSession, TookAll}
 
 -- the trace of a tree that tells
 told_trace : (o contents : Option CallLog) (newest : List Entry) (opening now : CallLog) → o ≡ Some opening → contents ≡ Some now → IsTracedTo o contents newest None → IsTraced opening newest None now
@@ -40,9 +42,6 @@ traced_none (Some opening) contents newest empty same = (opening, same, subst (�
 pub replayed_none : (o contents : Option CallLog) (newest : List Entry) → newest ≡ [] → contents ≡ o → IsReplayed o contents newest
 replayed_none o contents newest empty same = replayed_to o contents newest None (traced_none o contents newest empty same)
 
-pub not_zero : (own status : ℕ) → (own ≡ 0 → ⊥) → IsStatusOr own status → status ≡ 0 → ⊥
-not_zero own status differs is h = elim is [ inl a ↦ differs (sym a ∙ h) | inr b ↦ elim b [ inl four ↦ cc | inr five ↦ cc ] ]
-
 -- folders that can be listed are refused only where a device failed
 pub refused_start : (log : CallLog) (o : Option Start) (status faults faults_after : ℕ) (keys screen : Type 0) → (status ≡ 2 → MayRefuseStart log o faults faults_after) → IsStatusOr 2 status → (status ≡ 4 → screen)
     → IsComplete log o status (HasRisen faults faults_after ⊎ (keys ⊎ screen))
@@ -65,15 +64,27 @@ refused_start log (Some folders) status faults faults_after keys screen start is
     some_none x none some = cc
 
 -- what was written down is a session in the folders that the words name
-pub run_in : (o told : Option CallLog) (faults told_faults : ℕ) (folders : Option Start) (start : Start) (status : ℕ) (newest : List Entry) (contents : Option CallLog) (left right : Route)
-    → o ≡ told → told_faults ≡ faults → folders ≡ Some start → left ≡ start.left → right ≡ start.right → EndsSession told told_faults newest contents left right → status ≢ 1 → status ≢ 2
-    → IsRun o faults folders status newest contents
-run_in o told faults told_faults folders start status newest contents left right same counted named at_left at_right ends not_usage not_start =
-    inl (
-      start,
-      named,
-      subst (λ x. EndsSession x faults newest contents start.left start.right) (sym same) (subst (λ n. EndsSession told n newest contents start.left start.right) counted
-          (subst (λ l. EndsSession told told_faults newest contents l start.right) at_left (subst (λ r. EndsSession told told_faults newest contents left r) at_right ends))),
-      not_usage,
-      not_start,
-    )
+pub run_in : (start folders : Option Start) (told o : Option CallLog) (told_faults faults status : ℕ) (newest : List Entry) (contents : Option CallLog) (stream left left_after : Option (List ℕ))
+    → start ≡ folders → o ≡ told → told_faults ≡ faults → left ≡ stream → RanSession start told told_faults status newest contents (TookAll stream left_after)
+    → RanSession folders o faults status newest contents (TookAll left left_after)
+run_in start folders told o told_faults faults status newest contents stream left left_after named same counted gives ran =
+    subst (λ f. RanSession f o faults status newest contents (TookAll left left_after)) named
+    (subst (λ x. RanSession start x faults status newest contents (TookAll left left_after)) (sym same)
+    (subst (λ n. RanSession start told n status newest contents (TookAll left left_after)) counted
+    (subst (λ s. RanSession start told told_faults status newest contents (TookAll s left_after)) (sym gives) ran)))
+
+-- what a session came to is what its run did
+pub ran : (start : Option Start) (opening : Option CallLog) (faults status : ℕ) (newest : List Entry) (contents : Option CallLog) (end : SessionEnd) (quit screen_failed key_lost : Bool) (all_taken : Type 0)
+    → EndsSession start opening faults newest contents quit → IsStatusOf end screen_failed key_lost status → (end ≡ Quit → quit ≡ true) → (end ≡ KeysEnded → all_taken)
+    → RanSession start opening faults status newest contents all_taken
+ran start opening faults status newest contents end quit screen_failed key_lost all_taken ends is asked whole = record {
+  asked = quit;
+  session = ends;
+  ended = λ zero_status. elim (is.done zero_status) [ inl by_key ↦ inl (asked by_key) | inr by_end ↦ inr (whole by_end) ];
+  not_usage = is.not_usage;
+  not_start = is.not_start;
+}
+
+-- where nothing was written down, no fault was
+pub none_counted : (faults now : ℕ) (newest : List Entry) → newest ≡ [] → faults ≤ now → faults_in faults newest ≤ now
+none_counted faults now newest empty few = subst (λ es. faults_in faults es ≤ now) (sym empty) few

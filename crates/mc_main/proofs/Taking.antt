@@ -1,67 +1,45 @@
--- What was taken of the keyboard's bytes, while a session runs.
-use Rattle.std.proofs.Common.{◌≡◌, ◌⊎◌, ℕ, ◌<◌, ◌≤◌, false, List, [], ◌∷◌, ◌++◌, length, take, drop, refl, sym, ◌∙◌, ap, subst, inl, inr, Option, Some, None, Result, Ok, Err, arith}
-use Rattle.std.specs.Prelude.{MatchBool, slice_index_or}
+-- What is taken of the keyboard's bytes, and what is left of them.
+use Rattle.std.proofs.Common.{◌≡◌, ◌⊎◌, ℕ, ◌+◌, ◌<◌, ◌≤◌, Bool, false, true, List, [], ◌∷◌, length, take, drop, refl, sym, ◌∙◌, ap, subst, inl, inr, Option, Some, None, Result, Ok, Err, zero, suc, add-one, arith}
+use Rattle.std.specs.Prelude.{slice_get, slice_index_or}
 use Rattle.tree_trait.specs.declared.devices.SourceFault.{SourceFault}
 use Rattle.tree_trait.specs.Answers.{IfKnown}
 use Rattle.tree_trait.specs.Devices.{HasTaken as HasGiven}
-use Rattle.key_screen.specs.declared.keys.Key.{Key}
-use Rattle.key_screen.specs.DecodedKeys.{Decoded}
+use Rattle.key_screen.specs.DecodedKeys.{decoded_keys}
 use Rattle.copy_move.specs.declared.history.Entry.{Entry}
-use Rattle.mc_desk.specs.declared.desk.DeskReply.{DeskReply}
-use Rattle.mc_desk.specs.declared.desk.DeskError.{DeskError}
+use Rattle.mc_desk.specs.declared.replies.DeskReply.{DeskReply}
+use Rattle.mc_desk.specs.declared.replies.DeskReply.TheVariants.{Go, Wait, Quit}
 use Rattle.mc_desk.specs.Tallies.{keys_in}
-use Rattle.mc_desk.specs.Desks.{Seen, HasTaken, TakesByte, KeepsKeys}
+use Rattle.mc_desk.specs.Desks.{IsNext, Reads, is_quit}
 use Rattle.mc_main.specs.declared.session.SessionEnd.{SessionEnd}
-use Rattle.mc_main.specs.declared.session.SessionEnd.TheVariants.{Quit, KeysEnded, ScreenFailed, NoMemory}
-use Rattle.mc_main.specs.Headline.{HasRead, ReadsKeys, TakesOne}
+use Rattle.mc_main.specs.declared.session.SessionEnd.TheVariants.{ScreenFailed, NoMemory}
+use Rattle.mc_main.specs.Headline.{IsCut, IsCutShort, LeavesOthers, ReadsKeys, TookAll, left_of}
 
--- so far these were taken, and the source has the rest
-pub record HasCome (bytes : List ℕ) (left : Option (List ℕ)) (desk : Seen) : Type 0 where
-  pub taken : List ℕ
-  pub more : List ℕ
-  pub left_is : left ≡ Some more
-  pub front : bytes ≡ taken ++ more
-  pub keys : HasTaken taken desk
+-- a source has left what it didn't give
+pub gives : (left : Option (List ℕ)) (room : List ℕ) (count n : ℕ) (new : Option (List ℕ)) → count ≡ n → IfKnown left (λ b. HasGiven b room (let r : Result ℕ SourceFault = Ok count in r) new)
+    → (left ≡ None → new ≡ None) → new ≡ left_of left n
+gives None room count n new is given unknown = unknown refl
+gives (Some b) room count n new is given unknown = (given b refl).rest ∙ ap (λ k. Some (drop k b)) is
 
-abbrev decoded_as : List Key → List ℕ → Decoded
-decoded_as keys rest = record { keys = keys; rest = rest }
+pub gives_none : (left : Option (List ℕ)) (room : List ℕ) (fault : SourceFault) (new : Option (List ℕ)) → IfKnown left (λ b. HasGiven b room (let r : Result ℕ SourceFault = Err fault in r) new)
+    → (left ≡ None → new ≡ None) → new ≡ left_of left 0
+gives_none None room fault new given unknown = unknown refl
+gives_none (Some b) room fault new given unknown = given b refl
 
-pub come_first : (left : Option (List ℕ)) (desk : Seen) → desk.newest ≡ [] → desk.pending ≡ [] → IfKnown left (λ bytes. HasCome bytes left desk)
-come_first left desk newest pending bytes known = record {
-  taken = [];
-  more = bytes;
-  left_is = known;
-  front = refl;
-  keys = ap (λ ks. decoded_as ks []) (ap keys_in (sym newest)) ∙ ap (λ r. decoded_as (keys_in desk.newest) r) (sym pending);
-}
+-- one that gave no byte into a room has none left
+pub first_none : (left : Option (List ℕ)) (room : List ℕ) (count : ℕ) (new : Option (List ℕ)) → count ≡ 0 → 0 < length room
+    → IfKnown left (λ b. HasGiven b room (let r : Result ℕ SourceFault = Ok count in r) new) → IfKnown left (λ b. (let o : Option ℕ = None in o) ≡ slice_get b 0)
+first_none left room count new empty roomy given b known = ap (λ xs. slice_get xs 0) (sym ((given b known).at_end empty roomy))
 
-pub come_kept : (bytes : List ℕ) (left : Option (List ℕ)) (old new : Seen) → KeepsKeys old new → HasCome bytes left old → HasCome bytes left new
-come_kept bytes left old new kept h = record {
-  taken = h.taken;
-  more = h.more;
-  left_is = h.left_is;
-  front = h.front;
-  keys = h.keys ∙ (ap (λ ks. decoded_as ks old.pending) (sym kept.keys) ∙ ap (λ r. decoded_as (keys_in new.newest) r) (sym kept.pending));
-}
-
--- a source that gave no byte into a room has none left
-pub none_given : (left : Option (List ℕ)) (room : List ℕ) (count : ℕ) (new : Option (List ℕ)) → count ≡ 0 → 0 < length room
-    → IfKnown left (λ b. HasGiven b room (let r : Result ℕ SourceFault = Ok count in r) new) → IfKnown left (λ b. TakesOne b (let r : Result (Option ℕ) SourceFault = Ok None in r) new)
-none_given left room count new empty roomy given b known =
+-- one that gave a byte gave its first
+pub first_one : (left : Option (List ℕ)) (room : List ℕ) (count byte : ℕ) (new : Option (List ℕ)) → count ≡ 1 → room ≡ byte ∷ []
+    → IfKnown left (λ b. HasGiven b room (let r : Result ℕ SourceFault = Ok count in r) new) → IfKnown left (λ b. Some byte ≡ slice_get b 0)
+first_one left room count byte new one is given b known =
     let h = given b known in
-    let none = h.at_end empty roomy in
-    (none, h.rest ∙ ap Some (ap (λ n. drop n b) empty ∙ none))
-
--- a source that gave a byte gave its first
-pub one_given : (left : Option (List ℕ)) (room : List ℕ) (count byte : ℕ) (new : Option (List ℕ)) → count ≡ 1 → room ≡ byte ∷ []
-    → IfKnown left (λ b. HasGiven b room (let r : Result ℕ SourceFault = Ok count in r) new) → IfKnown left (λ b. TakesOne b (let r : Result (Option ℕ) SourceFault = Ok (Some byte) in r) new)
-one_given left room count byte new one is given b known =
-    let h = given b known in
-    go b (subst (λ n. n ≤ length b) one h.some) (subst (λ n. take n (byte ∷ []) ≡ take n b) one (subst (λ r. take count r ≡ take count b) is h.bytes)) (subst (λ n. new ≡ Some (drop n b)) one h.rest)
+    go b (subst (λ n. n ≤ length b) one h.some) (subst (λ n. take n (byte ∷ []) ≡ take n b) one (subst (λ r. take count r ≡ take count b) is h.bytes))
   where
-    go : (b : List ℕ) → 1 ≤ length b → take 1 (byte ∷ []) ≡ take 1 b → new ≡ Some (drop 1 b) → (rest : List ℕ) × (b ≡ byte ∷ rest) × (new ≡ Some rest)
-    go [] few same rest = absurd (omega (arith, few))
-    go (x ∷ xs) few same rest = let head : byte ≡ x = cc in (xs, ap (λ y. y ∷ xs) (sym head), rest)
+    go : (b : List ℕ) → 1 ≤ length b → take 1 (byte ∷ []) ≡ take 1 b → Some byte ≡ slice_get b 0
+    go [] few same = absurd (omega (arith, few))
+    go (x ∷ xs) few same = let head : byte ≡ x = cc in ap Some head
 
 -- a room of one byte
 pub room_one : (room : List ℕ) → length room ≡ 1 → room ≡ slice_index_or room 0 0 ∷ []
@@ -69,86 +47,94 @@ room_one [] h = absurd (omega (arith, h))
 room_one (x ∷ []) h = refl
 room_one (x ∷ y ∷ ys) h = absurd (omega (arith, h))
 
-snoc : (xs : List ℕ) (x : ℕ) (ys : List ℕ) → xs ++ x ∷ ys ≡ (xs ++ x ∷ []) ++ ys
-snoc [] x ys = refl
-snoc (y ∷ xs) x ys = ap (λ l. y ∷ l) (snoc xs x ys)
+-- the first of what is left is the next
+at_drop : (bytes : List ℕ) (n : ℕ) → slice_get (drop n bytes) 0 ≡ slice_get bytes n
+at_drop [] zero = refl
+at_drop [] (suc n) = refl
+at_drop (x ∷ xs) zero = refl
+at_drop (x ∷ xs) (suc n) = at_drop xs n
 
-module _ (bytes : List ℕ) (left left_after : Option (List ℕ)) (byte : ℕ) (old new : Seen)
-    (given : IfKnown left (λ b. TakesOne b (let r : Result (Option ℕ) SourceFault = Ok (Some byte) in r) left_after)) (h : HasCome bytes left old) where
-  got : (rest : List ℕ) × (h.more ≡ byte ∷ rest) × (left_after ≡ Some rest)
-  got = given h.more h.left_is
+pub next_byte : (stream left : Option (List ℕ)) (taken byte : ℕ) → left ≡ left_of stream taken → IfKnown left (λ b. Some byte ≡ slice_get b 0) → IfKnown stream (λ bytes. IsNext bytes taken byte)
+next_byte stream left taken byte left_is first bytes known =
+    sym (at_drop bytes taken) ∙ sym (first (drop taken bytes) (left_is ∙ ap (λ s. left_of s taken) known))
 
-  front_after : bytes ≡ (h.taken ++ byte ∷ []) ++ got.0
-  front_after = h.front ∙ (ap (λ m. h.taken ++ m) got.1 ∙ snoc h.taken byte got.0)
+none_first : (bytes : List ℕ) → (let o : Option ℕ = None in o) ≡ slice_get bytes 0 → bytes ≡ []
+none_first [] h = refl
+none_first (x ∷ xs) h = absurd cc
 
-  -- a byte was worked
-  pub come_byte : (reply : DeskReply) → old.tally.closed ≡ false → ((b : List ℕ) → HasTaken b old → TakesByte (let r : Result DeskReply DeskError = Ok reply in r) b byte old new) → HasCome bytes left_after new
-  come_byte reply unclosed takes = record {
-    taken = h.taken ++ byte ∷ [];
-    more = got.0;
-    left_is = got.2;
-    front = front_after;
-    keys = subst (λ b. MatchBool b (HasTaken h.taken new) (HasTaken (h.taken ++ byte ∷ []) new)) unclosed (takes h.taken h.keys);
-  }
+-- where there is no next, all was taken
+pub took_all : (stream left left_after : Option (List ℕ)) (taken : ℕ) → left ≡ left_of stream taken → IfKnown left (λ b. (let o : Option ℕ = None in o) ≡ slice_get b 0) → left_after ≡ left_of left 0 → TookAll stream left_after
+took_all stream left left_after taken left_is first after bytes known =
+    let at : left ≡ Some (drop taken bytes) = left_is ∙ ap (λ s. left_of s taken) known in
+    after ∙ (ap (λ s. left_of s 0) at ∙ ap Some (none_first (drop taken bytes) (first (drop taken bytes) at)))
 
-  not_ended : (end : SessionEnd) → (end ≡ ScreenFailed) ⊎ (end ≡ NoMemory) → end ≡ KeysEnded → ⊥
-  not_ended end (inl f) e = cc
-  not_ended end (inr f) e = cc
+drop_more : (bytes : List ℕ) (n : ℕ) → drop 1 (drop n bytes) ≡ drop (suc n) bytes
+drop_more [] zero = refl
+drop_more [] (suc n) = refl
+drop_more (x ∷ xs) zero = refl
+drop_more (x ∷ xs) (suc n) = drop_more xs n
 
-  -- the session ended at a byte
-  pub read_byte : (end : SessionEnd) (error : DeskError) → (end ≡ ScreenFailed) ⊎ (end ≡ NoMemory)
-      → ((b : List ℕ) → HasTaken b old → TakesByte (let r : Result DeskReply DeskError = Err error in r) b byte old new) → HasRead bytes end new
-  read_byte end error failed takes =
-      elim (takes h.taken h.keys) [
-        | inl not_taken ↦
-            record { taken = h.taken; more = h.more; front = h.front; keys = inl (ap (λ (d : Decoded). d.keys) not_taken); whole = λ ended. absurd (not_ended end failed ended) }
-        | inr taken ↦
-            record {
-              taken = h.taken ++ byte ∷ [];
-              more = got.0;
-              front = front_after;
-              keys = elim taken [ inl all ↦ inl all | inr lacks ↦ inr (lacks, failed) ];
-              whole = λ ended. absurd (not_ended end failed ended);
-            }
-      ]
+-- one byte less is left
+left_less : (stream left left_after : Option (List ℕ)) (taken : ℕ) → left ≡ left_of stream taken → left_after ≡ left_of left 1 → left_after ≡ left_of stream (taken + 1)
+left_less None left left_after taken is after = after ∙ ap (λ s. left_of s 1) is
+left_less (Some bytes) left left_after taken is after =
+    after ∙ (ap (λ s. left_of s 1) is ∙ (ap Some (drop_more bytes taken) ∙ ap (λ n. Some (drop n bytes)) (sym (add-one taken))))
 
--- the session ended between two bytes
-pub read_so_far : (bytes : List ℕ) (left : Option (List ℕ)) (desk : Seen) (end : SessionEnd) → HasCome bytes left desk → (end ≡ KeysEnded → ⊥) → HasRead bytes end desk
-read_so_far bytes left desk end h differs = record { taken = h.taken; more = h.more; front = h.front; keys = inl (ap (λ (d : Decoded). d.keys) h.keys); whole = λ ended. absurd (differs ended) }
+left_same : (stream left left_after : Option (List ℕ)) (taken : ℕ) → left ≡ left_of stream taken → left_after ≡ left_of left 0 → left_after ≡ left_of stream taken
+left_same None left left_after taken is after = after ∙ ap (λ s. left_of s 0) is
+left_same (Some bytes) left left_after taken is after = after ∙ ap (λ s. left_of s 0) is
 
-pub failed_so_far : (bytes : List ℕ) (left : Option (List ℕ)) (desk : Seen) (end : SessionEnd) → HasCome bytes left desk → (end ≡ ScreenFailed) ⊎ (end ≡ NoMemory) → HasRead bytes end desk
-failed_so_far bytes left desk end h failed = read_so_far bytes left desk end h (λ ended. elim failed [ inl f ↦ cc | inr f ↦ cc ])
+-- a byte that was taken is no more left, and the others are
+pub leaves_others : (stream left left_after : Option (List ℕ)) (taken after : ℕ) (end : Option SessionEnd) → left ≡ left_of stream taken → left_after ≡ left_of left 1 → after ≡ taken + 1 → LeavesOthers stream after end left_after
+leaves_others stream left left_after taken after end is less counted = inl (left_less stream left left_after taken is less ∙ ap (left_of stream) (sym counted))
 
--- the session ended at the end of the keys
-pub read_all : (bytes : List ℕ) (left left_after : Option (List ℕ)) (desk : Seen) (end : SessionEnd)
-    → IfKnown left (λ b. TakesOne b (let r : Result (Option ℕ) SourceFault = Ok None in r) left_after) → HasCome bytes left desk → HasRead bytes end desk
-read_all bytes left left_after desk end given h = record {
-  taken = h.taken;
-  more = h.more;
-  front = h.front;
-  keys = inl (ap (λ (d : Decoded). d.keys) h.keys);
-  whole = λ ended. (given h.more h.left_is).0;
-}
+-- where the session was cut short perhaps one byte less is left
+pub leaves_cut : (stream left left_after : Option (List ℕ)) (taken after : ℕ) (end : Option SessionEnd) → left ≡ left_of stream taken → left_after ≡ left_of left 1 → IsCut end → (after ≡ taken) ⊎ (after ≡ taken + 1)
+    → LeavesOthers stream after end left_after
+leaves_cut stream left left_after taken after end is less cut (inl same) = inr (left_less stream left left_after taken is less ∙ ap (λ n. left_of stream (n + 1)) (sym same), cut)
+leaves_cut stream left left_after taken after end is less cut (inr more) = leaves_others stream left left_after taken after end is less more
 
--- the answer of the source by what it is
-pub taken_as : (left left_after : Option (List ℕ)) (o answer : Option ℕ) → o ≡ answer → IfKnown left (λ b. TakesOne b (let r : Result (Option ℕ) SourceFault = Ok o in r) left_after)
-    → IfKnown left (λ b. TakesOne b (let r : Result (Option ℕ) SourceFault = Ok answer in r) left_after)
-taken_as left left_after o answer is h = subst (λ x. IfKnown left (λ b. TakesOne b (let r : Result (Option ℕ) SourceFault = Ok x in r) left_after)) is h
+-- no byte was taken
+pub leaves_all : (stream left left_after : Option (List ℕ)) (taken after : ℕ) (end : Option SessionEnd) → left ≡ left_of stream taken → left_after ≡ left_of left 0 → after ≡ taken → LeavesOthers stream after end left_after
+leaves_all stream left left_after taken after end is same counted = inl (left_same stream left left_after taken is same ∙ ap (left_of stream) (sym counted))
+
+-- where the session goes on, just the others are left
+pub leaves_on : (stream left : Option (List ℕ)) (taken : ℕ) → LeavesOthers stream taken None left → left ≡ left_of stream taken
+leaves_on stream left taken (inl is) = is
+leaves_on stream left taken (inr (is, inl cut)) = absurd cc
+leaves_on stream left taken (inr (is, inr cut)) = absurd cc
+
+-- at the beginning all is left
+pub left_first : (stream left : Option (List ℕ)) (taken : ℕ) → left ≡ stream → taken ≡ 0 → left ≡ left_of stream taken
+left_first None left taken same none = same
+left_first (Some bytes) left taken same none = same ∙ ap (λ n. Some (drop n bytes)) (sym none)
+
+-- a reply that is not the end
+pub goes_on : (reply : DeskReply) → (reply ≡ Quit → ⊥) → is_quit reply ≡ false
+goes_on Go other = refl
+goes_on (Wait job) other = refl
+goes_on Quit other = absurd (other refl)
 
 -- what a session has read, by the status of its run
-pub reads : (bytes : List ℕ) (end : SessionEnd) (desk : Seen) (newest : List Entry) (status : ℕ) (quit : Type 0) → HasRead bytes end desk → keys_in newest ≡ keys_in desk.newest
-    → ((end ≡ ScreenFailed) ⊎ (end ≡ NoMemory) → (status ≡ 4) ⊎ (status ≡ 5)) → (status ≡ 0 → (end ≡ Quit) ⊎ (end ≡ KeysEnded)) → (end ≡ Quit → quit) → ReadsKeys bytes status quit newest
-reads bytes end desk newest status quit h same failed done asked = record {
-  taken = h.taken;
-  more = h.more;
-  front = h.front;
-  keys = elim h.keys [
-    | inl all ↦ inl (all ∙ sym same)
-    | inr lacks ↦ inr ((lacks.0.0, lacks.0.1 ∙ ap (λ ks. ks ++ lacks.0.0 ∷ []) (sym same)), failed lacks.1)
-  ];
-  whole = λ zero_status. elim (done zero_status) [ inl by_key ↦ inl (asked by_key) | inr by_end ↦ inr (h.whole by_end) ];
-}
+pub reads : (stream left : Option (List ℕ)) (end : SessionEnd) (taken status : ℕ) (closed : Bool) (newest : List Entry) → IfKnown stream (λ bytes. Reads bytes taken closed newest)
+    → LeavesOthers stream taken (Some end) left → (closed ≡ true → IsCut (Some end)) → ((end ≡ ScreenFailed) ⊎ (end ≡ NoMemory) → IsCutShort status) → IfKnown stream (λ bytes. ReadsKeys bytes left status newest)
+reads stream left end taken status closed newest read leaves cut ends bytes known =
+    let r = read bytes known in
+    record {
+      taken = taken;
+      some = r.some;
+      keys = elim r.keys [ inl all ↦ inl all | inr lacks ↦ inr (lacks.1, short (cut lacks.0)) ];
+      others = others (subst (λ s. LeavesOthers s taken (Some end) left) known leaves);
+    }
+  where
+    short : IsCut (Some end) → IsCutShort status
+    short (inl is) = ends (inl cc)
+    short (inr is) = ends (inr cc)
+
+    others : LeavesOthers (Some bytes) taken (Some end) left → (left ≡ Some (drop taken bytes)) ⊎ ((left ≡ Some (drop (taken + 1) bytes)) × IsCutShort status)
+    others (inl is) = inl is
+    others (inr (is, failed)) = inr (is, short failed)
 
 -- a run in which no session began has taken nothing
-pub reads_none : (bytes : List ℕ) (newest : List Entry) (status : ℕ) (quit : Type 0) → newest ≡ [] → (status ≡ 0 → ⊥) → ReadsKeys bytes status quit newest
-reads_none bytes newest status quit empty failed = record { taken = []; more = bytes; front = refl; keys = inl (ap keys_in (sym empty)); whole = λ zero_status. absurd (failed zero_status) }
+pub reads_none : (left : Option (List ℕ)) (newest : List Entry) (status : ℕ) → newest ≡ [] → IfKnown left (λ bytes. ReadsKeys bytes left status newest)
+reads_none left newest status empty bytes known = record { taken = 0; some = omega arith; keys = inl (ap keys_in (sym empty)); others = inl known }

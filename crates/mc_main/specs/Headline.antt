@@ -1,5 +1,6 @@
 -- What a run of the file manager promises.
-use Rattle.std.specs.Prelude.{◌≡◌, ◌≢◌, ◌⊎◌, ℕ, ◌+◌, ◌≤◌, Bool, true, is_none, ⊤, if◌then◌else◌, List, [], ◌∷◌, ◌++◌, length, Option, Some, None, IsSome, Result, Ok, Err}
+use Rattle.std.specs.Prelude.{◌≡◌, ◌≢◌, ◌⊎◌, ℕ, ◌+◌, ◌≤◌, Bool, true, is_none, ⊤, if◌then◌else◌, List, [], ◌∷◌, length, take, drop, Option, Some, None, IsSome, Result, Ok, Err}
+use Rattle.std.specs.Option.{option_map}
 use Rattle.mc_text.specs.Routes.{Route, path_fault, route_of}
 use Rattle.tree_trait.specs.declared.file_system.FileSystem.{FileSystem}
 use Rattle.tree_trait.specs.FileSystem.{visible_tree}
@@ -8,7 +9,7 @@ use Rattle.tree_trait.specs.Refusals.{refusal_of}
 use Rattle.tree_trait.specs.Shape.{IsTree}
 use Rattle.tree_trait.specs.Change.{CallLog, current}
 use Rattle.tree_trait.specs.CrashImages.{all_settled, IsCrashImage}
-use Rattle.tree_trait.specs.Answers.{HasRisen}
+use Rattle.tree_trait.specs.Answers.{HasRisen, IfKnown}
 use Rattle.tree_trait.specs.declared.devices.SourceFault.{SourceFault}
 use Rattle.key_screen.specs.DecodedKeys.{decoded_keys}
 use Rattle.copy_move.specs.declared.history.Entry.{Entry}
@@ -18,7 +19,7 @@ use Rattle.copy_move.specs.Replay.{IsPlain, OnlyDeletes}
 use Rattle.mc_desk.specs.Tallies.{keys_in}
 use Rattle.mc_desk.specs.declared.starts.Start.{Start}
 use Rattle.mc_desk.specs.Sessions.{EndsSession}
-use Rattle.mc_desk.specs.Desks.{Seen, LacksLast}
+use Rattle.mc_desk.specs.Desks.{LacksSecond}
 use Rattle.mc_main.specs.declared.session.SessionEnd.{SessionEnd}
 use Rattle.mc_main.specs.declared.session.SessionEnd.TheVariants.{Quit, KeysEnded, KeysFailed, ScreenFailed, NoMemory}
 
@@ -64,35 +65,53 @@ RefusesStart log (Some start) status = CantList log start → IsStatusOr 2 statu
 abbrev pub BeginsNone : ℕ → Type 0
 BeginsNone status = (status ≡ 1) ⊎ (status ≡ 2) ⊎ (status ≡ 4) ⊎ (status ≡ 5)
 
+-- A session in these folders, where they are known. At status 0 its end was asked for, or all that the keyboard gives was
+-- taken.
+pub record RanSession (folders : Option Start) (opening : Option CallLog) (faults status : ℕ) (newest : List Entry) (contents : Option CallLog) (all_taken : Type 0) : Type 0 where
+  pub asked : Bool
+  pub session : EndsSession folders opening faults newest contents asked
+  pub ended : status ≡ 0 → (asked ≡ true) ⊎ all_taken
+  pub not_usage : status ≢ 1
+  pub not_start : status ≢ 2
+
 -- what a run wrote down, the newest first: a session in the folders that the words name, or nothing where none began
-abbrev pub IsRun : Option CallLog → ℕ → Option Start → ℕ → List Entry → Option CallLog → Type 0
-IsRun opening faults folders status newest contents =
-    ((start : Start) × (folders ≡ Some start) × EndsSession opening faults newest contents start.left start.right × (status ≢ 1) × (status ≢ 2))
-    ⊎ ((newest ≡ []) × BeginsNone status)
+abbrev pub IsRun : Option Start → Option CallLog → ℕ → ℕ → List Entry → Option CallLog → Type 0 → Type 0
+IsRun folders opening faults status newest contents all_taken =
+    (IsSome folders × RanSession folders opening faults status newest contents all_taken) ⊎ ((newest ≡ []) × BeginsNone status)
 
--- The keys of a run are those of the bytes that were taken, a front of what the keyboard gives. Where the run ended for want
--- of memory, or as the screen failed, the last of two keys that one byte completed may lack. At status 0 the end was asked
--- for, or all bytes were taken.
-pub record ReadsKeys (bytes : List ℕ) (status : ℕ) (quit : Type 0) (newest : List Entry) : Type 0 where
-  pub taken : List ℕ
-  pub more : List ℕ
-  pub front : bytes ≡ taken ++ more
-  pub keys : ((decoded_keys taken).keys ≡ keys_in newest) ⊎ (LacksLast taken newest × ((status ≡ 4) ⊎ (status ≡ 5)))
-  pub whole : status ≡ 0 → quit ⊎ (more ≡ [])
+-- the run ended as the screen failed, or for want of memory
+abbrev pub IsCutShort : ℕ → Type 0
+IsCutShort status = (status ≡ 4) ⊎ (status ≡ 5)
 
--- one byte is taken from the front of those that are left, or none at their end; a source that failed gave none
-abbrev pub TakesOne : List ℕ → Result (Option ℕ) SourceFault → Option (List ℕ) → Type 0
-TakesOne left (Ok None) new = (left ≡ []) × (new ≡ Some [])
-TakesOne left (Ok (Some byte)) new = (rest : List ℕ) × (left ≡ byte ∷ rest) × (new ≡ Some rest)
-TakesOne left (Err fault) new = new ≡ Some left
+-- what a keyboard that gives these bytes has left once so many were taken
+abbrev pub left_of : Option (List ℕ) → ℕ → Option (List ℕ)
+left_of stream taken = option_map (drop taken) stream
 
--- what a session has taken by its end, however it ended
-pub record HasRead (bytes : List ℕ) (end : SessionEnd) (desk : Seen) : Type 0 where
-  pub taken : List ℕ
-  pub more : List ℕ
-  pub front : bytes ≡ taken ++ more
-  pub keys : ((decoded_keys taken).keys ≡ keys_in desk.newest) ⊎ (LacksLast taken desk.newest × ((end ≡ ScreenFailed) ⊎ (end ≡ NoMemory)))
-  pub whole : end ≡ KeysEnded → more ≡ []
+-- all of them were taken
+abbrev pub TookAll : Option (List ℕ) → Option (List ℕ) → Type 0
+TookAll stream left = IfKnown stream (λ bytes. left ≡ Some [])
+
+-- The keys of a run are those of the bytes that its session took, the first that the keyboard gives, and the others are left.
+-- Where the run was cut short, the second of two keys that the last byte completed may lack, and one byte more may be gone.
+pub record ReadsKeys (bytes : List ℕ) (left : Option (List ℕ)) (status : ℕ) (newest : List Entry) : Type 0 where
+  pub taken : ℕ
+  pub some : taken ≤ length bytes
+  pub keys : ((decoded_keys (take taken bytes)).keys ≡ keys_in newest) ⊎ (LacksSecond (take taken bytes) newest × IsCutShort status)
+  pub others : (left ≡ Some (drop taken bytes)) ⊎ ((left ≡ Some (drop (taken + 1) bytes)) × IsCutShort status)
+
+-- how many bytes a source gave
+abbrev pub given : Result (Option ℕ) SourceFault → ℕ
+given (Ok None) = 0
+given (Ok (Some byte)) = 1
+given (Err fault) = 0
+
+-- the session was cut short by a draw that failed, or for want of memory
+abbrev pub IsCut : Option SessionEnd → Type 0
+IsCut end = (end ≡ Some ScreenFailed) ⊎ (end ≡ Some NoMemory)
+
+-- the keyboard has left what its session didn't take; where that was cut short perhaps one byte less
+abbrev pub LeavesOthers : Option (List ℕ) → ℕ → Option SessionEnd → Option (List ℕ) → Type 0
+LeavesOthers stream taken end left = (left ≡ left_of stream taken) ⊎ ((left ≡ left_of stream (taken + 1)) × IsCut end)
 
 -- What a crash leaves, at each moment of a run that only deletes on a tree on which nothing was pending, is safe.
 abbrev pub IsSafeRun : CallLog → CallLog → List Entry → Type 0
@@ -123,5 +142,5 @@ pub record IsStatusOf (end : SessionEnd) (screen_failed key_lost : Bool) (status
   pub keyboard : status ≡ 3 → end ≡ KeysFailed
   pub screen : status ≡ 4 → screen_failed ≡ true
   pub done : status ≡ 0 → (end ≡ Quit) ⊎ (end ≡ KeysEnded)
-  pub failed : (end ≡ ScreenFailed) ⊎ (end ≡ NoMemory) → (status ≡ 4) ⊎ (status ≡ 5)
+  pub failed : (end ≡ ScreenFailed) ⊎ (end ≡ NoMemory) → IsCutShort status
   pub most : status ≤ 5

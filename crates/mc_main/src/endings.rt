@@ -1,19 +1,19 @@
 //! How a run ends: after its session, or before one began.
-ghost use Rattle.std.specs.Prelude.{◌≡◌, ◌≢◌, ◌≤◌, [], true, false, Option, None, reverse};
+ghost use Rattle.std.specs.Prelude.{◌≡◌, ◌≢◌, ◌≤◌, [], true, Option, None, reverse};
 ghost use Rattle.tree_trait.specs.Answers.{IfKnown, HasRisen};
 ghost use Rattle.copy_move.specs.Told.{live_job};
 ghost use Rattle.copy_move.specs.Replay.{IsReplayed};
 ghost use Rattle.copy_move.specs.Traces.{IsTracedTo};
 ghost use Rattle.mc_desk.specs.Logs.{jobs_begun};
-ghost use Rattle.mc_desk.specs.Tallies.{has_lost};
-ghost use Rattle.mc_desk.specs.Sessions.{EndAsked, EndsSession};
-ghost use Rattle.mc_main.specs.Headline.{IsStatusOr, IsStatusOf, ReadsKeys};
+ghost use Rattle.mc_desk.specs.Tallies.{faults_in, has_lost};
+ghost use Rattle.mc_desk.specs.Desks.{IsFresh, RanNothing};
+ghost use Rattle.mc_main.specs.Headline.{IsStatusOr, IsStatusOf, RanSession, ReadsKeys, TookAll};
 
 use crate::outcome::Outcome;
 use crate::session::{SessionEnd, run_session};
 use copy_move::{Entries, History};
 use mc_desk::{Desk, Ended, Refused, Side, StartError, Tag, cause_text};
-use mc_text::{NoMemory, Text};
+use mc_text::{NoMemory, Text, drawn};
 use std::alloc::Global;
 use tree_trait::{Clock, Sink, SinkError, Source, Spawner, Tree, TreeError};
 
@@ -24,22 +24,23 @@ pub fn run_desk<N: Tag, T: Tree, K: Source, S: Sink, P: Spawner, C: Clock>(
     keys: &mut K,
     clock: &C,
 ) -> Outcome<T, S, P>
-    requires fresh { (desk.newest ≡ []) × (desk.pending ≡ []) }
-    requires unclosed { desk.tally.closed ≡ false }
-    ensures session { EndsSession N.opening N.tree_faults (reverse result.history.entries) (T.contents result.tree)
-        desk.screen.left.folder desk.screen.right.folder }
+    requires fresh { IsFresh desk }
+    requires stream { K.left keys.old ≡ N.stream }
+    ensures session { RanSession N.start N.opening N.tree_faults result.status (reverse result.history.entries) (T.contents result.tree)
+        (TookAll N.stream (K.left keys.new)) }
     ensures traced { IsTracedTo N.opening (T.contents result.tree) (reverse result.history.entries) None }
     ensures replayed { IsReplayed N.opening (T.contents result.tree) (reverse result.history.entries) }
     ensures idle { live_job (reverse result.history.entries) ≡ None }
     ensures counted { result.history.started ≡ jobs_begun result.history.entries }
-    ensures keys { IfKnown (K.left keys.old) (λ bytes. ReadsKeys bytes result.status
-        (EndAsked N.opening N.tree_faults (reverse result.history.entries)) (reverse result.history.entries)) }
+    ensures keys { IfKnown N.stream (λ bytes. ReadsKeys bytes (K.left keys.new) result.status (reverse result.history.entries)) }
     ensures lost { has_lost (reverse result.history.entries) ≡ true → result.status ≡ 5 }
     ensures statuses { result.status ≤ 5 }
     ensures not_usage { result.status ≢ 1 }
     ensures not_start { result.status ≢ 2 }
     ensures keyboard { result.status ≡ 3 → HasRisen (K.fault_count keys.old) (K.fault_count keys.new) }
     ensures screen { result.status ≡ 4 → HasRisen N.sink_faults (S.fault_count result.screen) }
+    ensures faults { faults_in N.tree_faults (reverse result.history.entries) ≤ T.fault_count result.tree }
+    ensures commands { RanNothing N.runs (P.runs result.spawner) N.spawner_faults (P.fault_count result.spawner) }
 {
     let mut desk = desk;
     let end = run_session(alloc, &mut desk, keys, clock);
@@ -87,6 +88,7 @@ pub fn refuse<T, S: Sink, P>(
     ensures status { IsStatusOr status result.status }
     ensures screen { status ≢ 4 → result.status ≡ 4 → HasRisen (S.fault_count screen) (S.fault_count result.screen) }
     ensures tree { result.tree ≡ tree }
+    ensures spawner { result.spawner ≡ spawner }
     ensures empty { result.history.entries ≡ [] }
     ensures counted { result.history.started ≡ 0 }
 {
@@ -99,7 +101,8 @@ pub fn refuse<T, S: Sink, P>(
     without_session(alloc, status, tree, screen, spawner)
 }
 
-/// Ends a run whose folder was refused: the line names it as it was typed, and the cause.
+/// Ends a run whose folder was refused: the line names it as it was typed, drawn so that no control character reaches the
+/// terminal, and the cause.
 pub fn refuse_start<T, S: Sink, P>(
     alloc: Global,
     words: &[Text],
@@ -109,6 +112,7 @@ pub fn refuse_start<T, S: Sink, P>(
     ensures cause { result.status ≡ 2 → refused.error ≢ StartError.Memory }
     ensures screen { result.status ≡ 4 → HasRisen (S.fault_count refused.screen) (S.fault_count result.screen) }
     ensures tree { result.tree ≡ refused.tree }
+    ensures spawner { result.spawner ≡ refused.spawner }
     ensures empty { result.history.entries ≡ [] }
     ensures counted { result.history.started ≡ 0 }
 {
@@ -136,7 +140,7 @@ fn start_line(
 ) -> Result<String, NoMemory> {
     let mut line = String::from_str(alloc, "mc: ")?;
     if let Some(word) = word_of(words, side) {
-        line.push_str(word.0.as_str())?;
+        line.push_str(drawn(alloc, word.0.as_str())?.0.as_str())?;
         line.push_str(": ")?;
     }
     line.push_str(cause_text(error))?;
@@ -164,6 +168,7 @@ pub fn without_session<T, S, P>(
     ensures status { result.status ≡ status }
     ensures tree { result.tree ≡ tree }
     ensures screen { result.screen ≡ screen }
+    ensures spawner { result.spawner ≡ spawner }
     ensures empty { result.history.entries ≡ [] }
     ensures counted { result.history.started ≡ 0 }
 {

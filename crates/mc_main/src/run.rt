@@ -5,9 +5,9 @@ ghost use Rattle.copy_move.specs.Told.{live_job};
 ghost use Rattle.copy_move.specs.Replay.{IsReplayed};
 ghost use Rattle.copy_move.specs.Traces.{IsTracedTo};
 ghost use Rattle.mc_desk.specs.Logs.{jobs_begun};
-ghost use Rattle.mc_desk.specs.Tallies.{has_lost};
-ghost use Rattle.mc_desk.specs.Sessions.{EndAsked};
-ghost use Rattle.mc_main.specs.Headline.{folders_in, IsStatusOr, MayRefuseStart, RefusesStart, IsRun, ReadsKeys, IsSafeRun, IsPlainlySafeRun, IsComplete};
+ghost use Rattle.mc_desk.specs.Tallies.{faults_in, has_lost};
+ghost use Rattle.mc_desk.specs.Desks.{RanNothing};
+ghost use Rattle.mc_main.specs.Headline.{folders_in, IsStatusOr, MayRefuseStart, RefusesStart, IsRun, ReadsKeys, TookAll, IsSafeRun, IsPlainlySafeRun, IsComplete};
 
 use crate::endings::{refuse, refuse_start, run_desk, without_session};
 use crate::outcome::Outcome;
@@ -49,9 +49,15 @@ pub fn mc_run<N: Tag, T: Tree, K: Source, S: Sink, P: Spawner, C: Clock, G: Gate
     _gate: &G,
 ) -> Outcome<T, S, P>
     // The type names the world as the run finds it.
+    requires start { N.start ≡ folders_in words.now }
     requires opening { T.contents tree ≡ N.opening }
+    requires stream { K.left keys.old ≡ N.stream }
+    requires given { S.given screen ≡ N.given }
+    requires runs { P.runs spawner ≡ N.runs }
     requires faults { N.tree_faults ≡ T.fault_count tree }
+    requires source { N.source_faults ≡ K.fault_count keys.old }
     requires sink { N.sink_faults ≡ S.fault_count screen }
+    requires spawner { P.fault_count spawner ≡ N.spawner_faults }
 
     // Where the run only deletes, a crash at any moment, inside a call too, leaves each file whole or gone; but for the file
     // that is being deleted, and those whose removal was not brought onto the disk before their job ended, all is as the
@@ -66,19 +72,26 @@ pub fn mc_run<N: Tag, T: Tree, K: Source, S: Sink, P: Spawner, C: Clock, G: Gate
         IsPlainlySafeRun opening now (reverse result.history.entries))) }
 
     // The history is a session: a job is begun directly after the key that confirmed it, as it was planned; its trouble is
-    // answered directly after the key that answers it; no key is taken where a step or a look is due. Each entry of a step is
-    // a piece of the job's work with the calls that belong to it, and the tree is what the history makes of the opening. A
-    // tree that tells what it holds is handed back telling it.
+    // answered directly after the key that answers it; no key is taken where a step or a look is due; F10 without a box asks
+    // for the end, and then only steps and the closing follow. At status 0 the end was asked for, or all bytes were taken.
+    // Each entry of a step is a piece of the job's work with the calls that belong to it, and the tree is what the history
+    // makes of the opening. A tree that tells what it holds is handed back telling it.
     ensures traced { IsTracedTo (T.contents tree) (T.contents result.tree) (reverse result.history.entries) None }
     ensures replayed { IsReplayed (T.contents tree) (T.contents result.tree) (reverse result.history.entries) }
-    ensures session { IsRun (T.contents tree) (T.fault_count tree) (folders_in words.now) result.status
-        (reverse result.history.entries) (T.contents result.tree) }
+    ensures session { IsRun (folders_in words.now) (T.contents tree) (T.fault_count tree) result.status
+        (reverse result.history.entries) (T.contents result.tree) (TookAll (K.left keys.old) (K.left keys.new)) }
     ensures idle { live_job (reverse result.history.entries) ≡ None }
     ensures counted { result.history.started ≡ jobs_begun result.history.entries }
 
-    // The keys are those of the bytes that were taken. At status 0 F10 was reached, or all bytes were taken.
-    ensures keys { IfKnown (K.left keys.old) (λ bytes. ReadsKeys bytes result.status
-        (EndAsked (T.contents tree) (T.fault_count tree) (reverse result.history.entries)) (reverse result.history.entries)) }
+    // The history has counted no more faults than the tree.
+    ensures faults { faults_in (T.fault_count tree) (reverse result.history.entries) ≤ T.fault_count result.tree }
+
+    // No command was run: no key asks for one yet.
+    ensures commands { RanNothing (P.runs spawner) (P.runs result.spawner) (P.fault_count spawner) (P.fault_count result.spawner) }
+
+    // The keys are those of the bytes that were taken, and the keyboard has left the others.
+    ensures keys { IfKnown (K.left keys.old) (λ bytes. ReadsKeys bytes (K.left keys.new) result.status
+        (reverse result.history.entries)) }
     ensures lost { has_lost (reverse result.history.entries) ≡ true → result.status ≡ 5 }
 
     // Statuses 1 and 2.

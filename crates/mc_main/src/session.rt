@@ -1,9 +1,8 @@
 //! A session: keys are taken one byte at a time, and after each the job that it began is worked.
-ghost use Rattle.std.specs.Prelude.{◌≡◌, ◌⊎◌, [], true, false, None, OnOk};
+ghost use Rattle.std.specs.Prelude.{◌≡◌, ◌≤◌, true, false, None, Some, IfOk, IfNone, OnOk, slice_get};
 ghost use Rattle.tree_trait.specs.Answers.{HasRisen, HasCause, IfKnown};
-ghost use Rattle.mc_ui.specs.Screens.{SameFolders};
-ghost use Rattle.mc_desk.specs.Desks.{KeepsKeys};
-ghost use Rattle.mc_main.specs.Headline.{HasRead, TakesOne};
+ghost use Rattle.mc_desk.specs.Desks.{IsFresh, KeepsKeys, is_over};
+ghost use Rattle.mc_main.specs.Headline.{IsCut, LeavesOthers, TookAll, given, left_of};
 
 use mc_desk::{Desk, DeskError, DeskReply, Tag};
 use std::alloc::Global;
@@ -28,39 +27,67 @@ pub fn run_session<N: Tag, T: Tree, K: Source, S: Sink, P: Spawner, C: Clock>(
     keys: &mut K,
     clock: &C,
 ) -> SessionEnd
-    requires fresh { (desk.old.newest ≡ []) × (desk.old.pending ≡ []) }
-    requires unclosed { desk.old.tally.closed ≡ false }
-    ensures folders { SameFolders desk.old.screen desk.new.screen }
+    requires fresh { IsFresh desk.old }
+    requires stream { K.left keys.old ≡ N.stream }
     ensures keys_failed { result ≡ SessionEnd.KeysFailed → HasRisen (K.fault_count keys.old) (K.fault_count keys.new) }
-    ensures read { IfKnown (K.left keys.old) (λ bytes. HasRead bytes result desk.new) }
+    ensures left { LeavesOthers N.stream desk.new.taken (Some result) (K.left keys.new) }
+    ensures cut { desk.new.tally.closed ≡ true → IsCut (Some result) }
     ensures quit { result ≡ SessionEnd.Quit → desk.new.quit ≡ true }
+    ensures ended { result ≡ SessionEnd.KeysEnded → TookAll N.stream (K.left keys.new) }
 {
     for _ in 0..u64::MAX {
-        if let Err(error) = work_due(alloc, desk) {
-            return failed(error);
-        }
-        let byte = match take_byte(keys) {
-            Err(SourceFault) => return SessionEnd::KeysFailed,
-            Ok(None) => return SessionEnd::KeysEnded,
-            Ok(Some(byte)) => byte,
-        };
-        match desk.byte(alloc, byte, clock.now()) {
-            Err(error) => return failed(error),
-            Ok(DeskReply::Quit) => return SessionEnd::Quit,
-            Ok(_) => {}
+        if let Some(end) = take_turn(alloc, desk, keys, clock) {
+            return end;
         }
     }
     // No history has room for so many keys.
     SessionEnd::NoMemory
 }
 
+/// Works what is due, then takes one byte and works its keys. The answer is the session's end, if it has come.
+fn take_turn<N: Tag, T: Tree, K: Source, S: Sink, P: Spawner, C: Clock>(
+    alloc: Global,
+    desk: &mut Desk<N, T, S, P>,
+    keys: &mut K,
+    clock: &C,
+) -> Option<SessionEnd>
+    requires goes_on { is_over desk.old ≡ false }
+    requires left { K.left keys.old ≡ left_of N.stream desk.old.taken }
+    ensures goes_on { IfNone result (is_over desk.new ≡ false) }
+    ensures later { K.fault_count keys.old ≤ K.fault_count keys.new }
+    ensures keys_failed { result ≡ Some SessionEnd.KeysFailed → HasRisen (K.fault_count keys.old) (K.fault_count keys.new) }
+    ensures left { LeavesOthers N.stream desk.new.taken result (K.left keys.new) }
+    ensures cut { desk.new.tally.closed ≡ true → IsCut result }
+    ensures quit { result ≡ Some SessionEnd.Quit → desk.new.quit ≡ true }
+    ensures ended { result ≡ Some SessionEnd.KeysEnded → TookAll N.stream (K.left keys.new) }
+{
+    if let Err(error) = work_due(alloc, desk) {
+        return Some(failed(error));
+    }
+    let byte = match take_byte(keys) {
+        Err(SourceFault) => return Some(SessionEnd::KeysFailed),
+        Ok(None) => return Some(SessionEnd::KeysEnded),
+        Ok(Some(byte)) => byte,
+    };
+    match desk.byte(alloc, byte, clock.now()) {
+        Err(error) => Some(failed(error)),
+        Ok(DeskReply::Quit) => Some(SessionEnd::Quit),
+        Ok(_) => None,
+    }
+}
+
 /// Takes one byte, or none at the end of the keys. It may wait.
 fn take_byte<K: Source>(keys: &mut K) -> Result<Option<u8>, SourceFault>
-    ensures taken { IfKnown (K.left keys.old) (λ bytes. TakesOne bytes result (K.left keys.new)) }
+    ensures first { IfKnown (K.left keys.old) (λ bytes. IfOk result (λ byte. byte ≡ slice_get bytes 0)) }
+    ensures left { K.left keys.new ≡ left_of (K.left keys.old) (given result) }
     ensures cause { HasCause (record {}) (K.fault_count keys.old) (K.fault_count keys.new) result }
 {
     let mut room = [0u8; 1];
-    match keys.take(&mut room)? {
+    let count = match keys.take(&mut room) {
+        Ok(count) => count,
+        Err(fault) => return Err(fault),
+    };
+    match count {
         0 => Ok(None),
         _ => Ok(Some(room[0])),
     }
@@ -71,9 +98,8 @@ fn work_due<N: Tag, T: Tree, S: Sink, P: Spawner>(
     alloc: Global,
     desk: &mut Desk<N, T, S, P>,
 ) -> Result<(), DeskError>
-    ensures folders { SameFolders desk.old.screen desk.new.screen }
     ensures keys { KeepsKeys desk.old desk.new }
-    ensures unclosed { OnOk result (desk.new.tally.closed ≡ desk.old.tally.closed) }
+    ensures over { OnOk result (is_over desk.new ≡ is_over desk.old) }
     ensures looked { OnOk result (desk.new.tally.due ≡ None) }
 {
     match desk.due() {
@@ -88,7 +114,7 @@ fn work_due<N: Tag, T: Tree, S: Sink, P: Spawner>(
 }
 
 fn failed(error: DeskError) -> SessionEnd
-    ensures { (result ≡ SessionEnd.ScreenFailed) ⊎ (result ≡ SessionEnd.NoMemory) }
+    ensures { IsCut (Some result) }
 {
     match error {
         DeskError::Screen => SessionEnd::ScreenFailed,

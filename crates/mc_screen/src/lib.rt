@@ -3,7 +3,5 @@
 
 mod bytes;
 mod screen;
-#[cfg(test)]
-mod tests;
 
 pub use screen::Screen;

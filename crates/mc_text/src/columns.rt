@@ -83,36 +83,3 @@ fn push_blanks(line: &mut String, count: usize) -> Result<(), AllocError>
     }
     Ok(())
 }
-
-#[cfg(test)]
-mod tests {
-    use super::*;
-    use std::convert::AsStr;
-    use std::test::Fail;
-
-    #[test]
-    fn fits_texts(rt: HostRuntime) -> Result<(), Fail> {
-        let alloc = rt.alloc();
-        for (text, columns, want) in [
-            ("abcde", 4, "abc~"),
-            ("abcd", 4, "abcd"),
-            ("ab", 4, "ab  "),
-            ("ab", 1, "~"),
-            ("abc", 0, ""),
-            ("", 2, "  "),
-            ("日本", 4, "日本"),
-            ("日本", 3, "日~"),
-            ("日本", 2, "~ "),
-            ("e\u{301}e\u{301}e", 2, "e\u{301}~"),
-            ("👩‍👩‍👧x", 2, "~ "),
-            ("👩‍👩‍👧x", 3, "👩‍👩‍👧x"),
-        ] {
-            assert_eq!(rt;
-                fit(alloc, text, columns)?.as_str(),
-                want,
-                "{text} in {columns}"
-            );
-        }
-        Ok(())
-    }
-}

@@ -48,30 +48,3 @@ fn has_control(text: &str) -> bool
 {
     text.chars().any(|c| c.is_control())
 }
-
-#[cfg(test)]
-mod tests {
-    use super::*;
-    use std::convert::AsStr;
-    use std::test::Fail;
-
-    #[test]
-    fn draws_texts(rt: HostRuntime) -> Result<(), Fail> {
-        let alloc = rt.alloc();
-        for (text, want) in [
-            ("plain", "plain"),
-            ("日本e\u{301}", "日本e\u{301}"),
-            ("a\tb", "a?b"),
-            ("a\r\nb", "a?b"),
-            ("\u{1b}[1m", "?[1m"),
-            ("\u{7f}\u{85}", "??"),
-            ("a\u{200b}b", "a?b"),
-            ("\u{301}", "?"),
-            ("\u{600}\u{600}a", "?"),
-            ("👩‍👩‍👧", "👩‍👩‍👧"),
-        ] {
-            assert_eq!(rt; drawn(alloc, text)?.as_str(), want, "{text:?}");
-        }
-        Ok(())
-    }
-}

@@ -109,36 +109,3 @@ fn byte_fault(bytes: &[u8], at: usize) -> Option<NameError>
         [_, rest @ ..] => byte_fault(rest, at + 1),
     }
 }
-
-#[cfg(test)]
-mod tests {
-    use super::*;
-    use std::test::Fail;
-
-    #[test]
-    fn reads_names(rt: HostRuntime) -> Result<(), Fail> {
-        let alloc = rt.alloc();
-        for (text, want) in [
-            ("", Some(NameError::Empty)),
-            ("a/b", Some(NameError::Slash(1))),
-            ("a\0/", Some(NameError::Nul(1))),
-            (".", Some(NameError::Dots)),
-            ("..", Some(NameError::Dots)),
-            ("...", None),
-            ("a b", None),
-        ] {
-            assert_eq!(rt; Name::new(alloc, text).err(), want, "{text}");
-        }
-        let mut long = String::new(alloc);
-        for _ in 0..255 {
-            long.push('a')?;
-        }
-        assert_eq!(rt; Name::new(alloc, long.as_str())?.text(), long.as_str());
-        long.push('a')?;
-        assert_eq!(rt;
-            Name::new(alloc, long.as_str()).err(),
-            Some(NameError::TooLong(256))
-        );
-        Ok(())
-    }
-}

@@ -58,24 +58,3 @@ fn has(mode: u16, bit: u16) -> bool
 {
     mode & bit != 0
 }
-
-#[cfg(test)]
-mod tests {
-    use super::*;
-
-    #[test]
-    fn shows_permissions(rt: HostRuntime) {
-        for (kind, mode, want) in [
-            (Kind::File, 0o755, b"-rwxr-xr-x"),
-            (Kind::Folder, 0o1777, b"drwxrwxrwt"),
-            (Kind::File, 0o4644, b"-rwSr--r--"),
-            (Kind::Folder, 0o2710, b"drwx--s---"),
-            (Kind::File, 0o6711, b"-rws--s--x"),
-            (Kind::Folder, 0o3640, b"drw-r-S--T"),
-            (Kind::Link, 0o777, b"lrwxrwxrwx"),
-            (Kind::Other, 0, b"?---------"),
-        ] {
-            assert_eq!(rt; &perm_text(kind, mode), want, "{mode:o}");
-        }
-    }
-}

@@ -62,34 +62,3 @@ pub fn size_text(alloc: Global, size: u64, columns: usize) -> Result<Text, NoMem
     }
     unreachable!()
 }
-
-#[cfg(test)]
-mod tests {
-    use super::*;
-    use std::convert::AsStr;
-    use std::test::Fail;
-
-    #[test]
-    fn shows_sizes(rt: HostRuntime) -> Result<(), Fail> {
-        let alloc = rt.alloc();
-        for (size, columns, want) in [
-            (0, 7, "0"),
-            (9_999_999, 7, "9999999"),
-            (12_345_678, 7, "12056K"),
-            (u64::MAX, 7, "16383P"),
-            (u64::MAX, 20, "18446744073709551615"),
-            (u64::MAX, 0, "15E"),
-            (9_999, 0, "9999"),
-            (10_000, 4, "9K"),
-            (1_023_999, 4, "999K"),
-            (1_024_000, 4, "0M"),
-        ] {
-            assert_eq!(rt;
-                size_text(alloc, size, columns)?.as_str(),
-                want,
-                "{size} in {columns}"
-            );
-        }
-        Ok(())
-    }
-}

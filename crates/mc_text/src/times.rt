@@ -174,34 +174,3 @@ fn push_two_places(line: &mut String, n: u8) -> Result<(), AllocError>
     line.push(first as char)?;
     line.push((b'0' + n % 10) as char)
 }
-
-#[cfg(test)]
-mod tests {
-    use super::*;
-    use std::convert::AsStr;
-    use std::test::Fail;
-
-    #[test]
-    fn shows_times(rt: HostRuntime) -> Result<(), Fail> {
-        let alloc = rt.alloc();
-        for (secs, now, want) in [
-            (1_714_555_800, 1_714_560_000, "May  1 09:30"),
-            (1_714_555_800, 1_800_000_000, "May  1  2024"),
-            (1_714_555_800, 1_714_555_800 + 15_552_000, "May  1 09:30"),
-            (1_714_555_800, 1_714_555_800 + 15_552_001, "May  1  2024"),
-            (1_714_555_800, 1_714_555_799, "May  1  2024"),
-            (0, 0, "Jan  1 00:00"),
-            (951_827_696, 951_827_696, "Feb 29 12:34"),
-            (32_503_679_999, 0, "Dec 31  2999"),
-            (32_503_680_000, 0, "????????????"),
-            (-1, 0, "????????????"),
-        ] {
-            assert_eq!(rt;
-                time_text(alloc, secs, now)?.as_str(),
-                want,
-                "{secs} at {now}"
-            );
-        }
-        Ok(())
-    }
-}

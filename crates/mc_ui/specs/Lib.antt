@@ -2,3 +2,4 @@ pub mod Choices
 pub mod Panels
 pub mod Refused
 pub mod Screens
+pub mod Rows

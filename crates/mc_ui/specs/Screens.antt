@@ -37,10 +37,11 @@ pub data Box : Type 0 where
   TargetBox : (path : Route) → Box
   TroubleBox : (trouble : Trouble) → Box
 
--- what a key asked for and is to be carried out: a job is to be begun, or its trouble to be answered
+-- what a key asked for and is to be carried out: a job is to be begun, its trouble to be answered, or the session to end
 pub data Planned : Type 0 where
   Begins : (plan : Job) → Planned
   Answers : (answer : Answer) → Planned
+  Ends : Planned
 
 -- the left panel, in which the cursor is, the right one, the box, and what is to be carried out
 pub record Screen : Type 0 where
@@ -165,12 +166,13 @@ answered_box job (Some answer) base before = if can_answer job answer then recor
 abbrev pub in_trouble_box : Option Running → Base → Screen → Screen
 in_trouble_box job base before = answered_box job (letter_of base) base before
 
--- a key while no box is open: Down moves the cursor, F5 and F8 open their boxes
+-- a key while no box is open: Down moves the cursor, F5 and F8 open their boxes, F10 asks for the end
 abbrev pub InPanel : Option View → Option Running → Base → List Refusal → Screen → Screen → Type 0
 InPanel tree job Down refusals before after = (refusals ≡ []) × (after ≡ record before { left = moved_down before.left })
 InPanel tree job (F number) refusals before after =
     MatchBool (number == 5) (Chooses MaskBox tree job (current_path before.left) refusals before after)
-    (MatchBool (number == 8) (Chooses DeleteBox tree job (current_path before.left) refusals before after) ((refusals ≡ []) × (after ≡ before)))
+    (MatchBool (number == 8) (Chooses DeleteBox tree job (current_path before.left) refusals before after)
+    ((refusals ≡ []) × (after ≡ (if number == 10 then record before { planned = Some Ends } else before))))
 InPanel tree job other refusals before after = (refusals ≡ []) × (after ≡ before)
 
 -- what a key without meta makes of the screen, by what is open; the job is the live one
@@ -247,4 +249,4 @@ abbrev pub with_ask : Ask → Screen → Screen
 with_ask (ask.Begin confirmed) screen = record screen { planned = Some (Begins confirmed.plan) }
 with_ask (ask.Answer answer) screen = record screen { planned = Some (Answers answer) }
 with_ask ask.Nothing screen = screen
-with_ask ask.End screen = screen
+with_ask ask.End screen = record screen { planned = Some Ends }

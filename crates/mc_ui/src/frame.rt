@@ -1,6 +1,7 @@
 //! The bytes that show a screen: each row is placed and written, the current one in reverse.
-ghost use Rattle.std.specs.Prelude.{◌≡◌, ◌≤◌, ◌<◌, Err};
+ghost use Rattle.std.specs.Prelude.{◌≡◌, ◌≤◌, ◌<◌, ◌++◌, Err, OnOk, string_bytes};
 ghost use Rattle.tree_trait.specs.Answers.{HasRisen};
+ghost use Rattle.mc_ui.specs.Rows.{fitted_row, placing, row_bytes};
 
 use crate::causes::write_cause;
 use crate::dialog::Dialog;
@@ -13,6 +14,12 @@ use tree_trait::{Sink, SinkError};
 
 /// How many rows of a panel are shown.
 const SHOWN_ROWS: usize = 18;
+
+/// The row of a box's question, counted from 1. Two more rows of it follow, and a line of news.
+const BOX_ROW: usize = SHOWN_ROWS + 1;
+
+/// How many columns the screen has.
+const SCREEN_COLUMNS: usize = 80;
 
 /// How many columns a panel has. The right one begins a column behind the left.
 const PANEL_COLUMNS: usize = 39;
@@ -40,7 +47,7 @@ fn frame_of(alloc: Global, ui: &Ui) -> Result<String, NoMemory> {
     write_panel(alloc, &mut frame, ui.right(), RIGHT_COLUMN, false)?;
     write_dialog(alloc, &mut frame, ui)?;
     if let Some(news) = ui.news() {
-        write_row(alloc, &mut frame, SHOWN_ROWS + 4, news)?;
+        write_row(alloc, &mut frame, BOX_ROW + 4, news)?;
     }
     Ok(frame)
 }
@@ -63,7 +70,7 @@ fn write_panel(
             name_at(panel, row - above)
         };
         if let Some(name) = name {
-            place(frame, line, column)?;
+            place(frame, line + 1, column)?;
             write_name(alloc, frame, name, has_cursor && row == panel.cursor())?;
         }
     }
@@ -83,17 +90,17 @@ fn write_dialog(alloc: Global, frame: &mut String, ui: &Ui) -> Result<(), NoMemo
     match ui.dialog() {
         Dialog::Nothing => Ok(()),
         Dialog::Delete(chosen) => {
-            write_row(alloc, frame, SHOWN_ROWS, "Delete? Enter or F10:")?;
+            write_row(alloc, frame, BOX_ROW, "Delete? Enter or F10:")?;
             write_last(alloc, frame, &chosen.path)
         }
         Dialog::SourceMask(_) => {
-            write_row(alloc, frame, SHOWN_ROWS, "Source mask? Enter or F10:")?;
-            write_row(alloc, frame, SHOWN_ROWS + 1, "*")
+            write_row(alloc, frame, BOX_ROW, "Source mask? Enter or F10:")?;
+            write_row(alloc, frame, BOX_ROW + 1, "*")
         }
         Dialog::CopyTo(_) => {
-            write_row(alloc, frame, SHOWN_ROWS, "Copy to? Enter or F10:")?;
+            write_row(alloc, frame, BOX_ROW, "Copy to? Enter or F10:")?;
             let folder = ui.right().folder().text(alloc)?;
-            write_row(alloc, frame, SHOWN_ROWS + 1, folder.0.as_str())
+            write_row(alloc, frame, BOX_ROW + 1, folder.0.as_str())
         }
         Dialog::Trouble(trouble) => write_trouble(alloc, frame, trouble),
     }
@@ -103,37 +110,55 @@ fn write_dialog(alloc: Global, frame: &mut String, ui: &Ui) -> Result<(), NoMemo
 fn write_trouble(alloc: Global, frame: &mut String, trouble: &Trouble) -> Result<(), NoMemory> {
     let mut cause = String::new(alloc);
     write_cause(&mut cause, trouble.cause)?;
-    write_row(alloc, frame, SHOWN_ROWS, cause.as_str())?;
+    write_row(alloc, frame, BOX_ROW, cause.as_str())?;
     if let Some(path) = &trouble.path {
         let text = path.text(alloc)?;
-        write_row(alloc, frame, SHOWN_ROWS + 1, text.0.as_str())?;
+        write_row(alloc, frame, BOX_ROW + 1, text.0.as_str())?;
     }
     let letters = if trouble.barrier {
         "r Retry  b Abort"
     } else {
         "r Retry  s Skip  a Skip all  b Abort"
     };
-    write_row(alloc, frame, SHOWN_ROWS + 2, letters)
+    write_row(alloc, frame, BOX_ROW + 2, letters)
 }
 
 /// The last name of a path, below the box's question.
 fn write_last(alloc: Global, frame: &mut String, path: &Path) -> Result<(), NoMemory> {
     match path.last() {
         None => Ok(()),
-        Some(name) => write_row(alloc, frame, SHOWN_ROWS + 1, name),
+        Some(name) => write_row(alloc, frame, BOX_ROW + 1, name),
     }
 }
 
-/// Places the next text: lines are counted from 0, columns from 1.
-fn place(frame: &mut String, line: usize, column: usize) -> Result<(), NoMemory> {
-    write!(frame, "\x1b[{};{}H", line.saturating_add(1), column)?;
+/// Places the next text: rows and columns are counted from 1.
+fn place(frame: &mut String, row: usize, column: usize) -> Result<(), NoMemory>
+    ensures placed { OnOk result (string_bytes frame.new ≡ string_bytes frame.old ++ placing row column) }
+{
+    write!(frame, "\x1b[{row};{column}H")?;
     Ok(())
 }
 
 /// Writes a row over the whole width.
-fn write_row(alloc: Global, frame: &mut String, line: usize, text: &str) -> Result<(), NoMemory> {
-    place(frame, line, 1)?;
-    frame.push_str(drawn(alloc, text)?.0.as_str())?;
+fn write_row(alloc: Global, frame: &mut String, row: usize, text: &str) -> Result<(), NoMemory>
+    ensures row { OnOk result (string_bytes frame.new ≡ string_bytes frame.old ++ row_bytes row text.now) }
+{
+    place(frame, row, 1)?;
+    push_fitted(alloc, frame, text, SCREEN_COLUMNS)
+}
+
+/// Adds a text in exactly so many columns, so that it wraps over nothing.
+fn push_fitted(
+    alloc: Global,
+    frame: &mut String,
+    text: &str,
+    columns: usize,
+) -> Result<(), NoMemory>
+    ensures row { OnOk result (string_bytes frame.new ≡ string_bytes frame.old ++ fitted_row text.now columns) }
+{
+    let shown = drawn(alloc, text)?;
+    let fitted = fit(alloc, shown.0.as_str(), columns)?;
+    frame.push_str(fitted.0.as_str())?;
     Ok(())
 }
 
@@ -144,12 +169,10 @@ fn write_name(
     name: &str,
     is_current: bool,
 ) -> Result<(), NoMemory> {
-    let shown = drawn(alloc, name)?;
-    let fitted = fit(alloc, shown.0.as_str(), PANEL_COLUMNS)?;
     if is_current {
         frame.push_str("\x1b[7m")?;
     }
-    frame.push_str(fitted.0.as_str())?;
+    push_fitted(alloc, frame, name, PANEL_COLUMNS)?;
     if is_current {
         frame.push_str("\x1b[0m")?;
     }

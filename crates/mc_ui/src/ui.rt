@@ -94,7 +94,6 @@ impl Ui {
     ) -> Result<KeyAct, NoMemory>
         ensures leads { IfOk result (λ act. KeyLeads (sight (T.contents tree.old)) (option_map told job.now)
             key act.refusals self.old (with_ask act.ask self.new)) }
-        ensures ends { IfOk result (λ act. act.ask ≡ Ask.End ↔ ((plain_base key ≡ Base.F 10) × (self.old.over ≡ NoBox))) }
         ensures asked { IfOk result (λ act. WellAsked next job.now act.ask) }
         ensures called { IfKnown (T.contents tree.old) (λ log. IfOk result (λ act. AreRefused Stat log act.refusals)) }
         ensures fault { IfOk result (λ act. has_fault act.refusals ≡ true → HasRisen (T.fault_count tree.old) (T.fault_count tree.new)) }

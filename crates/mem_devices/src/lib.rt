@@ -7,8 +7,6 @@ mod mute;
 mod sink;
 mod source;
 mod spawner;
-#[cfg(test)]
-mod tests;
 
 pub use clock::FixedClock;
 pub use mute::Mute;

@@ -14,8 +14,6 @@ mod perform;
 mod plan;
 mod record;
 mod step;
-#[cfg(test)]
-mod tests;
 mod tree;
 
 pub use choice::{Choice, Fill};

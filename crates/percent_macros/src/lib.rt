@@ -10,8 +10,6 @@ mod inserted;
 mod macros;
 mod pieces;
 mod quoting;
-#[cfg(test)]
-mod tests;
 
 pub use context::{Context, Side};
 pub use error::MacroError;

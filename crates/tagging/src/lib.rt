@@ -12,8 +12,6 @@ mod parse;
 mod pattern;
 mod regex_name;
 mod tags;
-#[cfg(test)]
-mod tests;
 mod walk;
 
 pub use bracket::{BracketSet, Span};

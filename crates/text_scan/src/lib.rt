@@ -5,9 +5,6 @@ ghost use Rattle.std.specs.Prelude.{◌≡◌, ◌+◌, ◌<◌, ◌≤◌, [], 
 ghost use Rattle.text_scan.specs.Lines.{IsWithout, lines_of};
 ghost use Rattle.text_scan.specs.HighBytes.{AreHigh};
 
-#[cfg(test)]
-mod tests;
-
 /// A text's first character, and the text behind it.
 pub fn first_char(text: &str) -> Option<(char, &str)>
     ensures bytes { MatchOption result (text.now ≡ []) (λ (character, rest). text.now ≡ encode_utf8 character ++ rest.now) }

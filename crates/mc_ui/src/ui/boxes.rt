@@ -37,7 +37,6 @@ impl Ui {
             ≡ in_delete_box base (option_map told job.now) chosen.path (record self.old { over = DeleteBox chosen.path })) }
         ensures refusals { IfOk result (λ act. act.refusals ≡ []) }
         ensures asked { IfOk result (λ act. WellAsked next job.now act.ask) }
-        ensures stays { IfOk result (λ act. act.ask ≢ Ask.End) }
         ensures left { self.new.left ≡ self.old.left }
         ensures right { self.new.right ≡ self.old.right }
         ensures settled { self.new.planned ≡ None }
@@ -86,7 +85,6 @@ impl Ui {
         ensures leads { IfOk result (λ act. InTargetBox (sight (T.contents tree.old)) base (option_map told job.now) chosen.path
             act.refusals (record self.old { over = TargetBox chosen.path }) (with_ask act.ask self.new)) }
         ensures asked { IfOk result (λ act. WellAsked next job.now act.ask) }
-        ensures stays { IfOk result (λ act. act.ask ≢ Ask.End) }
         ensures called { IfKnown (T.contents tree.old) (λ log. IfOk result (λ act. AreRefused Stat log act.refusals)) }
         ensures fault { IfOk result (λ act. has_fault act.refusals ≡ true → HasRisen (T.fault_count tree.old) (T.fault_count tree.new)) }
         ensures left { self.new.left ≡ self.old.left }
@@ -116,7 +114,6 @@ impl Ui {
         ensures leads { IfOk result (λ act. PlansCopy (sight (T.contents tree.old)) chosen.path (target_in self.old.right.folder chosen.path)
             act.refusals (record self.old { over = TargetBox chosen.path }) (with_ask act.ask self.new)) }
         ensures numbered { IfOk result (λ act. WellAsked next None act.ask) }
-        ensures stays { IfOk result (λ act. act.ask ≢ Ask.End) }
         ensures called { IfKnown (T.contents tree.old) (λ log. IfOk result (λ act. AreRefused Stat log act.refusals)) }
         ensures fault { IfOk result (λ act. has_fault act.refusals ≡ true → HasRisen (T.fault_count tree.old) (T.fault_count tree.new)) }
         ensures left { self.new.left ≡ self.old.left }
@@ -160,7 +157,6 @@ impl Ui {
             ≡ in_trouble_box (option_map told job.now) base (record self.old { over = TroubleBox trouble }) }
         ensures refusals { result.refusals ≡ [] }
         ensures asked { (next : ℕ) → WellAsked next job.now result.ask }
-        ensures stays { result.ask ≢ Ask.End }
         ensures left { self.new.left ≡ self.old.left }
         ensures right { self.new.right ≡ self.old.right }
         ensures settled { self.new.planned ≡ None }
@@ -188,7 +184,6 @@ impl Ui {
             ≡ answered_box (option_map told job.now) (Some answer) base (record self.old { over = TroubleBox trouble }) }
         ensures refusals { result.refusals ≡ [] }
         ensures asked { (next : ℕ) → WellAsked next job.now result.ask }
-        ensures stays { result.ask ≢ Ask.End }
         ensures left { self.new.left ≡ self.old.left }
         ensures right { self.new.right ≡ self.old.right }
         ensures settled { self.new.planned ≡ None }

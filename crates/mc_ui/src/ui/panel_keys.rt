@@ -37,7 +37,6 @@ impl Ui {
         requires clear { self.old.over ≡ NoBox }
         ensures leads { IfOk result (λ act. InPanel (sight (T.contents tree.old)) (option_map told job.now)
             base act.refusals self.old (with_ask act.ask self.new)) }
-        ensures ends { IfOk result (λ act. act.ask ≡ Ask.End ↔ (base ≡ Base.F 10)) }
         ensures asked { IfOk result (λ act. (next : ℕ) → WellAsked next job.now act.ask) }
         ensures called { IfKnown (T.contents tree.old) (λ log. IfOk result (λ act. AreRefused Stat log act.refusals)) }
         ensures fault { IfOk result (λ act. has_fault act.refusals ≡ true → HasRisen (T.fault_count tree.old) (T.fault_count tree.new)) }

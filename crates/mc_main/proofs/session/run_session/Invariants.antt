@@ -1,11 +1,12 @@
--- The folders stay, the desk is open, the keyboard's count of faults doesn't fall, and the keys are those of the bytes taken.
+-- The session goes on, the keyboard has left what it didn't take, and its count of faults doesn't fall.
 use Rattle.std.proofs.Common.{◌≡◌, ◌≤◌, false}
-use Rattle.tree_trait.specs.Answers.{IfKnown}
-use Rattle.mc_ui.specs.Screens.{SameFolders}
-use Rattle.mc_main.proofs.Taking.{HasCome}
+use Rattle.mc_desk.specs.Desks.{is_over}
+use Rattle.mc_main.specs.Headline.{left_of}
 use Rattle.mc_main.proofs.session.run_session.Given as goal
 
 abbrev pub invariant-loop : goal.invariant-loop
-invariant-loop g l =
-    SameFolders l.fn.desk.screen l.desk.screen × (l.desk.tally.closed ≡ false) × (g.K.Source.fault_count l.fn.keys ≤ g.K.Source.fault_count l.keys)
-    × IfKnown (g.K.Source.left l.fn.keys) (λ bytes. HasCome bytes (g.K.Source.left l.keys) l.desk)
+invariant-loop g l = record {
+  goes_on : is_over l.desk ≡ false;
+  left : g.K.Source.left l.keys ≡ left_of g.N.Tag.stream l.desk.taken;
+  later : g.K.Source.fault_count l.fn.keys ≤ g.K.Source.fault_count l.keys;
+}

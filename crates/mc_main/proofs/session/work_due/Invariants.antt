@@ -1,12 +1,12 @@
--- The job comes nearer to its end; the screen, the keys and what is to be looked at stay.
+-- The job comes nearer to its end; the keys and what is to be looked at stay.
 use Rattle.std.proofs.Common.{◌≡◌}
 use Rattle.copy_move.specs.Ranks.{rank_with}
-use Rattle.mc_desk.specs.Desks.{KeepsKeys}
+use Rattle.mc_desk.specs.Desks.{KeepsKeys, is_over}
 use Rattle.mc_main.proofs.session.work_due.Given as goal
 
 abbrev pub invariant-loop-desk : goal.invariant-loop-desk
 invariant-loop-desk g l =
-    (l.desk.screen ≡ l.fn.desk.screen) × KeepsKeys l.fn.desk l.desk × (l.desk.tally.closed ≡ l.fn.desk.tally.closed) × (l.desk.tally.due ≡ l.fn.desk.tally.due)
+    KeepsKeys l.fn.desk l.desk × (is_over l.desk ≡ is_over l.fn.desk) × (l.desk.tally.due ≡ l.fn.desk.tally.due)
 
 abbrev pub decreases-loop-desk : goal.decreases-loop-desk
 decreases-loop-desk g l = rank_with l.desk.dirty l.desk.job

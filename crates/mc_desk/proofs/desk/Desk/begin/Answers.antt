@@ -1,14 +1,6 @@
--- The opening is a session of no entries.
-use Rattle.std.proofs.Common.{◌∙◌, sym, subst, arith, ap}
-use Rattle.mc_desk.specs.Starts.{IsOpened}
-use Rattle.mc_desk.specs.Tallies.{faults_in}
-use Rattle.mc_desk.proofs.Keeping.{kept_opening}
+-- At the opening nothing was taken.
+use Rattle.mc_desk.proofs.Streams.{fed_first}
 use Rattle.mc_desk.proofs.desk.Desk.begin.Goals as goal
 
 pub invariant_of-result : goal.invariant_of-result
-invariant_of-result g c = record {
-  desk = kept_opening g.N.Tag.opening _ g.N.Tag.tree_faults c.args.start.left c.args.start.right c.in-Ok.ui c.in-Ok.log _ _ _ (c.open.ensures.same ∙ c.requires.opening)
-      (subst (λ o. IsOpened o c.args.start.left c.args.start.right c.in-Ok.ui c.in-Ok.log) (sym c.open.ensures.same) c.in-Ok.ensures.opened) c.new-in-Ok.ensures;
-  counted = let none = ap (faults_in g.N.Tag.tree_faults) c.in-Ok.ensures.opened.empty in let had = c.requires.faults in let later = c.open.ensures.later in omega (arith, none, had, later);
-  screen = c.requires.sink;
-}
+invariant_of-result g c = fed_first _ c.in-Ok.session c.in-Ok.ensures.opened c.in-Ok.ensures.none_taken.0 c.in-Ok.ensures.none_taken.1

@@ -1,48 +1,11 @@
--- The keys that a byte completes are worked, all or but the last.
-use Rattle.std.proofs.Common.{rules, ◌≡◌, ◌∷◌, ◌++◌, [], false, None, ap, subst, ◌∙◌}
-use Rattle.key_screen.specs.DecodedKeys.{decoded_keys, keys_fed}
-use Rattle.mc_desk.specs.Tallies.{keys_in}
-use Rattle.mc_desk.specs.Desks.{Seen}
-use Rattle.mc_desk.proofs.Taking.{takes_none, takes_one, takes_two, lacks_second}
+-- A byte of the keyboard joins those that were taken.
+use Rattle.std.proofs.Common.{sym, subst}
+use Rattle.tree_trait.specs.Answers.{IfKnown}
+use Rattle.mc_desk.specs.Desks.{IsNext, Seen}
+use Rattle.mc_desk.proofs.Streams.{fed_byte}
 use Rattle.mc_desk.proofs.desk.Desk.byte.Goals as goal
 
-pub returns-in_default-clause-keys : goal.returns-in_default-clause-keys
-returns-in_default-clause-keys g c bytes taken =
-    let old = c.args.self.now in
-    let unclosed : old.tally.closed ≡ false = search rules in
-    let now : decoded_keys (old.pending ++ c.args.byte ∷ []) ≡ record { keys = keys_fed c.feed-first.result; rest = c.feed-first.new.self } =
-    subst (λ p. decoded_keys (p ++ c.args.byte ∷ []) ≡ record { keys = keys_fed c.feed-first.result; rest = c.feed-first.new.self }) (ap (λ (d : Seen). d.pending) c.self.view_is) c.feed-first.ensures.keys in
-    let first : c.feed-first.result.first ≡ None = search rules in
-    let second : c.feed-first.result.second ≡ None = search rules in
-    takes_none bytes c.args.byte old c.redraw.new.self c.feed-first.result c.feed-first.new.self taken unclosed now c.redraw.ensures.keys.pending c.redraw.result first second
-    (c.redraw.ensures.keys.keys ∙ ap keys_in (c.reserve.ensures.same ∙ ap (λ (d : Seen). d.newest) c.self.view_is))
-
-pub returns-in_default-second-clause-keys : goal.returns-in_default-second-clause-keys
-returns-in_default-second-clause-keys g c bytes taken =
-    let old = c.args.self.now in
-    let unclosed : old.tally.closed ≡ false = search rules in
-    let now : decoded_keys (old.pending ++ c.args.byte ∷ []) ≡ record { keys = keys_fed c.feed-first.result; rest = c.feed-first.new.self } =
-    subst (λ p. decoded_keys (p ++ c.args.byte ∷ []) ≡ record { keys = keys_fed c.feed-first.result; rest = c.feed-first.new.self }) (ap (λ (d : Seen). d.pending) c.self.view_is) c.feed-first.ensures.keys in
-    let second : c.feed-first.result.second ≡ None = search rules in
-    takes_one bytes c.args.byte old c.work_key-reply.new.self c.feed-first.result c.feed-first.new.self taken unclosed now c.work_key-reply.ensures.pending c.work_key-reply.result c.in-Some.first c.in-Some.is second
-    (c.work_key-reply.ensures.keys ∙ ap (λ es. keys_in es ++ c.in-Some.first ∷ []) (c.reserve.ensures.same ∙ ap (λ (d : Seen). d.newest) c.self.view_is))
-
-pub returns-in-Err-clause-keys : goal.returns-in-Err-clause-keys
-returns-in-Err-clause-keys g c bytes taken =
-    let old = c.args.self.now in
-    let unclosed : old.tally.closed ≡ false = search rules in
-    let now : decoded_keys (old.pending ++ c.args.byte ∷ []) ≡ record { keys = keys_fed c.feed-first.result; rest = c.feed-first.new.self } =
-    subst (λ p. decoded_keys (p ++ c.args.byte ∷ []) ≡ record { keys = keys_fed c.feed-first.result; rest = c.feed-first.new.self }) (ap (λ (d : Seen). d.pending) c.self.view_is) c.feed-first.ensures.keys in
-    lacks_second bytes c.args.byte old c.work_key-reply.new.self c.feed-first.result c.feed-first.new.self taken unclosed now c.work_key-reply.ensures.pending c.in-Err.error c.in-Some.first c.in-Some-second.second c.in-Some.is c.in-Some-second.is
-    (c.work_key-reply.ensures.keys ∙ ap (λ es. keys_in es ++ c.in-Some.first ∷ []) (c.reserve.ensures.same ∙ ap (λ (d : Seen). d.newest) c.self.view_is))
-
-pub returns-in-Ok-clause-keys : goal.returns-in-Ok-clause-keys
-returns-in-Ok-clause-keys g c bytes taken =
-    let old = c.args.self.now in
-    let unclosed : old.tally.closed ≡ false = search rules in
-    let now : decoded_keys (old.pending ++ c.args.byte ∷ []) ≡ record { keys = keys_fed c.feed-first.result; rest = c.feed-first.new.self } =
-    subst (λ p. decoded_keys (p ++ c.args.byte ∷ []) ≡ record { keys = keys_fed c.feed-first.result; rest = c.feed-first.new.self }) (ap (λ (d : Seen). d.pending) c.self.view_is) c.feed-first.ensures.keys in
-    takes_two bytes c.args.byte old c.work_key.new.self c.feed-first.result c.feed-first.new.self taken unclosed now (c.work_key.ensures.pending ∙ c.work_key-reply.ensures.pending) c.work_key.result c.in-Some.first
-    c.in-Some-second.second c.in-Some.is c.in-Some-second.is
-    (c.work_key.ensures.keys ∙ ap (λ ks. ks ++ c.in-Some-second.second ∷ [])
-    (c.work_key-reply.ensures.keys ∙ ap (λ es. keys_in es ++ c.in-Some.first ∷ []) (c.reserve.ensures.same ∙ ap (λ (d : Seen). d.newest) c.self.view_is)))
+pub invariant_of-self : goal.invariant_of-self
+invariant_of-self g c =
+    fed_byte g.N.Tag.stream c.args.byte c.self.inside.session c.byte.new.self c.byte.result
+    (subst (λ (d : Seen). IfKnown g.N.Tag.stream (λ bytes. IsNext bytes d.taken c.args.byte)) (sym c.self.view_is) c.requires.next) c.byte.ensures.over c.byte.ensures.keys c.self.invariant

@@ -1,37 +1,11 @@
--- A tree that was called as the history tells shows what the history makes of it.
-use Rattle.std.proofs.Common.{rules, sym, subst, ◌≡◌, None, ap}
-use Rattle.copy_move.specs.Replay.{IsReplayed}
-use Rattle.copy_move.specs.Traces.{IsTracedTo}
-use Rattle.copy_move.proofs.ReplayedTo.{replayed_to}
-use Rattle.mc_ui.specs.Screens.{Screen}
-use Rattle.mc_desk.specs.Sessions.{IsSession}
-use Rattle.mc_desk.proofs.Keeping.{session_traced_to}
+-- The keys of the history are those of the bytes that were taken.
+use Rattle.std.proofs.Common.{reverse, subst}
+use Rattle.tree_trait.specs.Answers.{IfKnown}
+use Rattle.mc_desk.specs.Desks.{Reads, Seen}
+use Rattle.mc_desk.proofs.Streams.{reads_end}
 use Rattle.mc_desk.proofs.desk.Desk.end.Goals as goal
 
-pub returns-clause-replayed : goal.returns-clause-replayed
-returns-clause-replayed g c =
-    let desk = c.desk.inside in
-    subst (λ es. IsReplayed g.N.Tag.opening (g.T.Tree.contents desk.tree) es) (sym c.into_history.ensures.entries)
-    (replayed_to g.N.Tag.opening (g.T.Tree.contents desk.tree) desk.log.newest desk.job
-    (session_traced_to g.N.Tag.opening g.N.Tag.tree_faults desk.log.newest desk.ui desk.job (g.T.Tree.contents desk.tree) c.desk.invariant.desk.written.session))
-
-pub returns-clause-traced : goal.returns-clause-traced
-returns-clause-traced g c =
-    let desk = c.desk.inside in
-    let none : desk.job ≡ None = search rules in
-    subst (λ es. IsTracedTo g.N.Tag.opening (g.T.Tree.contents desk.tree) es None) (sym c.into_history.ensures.entries)
-    (subst (λ j. IsTracedTo g.N.Tag.opening (g.T.Tree.contents desk.tree) desk.log.newest j) none
-    (session_traced_to g.N.Tag.opening g.N.Tag.tree_faults desk.log.newest desk.ui desk.job (g.T.Tree.contents desk.tree) c.desk.invariant.desk.written.session))
-
-pub returns-clause-session : goal.returns-clause-session
-returns-clause-session g c =
-    let desk = c.desk.inside in
-    let none : desk.job ≡ None = search rules in
-    let screen : desk.ui ≡ c.args.self.screen = search rules in (
-      desk.ui,
-      ap (λ (s : Screen). s.left.folder) screen,
-      ap (λ (s : Screen). s.right.folder) screen,
-      c.desk.invariant.desk.settled,
-      subst (λ es. IsSession g.N.Tag.opening g.N.Tag.tree_faults es desk.ui None (g.T.Tree.contents desk.tree)) (sym c.into_history.ensures.entries)
-          (subst (λ j. IsSession g.N.Tag.opening g.N.Tag.tree_faults desk.log.newest desk.ui j (g.T.Tree.contents desk.tree)) none c.desk.invariant.desk.written.session),
-    )
+pub returns-clause-keys : goal.returns-clause-keys
+returns-clause-keys g c =
+    subst (λ (d : Seen). IfKnown g.N.Tag.stream (λ bytes. Reads bytes d.taken d.tally.closed (reverse c.end.result.history.entries))) c.self.view_is
+    (reads_end g.N.Tag.stream c.self.inside.session (reverse c.end.result.history.entries) c.end.ensures.keys c.self.invariant)

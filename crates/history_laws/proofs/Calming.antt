@@ -1,0 +1,146 @@
+-- Calls that change no name, by their answers: a sync, one that was refused, a write to the part, another mode of it.
+use Rattle.std.proofs.Common.{◌≡◌, ◌⊎◌, ℕ, ℤ, Bool, true, false, not, List, [], ◌∷◌, ◌++◌, length, refl, sym, ◌∙◌, ap, subst, inl, inr, Option, Some, Ok, Err}
+use Rattle.std.specs.Prelude.{filter, ◌==◌}
+use Rattle.std.proofs.lemmas.Bool.{true≢false, both_ways, false_from_ne_true, eqb-true}
+use Rattle.std.proofs.lemmas.List.{length-set}
+use Rattle.mc_text.specs.Routes.{Route, same_path}
+use Rattle.tree_trait.specs.declared.file_system.FileSystem.{FileSystem}
+use Rattle.tree_trait.specs.declared.calls.TreeError.{TreeError}
+use Rattle.tree_trait.specs.FileSystem.{find}
+use Rattle.tree_trait.specs.Shape.{IsTree}
+use Rattle.tree_trait.specs.Calls.{Call, SyncFolder}
+use Rattle.tree_trait.specs.Change.{Nothing, Sets, Writes, Syncs, CallLog, current, with_change, found, torn_write}
+use Rattle.tree_trait.specs.CrashImages.{Among}
+use Rattle.tree_trait.specs.Answers.{Performs}
+use Rattle.tree_trait.proofs.Ending as ending
+use Rattle.tree_trait.proofs.Finding.{find-once}
+use Rattle.tree_trait.proofs.Kept.{tree_set}
+use Rattle.tree_trait.proofs.Visible.{same_path-true}
+use Rattle.crash_law.specs.Guarded.{Marks}
+use Rattle.crash_law.proofs.Guarding.{same_quiet}
+use Rattle.crash_law.proofs.Leading.{current_more}
+use Rattle.file_copy.proofs.CopyAnswers.{some_log, done_call}
+use Rattle.file_copy.proofs.PermittedCalls.{sync_finds}
+use Rattle.history_laws.specs.Doubt.{is_pending}
+use Rattle.history_laws.proofs.Pending.{pending_synced}
+use Rattle.history_laws.proofs.Knowing.{Said, IsKnown}
+use Rattle.history_laws.proofs.Quiet.{calm_known}
+
+some_route : (p q : Route) → (let o : Option Route = Some p in o) ≡ Some q → q ≡ p
+some_route p q h = cc
+
+module _ (said : Said) (dirty : List Route) (marks : Marks) (log : CallLog) (known : IsKnown said dirty marks log) where
+  pub nothing_known : IsKnown said dirty marks (with_change log Nothing)
+  nothing_known = calm_known said dirty marks log Nothing known (record {
+    quiet = record {
+      tree = subst IsTree (sym (current_more log Nothing)) known.guarded.tree;
+      names = λ g m. refl;
+      count = ap (λ (s : FileSystem). length s.nodes) (current_more log Nothing);
+      others = λ i firm. refl;
+    };
+    within = refl;
+    still = λ p i other at. refl;
+  })
+
+  pub synced_known : (f : ℕ) → IsKnown said dirty marks (with_change log (Syncs f))
+  synced_known f = calm_known said dirty marks log (Syncs f) known (record {
+    quiet = record {
+      tree = subst IsTree (sym (current_more log (Syncs f))) known.guarded.tree;
+      names = λ g m. refl;
+      count = ap (λ (s : FileSystem). length s.nodes) (current_more log (Syncs f));
+      others = λ i firm. refl;
+    };
+    within = refl;
+    still = λ p i other at. refl;
+  })
+
+  -- the part that stands leads to a node that is loose
+  module _ (part : Route) (i : ℕ) (is : said.part ≡ Some part) (at : find (current log) part ≡ Some i) (loose : marks.loose i ≡ true) where
+    loose_alone : (j : ℕ) → marks.loose j ≡ false → (b : Bool) → (i == j) ≡ b → b ≡ false
+    loose_alone j firm true same = absurd (true≢false (sym loose ∙ (ap marks.loose (eqb-true i j same) ∙ firm)))
+    loose_alone j firm false same = refl
+
+    part_alone : (p : Route) (j : ℕ) → (said.part ≡ Some p → ⊥) → find (current log) p ≡ Some j → (b : Bool) → (i == j) ≡ b → b ≡ false
+    part_alone p j other there true same =
+        absurd (other (is ∙ ap (λ q. Some q) (find-once (current log) known.guarded.tree part p i at (there ∙ ap (λ k. Some k) (sym (eqb-true i j same))))))
+    part_alone p j other there false same = refl
+
+    pub written_known : (bytes : List ℕ) (time : ℤ) → IsKnown said dirty marks (with_change log (Writes i bytes time))
+    written_known bytes time = calm_known said dirty marks log (Writes i bytes time) known (record {
+      quiet = record {
+        tree = subst IsTree (sym (current_more log (Writes i bytes time))) (tree_set (current log) i _ known.guarded.tree refl);
+        names = λ g m. refl;
+        count = ap (λ (s : FileSystem). length s.nodes) (current_more log (Writes i bytes time)) ∙ length-set (current log).nodes i _;
+        others = λ j firm. loose_alone j firm (i == j) refl;
+      };
+      within = refl;
+      still = λ p j other there. part_alone p j other there (i == j) refl;
+    })
+
+    pub moded_known : (mode : ℕ) → IsKnown said dirty marks (with_change log (Sets i mode))
+    moded_known mode = calm_known said dirty marks log (Sets i mode) known (record {
+      quiet = record {
+        tree = subst IsTree (sym (current_more log (Sets i mode))) (tree_set (current log) i _ known.guarded.tree refl);
+        names = λ g m. refl;
+        count = ap (λ (s : FileSystem). length s.nodes) (current_more log (Sets i mode)) ∙ length-set (current log).nodes i _;
+        others = λ j firm. loose_alone j firm (i == j) refl;
+      };
+      within = refl;
+      still = λ p j other there. part_alone p j other there (i == j) refl;
+    })
+
+abbrev without : Route → List Route → List Route
+without up routes = filter (λ kept. not (same_path kept up)) routes
+
+unless_same : (up q first : Route) (routes : List Route) (b : Bool) → same_path first up ≡ b → same_path q up ≡ false → (q ≡ first) ⊎ Among (without up routes) q → Among (without up (first ∷ routes)) q
+unless_same up q first routes true is off (inl same) = absurd (both_ways _ off (subst (λ r. same_path r up ≡ true) (sym same) is))
+unless_same up q first routes true is off (inr more) = rw is more
+unless_same up q first routes false is off among = rw is among
+
+pub still_listed : (up q : Route) (routes : List Route) → Among routes q → same_path q up ≡ false → Among (without up routes) q
+still_listed up q [] among off = among
+still_listed up q (first ∷ routes) (inl same) off = unless_same up q first routes (same_path first up) refl off (inl same)
+still_listed up q (first ∷ routes) (inr more) off = unless_same up q first routes (same_path first up) refl off (inr (still_listed up q routes more off))
+
+-- a call that is no write and was refused, or found no memory, changes nothing
+abbrev pub IsNoWrite : Call → Type 0
+IsNoWrite call = (s : FileSystem) (left : List ℕ) → torn_write s call left ≡ Nothing
+
+pub refused_is : (log now : CallLog) (call : Call) (e : TreeError) → IsNoWrite call → Performs {A = Unit {0}} log call (Err e) (Some now) → (now ≡ log) ⊎ (now ≡ with_change log Nothing)
+refused_is log now call e no_write h =
+    let q = ending.Performs-err (Unit {0}) log call (Some now) no_write e h in
+    let is = some_log now q.after q.tells in
+    elim q.how [ inl same ↦ inl (is ∙ same) | inr more ↦ inr (is ∙ more) ]
+
+module _ (said : Said) (dirty : List Route) (marks : Marks) (log : CallLog) (known : IsKnown said dirty marks log) (up : Route) where
+  -- a folder that was synced is dirty no more
+  pub cleared_known : (f : ℕ) → find (current log) up ≡ Some f → IsKnown said (without up dirty) marks (with_change log (Syncs f))
+  cleared_known f at = record {
+    guarded = k.guarded;
+    files = k.files;
+    folders = k.folders;
+    aside = k.aside;
+    was_there = k.was_there;
+    was_shown = k.was_shown;
+    shows = k.shows;
+    part = k.part;
+    tracked = λ g m waits. let t = k.tracked g m waits in (t.0, still_listed up t.0 dirty t.1 (off g m waits t.0 t.2), t.2);
+  }
+    where
+      k : IsKnown said dirty marks (with_change log (Syncs f))
+      k = synced_known said dirty marks log known f
+
+      off : (g : ℕ) (m : List ℕ) → is_pending g m (log.changes ++ Syncs f ∷ []) ≡ true → (q : Route) → find (current (with_change log (Syncs f))) q ≡ Some g → same_path q up ≡ false
+      off g m waits q there = false_from_ne_true _ (λ same.
+          let q_is = same_path-true q up same in
+          let here : find (current (with_change log (Syncs f))) q ≡ Some f = same_quiet log (Syncs f) (λ h n. refl) q ∙ (ap (find (current log)) q_is ∙ at) in
+          let g_is : g ≡ f = (let e = sym there ∙ here in cc) in
+          both_ways _ (pending_synced f m log.changes known.files.within) (subst (λ j. is_pending j m (log.changes ++ Syncs f ∷ []) ≡ true) g_is waits))
+
+  -- the sync of a folder that was done
+  pub folder_synced : (now : CallLog) → Performs {A = Unit {0}} log (SyncFolder up) (Ok tt) (Some now)
+      → (f : ℕ) × (now ≡ with_change log (Syncs f)) × IsKnown said (without up dirty) marks now
+  folder_synced now done =
+      let d = done_call log (SyncFolder up) now done in
+      let f = found (current log) up in
+      (f, d.is, subst (λ (l : CallLog). IsKnown said (without up dirty) marks l) (sym d.is) (cleared_known f (sync_finds (current log) up d.permits)))

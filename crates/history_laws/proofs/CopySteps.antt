@@ -1,0 +1,244 @@
+-- Each step of the copy of a file keeps what is known.
+use Rattle.std.proofs.Common.{◌≡◌, ◌⊎◌, ℕ, ◌≤◌, ◌+◌, zero, suc, true, List, [], ◌∷◌, length, refl, sym, ◌∙◌, ap, subst, inl, inr, Option, Some, None, Ok, Err, arith}
+use Rattle.std.specs.Prelude.{unwrap_or, pos}
+use Rattle.std.specs.Option.{option_map}
+use Rattle.std.proofs.lemmas.Bool.{both_ways}
+use Rattle.mc_text.specs.Routes.{Route}
+use Rattle.tree_trait.specs.declared.file_system.Node.{Node}
+use Rattle.tree_trait.specs.declared.file_system.FileSystem.{FileSystem}
+use Rattle.tree_trait.specs.declared.calls.TreeError.{TreeError}
+use Rattle.tree_trait.specs.declared.calls.TreeError.TheVariants.{Fault, Memory}
+use Rattle.tree_trait.specs.FileSystem.{Spot, Value, find, node, value}
+use Rattle.tree_trait.specs.Calls.{RemoveFile, SyncFolder, WriteAt}
+use Rattle.tree_trait.specs.Change.{Nothing, Removes, Writes, CallLog, current, with_change}
+use Rattle.tree_trait.specs.CrashImages.{Among}
+use Rattle.tree_trait.specs.Answers.{Performs}
+use Rattle.tree_trait.proofs.Ending as ending
+use Rattle.crash_law.specs.Guarded.{Marks}
+use Rattle.file_copy.specs.declared.report.Cause.{Cause}
+use Rattle.file_copy.specs.declared.report.Cause.TheVariants as cause
+use Rattle.file_copy.specs.declared.report.Ending.TheVariants.{Finished, Aborted, Killed, NoMemory}
+use Rattle.file_copy.specs.declared.report.Did.{Did}
+use Rattle.file_copy.specs.declared.report.Did.TheVariants.{Began, Chunk, Placed, Removed, Skipped, Cleaned, Barrier, Troubled, Ended}
+use Rattle.file_copy.specs.declared.stage.FolderState.TheVariants.{Synced, Dirty}
+use Rattle.file_copy.specs.declared.stage.Next.{Next}
+use Rattle.file_copy.specs.declared.stage.Next.TheVariants as next
+use Rattle.file_copy.specs.declared.stage.Said.{Said as SaidOf}
+use Rattle.file_copy.specs.declared.stage.Stage.{Stage}
+use Rattle.file_copy.specs.declared.stage.Stage.TheVariants.{Begin, Fill, Clean, Left, Decided}
+use Rattle.file_copy.specs.CallRuns.{AllDone, RunStops}
+use Rattle.file_copy.specs.CopyCalls.{BeganOf, CopyCalls, CopyStops, making, next_bytes, placing, writing}
+use Rattle.file_copy.specs.Copying.{Copying, Tells, after_clean, folder_of, is_dirty, is_fresh, places_of}
+use Rattle.file_copy.proofs.CopyAnswers.{calm_stops, one_done, some_log}
+use Rattle.copy_move.specs.declared.work.Work.{Work}
+use Rattle.copy_move.specs.declared.work.Work.TheVariants.{Copy}
+use Rattle.copy_move.specs.declared.run.Course.{Course}
+use Rattle.copy_move.specs.declared.run.Course.TheVariants.{GoesOn, InTrouble}
+use Rattle.copy_move.specs.Jobs.{course_after}
+use Rattle.copy_move.specs.Settling.{NoneOwed, with_change as moves_dirty}
+use Rattle.copy_move.specs.Traces.{IsUnclaimed}
+use Rattle.history_laws.proofs.Calming.{written_known}
+use Rattle.history_laws.proofs.Changing.{off_itself, removed_known}
+use Rattle.history_laws.proofs.Deleted.{IsRemoval, comes_refused, removal_done}
+use Rattle.history_laws.proofs.DeletionSteps.{Steps, ends, same_dirty, tried}
+use Rattle.history_laws.proofs.Filling.{begun, filled_more, listed_now, target_free}
+use Rattle.history_laws.proofs.Knowing.{Said, IsKnown, IsKept, settled_marks}
+use Rattle.history_laws.proofs.JobKnows.{HasPart, IsUntouched, KnowsAfter, StageKnows, WorkKnows, part_settled, untouched_settled, work_course}
+use Rattle.history_laws.proofs.PartNodes.{part_on, part_there, written_node}
+use Rattle.history_laws.proofs.PlacingSteps.{part_placed, part_refused, placing_stops}
+use Rattle.history_laws.proofs.Stepped.{Comes, comes_map, comes_one, said_after}
+
+none_found : (o : Option ℕ) (f : ℕ → Value) → option_map f o ≡ None → o ≡ None
+none_found None f h = refl
+none_found (Some i) f h = absurd (let e : ⊥ = cc in e)
+
+some_route : (p q : Route) → (let o : Option Route = Some p in o) ≡ Some q → p ≡ q
+some_route p q h = cc
+
+-- the part is removed
+pub part_cleaned : (told : Said) (dirty : List Route) (marks : Marks) (log now : CallLog) (work : Work) (target part : Route) (i : ℕ) → IsKept told dirty marks log → HasPart told marks (current log) target part i
+    → Among dirty (folder_of target) → Performs {A = Unit {0}} log (RemoveFile part) (Ok tt) (Some now)
+    → Comes told (said_after now (Cleaned part) work told) dirty log now (λ m. IsUntouched m (current now) target)
+part_cleaned told dirty marks log now work target part i kept has listed done = at (removal_done log now part kept.known.guarded.tree done)
+  where
+    aside : marks.aside part ≡ true
+    aside = (kept.known.part part has.part_is).0
+
+    untouched : IsUntouched marks (current log) target
+    untouched = has.untouched
+
+    folder_is : folder_of part ≡ folder_of target
+    folder_is = ap folder_of has.beside
+
+    at : IsRemoval log now part → Comes told (said_after now (Cleaned part) work told) dirty log now (λ m. IsUntouched m (current now) target)
+    at it =
+        let known = removed_known told (said_after now (Cleaned part) work told) dirty dirty marks log kept.known part it.r it.k (record {
+          named = kept.known.aside;
+          off = λ p off. (refl, refl, λ is. off_itself p part (sym (some_route part p (sym has.part_is ∙ is))) off);
+          gone = (kept.known.part part has.part_is).1;
+          was = λ out. absurd (both_ways _ out aside);
+          part = refl;
+        }) (λ out. absurd (both_ways _ out aside)) (subst (λ q. Among dirty q) (sym folder_is ∙ ap folder_of it.r.path_is) listed) (λ q among. among) in
+        let after = with_change log (Removes it.r.f it.r.name it.k) in
+        let shown = known.shows target (λ is. let e : (let o : Option Route = None in o) ≡ Some target = is in absurd (let f : ⊥ = cc in f)) in
+        let before = kept.known.shows target (λ is. has.apart (some_route part target (sym has.part_is ∙ is))) in
+        let free : find (current after) target ≡ None = none_found (find (current after) target) (λ j. value (node (current after) j))
+        (ap (λ (s : Spot). s.value) (shown ∙ sym before) ∙ ap (option_map (λ j. value (node (current log) j))) untouched.free) in
+        comes_one told (said_after now (Cleaned part) work told) dirty dirty marks marks log now (Removes it.r.f it.r.name it.k) (λ m. IsUntouched m (current now) target) kept it.now_is
+        (subst (λ (l : CallLog). IsKnown (said_after now (Cleaned part) work told) dirty marks l) (sym it.now_is) known)
+        (subst (λ (l : CallLog). IsUntouched (settled_marks l marks) (current l) target) (sym it.now_is)
+        (untouched_settled after marks target (record { out = untouched.out; free = free; was = untouched.was })))
+
+module _ (told : Said) (dirty dirty_after : List Route) (marks : Marks) (log now : CallLog) (kept : IsKept told dirty marks log) (c : Copying) where
+  abbrev up : Route
+  up = folder_of c.target
+
+  abbrev In : Course → Type 0
+  In course = Comes told told dirty log now (λ m. WorkKnows told dirty m (current now) course (Copy c))
+
+  quiet_how : (l : CallLog) → ending.IsQuiet log (Some l) → (l ≡ log) ⊎ (l ≡ with_change log Nothing)
+  quiet_how l q = elim q.how [ inl same ↦ inl (some_log l q.after q.tells ∙ same) | inr more ↦ inr (some_log l q.after q.tells ∙ more) ]
+
+  -- a write stops, and leaves the part with any bytes
+  write_refused : (part : Route) (i done : ℕ) (bytes : List ℕ) (e : TreeError) → HasPart told marks (current log) c.target part i → Performs {A = Unit {0}} log (WriteAt part done bytes) (Err e) (Some now)
+      → Comes told told dirty log now (λ m. HasPart told m (current now) c.target part i)
+  write_refused part i done bytes Fault has stop =
+      let is : now ≡ with_change log (Writes i stop.1.0 (pos 0)) = some_log now _ stop.1.1 ∙ ap (λ j. with_change log (Writes j stop.1.0 (pos 0))) (ap (λ o. unwrap_or o 0) has.leads) in
+      let node_is = written_node log i stop.1.0 (pos 0) (part_there told dirty marks log kept.known c.target part i has) in
+      comes_one told told dirty dirty marks marks log now (Writes i stop.1.0 (pos 0)) (λ m. HasPart told m (current now) c.target part i) kept is
+      (subst (λ (l : CallLog). IsKnown told dirty marks l) (sym is) (written_known told dirty marks log kept.known part i has.part_is has.leads has.loose stop.1.0 (pos 0)))
+      (subst (λ (l : CallLog). HasPart told (settled_marks l marks) (current l) c.target part i) (sym is)
+      (part_settled (with_change log (Writes i stop.1.0 (pos 0))) marks told c.target part i
+      (part_on told dirty marks log kept.known c.target part i has (Writes i stop.1.0 (pos 0)) (λ g m. refl) (ap (λ (x : Node). x.kind) node_is) (ap (λ (x : Node). x.unnamed) node_is))))
+  write_refused part i done bytes Memory has stop = part_refused told dirty c.target part i marks log now kept has (inl (some_log now log stop))
+  write_refused part i done bytes e has stop = part_refused told dirty c.target part i marks log now kept has (inr (some_log now _ stop.1))
+
+  write_stops : (part : Route) (i done : ℕ) (bytes : List ℕ) (why : Cause) (path : Option Route) → HasPart told marks (current log) c.target part i → RunStops (WriteAt part done bytes ∷ []) why path log (Some now)
+      → Comes told told dirty log now (λ m. HasPart told m (current now) c.target part i)
+  write_stops part i done bytes (cause.Tree e) path has (call, named, inl (is, stop)) = write_refused part i done bytes e has stop
+  write_stops part i done bytes (cause.Tree e) path has (call, named, inr (mid, did, none)) = absurd none
+  write_stops part i done bytes cause.Memory path has (none, (zero, few, end)) = part_refused told dirty c.target part i marks log now kept has (inl (some_log now log end))
+  write_stops part i done bytes cause.Memory path has (none, (suc count, few, end)) = absurd (omega (arith, few))
+  write_stops part i done bytes (cause.TargetKind kind) path has stop = absurd stop
+  write_stops part i done bytes cause.SpecialSource path has stop = absurd stop
+  write_stops part i done bytes cause.PartTaken path has stop = absurd stop
+  write_stops part i done bytes cause.TooLong path has stop = absurd stop
+  write_stops part i done bytes (cause.Changed said got) path has stop = absurd stop
+
+  in_trouble : {A : Type 0} (why : Cause) → (let o : Course = InTrouble why in o) ≡ GoesOn → A
+  in_trouble why e = absurd (let f : ⊥ = cc in f)
+
+  -- a step stops
+  stops : (why : Cause) (path : Option Route) (course : Course) → (course ≡ GoesOn → ⊥) → WorkKnows told dirty marks (current log) GoesOn (Copy c) → (stage : Stage) → c.stage ≡ stage
+      → CopyStops IsUnclaimed (places_of c) stage why path log (Some now) → In course
+  stops why path course off knows Begin is stop = comes_refused told dirty marks log now course (Copy c) kept (work_course told dirty marks (current log) GoesOn course (Copy c) (λ e. absurd (off e)) knows) (how stop)
+    where
+      how : CopyStops IsUnclaimed (places_of c) Begin why path log (Some now) → (now ≡ log) ⊎ (now ≡ with_change log Nothing)
+      how (inl look) = inl (some_log now log look.1)
+      how (inr (inl name)) = inl (some_log now log name.2)
+      how (inr (inr (k, ready, free, run))) = quiet_how now (calm_stops (making (current log) (places_of c) k) why path log now (λ s left. refl) run)
+  stops why path course off (name, listed, knows) (Fill part said done) is stop =
+      comes_map told told dirty log now (λ m. HasPart told m (current now) c.target part i) (λ m. WorkKnows told dirty m (current now) course (Copy c))
+      (λ m k has. (name, listed, subst (λ x. StageKnows told m (current now) course c x) (sym is) (at_fill.0, (i, has, λ e. absurd (off e)))))
+      (how stop)
+    where
+      at_fill : StageKnows told marks (current log) GoesOn c (Fill part said done)
+      at_fill = subst (λ x. StageKnows told marks (current log) GoesOn c x) is knows
+
+      i : ℕ
+      i = at_fill.1.0
+
+      how : CopyStops IsUnclaimed (places_of c) (Fill part said done) why path log (Some now) → Comes told told dirty log now (λ m. HasPart told m (current now) c.target part i)
+      how (inl (less, inl read)) = part_refused told dirty c.target part i marks log now kept at_fill.1.1 (inl (some_log now log read.1))
+      how (inl (less, inr write)) = write_stops part i done (next_bytes (current log) c.source said done) why path at_fill.1.1 write
+      how (inr (full, run)) = placing_stops told dirty c.target part i marks log now said.mode why path kept at_fill.1.1 run
+  stops why path course off knows (Clean part follows) is stop =
+      comes_refused told dirty marks log now course (Copy c) kept (work_course told dirty marks (current log) GoesOn course (Copy c) (λ e. absurd (off e)) knows)
+      (quiet_how now (calm_stops (RemoveFile part) why path log now (λ s left. refl) stop))
+  stops why path course off knows (Left part) is stop = absurd stop
+  stops why path course off knows Decided is stop =
+      comes_refused told dirty marks log now course (Copy c) kept (work_course told dirty marks (current log) GoesOn course (Copy c) (λ e. absurd (off e)) knows)
+      (quiet_how now (calm_stops (SyncFolder up) why path log now (λ s left. refl) stop))
+
+  with_routes : (did : Did) (course : Course) (new : Work) → dirty_after ≡ dirty → Comes told (said_after now did (Copy c) told) dirty log now (KnowsAfter did (said_after now did (Copy c) told) dirty (current now) course new)
+      → Steps told dirty dirty_after marks log now kept did course (Copy c) new
+  with_routes did course new same come = subst (λ routes. Comes told (said_after now did (Copy c) told) routes log now (KnowsAfter did (said_after now did (Copy c) told) routes (current now) course new)) (sym same) come
+
+  abbrev Leaves : Copying → Type 0
+  Leaves new = dirty_after ≡ moves_dirty (is_dirty c.folder) (is_dirty new.folder) up dirty
+
+  -- what it leaves where its folder stays as it was
+  leaves_same : (new : Copying) → new.folder ≡ c.folder → Leaves new → dirty_after ≡ dirty
+  leaves_same new folder leaves = leaves ∙ (ap (λ f. moves_dirty (is_dirty c.folder) (is_dirty f) up dirty) folder ∙ same_dirty (is_dirty c.folder) up dirty)
+
+  cleaned_knows : (follows : Next) (after : Said) (m : Marks) (s : FileSystem) → after.part ≡ None → IsUntouched m s c.target
+      → StageKnows after m s GoesOn (record c { stage = after_clean follows }) (after_clean follows)
+  cleaned_knows next.Begin after m s none untouched = (none, λ e. untouched)
+  cleaned_knows next.Decided after m s none untouched = none
+
+  pub copy_tells : (new : Copying) (did : Did) → WorkKnows told dirty marks (current log) GoesOn (Copy c) → Tells c did new → CopyCalls IsUnclaimed c did new log (Some now)
+      → (is_fresh c.stage c.folder ≡ true → NoneOwed (current log) up dirty) → Leaves new → Steps told dirty dirty_after marks log now kept did (course_after did) (Copy c) (Copy new)
+  copy_tells new (Began part) (name, listed, knows) (stage, (said, new_is)) (ready, began_of, (k, part_is, free, rows)) settled leaves =
+      let at_begin = subst (λ x. StageKnows told marks (current log) GoesOn c x) stage knows in
+      let is_said = subst (λ (x : Copying). BeganOf (current log) (places_of c) x.stage) new_is began_of in
+      let on_list = listed_now told dirty dirty_after marks log now kept c listed (leaves ∙ ap (λ (x : Copying). moves_dirty (is_dirty c.folder) (is_dirty x.folder) up dirty) new_is) c.folder refl in
+      let untouched = target_free told dirty dirty_after marks log now kept c name ready at_begin.1 (λ e. settled (ap (λ x. is_fresh x c.folder) stage ∙ e)) c.folder refl in
+      subst (λ (x : Copying). Steps told dirty dirty_after marks log now kept (Began part) GoesOn (Copy c) (Copy x)) (sym new_is)
+      (subst (λ q. Steps told dirty dirty_after marks log now kept (Began q) GoesOn (Copy c) (Copy (record c { stage = Fill q said 0; folder = Dirty }))) (sym part_is)
+      (begun told dirty dirty_after marks log now kept c said k name ready is_said free at_begin.0 untouched (one_done log (making (current log) (places_of c) k) now rows) on_list.0 on_list.1))
+  copy_tells new (Chunk count) (name, listed, knows) (part, said, done, stage, least, most, fits, new_is) (other_part, other_said, other_done, other_stage, count_is, rows) settled leaves =
+      let e : (let o : Stage = Fill other_part other_said other_done in o) ≡ Fill part said done = sym other_stage ∙ stage in
+      let p_is : other_part ≡ part = cc in
+      let s_is : other_said ≡ said = cc in
+      let d_is : other_done ≡ done = cc in
+      let count_here : count ≡ length (next_bytes (current log) c.source said done) = count_is ∙ (ap (λ x. length (next_bytes (current log) c.source x other_done)) s_is ∙ ap (λ x. length (next_bytes (current log) c.source said x)) d_is) in
+      let row = subst (λ x. AllDone log (writing (current log) (places_of c) part said x ∷ []) (Some now)) d_is
+      (subst (λ x. AllDone log (writing (current log) (places_of c) part x other_done ∷ []) (Some now)) s_is
+      (subst (λ x. AllDone log (writing (current log) (places_of c) x other_said other_done ∷ []) (Some now)) p_is rows)) in
+      let at_fill = subst (λ x. StageKnows told marks (current log) GoesOn c x) stage knows in
+      let has = at_fill.1.1 in
+      with_routes (Chunk count) GoesOn (Copy new) (leaves_same new (ap (λ (x : Copying). x.folder) new_is) leaves)
+      (subst (λ (x : Copying). Comes told told dirty log now (λ m. WorkKnows told dirty m (current now) GoesOn (Copy x))) (sym (new_is ∙ ap (λ n. (let x : Copying = record c { stage = Fill part said (done + n) } in x)) count_here))
+      (filled_more told dirty dirty_after marks log now kept c part said done listed name at_fill.1.0 has (at_fill.1.2 refl)
+      (subst (λ n. done + n ≤ said.size) count_here fits) (one_done log (writing (current log) (places_of c) part said done) now row) at_fill.0))
+  copy_tells new (Placed path) (name, listed, knows) (part, said, stage, path_is, new_is) (other_part, other_said, other_stage, rows) settled leaves =
+      let e : (let o : Stage = Fill other_part other_said other_said.size in o) ≡ Fill part said said.size = sym other_stage ∙ stage in
+      let p_is : other_part ≡ part = cc in
+      let s_is : other_said ≡ said = cc in
+      let row = subst (λ (x : SaidOf). AllDone log (placing x.mode part c.target) (Some now)) s_is (subst (λ x. AllDone log (placing other_said.mode x c.target) (Some now)) p_is rows) in
+      let at_fill = subst (λ x. StageKnows told marks (current log) GoesOn c x) stage knows in
+      with_routes (Placed path) GoesOn (Copy new) (leaves_same new (ap (λ (x : Copying). x.folder) new_is) leaves)
+      (subst (λ (x : Copying). Comes told (said_after now (Placed path) (Copy c) told) dirty log now (KnowsAfter (Placed path) (said_after now (Placed path) (Copy c) told) dirty (current now) GoesOn (Copy x))) (sym new_is)
+      (subst (λ q. Comes told (said_after now (Placed q) (Copy c) told) dirty log now (KnowsAfter (Placed q) (said_after now (Placed q) (Copy c) told) dirty (current now) GoesOn (Copy (record c { stage = Decided })))) (sym path_is)
+      (comes_map told (said_after now (Placed c.target) (Copy c) told) dirty log now (λ m. (said_after now (Placed c.target) (Copy c) told).part ≡ None)
+      (λ m. WorkKnows (said_after now (Placed c.target) (Copy c) told) dirty m (current now) GoesOn (Copy (record c { stage = Decided }))) (λ m k none. (name, listed, none))
+      (part_placed told dirty c name.name name.is part at_fill.1.0 (listed at_fill.0) marks log now said kept at_fill.1.1 (at_fill.1.2 refl) row))))
+  copy_tells new (Cleaned part) (name, listed, knows) (follows, stage, new_is) rows settled leaves =
+      let at_clean = subst (λ x. StageKnows told marks (current log) GoesOn c x) stage knows in
+      with_routes (Cleaned part) GoesOn (Copy new) (leaves_same new (ap (λ (x : Copying). x.folder) new_is) leaves)
+      (subst (λ (x : Copying). Comes told (said_after now (Cleaned part) (Copy c) told) dirty log now (KnowsAfter (Cleaned part) (said_after now (Cleaned part) (Copy c) told) dirty (current now) GoesOn (Copy x))) (sym new_is)
+      (comes_map told (said_after now (Cleaned part) (Copy c) told) dirty log now (λ m. IsUntouched m (current now) c.target)
+      (λ m. WorkKnows (said_after now (Cleaned part) (Copy c) told) dirty m (current now) GoesOn (Copy (record c { stage = after_clean follows })))
+      (λ m k untouched. (name, listed, cleaned_knows follows (said_after now (Cleaned part) (Copy c) told) m (current now) refl untouched))
+      (part_cleaned told dirty marks log now (Copy c) c.target part at_clean.1.0 kept at_clean.1.1 (listed at_clean.0)
+      (subst (λ (l : CallLog). Performs {A = Unit {0}} log (RemoveFile part) (Ok tt) (Some l)) (sym (some_log now rows.0 rows.2)) rows.1))))
+  copy_tells new Barrier (name, listed, knows) (stage, dirty_is, new_is) rows settled leaves =
+      let none = subst (λ x. StageKnows told marks (current log) GoesOn c x) stage knows in
+      subst (λ (x : Copying). Comes told told dirty_after log now (λ m. WorkKnows told dirty_after m (current now) GoesOn (Copy x))) (sym new_is)
+      (tried told dirty dirty_after marks log now kept up None GoesOn (Copy (record c { folder = Synced }))
+      (λ routes. (name, (λ e. absurd (let f : ⊥ = cc in f)), subst (λ x. StageKnows told marks (current log) GoesOn (record c { folder = Synced }) x) (sym stage) none))
+      (subst (λ (l : CallLog). Performs {A = Unit {0}} log (SyncFolder up) (Ok tt) (Some l)) (sym (some_log now rows.0 rows.2)) rows.1)
+      (leaves ∙ (ap (λ f. moves_dirty (is_dirty f) (is_dirty new.folder) up dirty) dirty_is ∙ ap (λ (x : Copying). moves_dirty true (is_dirty x.folder) up dirty) new_is)))
+  copy_tells new (Troubled trouble) knows (barrier, new_is) stop settled leaves =
+      with_routes (Troubled trouble) (InTrouble trouble.cause) (Copy new) (leaves_same new (ap (λ (x : Copying). x.folder) new_is) leaves)
+      (subst (λ (x : Copying). Comes told told dirty log now (λ m. WorkKnows told dirty m (current now) (InTrouble trouble.cause) (Copy x))) (sym new_is)
+      (stops trouble.cause trouble.path (InTrouble trouble.cause) (in_trouble trouble.cause) knows c.stage refl stop))
+  copy_tells new (Ended Finished part) (name, listed, knows) (stage, synced, part_is, new_is) done settled leaves =
+      let none = subst (λ x. StageKnows told marks (current log) GoesOn c x) stage knows in
+      subst (λ o. Steps told dirty dirty_after marks log now kept (Ended Finished o) GoesOn (Copy c) (Copy new)) (sym part_is)
+      (ends told dirty dirty_after marks log now kept (Copy c) none (leaves_same new (ap (λ (x : Copying). x.folder) new_is) leaves) (some_log now log done))
+  copy_tells new (Ended Aborted part) knows tells done settled leaves = absurd tells
+  copy_tells new (Ended Killed part) knows tells done settled leaves = absurd tells
+  copy_tells new (Ended NoMemory part) knows tells done settled leaves = absurd tells
+  copy_tells new (Removed path) knows tells done settled leaves = absurd tells
+  copy_tells new (Skipped path why) knows tells done settled leaves = absurd tells

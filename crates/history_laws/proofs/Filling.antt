@@ -1,0 +1,232 @@
+-- A part is made, and filled.
+use Rattle.std.proofs.Common.{◌≡◌, ℕ, ◌<◌, ◌≤◌, ◌+◌, true, false, List, [], ◌∷◌, ◌++◌, length, take, drop, refl, sym, ◌∙◌, ap, subst, Some, None, arith}
+use Rattle.std.specs.Prelude.{◌==◌, ◌||◌, not, unwrap_or}
+use Rattle.std.proofs.lemmas.Bool.{true≢false, false≢true, both_ways, false_from_ne_true, or_left}
+use Rattle.mc_text.specs.declared.kind.Kind.TheVariants.{File}
+use Rattle.mc_text.specs.Routes.{Route, same_path}
+use Rattle.tree_trait.specs.declared.file_system.Node.{Node}
+use Rattle.tree_trait.specs.FileSystem.{find, node}
+use Rattle.tree_trait.specs.Change.{Change, Makes, Writes, CallLog, current, with_change, found, overwritten}
+use Rattle.tree_trait.specs.CrashImages.{Among}
+use Rattle.tree_trait.proofs.Visible.{same_path-true}
+use Rattle.tree_trait.proofs.Walking.{stat-found}
+use Rattle.crash_law.specs.Guarded.{Marks}
+use Rattle.crash_law.proofs.Guarding.{found_there, same_quiet}
+use Rattle.crash_law.proofs.Syncing.{unaltered_law}
+use Rattle.file_copy.specs.declared.report.Did.TheVariants.{Began}
+use Rattle.file_copy.specs.declared.stage.FolderState.{FolderState}
+use Rattle.file_copy.specs.declared.stage.FolderState.TheVariants.{Synced, Dirty}
+use Rattle.file_copy.specs.declared.stage.Said.{Said as SaidOf}
+use Rattle.file_copy.specs.declared.stage.Stage.TheVariants.{Fill}
+use Rattle.file_copy.specs.CopyCalls.{making, next_bytes, part_mode, room_for, writing}
+use Rattle.file_copy.specs.Copying.{Copying, folder_of, places_of, is_dirty}
+use Rattle.file_copy.specs.Looking.{IsReady, IsSaid}
+use Rattle.file_copy.specs.PartNames.{IsFirstFree, part_name}
+use Rattle.file_copy.proofs.CopyAnswers.{IsDoneCall}
+use Rattle.file_copy.proofs.FilledParts.{Holds, written_on}
+use Rattle.file_copy.proofs.PermittedCalls.{IsMaking, making_passes, stat_missing}
+use Rattle.copy_move.specs.declared.work.Work.TheVariants.{Copy}
+use Rattle.copy_move.specs.declared.run.Course.TheVariants.{GoesOn}
+use Rattle.copy_move.specs.Settling.{NoneOwed, with_change as moves_dirty}
+use Rattle.copy_move.specs.Traces.{IsUnclaimed}
+use Rattle.history_laws.proofs.Calming.{written_known}
+use Rattle.history_laws.proofs.Knowing.{Said, IsKnown, IsKept, settled_marks}
+use Rattle.history_laws.proofs.JobKnows.{HasName, HasPart, IsFilled, IsUntouched, WorkKnows, none_waits, part_settled, untouched_free}
+use Rattle.history_laws.proofs.MakingParts.{MakesPart, made_known, marks_new, new_node, off_part, part_leads, part_node, with_part}
+use Rattle.history_laws.proofs.PartNodes.{other_node, part_on, part_there, written_node}
+use Rattle.history_laws.proofs.Stepped.{Comes, comes_one, said_after}
+use Rattle.history_laws.proofs.DeletionSteps.{among_more, last_among}
+
+module _ (told : Said) (dirty dirty_after : List Route) (marks : Marks) (log now : CallLog) (kept : IsKept told dirty marks log) (c : Copying) where
+  abbrev up : Route
+  up = folder_of c.target
+
+  -- what is known once the part was made
+  abbrev Begun : Route → SaidOf → Type 0
+  Begun part said =
+      Comes told (said_after now (Began part) (Copy c) told) dirty_after log now
+      (λ m. WorkKnows (said_after now (Began part) (Copy c) told) dirty_after m (current now) GoesOn (Copy (record c { stage = Fill part said 0; folder = Dirty })))
+
+  -- the target of a copy that begins
+  pub target_free : HasName c.target → IsReady (current log) (places_of c) → (c.folder ≡ Dirty → IsUntouched marks (current log) c.target)
+      → (not (is_dirty c.folder) ≡ true → NoneOwed (current log) up dirty) → (f : FolderState) → c.folder ≡ f → IsUntouched marks (current log) c.target
+  target_free name ready untouched settled Dirty is = untouched is
+  target_free name ready untouched settled Synced is =
+      untouched_free told dirty marks log c.target kept
+      (ap (Rattle.history_laws.specs.Doubt.is_unsettled log) name.is ∙ none_waits told dirty marks log up kept.known (settled (ap (λ x. not (is_dirty x)) is)) name.name)
+      (stat_missing (current log) c.target ready.target)
+
+  -- the folder is listed, and what was listed is
+  pub listed_now : (c.folder ≡ Dirty → Among dirty up) → dirty_after ≡ moves_dirty (is_dirty c.folder) true up dirty → (f : FolderState) → c.folder ≡ f
+      → Among dirty_after up × ((q : Route) → Among dirty q → Among dirty_after q)
+  listed_now listed leaves Dirty is =
+      let same : dirty_after ≡ dirty = leaves ∙ ap (λ x. moves_dirty (is_dirty x) true up dirty) is in
+      (subst (λ xs. Among xs up) (sym same) (listed is), λ q among. subst (λ xs. Among xs q) (sym same) among)
+  listed_now listed leaves Synced is =
+      let same : dirty_after ≡ dirty ++ up ∷ [] = leaves ∙ ap (λ x. moves_dirty (is_dirty x) true up dirty) is in
+      (subst (λ xs. Among xs up) (sym same) (last_among up dirty), λ q among. subst (λ xs. Among xs q) (sym same) (among_more up q dirty among))
+
+  module _ (said : SaidOf) (k : ℕ) (target_name : HasName c.target) (ready : IsReady (current log) (places_of c)) (is_said : IsSaid (current log) c.source said)
+      (free : IsFirstFree (current log) IsUnclaimed (places_of c) k) (none : told.part ≡ None) (untouched : IsUntouched marks (current log) c.target)
+      (d : IsDoneCall log (making (current log) (places_of c) k) now) (listed : Among dirty_after up) (more : (q : Route) → Among dirty q → Among dirty_after q) where
+    abbrev name : List ℕ
+    name = part_name c.job k
+
+    abbrev part : Route
+    part = name ∷ up
+
+    abbrev mode : ℕ
+    mode = part_mode (node (current log) (found (current log) c.source)).mode
+
+    abbrev made : Node
+    made = record { kind = File; bytes = []; mode = mode; mtime = d.time; unnamed = 0 }
+
+    passes : IsMaking (current log) name up
+    passes = making_passes (current log) name up mode d.permits
+
+    makes : MakesPart told log name up (found (current log) up)
+    makes = record { none = none; at = passes.folder; folder = passes.holds; free = passes.none }
+
+    abbrev f : ℕ
+    f = found (current log) up
+
+    abbrev n : ℕ
+    n = new_node log
+
+    abbrev after : CallLog
+    after = with_change log (Makes f name made)
+
+    new_marks : Marks
+    new_marks = marks_new marks part n
+
+    node_made : node (current after) n ≡ made
+    node_made = part_node told dirty dirty_after marks log kept.known name up f made makes refl
+
+    apart_of : (p : Route) → (part ≡ p → ⊥) → same_path p part ≡ false
+    apart_of p apart = false_from_ne_true _ (λ same. apart (sym (same_path-true p part same)))
+
+    off : (p : Route) → (part ≡ p → ⊥) → find (current after) p ≡ find (current log) p
+    off p apart = off_part told dirty dirty_after marks log kept.known name up f made makes refl p (apart_of p apart)
+
+    same_n : (n == n) ≡ true
+    same_n = Rattle.std.proofs.lemmas.Bool.eq-eqb n n refl
+
+    has : HasPart (with_part told part) (marks_new marks part n) (current after) c.target part n
+    has = record {
+      part_is = refl;
+      leads = part_leads told dirty dirty_after marks log kept.known name up f made makes refl;
+      loose = or_left _ _ same_n;
+      moves = or_left _ _ same_n;
+      file = ap (λ (x : Node). x.kind) node_made;
+      unnamed = ap (λ (x : Node). x.unnamed) node_made;
+      name = name;
+      beside = refl;
+      apart = free.free.apart;
+      untouched = record {
+        out = ap (λ b. b || marks.aside c.target) (apart_of c.target free.free.apart) ∙ untouched.out;
+        free = off c.target free.free.apart ∙ untouched.free;
+        was = untouched.was;
+      };
+    }
+
+    source_at : find (current log) c.source ≡ Some (found (current log) c.source)
+    source_at = stat-found (current log) c.source ready.source
+
+    source_same : node (current after) (found (current log) c.source) ≡ node (current log) (found (current log) c.source)
+    source_same = unaltered_law log (Makes f name made) (found (current log) c.source) refl (found_there (current log) kept.known.guarded.tree c.source (found (current log) c.source) source_at)
+
+    filled : IsFilled (current after) c.source part said 0 n
+    filled = record {
+      n = found (current log) c.source;
+      source_leads = off c.source free.free.unread ∙ source_at;
+      apart = λ e. free.free.unread (sym e);
+      file = ap (λ (x : Node). x.kind) source_same ∙ ready.file;
+      size = is_said.size ∙ sym (ap (λ (x : Node). length x.bytes) source_same);
+      mode = is_said.mode ∙ sym (ap (λ (x : Node). x.mode) source_same);
+      few = omega arith;
+      holds = subst (λ x. Holds x (take 0 (node (current after) (found (current log) c.source)).bytes) (part_mode said.mode)) (sym node_made)
+          (record { kind = refl; bytes_are = refl; mode_is = ap part_mode (sym is_said.mode); unnamed = refl });
+    }
+
+    pub begun : Begun part said
+    begun = comes_one told (with_part told part) dirty dirty_after marks (marks_new marks part n) log now (Makes f name made)
+        (λ m. WorkKnows (with_part told part) dirty_after m (current now) GoesOn (Copy (record c { stage = Fill part said 0; folder = Dirty }))) kept d.is
+        (subst (λ (l : CallLog). IsKnown (with_part told part) dirty_after (marks_new marks part n) l) (sym d.is)
+        (made_known told dirty dirty_after marks log kept.known name up f made makes refl listed more))
+        (subst (λ (l : CallLog). WorkKnows (with_part told part) dirty_after (settled_marks l (marks_new marks part n)) (current l) GoesOn (Copy (record c { stage = Fill part said 0; folder = Dirty }))) (sym d.is)
+        (target_name, (λ e. listed), (refl, (n, part_settled after (marks_new marks part n) (with_part told part) c.target part n has, λ e. filled))))
+
+  -- bytes are written behind the first
+  module _ (part : Route) (said : SaidOf) (done : ℕ) (listed : c.folder ≡ Dirty → Among dirty up) (target_name : HasName c.target) (i : ℕ) (has : HasPart told marks (current log) c.target part i)
+      (filled : IsFilled (current log) c.source part said done i) (few : done + length (next_bytes (current log) c.source said done) ≤ said.size)
+      (d : IsDoneCall log (writing (current log) (places_of c) part said done) now) (dirty_is : c.folder ≡ Dirty) where
+    abbrev bytes : List ℕ
+    bytes = next_bytes (current log) c.source said done
+
+    abbrev whole : List ℕ
+    whole = overwritten (node (current log) i).bytes done bytes
+
+    abbrev writes : Change
+    writes = Writes i whole d.time
+
+    found_part : found (current log) part ≡ i
+    found_part = ap (λ o. unwrap_or o 0) has.leads
+
+    now_is : now ≡ with_change log writes
+    now_is = d.is ∙ ap (λ j. with_change log (Writes j (overwritten (node (current log) j).bytes done bytes) d.time)) found_part
+
+    there : i < length (current log).nodes
+    there = part_there told dirty marks log kept.known c.target part i has
+
+    node_is : node (current (with_change log writes)) i ≡ record (node (current log) i) { bytes = whole; mtime = d.time }
+    node_is = written_node log i whole d.time there
+
+    has_on : HasPart told marks (current (with_change log writes)) c.target part i
+    has_on = part_on told dirty marks log kept.known c.target part i has writes (λ g m. refl) (ap (λ (x : Node). x.kind) node_is) (ap (λ (x : Node). x.unnamed) node_is)
+
+    source_kept : node (current (with_change log writes)) filled.n ≡ node (current log) filled.n
+    source_kept = unaltered_law log writes filled.n (other_node told dirty marks log kept.known c.target part i has c.source filled.n filled.apart filled.source_leads)
+        (found_there (current log) kept.known.guarded.tree c.source filled.n filled.source_leads)
+
+    found_source : found (current log) c.source ≡ filled.n
+    found_source = ap (λ o. unwrap_or o 0) filled.source_leads
+
+    bytes_of : bytes ≡ take (room_for said done) (drop done (node (current log) filled.n).bytes)
+    bytes_of = ap (λ j. take (room_for said done) (drop done (node (current log) j).bytes)) found_source
+
+    whole_is : whole ≡ take (done + length bytes) (node (current log) filled.n).bytes
+    whole_is =
+        let h = filled.holds in
+        let short : done ≤ length (node (current log) filled.n).bytes = (let a = filled.few in let b = filled.size in omega (arith, a, b)) in
+        ap (λ xs. overwritten xs done bytes) h.bytes_are
+        ∙ (ap (λ xs. overwritten (take done (node (current log) filled.n).bytes) done xs) bytes_of
+        ∙ (written_on (node (current log) filled.n).bytes done (room_for said done) short
+        ∙ ap (λ xs. take (done + length xs) (node (current log) filled.n).bytes) (sym bytes_of)))
+
+    filled_on : IsFilled (current (with_change log writes)) c.source part said (done + length bytes) i
+    filled_on =
+        let h = filled.holds in
+        record {
+          n = filled.n;
+          source_leads = same_quiet log writes (λ g m. refl) c.source ∙ filled.source_leads;
+          apart = filled.apart;
+          file = ap (λ (x : Node). x.kind) source_kept ∙ filled.file;
+          size = filled.size ∙ sym (ap (λ (x : Node). length x.bytes) source_kept);
+          mode = filled.mode ∙ sym (ap (λ (x : Node). x.mode) source_kept);
+          few = few;
+          holds = record {
+            kind = ap (λ (x : Node). x.kind) node_is ∙ h.kind;
+            bytes_are = ap (λ (x : Node). x.bytes) node_is ∙ (whole_is ∙ sym (ap (λ (x : Node). take (done + length bytes) x.bytes) source_kept));
+            mode_is = ap (λ (x : Node). x.mode) node_is ∙ h.mode_is;
+            unnamed = ap (λ (x : Node). x.unnamed) node_is ∙ h.unnamed;
+          };
+        }
+
+    abbrev later : Copying
+    later = record c { stage = Fill part said (done + length bytes) }
+
+    pub filled_more : Comes told told dirty log now (λ m. WorkKnows told dirty m (current now) GoesOn (Copy later))
+    filled_more = comes_one told told dirty dirty marks marks log now writes (λ m. WorkKnows told dirty m (current now) GoesOn (Copy later)) kept now_is
+        (subst (λ (l : CallLog). IsKnown told dirty marks l) (sym now_is) (written_known told dirty marks log kept.known part i has.part_is has.leads has.loose whole d.time))
+        (subst (λ (l : CallLog). WorkKnows told dirty (settled_marks l marks) (current l) GoesOn (Copy later)) (sym now_is)
+        (target_name, listed, (dirty_is, (i, part_settled (with_change log writes) marks told c.target part i has_on, λ e. filled_on))))

@@ -1,0 +1,370 @@
+-- A finished job has left nothing that waits for a sync.
+use Rattle.std.proofs.Common.{◌≡◌, ◌⊎◌, ℕ, Bool, true, false, not, List, [], ◌∷◌, refl, sym, ◌∙◌, ap, subst, inl, inr, Option, Some, None}
+use Rattle.std.specs.Prelude.{◌==◌, ◌||◌, ◌&&◌, if◌then◌else◌, map}
+use Rattle.std.specs.Option.{option_map_or}
+use Rattle.std.proofs.lemmas.Bool.{false≢true, both_ways, eq-eqb, and_parts, false_from_ne_true}
+use Rattle.mc_text.specs.Routes.{Route, same_path}
+use Rattle.tree_trait.specs.Shape.{IsTree}
+use Rattle.tree_trait.specs.Change.{CallLog, current}
+use Rattle.tree_trait.specs.CrashImages.{Among, all_settled}
+use Rattle.tree_trait.proofs.Visible.{same_path-self}
+use Rattle.file_copy.specs.declared.report.Ending.{Ending}
+use Rattle.file_copy.specs.declared.report.Ending.TheVariants.{Finished, Aborted, Killed, NoMemory}
+use Rattle.file_copy.specs.declared.report.Did.{Did}
+use Rattle.file_copy.specs.declared.report.Did.TheVariants.{Began, Chunk, Placed, Removed, Skipped, Cleaned, Barrier, Troubled, Ended}
+use Rattle.file_copy.specs.Copying.{Copying, Tells, folder_of}
+use Rattle.file_copy.specs.Copying as copying
+use Rattle.copy_move.specs.declared.deletion.Stage.{Stage}
+use Rattle.copy_move.specs.declared.deletion.Stage.TheVariants.{Remove, Sync, Finish, PassedOver}
+use Rattle.copy_move.specs.declared.history.Answer.{Answer}
+use Rattle.copy_move.specs.declared.history.Answer.TheVariants.{Retry, Skip, SkipAll, Abort}
+use Rattle.copy_move.specs.declared.history.Event.{Event}
+use Rattle.copy_move.specs.declared.history.Event.TheVariants.{Key, Look, Order, Step, Closed}
+use Rattle.copy_move.specs.declared.history.Event.TheVariants as event
+use Rattle.copy_move.specs.declared.history.JobOrder.{JobOrder}
+use Rattle.copy_move.specs.declared.history.JobOrder.TheVariants.{Answered}
+use Rattle.copy_move.specs.declared.history.Entry.{Entry}
+use Rattle.copy_move.specs.declared.run.Course.{Course}
+use Rattle.copy_move.specs.declared.run.Course.TheVariants.{GoesOn, InTrouble, Unsettled, Skips, Ends}
+use Rattle.copy_move.specs.declared.work.Work.{Work}
+use Rattle.copy_move.specs.declared.work.Work.TheVariants.{Copy, Delete}
+use Rattle.copy_move.specs.Deletions.{Deleting}
+use Rattle.copy_move.specs.Deletions as deletions
+use Rattle.copy_move.specs.Jobs.{Running, TellsOn, WorkTells, answered_on, closed_course, closed_job, course_after, ends, first_work, skipped, taken_anew}
+use Rattle.copy_move.specs.Settling.{changed_folder, is_dirty, with_change, without}
+use Rattle.copy_move.specs.Steps.{LeavesDirty, SyncsFolder}
+use Rattle.history_laws.specs.Doubt.{is_unsettled}
+use Rattle.history_laws.specs.Owed.{FinishedLaw, begins_change, changed_after, has_changed}
+use Rattle.copy_move.specs.Told.{is_closed, running}
+use Rattle.history_laws.specs.Traces.{EventLeads, IsTraced, Stand, SyncLeads, WorkLeads, before_others, if_closed, ordered, with_job}
+use Rattle.history_laws.proofs.Histories.{IsReached, only_job, traced_reached}
+use Rattle.history_laws.proofs.Owing.{in_filter, owed_law}
+use Rattle.history_laws.proofs.Reports.{with_one}
+use Rattle.history_laws.proofs.Sources.{tells_same}
+
+-- the folder of a job stays the same, and work that begins a change is dirty then
+copy_target : (c new : Copying) (did : Did) → Tells c did new → new.target ≡ c.target
+copy_target c new (Began part) t = ap (λ (x : Copying). x.target) t.1.1
+copy_target c new (Chunk count) (part, said, done, stage, least, most, fits, new_is) = ap (λ (x : Copying). x.target) new_is
+copy_target c new (Placed path) (part, said, stage, path_is, new_is) = ap (λ (x : Copying). x.target) new_is
+copy_target c new (Cleaned part) (follows, stage, new_is) = ap (λ (x : Copying). x.target) new_is
+copy_target c new Barrier (stage, dirty, new_is) = ap (λ (x : Copying). x.target) new_is
+copy_target c new (Troubled trouble) (barrier, new_is) = ap (λ (x : Copying). x.target) new_is
+copy_target c new (Ended Finished part) (stage, synced, part_is, new_is) = ap (λ (x : Copying). x.target) new_is
+copy_target c new (Ended Aborted part) t = absurd t
+copy_target c new (Ended Killed part) t = absurd t
+copy_target c new (Ended NoMemory part) t = absurd t
+copy_target c new (Removed path) t = absurd t
+copy_target c new (Skipped path why) t = absurd t
+
+delete_path : (d new : Deleting) (did : Did) → deletions.Tells d did new → new.path ≡ d.path
+delete_path d new (Removed path) (stage, path_is, new_is) = ap (λ (x : Deleting). x.path) new_is
+delete_path d new Barrier (stage, new_is) = ap (λ (x : Deleting). x.path) new_is
+delete_path d new (Troubled trouble) (at, new_is) = ap (λ (x : Deleting). x.path) new_is
+delete_path d new (Ended Finished part) (is_done, part_is, new_is) = ap (λ (x : Deleting). x.path) new_is
+delete_path d new (Ended Aborted part) t = absurd t
+delete_path d new (Ended Killed part) t = absurd t
+delete_path d new (Ended NoMemory part) t = absurd t
+delete_path d new (Began part) t = absurd t
+delete_path d new (Chunk count) t = absurd t
+delete_path d new (Placed path) t = absurd t
+delete_path d new (Skipped path why) t = absurd t
+delete_path d new (Cleaned part) t = absurd t
+
+same_folder : (old new : Work) (did : Did) → WorkTells old did new → changed_folder new ≡ changed_folder old
+same_folder (Copy c) (Copy new) did t = ap folder_of (copy_target c new did t)
+same_folder (Copy c) (Delete new) did t = absurd t
+same_folder (Delete d) (Copy new) did t = absurd t
+same_folder (Delete d) (Delete new) did t = ap folder_of (delete_path d new did t)
+
+dirty_then : (old new : Work) (did : Did) → WorkTells old did new → begins_change did ≡ true → is_dirty new ≡ true
+dirty_then (Copy c) (Copy new) (Began part) t h = ap (λ (x : Copying). copying.is_dirty x.folder) t.1.1
+dirty_then (Copy c) (Copy new) (Removed path) t h = absurd t
+dirty_then (Copy c) (Copy new) (Chunk count) t h = absurd (false≢true h)
+dirty_then (Copy c) (Copy new) (Placed path) t h = absurd (false≢true h)
+dirty_then (Copy c) (Copy new) (Skipped path why) t h = absurd (false≢true h)
+dirty_then (Copy c) (Copy new) (Cleaned part) t h = absurd (false≢true h)
+dirty_then (Copy c) (Copy new) Barrier t h = absurd (false≢true h)
+dirty_then (Copy c) (Copy new) (Troubled trouble) t h = absurd (false≢true h)
+dirty_then (Copy c) (Copy new) (Ended ending part) t h = absurd (false≢true h)
+dirty_then (Copy c) (Delete new) did t h = absurd t
+dirty_then (Delete d) (Copy new) did t h = absurd t
+dirty_then (Delete d) (Delete new) (Removed path) (stage, path_is, new_is) h = ap (λ (x : Deleting). deletions.is_dirty x.stage) new_is
+dirty_then (Delete d) (Delete new) (Began part) t h = absurd t
+dirty_then (Delete d) (Delete new) (Chunk count) t h = absurd (false≢true h)
+dirty_then (Delete d) (Delete new) (Placed path) t h = absurd (false≢true h)
+dirty_then (Delete d) (Delete new) (Skipped path why) t h = absurd (false≢true h)
+dirty_then (Delete d) (Delete new) (Cleaned part) t h = absurd (false≢true h)
+dirty_then (Delete d) (Delete new) Barrier t h = absurd (false≢true h)
+dirty_then (Delete d) (Delete new) (Troubled trouble) t h = absurd (false≢true h)
+dirty_then (Delete d) (Delete new) (Ended ending part) t h = absurd (false≢true h)
+
+-- a folder that was synced is no longer listed
+not_listed : (up : Route) (routes : List Route) → Among (without up routes) up → ⊥
+not_listed up [] among = among
+not_listed up (first ∷ routes) among = by (same_path first up) refl among (not_listed up routes)
+  where
+    by : (b : Bool) → same_path first up ≡ b → Among (without up (first ∷ routes)) up → (Among (without up routes) up → ⊥) → ⊥
+    by true is among rest = rest (rw is at among)
+    by false is among rest = elim (rw is at among) [ inl same ↦ both_ways _ is (subst (λ q. same_path q up ≡ true) same (same_path-self up)) | inr later ↦ rest later ]
+
+-- a job that is to end early is aborted
+abbrev IsGoing : Course → Type 0
+IsGoing (Ends ending) = ⊥
+IsGoing GoesOn = Unit {0}
+IsGoing (InTrouble why) = Unit {0}
+IsGoing (Unsettled why) = Unit {0}
+IsGoing (Skips why) = Unit {0}
+
+-- what is known of a job that has changed something: where its folder isn't dirty, it isn't listed
+abbrev IsTidy : Bool → List Route → Running → Type 0
+IsTidy changed dirty job = changed ≡ true → IsGoing job.course → is_dirty job.work ≡ false → Among dirty (changed_folder job.work) → ⊥
+
+changed_by : (before begins : Bool) → (before || begins) ≡ true → (before ≡ true) ⊎ (begins ≡ true)
+changed_by true begins h = inl refl
+changed_by false begins h = inr h
+
+skip_dirty : (stage : Stage) → deletions.is_dirty (deletions.skipped stage) ≡ deletions.is_dirty stage
+skip_dirty Remove = refl
+skip_dirty Sync = refl
+skip_dirty Finish = refl
+skip_dirty PassedOver = refl
+
+skipped_dirty : (work : Work) → is_dirty (skipped work) ≡ is_dirty work
+skipped_dirty (Copy c) = refl
+skipped_dirty (Delete d) = skip_dirty d.stage
+
+skipped_folder : (work : Work) → changed_folder (skipped work) ≡ changed_folder work
+skipped_folder (Copy c) = refl
+skipped_folder (Delete d) = refl
+
+module _ (job new : Running) (did : Did) (dirty dirty_after : List Route) (log now : CallLog) (before : Bool) where
+  -- by whether the folder was dirty before
+  tidy_by : (was : Bool) → is_dirty job.work ≡ was → dirty_after ≡ with_change was (is_dirty new.work) (changed_folder job.work) dirty → changed_folder new.work ≡ changed_folder job.work
+      → (was ≡ false → Among dirty (changed_folder job.work) → ⊥) → is_dirty new.work ≡ false → Among dirty_after (changed_folder new.work) → ⊥
+  tidy_by true is leaves folder old clean among =
+      not_listed (changed_folder job.work) dirty (subst (λ q. Among (without (changed_folder job.work) dirty) q) folder
+      (subst (λ xs. Among xs (changed_folder new.work)) (leaves ∙ ap (λ b. with_change true b (changed_folder job.work) dirty) clean) among))
+  tidy_by false is leaves folder old clean among =
+      old refl (subst (λ q. Among dirty q) folder (subst (λ xs. Among xs (changed_folder new.work)) (leaves ∙ ap (λ b. with_change false b (changed_folder job.work) dirty) clean) among))
+
+  tidy_on : (course : Course) → job.course ≡ course → TellsOn course job did new → LeavesDirty course job.work did new.work dirty dirty_after (Some log) (Some now) → IsTidy before dirty job
+      → IsTidy (before || begins_change did) dirty_after new
+  tidy_on GoesOn is (work, tells, new_is) leaves old changed going clean among =
+      let folder = ap (λ (x : Running). changed_folder x.work) new_is ∙ same_folder job.work work did tells in
+      let first : begins_change did ≡ true → ⊥ = λ h. both_ways _ clean (ap (λ (x : Running). is_dirty x.work) new_is ∙ dirty_then job.work work did tells h) in
+      tidy_by (is_dirty job.work) refl leaves folder
+      (λ not_dirty. elim (changed_by before (begins_change did) changed) [ inl b ↦ old b (subst IsGoing (sym is) tt) not_dirty | inr h ↦ absurd (first h) ]) clean among
+  tidy_on (InTrouble why) is t leaves old changed going clean among = absurd t
+  tidy_on (Unsettled why) is t leaves old changed going clean among = absurd t
+  tidy_on (Skips why) is t leaves old changed going clean among = by t
+    where
+      by : TellsOn (Skips why) job did new → ⊥
+      by (inl (did_is, new_is)) =
+          tidy_by (is_dirty job.work) refl leaves (ap (λ (x : Running). changed_folder x.work) new_is ∙ skipped_folder job.work)
+          (λ not_dirty. elim (changed_by before (begins_change did) changed) [ inl b ↦ old b (subst IsGoing (sym is) tt) not_dirty | inr h ↦ absurd (false≢true (sym (ap begins_change did_is) ∙ h)) ]) clean among
+      by (inr (did_is, new_is)) =
+          tidy_by (is_dirty job.work) refl leaves (ap (λ (x : Running). changed_folder x.work) new_is)
+          (λ not_dirty. elim (changed_by before (begins_change did) changed) [ inl b ↦ old b (subst IsGoing (sym is) tt) not_dirty | inr h ↦ absurd (false≢true (sym (ap begins_change did_is) ∙ h)) ]) clean among
+  tidy_on (Ends ending) is (work, winds, new_is) leaves old changed going clean among = absurd (subst IsGoing (ap (λ (x : Running). x.course) new_is ∙ is) going)
+
+  pub tidy_works : WorkLeads job did new dirty dirty_after log now → IsTidy before dirty job → IsTidy (before || begins_change did) dirty_after new
+  tidy_works w old = tidy_on job.course refl w.tells w.leaves old
+
+-- what is kept of the live job
+pub record IsTidyJob (g : List Entry) (dirty : List Route) (job : Running) : Type 0 where
+  pub tidy : IsTidy (has_changed job.id g) dirty job
+  pub aborted : (ending : Ending) → job.course ≡ Ends ending → ending ≡ Aborted
+
+abbrev AreTidy : List Entry → List Route → List Running → Type 0
+AreTidy g dirty [] = Unit {0}
+AreTidy g dirty (job ∷ jobs) = IsTidyJob g dirty job
+
+no_end : {A : Type 0} (course : Course) (ending : Ending) → IsGoing course → course ≡ Ends ending → A
+no_end course ending going is = absurd (subst IsGoing is going)
+
+after_going : (did : Did) → IsGoing (course_after did)
+after_going (Troubled trouble) = tt
+after_going (Began part) = tt
+after_going (Chunk count) = tt
+after_going (Placed path) = tt
+after_going (Removed path) = tt
+after_going (Skipped path why) = tt
+after_going (Cleaned part) = tt
+after_going Barrier = tt
+after_going (Ended ending part) = tt
+
+tells_aborted : (job new : Running) (did : Did) (course : Course) → job.course ≡ course → TellsOn course job did new → ((ending : Ending) → job.course ≡ Ends ending → ending ≡ Aborted)
+    → (ending : Ending) → new.course ≡ Ends ending → ending ≡ Aborted
+tells_aborted job new did GoesOn is (work, tells, new_is) old ending e = no_end (course_after did) ending (after_going did) (sym (ap (λ (x : Running). x.course) new_is) ∙ e)
+tells_aborted job new did (InTrouble why) is t old ending e = absurd t
+tells_aborted job new did (Unsettled why) is t old ending e = absurd t
+tells_aborted job new did (Skips why) is (inl (did_is, new_is)) old ending e = no_end GoesOn ending tt (sym (ap (λ (x : Running). x.course) new_is) ∙ e)
+tells_aborted job new did (Skips why) is (inr (did_is, new_is)) old ending e = no_end (InTrouble Rattle.file_copy.specs.declared.report.Cause.TheVariants.Memory) ending tt (sym (ap (λ (x : Running). x.course) new_is) ∙ e)
+tells_aborted job new did (Ends first) is (work, winds, new_is) old ending e = old ending (sym (ap (λ (x : Running). x.course) new_is) ∙ e)
+
+-- a job with the same work and number, that goes on only where it went on
+kept_tidy : (g : List Entry) (dirty : List Route) (job new : Running) → new.id ≡ job.id → is_dirty new.work ≡ is_dirty job.work → changed_folder new.work ≡ changed_folder job.work
+    → (IsGoing new.course → IsGoing job.course) → ((ending : Ending) → new.course ≡ Ends ending → ending ≡ Aborted) → IsTidyJob g dirty job → IsTidyJob g dirty new
+kept_tidy g dirty job new id_is dirty_is folder_is on aborted old = record {
+  tidy = λ changed going clean among. old.tidy (ap (λ n. has_changed n g) (sym id_is) ∙ changed) (on going) (sym dirty_is ∙ clean) (subst (λ q. Among dirty q) folder_is among);
+  aborted = aborted;
+}
+
+anew_dirty : (work : Work) → (is_dirty (taken_anew work) ≡ is_dirty work) × (changed_folder (taken_anew work) ≡ changed_folder work)
+anew_dirty (Copy c) = (refl, refl)
+anew_dirty (Delete d) = (refl, refl)
+
+some_end : (a b : Ending) → (let c : Course = Ends a in c) ≡ Ends b → b ≡ a
+some_end a b h = cc
+
+answer_tidy : (g : List Entry) (dirty : List Route) (job : Running) (course : Course) → job.course ≡ course → (answer : Answer) → IsTidyJob g dirty job → IsTidyJob g dirty (answered_on course answer job)
+answer_tidy g dirty job (InTrouble why) is Retry t =
+    let a = anew_dirty job.work in kept_tidy g dirty job (record job { work = taken_anew job.work; course = GoesOn }) refl a.0 a.1 (λ going. subst IsGoing (sym is) tt) (λ ending e. no_end GoesOn ending tt e) t
+answer_tidy g dirty job (InTrouble why) is Skip t = kept_tidy g dirty job (record job { course = Skips why }) refl refl refl (λ going. subst IsGoing (sym is) tt) (λ ending e. no_end (Skips why) ending tt e) t
+answer_tidy g dirty job (InTrouble why) is SkipAll t = kept_tidy g dirty job (record job { course = Skips why }) refl refl refl (λ going. subst IsGoing (sym is) tt) (λ ending e. no_end (Skips why) ending tt e) t
+answer_tidy g dirty job (InTrouble why) is Abort t = kept_tidy g dirty job (record job { course = Ends Aborted }) refl refl refl (λ going. absurd going) (λ ending e. some_end Aborted ending e) t
+answer_tidy g dirty job (Unsettled why) is Retry t =
+    let a = anew_dirty job.work in kept_tidy g dirty job (record job { work = taken_anew job.work; course = GoesOn }) refl a.0 a.1 (λ going. subst IsGoing (sym is) tt) (λ ending e. no_end GoesOn ending tt e) t
+answer_tidy g dirty job (Unsettled why) is Skip t = t
+answer_tidy g dirty job (Unsettled why) is SkipAll t = t
+answer_tidy g dirty job (Unsettled why) is Abort t = kept_tidy g dirty job (record job { course = Ends Aborted }) refl refl refl (λ going. absurd going) (λ ending e. some_end Aborted ending e) t
+answer_tidy g dirty job GoesOn is answer t = t
+answer_tidy g dirty job (Skips why) is answer t = t
+answer_tidy g dirty job (Ends ending) is answer t = t
+
+close_tidy : (g : List Entry) (dirty : List Route) (job : Running) (course : Course) → job.course ≡ course → IsTidyJob g dirty job → IsTidyJob g dirty (record job { course = closed_course course })
+close_tidy g dirty job GoesOn is t = kept_tidy g dirty job (record job { course = GoesOn }) refl refl refl (λ going. subst IsGoing (sym is) tt) (λ ending e. no_end GoesOn ending tt e) t
+close_tidy g dirty job (InTrouble why) is t = kept_tidy g dirty job (record job { course = Ends Aborted }) refl refl refl (λ going. absurd going) (λ ending e. some_end Aborted ending e) t
+close_tidy g dirty job (Unsettled why) is t = kept_tidy g dirty job (record job { course = Ends Aborted }) refl refl refl (λ going. absurd going) (λ ending e. some_end Aborted ending e) t
+close_tidy g dirty job (Skips why) is t = kept_tidy g dirty job (record job { course = Skips why }) refl refl refl (λ going. subst IsGoing (sym is) tt) (λ ending e. no_end (Skips why) ending tt e) t
+close_tidy g dirty job (Ends first) is t = kept_tidy g dirty job (record job { course = Ends first }) refl refl refl (λ going. absurd going) (λ ending e. t.aborted ending (is ∙ e)) t
+
+module _ (opening : CallLog) (tree : IsTree (current opening)) (settled : all_settled opening.changes ≡ true) where
+  order_tidy : (g : List Entry) (dirty : List Route) (id : ℕ) (order : JobOrder) (jobs : List Running) → AreTidy g dirty jobs → AreTidy g dirty (map (ordered id order) jobs)
+  order_tidy g dirty id order [] t = tt
+  order_tidy g dirty id (Answered answer) (job ∷ jobs) t = by (job.id == id)
+    where
+      by : (b : Bool) → IsTidyJob g dirty (if◌then◌else◌ b (answered_on job.course answer job) job)
+      by true = answer_tidy g dirty job job.course refl answer t
+      by false = t
+
+  closing_tidy : (g : List Entry) (b : Bool) (stand : Stand) → AreTidy g stand.dirty stand.jobs → (let s : Stand = if_closed b stand in AreTidy g s.dirty s.jobs)
+  closing_tidy g false stand t = t
+  closing_tidy g true stand t = by stand.jobs t
+    where
+      by : (jobs : List Running) → AreTidy g stand.dirty jobs → AreTidy g stand.dirty (map closed_job jobs)
+      by [] t = tt
+      by (job ∷ jobs) t = close_tidy g stand.dirty job job.course refl t
+
+  -- an event that says nothing of steps
+  same_tidy : (e : Entry) (older : List Entry) (dirty : List Route) (jobs : List Running) → ((id : ℕ) → has_changed id (e ∷ older) ≡ true → has_changed id older ≡ true) → AreTidy older dirty jobs → AreTidy (e ∷ older) dirty jobs
+  same_tidy e older dirty [] less t = tt
+  same_tidy e older dirty (job ∷ jobs) less t = record { tidy = λ changed going clean among. t.tidy (less job.id changed) going clean among; aborted = t.aborted }
+
+  begun_tidy : (g : List Entry) (dirty : List Route) (id : ℕ) (o : Option Work) → has_changed id g ≡ false → AreTidy g dirty (option_map_or (λ w. running id w ∷ []) o [])
+  begun_tidy g dirty id None unchanged = tt
+  begun_tidy g dirty id (Some w) unchanged = record { tidy = λ changed going clean among. both_ways _ unchanged changed; aborted = λ ending e. no_end GoesOn ending tt e }
+
+  changed_same : (number id : ℕ) (before begins : Bool) → number ≡ id → (before || ((number == id) && begins)) ≡ (before || begins)
+  changed_same number id before begins same = ap (λ b. before || (b && begins)) (eq-eqb number id same)
+
+  -- after a step of a job
+  step_tidy : (e : Entry) (older : List Entry) (id : ℕ) (did : Did) (job new : Running) (dirty dirty_after : List Route) (before now : CallLog) → e.what ≡ Step id did → job.id ≡ id → IsTidyJob older dirty job
+      → WorkLeads job did new dirty dirty_after before now ⊎ SyncLeads job did new dirty dirty_after before now → IsTidyJob (e ∷ older) dirty_after new
+  step_tidy e older id did job new dirty dirty_after before now what_is id_is t (inl works) =
+      let same = tells_same job new did works.tells in
+      record {
+        tidy = λ changed going clean among.
+            tidy_works job new did dirty dirty_after before now (has_changed job.id older) works t.tidy
+            (sym (changed_same id new.id (has_changed job.id older) (begins_change did) (sym id_is ∙ sym same.0))
+            ∙ (ap (λ n. has_changed n older || ((id == new.id) && begins_change did)) (sym same.0) ∙ (sym (ap (λ w. changed_after new.id w (has_changed new.id older)) what_is) ∙ changed))) going clean among;
+        aborted = tells_aborted job new did job.course refl works.tells t.aborted;
+      }
+  step_tidy e older id did job new dirty dirty_after before now what_is id_is t (inr syncs) = by syncs.synced
+    where
+      unchanged : (n : ℕ) → begins_change did ≡ false → has_changed n (e ∷ older) ≡ true → has_changed n older ≡ true
+      unchanged n none changed = elim (changed_by (has_changed n older) ((id == n) && begins_change did) (sym (ap (λ w. changed_after n w (has_changed n older)) what_is) ∙ changed)) [
+        | inl b ↦ b
+        | inr h ↦ absurd (both_ways _ none (and_parts (id == n) (begins_change did) h).1)
+      ]
+
+      by : SyncsFolder job syncs.folder did new dirty dirty_after (Some before) (Some now) → IsTidyJob (e ∷ older) dirty_after new
+      by (inl (did_is, new_is, routes, called)) = subst (λ (x : Running). IsTidyJob (e ∷ older) dirty_after x) (sym new_is) (record {
+        tidy = λ changed going clean among. t.tidy (unchanged job.id (ap begins_change did_is) changed) going clean
+            (in_filter (λ kept. not (same_path kept syncs.folder)) (changed_folder job.work) dirty (subst (λ xs. Among xs (changed_folder job.work)) routes among));
+        aborted = t.aborted;
+      })
+      by (inr (error, did_is, new_is, routes, called)) = subst (λ (x : Running). IsTidyJob (e ∷ older) dirty_after x) (sym new_is) (record {
+        tidy = λ changed going clean among. t.tidy (unchanged job.id (ap begins_change did_is) changed) (subst IsGoing (sym syncs.goes) tt) clean (subst (λ xs. Among xs (changed_folder job.work)) routes among);
+        aborted = λ ending x. no_end (Unsettled (deletions.cause_of error)) ending tt x;
+      })
+
+  after_tidy : (g : List Entry) (dirty : List Route) (new : Running) (b : Bool) → IsTidyJob g dirty new → AreTidy g dirty (before_others (if◌then◌else◌ b None (Some new)) [])
+  after_tidy g dirty new true t = tt
+  after_tidy g dirty new false t = t
+
+  pub traced_tidy : (newest : List Entry) (stand : Stand) (now : CallLog) → IsTraced opening newest stand now → AreTidy newest stand.dirty stand.jobs
+  traced_tidy [] stand now (stand_is, now_is) = subst (λ (x : Stand). AreTidy [] x.dirty x.jobs) (sym stand_is) tt
+  traced_tidy (e ∷ older) stand now (was, before, traced, f) =
+      subst (λ (x : Stand). AreTidy (e ∷ older) x.dirty x.jobs) (sym f.stand_is)
+      (closing_tidy (e ∷ older) (is_closed (e ∷ older)) f.after (by e.what refl f.leads (traced_tidy older was before traced) (traced_reached opening tree settled older was before traced)))
+    where
+      by : (what : Event) → e.what ≡ what → EventLeads was what f.after before now → AreTidy older was.dirty was.jobs → IsReached opening older was before → AreTidy (e ∷ older) (let a : Stand = f.after in a.dirty) (let a : Stand = f.after in a.jobs)
+      by (Step id did) is (job, is_job, (new, leads, jobs_is)) t r =
+          let one = only_job id was.jobs job _ was.dirty r.marks (current before) is_job r.knows in
+          let tidy : IsTidyJob older was.dirty job = subst (λ js. AreTidy older was.dirty js) one.0 t in
+          let a : Stand = f.after in
+          let jobs_then : a.jobs ≡ before_others new [] = jobs_is ∙ (ap (with_job id new) one.0 ∙ (ap (λ n. with_job n new (job ∷ [])) (sym one.1) ∙ with_one job new)) in
+          subst (λ js. AreTidy (e ∷ older) a.dirty js) (sym jobs_then) (elim leads [
+            | inl stepped ↦ subst (λ o. AreTidy (e ∷ older) a.dirty (before_others o [])) (sym stepped.2)
+                (after_tidy (e ∷ older) a.dirty stepped.0 (ends did) (step_tidy e older id did job stepped.0 was.dirty a.dirty before now is one.1 tidy stepped.1))
+            | inr gives ↦ subst (λ o. AreTidy (e ∷ older) a.dirty (before_others o [])) (sym gives.1) tt
+          ])
+      by (event.Began id plan background) is (none, after_is, now_is) t r =
+          subst (λ (x : Stand). AreTidy (e ∷ older) x.dirty x.jobs) (sym after_is)
+          (begun_tidy (e ∷ older) was.dirty id (first_work id plan) (ap (λ w. changed_after id w (has_changed id older)) is ∙ ap (λ b. if◌then◌else◌ b false (has_changed id older)) (eq-eqb id id refl)))
+      by (Order id order) is (after_is, now_is) t r =
+          subst (λ (x : Stand). AreTidy (e ∷ older) x.dirty x.jobs) (sym after_is)
+          (order_tidy (e ∷ older) was.dirty id order was.jobs (same_tidy e older was.dirty was.jobs (λ n h. sym (ap (λ w. changed_after n w (has_changed n older)) is) ∙ h) t))
+      by (Key key time refusals lost) is (after_is, now_is) t r =
+          subst (λ (x : Stand). AreTidy (e ∷ older) x.dirty x.jobs) (sym after_is) (same_tidy e older was.dirty was.jobs (λ n h. sym (ap (λ w. changed_after n w (has_changed n older)) is) ∙ h) t)
+      by (Look refusals) is (after_is, now_is) t r =
+          subst (λ (x : Stand). AreTidy (e ∷ older) x.dirty x.jobs) (sym after_is) (same_tidy e older was.dirty was.jobs (λ n h. sym (ap (λ w. changed_after n w (has_changed n older)) is) ∙ h) t)
+      by Closed is (after_is, now_is) t r =
+          subst (λ (x : Stand). AreTidy (e ∷ older) x.dirty x.jobs) (sym after_is) (same_tidy e older was.dirty was.jobs (λ n h. sym (ap (λ w. changed_after n w (has_changed n older)) is) ∙ h) t)
+
+-- a job that may report that it is finished owes no sync
+done_deletion : (stage : Stage) → deletions.is_done stage ≡ true → deletions.is_dirty stage ≡ false
+done_deletion Remove h = absurd (false≢true h)
+done_deletion Sync h = absurd (false≢true h)
+done_deletion Finish h = refl
+done_deletion PassedOver h = refl
+
+done_work : (old new : Work) (part : Option Route) → WorkTells old (Ended Finished part) new → is_dirty old ≡ false
+done_work (Copy c) (Copy new) part (stage, synced, part_is, new_is) = ap copying.is_dirty synced
+done_work (Copy c) (Delete new) part t = absurd t
+done_work (Delete d) (Copy new) part t = absurd t
+done_work (Delete d) (Delete new) part (is_done, part_is, new_is) = done_deletion d.stage is_done
+
+wound_up : (ending : Ending) (old new : Work) (part : Option Route) → Rattle.copy_move.specs.Jobs.WorkWinds ending old (Ended Finished part) new → Finished ≡ ending
+wound_up ending (Copy c) (Copy new) part (none, synced, how_is, part_is, new_is) = how_is
+wound_up ending (Delete d) (Delete new) part (off, how_is, part_is, new_is) = how_is
+wound_up ending (Copy c) (Delete new) part t = absurd t
+wound_up ending (Delete d) (Copy new) part t = absurd t
+
+finished_tidy : (g : List Entry) (dirty : List Route) (job new : Running) (part : Option Route) (course : Course) → job.course ≡ course → TellsOn course job (Ended Finished part) new → IsTidyJob g dirty job
+    → has_changed job.id g ≡ true → Among dirty (changed_folder job.work) → ⊥
+finished_tidy g dirty job new part GoesOn is (work, tells, new_is) t changed among = t.tidy changed (subst IsGoing (sym is) tt) (done_work job.work work part tells) among
+finished_tidy g dirty job new part (InTrouble why) is tells t changed among = tells
+finished_tidy g dirty job new part (Unsettled why) is tells t changed among = tells
+finished_tidy g dirty job new part (Skips why) is (inl (did_is, new_is)) t changed among = let f : ⊥ = cc in f
+finished_tidy g dirty job new part (Skips why) is (inr (did_is, new_is)) t changed among = let f : ⊥ = cc in f
+finished_tidy g dirty job new part (Ends ending) is (work, winds, new_is) t changed among =
+    let e : Finished ≡ Aborted = wound_up ending job.work work part winds ∙ t.aborted ending is in let f : ⊥ = cc in f
+
+pub finished_law : FinishedLaw
+finished_law opening now newest stand job new part path tree settled traced jobs_is tells changed folder =
+    false_from_ne_true (is_unsettled now path) (λ waits.
+    finished_tidy newest stand.dirty job new part job.course refl tells (subst (λ js. AreTidy newest stand.dirty js) jobs_is (traced_tidy opening tree settled newest stand now traced)) changed
+    (subst (λ q. Among stand.dirty q) folder (owed_law opening now newest stand path tree settled traced waits)))

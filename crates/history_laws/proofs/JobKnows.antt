@@ -1,0 +1,166 @@
+-- What is known of a live job's part and target, by where its work stands.
+use Rattle.std.proofs.Common.{◌≡◌, ℕ, ◌≤◌, Bool, true, false, ◌&&◌, ◌||◌, List, ◌∷◌, length, take, refl, sym, ◌∙◌, ap, subst, inl, inr, Option, Some, None, cond}
+use Rattle.std.specs.Prelude.{is_some}
+use Rattle.std.specs.Option.{option_map_or}
+use Rattle.std.proofs.lemmas.Bool.{false≢true, both_ways}
+use Rattle.mc_text.specs.declared.kind.Kind.TheVariants.{File}
+use Rattle.mc_text.specs.Routes.{Route}
+use Rattle.tree_trait.specs.declared.file_system.FileSystem.{FileSystem}
+use Rattle.tree_trait.specs.FileSystem.{find, node}
+use Rattle.tree_trait.specs.Refusals.{mount_of}
+use Rattle.tree_trait.specs.Answers.{mount_number}
+use Rattle.tree_trait.specs.Change.{CallLog, current}
+use Rattle.tree_trait.specs.CrashImages.{Among}
+use Rattle.tree_trait.proofs.Finding.{find-once}
+use Rattle.crash_law.specs.Guarded.{Marks}
+use Rattle.file_copy.specs.declared.report.Did.{Did}
+use Rattle.file_copy.specs.declared.report.Did.TheVariants.{Ended}
+use Rattle.file_copy.specs.declared.stage.FolderState.TheVariants.{Dirty}
+use Rattle.file_copy.specs.declared.stage.Said.{Said as SaidOf}
+use Rattle.file_copy.specs.declared.stage.Stage.{Stage}
+use Rattle.file_copy.specs.declared.stage.Stage.TheVariants.{Begin, Fill, Clean, Left, Decided}
+use Rattle.file_copy.specs.CopyCalls.{part_mode}
+use Rattle.file_copy.specs.Copying.{Copying, folder_of}
+use Rattle.file_copy.proofs.FilledParts.{Holds}
+use Rattle.file_copy.proofs.PermittedCalls.{stat_missing}
+use Rattle.copy_move.specs.declared.run.Course.{Course}
+use Rattle.copy_move.specs.declared.run.Course.TheVariants.{GoesOn}
+use Rattle.copy_move.specs.declared.work.Work.{Work}
+use Rattle.copy_move.specs.declared.work.Work.TheVariants.{Copy, Delete}
+use Rattle.copy_move.specs.Settling.{NoneOwed}
+use Rattle.history_laws.specs.Doubt.{is_pending, is_unsettled}
+use Rattle.history_laws.proofs.Knowing.{Said, IsKnown, IsKept, settled_marks}
+
+-- nothing was done at the target yet, and nothing stands there
+pub record IsUntouched (marks : Marks) (s : FileSystem) (target : Route) : Type 0 where
+  pub out : marks.aside target ≡ false
+  pub free : find s target ≡ None
+  pub was : marks.was target ≡ None
+
+-- the part stands beside the target, and leads to this node
+pub record HasPart (said : Said) (marks : Marks) (s : FileSystem) (target part : Route) (i : ℕ) : Type 0 where
+  pub part_is : said.part ≡ Some part
+  pub leads : find s part ≡ Some i
+  pub loose : marks.loose i ≡ true
+  pub moves : marks.roams i ≡ true
+  pub file : (node s i).kind ≡ File
+  pub unnamed : (node s i).unnamed ≡ 0
+  pub name : List ℕ
+  pub beside : part ≡ name ∷ folder_of target
+  pub apart : part ≡ target → ⊥
+  pub untouched : IsUntouched marks s target
+
+-- the part holds the first bytes of the source
+pub record IsFilled (s : FileSystem) (source part : Route) (said : SaidOf) (done i : ℕ) : Type 0 where
+  pub n : ℕ
+  pub source_leads : find s source ≡ Some n
+  pub apart : source ≡ part → ⊥
+  pub file : (node s n).kind ≡ File
+  pub size : said.size ≡ length (node s n).bytes
+  pub mode : said.mode ≡ (node s n).mode
+  pub few : done ≤ said.size
+  pub holds : Holds (node s i) (take done (node s n).bytes) (part_mode said.mode)
+
+-- the path has a last name
+pub record HasName (path : Route) : Type 0 where
+  pub name : List ℕ
+  pub is : path ≡ name ∷ folder_of path
+
+abbrev pub StageKnows : Said → Marks → FileSystem → Course → Copying → Stage → Type 0
+StageKnows told marks s course c Begin = (told.part ≡ None) × (c.folder ≡ Dirty → IsUntouched marks s c.target)
+StageKnows told marks s course c (Fill part said done) =
+    (c.folder ≡ Dirty) × ((i : ℕ) × HasPart told marks s c.target part i × (course ≡ GoesOn → IsFilled s c.source part said done i))
+StageKnows told marks s course c (Clean part follows) = (c.folder ≡ Dirty) × ((i : ℕ) × HasPart told marks s c.target part i)
+StageKnows told marks s course c (Left part) = (i : ℕ) × HasPart told marks s c.target part i
+StageKnows told marks s course c Decided = told.part ≡ None
+
+abbrev pub WorkKnows : Said → List Route → Marks → FileSystem → Course → Work → Type 0
+WorkKnows told dirty marks s course (Copy c) =
+    HasName c.target × (c.folder ≡ Dirty → Among dirty (folder_of c.target)) × StageKnows told marks s course c c.stage
+WorkKnows told dirty marks s course (Delete d) = HasName d.path × (told.part ≡ None)
+
+-- a path at which nothing stands, and of whose name nothing waits
+pub untouched_free : (told : Said) (dirty : List Route) (marks : Marks) (log : CallLog) (p : Route) → IsKept told dirty marks log → is_unsettled log p ≡ false → find (current log) p ≡ None → IsUntouched marks (current log) p
+untouched_free told dirty marks log p kept sure free =
+    let out = not_aside (marks.aside p) refl in
+    record { out = out; free = free; was = kept.was p out sure ∙ free }
+  where
+    not_aside : (b : Bool) → marks.aside p ≡ b → marks.aside p ≡ false
+    not_aside false is = is
+    not_aside true is = elim (kept.aside p is) [
+      | inl waits ↦ absurd (both_ways _ sure waits)
+      | inr stands ↦ absurd (false≢true (sym (ap is_some free) ∙ stands))
+    ]
+
+-- Where no dirty folder lies on the mount of this one, nothing waits in it.
+pub none_waits : (told : Said) (dirty : List Route) (marks : Marks) (log : CallLog) (up : Route) → IsKnown told dirty marks log → NoneOwed (current log) up dirty → (m : List ℕ) → is_unsettled log (m ∷ up) ≡ false
+none_waits told dirty marks log up known none m = by (find (current log) up) refl
+  where
+    no_more : (f : ℕ) → find (current log) up ≡ Some f → (b : Bool) → is_pending f m log.changes ≡ b → b ≡ false
+    no_more f at false is = refl
+    no_more f at true is =
+        let t = known.tracked f m is in
+        let same = find-once (current log) known.guarded.tree t.0 up f t.2 at in
+        elim (none t.0 t.1) [
+          | inl gone ↦ absurd (let e : (let o : Option ℕ = None in o) ≡ Some f = sym (stat_missing (current log) t.0 gone) ∙ t.2 in cc)
+          | inr elsewhere ↦ absurd (elsewhere.2 (subst (λ q. elsewhere.0 ≡ mount_number (current log).mounts (mount_of (current log) q)) (sym same) elsewhere.1))
+        ]
+
+    by : (o : Option ℕ) → find (current log) up ≡ o → is_unsettled log (m ∷ up) ≡ false
+    by None is = ap (λ x. option_map_or (λ f. is_pending f m log.changes) x false) is
+    by (Some f) is = ap (λ x. option_map_or (λ f. is_pending f m log.changes) x false) is ∙ no_more f is (is_pending f m log.changes) refl
+
+-- What is known of a job is known with the marks that are settled.
+module _ (log : CallLog) (marks : Marks) where
+  pub untouched_settled : (p : Route) → IsUntouched marks (current log) p → IsUntouched (settled_marks log marks) (current log) p
+  untouched_settled p u = record {
+    out = ap (λ a. a && (is_unsettled log p || is_some (find (current log) p))) u.out;
+    free = u.free;
+    was = by (is_unsettled log p);
+  }
+    where
+      by : (b : Bool) → cond b (marks.was p) (find (current log) p) ≡ None
+      by true = u.was
+      by false = u.free
+
+  pub part_settled : (told : Said) (target part : Route) (i : ℕ) → HasPart told marks (current log) target part i → HasPart told (settled_marks log marks) (current log) target part i
+  part_settled told target part i h = record {
+    part_is = h.part_is;
+    leads = h.leads;
+    loose = h.loose;
+    moves = h.moves;
+    file = h.file;
+    unnamed = h.unnamed;
+    name = h.name;
+    beside = h.beside;
+    apart = h.apart;
+    untouched = untouched_settled target h.untouched;
+  }
+
+  stage_settled : (told : Said) (course : Course) (c : Copying) (stage : Stage) → StageKnows told marks (current log) course c stage → StageKnows told (settled_marks log marks) (current log) course c stage
+  stage_settled told course c Begin (none, untouched) = (none, λ dirty. untouched_settled c.target (untouched dirty))
+  stage_settled told course c (Fill part said done) (dirty, (i, has, filled)) = (dirty, (i, part_settled told c.target part i has, filled))
+  stage_settled told course c (Clean part follows) (dirty, (i, has)) = (dirty, (i, part_settled told c.target part i has))
+  stage_settled told course c (Left part) (i, has) = (i, part_settled told c.target part i has)
+  stage_settled told course c Decided none = none
+
+  pub work_settled : (told : Said) (dirty : List Route) (course : Course) (work : Work) → WorkKnows told dirty marks (current log) course work → WorkKnows told dirty (settled_marks log marks) (current log) course work
+  work_settled told dirty course (Copy c) (name, listed, stage) = (name, listed, stage_settled told course c c.stage stage)
+  work_settled told dirty course (Delete d) k = k
+
+-- a job that goes on only where it went on knows what it knew
+pub stage_course : (told : Said) (marks : Marks) (s : FileSystem) (course other : Course) (c : Copying) (stage : Stage) → (other ≡ GoesOn → course ≡ GoesOn) → StageKnows told marks s course c stage → StageKnows told marks s other c stage
+stage_course told marks s course other c Begin on k = k
+stage_course told marks s course other c (Fill part said done) on (dirty, (i, has, filled)) = (dirty, (i, has, λ e. filled (on e)))
+stage_course told marks s course other c (Clean part follows) on k = k
+stage_course told marks s course other c (Left part) on k = k
+stage_course told marks s course other c Decided on k = k
+
+pub work_course : (told : Said) (dirty : List Route) (marks : Marks) (s : FileSystem) (course other : Course) (work : Work) → (other ≡ GoesOn → course ≡ GoesOn) → WorkKnows told dirty marks s course work → WorkKnows told dirty marks s other work
+work_course told dirty marks s course other (Copy c) on (name, listed, stage) = (name, listed, stage_course told marks s course other c c.stage on stage)
+work_course told dirty marks s course other (Delete d) on k = k
+
+-- what is known after a report: of a job that has ended no part stands
+abbrev pub KnowsAfter : Did → Said → List Route → FileSystem → Course → Work → Marks → Type 0
+KnowsAfter (Ended ending part) told dirty s course work marks = told.part ≡ None
+KnowsAfter did told dirty s course work marks = WorkKnows told dirty marks s course work

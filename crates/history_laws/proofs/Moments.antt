@@ -1,0 +1,135 @@
+-- Each moment of a session is safe.
+use Rattle.std.proofs.Common.{◌≡◌, ◌⊎◌, ℕ, ◌+◌, ◌≤◌, true, List, [], ◌∷◌, ◌++◌, length, length-append, take, refl, sym, ◌∙◌, ap, subst, inl, inr, Option, Some, None, arith, append_assoc}
+use Rattle.std.proofs.Math.Seq.{take-append_seam}
+use Rattle.std.proofs.lemmas.List.{take-append-le}
+use Rattle.mc_text.specs.Routes.{Route}
+use Rattle.tree_trait.specs.declared.file_system.FileSystem.{FileSystem}
+use Rattle.tree_trait.specs.Shape.{IsTree}
+use Rattle.tree_trait.specs.Change.{Change, CallLog, current}
+use Rattle.tree_trait.specs.CrashImages.{all_settled}
+use Rattle.crash_law.specs.Guarded.{Marks}
+use Rattle.crash_law.specs.Possible.{IsImage}
+use Rattle.copy_move.specs.declared.history.Entry.{Entry}
+use Rattle.copy_move.specs.Jobs.{Running}
+use Rattle.history_laws.specs.LiveJobs.{LiveJob, IsLivePart, live_jobs}
+use Rattle.history_laws.specs.Replayed.{front}
+use Rattle.history_laws.specs.Safe.{IsMoment, IsSafe, ReplayLaw, SessionLaw, calls_in}
+use Rattle.history_laws.specs.Traces.{Follows, IsTraced, Stand}
+use Rattle.history_laws.proofs.Fronts.{told_more, told_of, within_more}
+use Rattle.history_laws.proofs.Histories.{IsEntered, IsReached, enters, traced_reached}
+use Rattle.history_laws.proofs.Knowing.{IsKept, Said, safe_path}
+use Rattle.history_laws.proofs.Reports.{HasLive, JobsKnow}
+use Rattle.history_laws.proofs.Stepped.{cut, mid_at, more}
+
+abbrev log_of : CallLog → List Change → CallLog
+log_of now xs = record now { changes = xs }
+
+-- what is known makes each image safe
+safe_told : (opening end : CallLog) (g : List Entry) (part : Option Route) (dirty : List Route) (marks : Marks) (log : CallLog) (image : FileSystem) → IsKept (told_of opening end g part) dirty marks log → IsImage log image
+    → IsSafe opening end g log image
+safe_told opening end g part dirty marks log image kept left path apart =
+    safe_path (told_of opening end g part) dirty marks log kept image left path (λ named stays. apart (record { named = named; stays = stays }))
+
+-- so many calls were made
+traced_count : (opening now : CallLog) (newest : List Entry) (stand : Stand) → IsTraced opening newest stand now → length now.changes ≡ length opening.changes + calls_in newest
+traced_count opening now [] stand traced = let same = ap (λ (l : CallLog). length l.changes) traced.1 in omega (arith, same)
+traced_count opening now (e ∷ older) stand traced = traced.3.counts
+
+module _ (opening : CallLog) (tree : IsTree (current opening)) (settled : all_settled opening.changes ≡ true) (end : CallLog) (calls : ℕ) (image : FileSystem) (standing coming : List Entry) where
+  abbrev log : CallLog
+  log = front opening calls end
+
+  abbrev Safe : Type 0
+  Safe = IsSafe opening end standing log image ⊎ IsSafe opening end coming log image
+
+  -- after these entries, whose calls were made
+  safe_here : (g : List Entry) (stand : Stand) (now : CallLog) (rest : List Change) → IsReached opening g stand now → end ≡ more now rest → log ≡ now → IsImage log image → IsSafe opening end g log image
+  safe_here g stand now rest r end_is log_is left =
+      safe_told opening end g r.part stand.dirty r.marks log image
+      (subst (λ (l : CallLog). IsKept (told_of opening end g r.part) stand.dirty r.marks l) (sym log_is)
+      (subst (λ t. IsKept t stand.dirty r.marks now) (sym (ap (λ (l : CallLog). told_of opening l g r.part) end_is ∙ told_more opening now rest g r.part r.within)) r.kept)) left
+
+  -- as many calls as these entries made
+  front_is : (now : CallLog) (rest : List Change) → end ≡ more now rest → length opening.changes + calls ≡ length now.changes → log ≡ now
+  front_is now rest end_is count =
+      ap (λ (l : CallLog). log_of l (take (length opening.changes + calls) l.changes)) end_is
+      ∙ ap (log_of now) (ap (λ n. take n (now.changes ++ rest)) count ∙ take-append_seam now.changes rest)
+
+  -- no more than these
+  front_cut : (now : CallLog) (rest : List Change) → end ≡ more now rest → length opening.changes + calls ≤ length now.changes → log ≡ cut now (length opening.changes + calls)
+  front_cut now rest end_is few =
+      ap (λ (l : CallLog). log_of l (take (length opening.changes + calls) l.changes)) end_is
+      ∙ ap (log_of now) (take-append-le (length opening.changes + calls) now.changes rest few)
+
+  -- within an entry
+  within_entry : (e : Entry) (older : List Entry) (was : Stand) (before : CallLog) (stand : Stand) (now : CallLog) (rest : List Change) (r : IsReached opening older was before)
+      → (n : IsEntered opening older e.calls e.what (told_of opening before older r.part) before stand now) → IsReached opening (e ∷ older) stand now → end ≡ more now rest
+      → length before.changes ≤ length opening.changes + calls → length opening.changes + calls ≤ length now.changes → IsImage log image
+      → IsSafe opening end older log image ⊎ IsSafe opening end (e ∷ older) log image
+  within_entry e older was before stand now rest r n later end_is least most left =
+      elim (mid_at (told_of opening before older r.part) n.made before (length opening.changes + calls) n.mids least (subst (λ (l : CallLog). length opening.changes + calls ≤ length l.changes) n.now_is most)) [
+        | inl whole ↦ inr (safe_here (e ∷ older) stand now rest later end_is (front_cut now rest end_is most ∙ (ap (λ (l : CallLog). cut l (length opening.changes + calls)) n.now_is ∙ (whole ∙ sym n.now_is))) left)
+        | inr mid ↦ inl (safe_told opening end older r.part mid.0 mid.1 log image
+            (subst (λ (l : CallLog). IsKept (told_of opening end older r.part) mid.0 mid.1 l) (sym (front_cut now rest end_is most ∙ ap (λ (l : CallLog). cut l (length opening.changes + calls)) n.now_is))
+            (subst (λ t. IsKept t mid.0 mid.1 (cut (more before n.made) (length opening.changes + calls)))
+            (sym (ap (λ (l : CallLog). told_of opening l older r.part) (end_before n.made n.now_is) ∙ told_more opening before (n.made ++ rest) older r.part r.within)) mid.2)) left)
+      ]
+    where
+      end_before : (made : List Change) → now ≡ more before made → end ≡ more before (made ++ rest)
+      end_before made is = end_is ∙ (ap (λ (l : CallLog). more l rest) is ∙ ap (log_of before) (append_assoc before.changes made rest))
+
+  safe_moment : (newest : List Entry) (stand : Stand) (now : CallLog) (rest : List Change) → IsTraced opening newest stand now → end ≡ more now rest → IsMoment newest standing coming calls → IsImage log image → Safe
+  safe_moment [] stand now rest traced end_is (standing_is, coming_is, calls_is) left =
+      let r = traced_reached opening tree settled [] stand now traced in
+      let count : length opening.changes + calls ≡ length now.changes = (let n = traced_count opening now [] stand traced in omega (arith, n, calls_is)) in
+      inl (subst (λ g. IsSafe opening end g log image) (sym standing_is) (safe_here [] stand now rest r end_is (front_is now rest end_is count) left))
+  safe_moment (e ∷ older) stand now rest traced end_is (inl (standing_is, coming_is, calls_is)) left =
+      let r = traced_reached opening tree settled (e ∷ older) stand now traced in
+      let count : length opening.changes + calls ≡ length now.changes = (let n = traced_count opening now (e ∷ older) stand traced in omega (arith, n, calls_is)) in
+      inl (subst (λ g. IsSafe opening end g log image) (sym standing_is) (safe_here (e ∷ older) stand now rest r end_is (front_is now rest end_is count) left))
+  safe_moment (e ∷ older) stand now rest (was, before, traced, f) end_is (inr (inl (standing_is, coming_is, least, most))) left =
+      let r = traced_reached opening tree settled older was before traced in
+      let n = enters opening older e.calls was before r e.what f.after now f.leads f.counts in
+      let whole = traced_reached opening tree settled (e ∷ older) stand now (was, before, traced, f) in
+      let b = traced_count opening before older was traced in
+      let c = f.counts in
+      elim (within_entry e older was before f.after now rest r n (open_reached e older was before traced stand now f n) end_is (omega (arith, b, least)) (omega (arith, c, most)) left) [
+        | inl safe ↦ inl (subst (λ g. IsSafe opening end g log image) (sym standing_is) safe)
+        | inr safe ↦ inr (subst (λ g. IsSafe opening end g log image) (sym coming_is) safe)
+      ]
+    where
+      open_reached : (e : Entry) (older : List Entry) (was : Stand) (before : CallLog) (traced : IsTraced opening older was before) (stand : Stand) (now : CallLog) (f : Follows opening e older was before stand now)
+          → (n : IsEntered opening older e.calls e.what (told_of opening before older (traced_reached opening tree settled older was before traced).part) before f.after now) → IsReached opening (e ∷ older) f.after now
+      open_reached e older was before traced stand now f n = record {
+        part = n.part;
+        marks = n.marks;
+        kept = n.kept;
+        knows = n.knows;
+        live = n.live;
+        within = (
+          let c = f.counts in omega (arith, c),
+          subst (λ (l : CallLog). Rattle.history_laws.proofs.Fronts.AreWithin opening older l) (sym n.now_is) (within_more opening before n.made older (traced_reached opening tree settled older was before traced).within),
+        );
+      }
+  safe_moment (e ∷ older) stand now rest (was, before, traced, f) end_is (inr (inr earlier)) left =
+      let r = traced_reached opening tree settled older was before traced in
+      let n = enters opening older e.calls was before r e.what f.after now f.leads f.counts in
+      safe_moment older was before (n.made ++ rest) traced (end_is ∙ (ap (λ (l : CallLog). more l rest) n.now_is ∙ ap (log_of before) (append_assoc before.changes n.made rest))) earlier left
+
+pub session_law : SessionLaw
+session_law opening now newest standing coming stand calls image tree settled traced moment left =
+    safe_moment opening tree settled now calls image standing coming newest stand now [] traced
+    (ap (log_of now) (sym (Rattle.std.proofs.Common.append-nil now.changes))) moment left
+
+live_part : (jobs : List Running) (told : Said) (dirty : List Route) (marks : Marks) (s : FileSystem) (live : List LiveJob) (path : Route) → JobsKnow told dirty marks s jobs → HasLive live jobs told.part → told.part ≡ Some path → IsLivePart live path
+live_part [] told dirty marks s live path knows is part = absurd (let e : (let o : Option Route = None in o) ≡ Some path = sym knows ∙ part in cc)
+live_part (job ∷ []) told dirty marks s live path knows (w, is, source) part = subst (λ l. IsLivePart l path) (sym is) ((let l : LiveJob = record { id = job.id; work = w; part = told.part } in l), inl refl, part)
+live_part (job ∷ other ∷ jobs) told dirty marks s live path knows is part = absurd knows
+
+pub replay_law : ReplayLaw
+replay_law opening now newest stand tree settled traced =
+    let r = traced_reached opening tree settled newest stand now traced in
+    record {
+      tree = r.kept.known.guarded.tree;
+      shows = λ path other. r.kept.known.shows path (λ part. other (live_part stand.jobs (told_of opening now newest r.part) stand.dirty r.marks (current now) (live_jobs newest) path r.knows r.live part));
+    }

@@ -1,0 +1,221 @@
+-- Which names wait for a sync after one call more, and where a name leads of which none does.
+use Rattle.std.proofs.Common.{◌≡◌, ◌⊎◌, ℕ, Bool, true, false, not, ◌&&◌, ◌||◌, List, [], ◌∷◌, ◌++◌, length, refl, sym, ◌∙◌, ap, subst, inl, inr, Option, Some, None, cond}
+use Rattle.std.specs.Prelude.{is_some, is_none, ◌==◌}
+use Rattle.std.proofs.lemmas.Bool.{false≢true, true≢false, and_parts, and_from, eqb-true, not-true, or_left, or_right}
+use Rattle.tree_trait.specs.declared.file_system.FileSystem.{FileSystem}
+use Rattle.tree_trait.specs.FileSystem.{lookup}
+use Rattle.tree_trait.specs.Change.{Change, Nothing, Makes, Moves, Removes, Sets, Writes, Syncs, after_change, after_changes, CallLog, current}
+use Rattle.tree_trait.specs.CrashImages.{all_settled, is_settled, is_unsynced, same_name, says, may_lead}
+use Rattle.tree_trait.proofs.Finding.{same_name-true}
+use Rattle.tree_trait.proofs.Settled.{is_unsynced-more}
+use Rattle.tree_trait.proofs.Synced.{is_settled-end}
+use Rattle.crash_law.specs.Possible.{MayLead}
+use Rattle.crash_law.proofs.Syncing.{only_one}
+use Rattle.history_laws.specs.Doubt.{is_pending}
+
+-- whether a change touches a name doesn't hang on how many nodes there are
+touches : (b : Bool) (x y : Option ℕ) → is_some (let o : Option (Option ℕ) = cond b (Some x) None in o) ≡ not (is_none (let o : Option (Option ℕ) = cond b (Some y) None in o))
+touches true x y = refl
+touches false x y = refl
+
+touches_two : (a b : Bool) (x y : Option ℕ) → is_some (let o : Option (Option ℕ) = cond a (Some x) (cond b (Some y) None) in o) ≡ not (is_none (let o : Option (Option ℕ) = cond a (Some x) (cond b (Some y) None) in o))
+touches_two true b x y = refl
+touches_two false b x y = touches b y y
+
+pub says_any : (c : Change) (n g : ℕ) (m : List ℕ) → is_some (says c 0 g m) ≡ not (is_none (says c n g m))
+says_any Nothing n g m = refl
+says_any (Makes f name made) n g m = touches (same_name f name g m) (Some 0) (Some n)
+says_any (Moves f old h new i replaced) n g m = touches_two (same_name h new g m) (same_name f old g m) (Some i) None
+says_any (Removes f name i) n g m = touches (same_name f name g m) None None
+says_any (Sets i mode) n g m = refl
+says_any (Writes i bytes mtime) n g m = refl
+says_any (Syncs i) n g m = refl
+
+none_some : (o : Option (Option ℕ)) → not (is_none o) ≡ is_some o
+none_some None = refl
+none_some (Some x) = refl
+
+-- the same, with so many nodes as there are
+pub says_at : (c : Change) (n g : ℕ) (m : List ℕ) → is_some (says c 0 g m) ≡ is_some (says c n g m)
+says_at c n g m = says_any c n g m ∙ none_some (says c n g m)
+
+none_had : (untouched waits later some : Bool) (x : List (Option ℕ)) → some ≡ not untouched → ((some && waits) || later) ≡ false → (cond untouched [] (cond waits x []) ≡ []) × (later ≡ false)
+none_had true waits later true x e h = absurd (true≢false e)
+none_had true waits later false x e h = (refl, h)
+none_had false true later true x e h = absurd (true≢false h)
+none_had false false later true x e h = (refl, h)
+none_had false waits later false x e h = absurd (false≢true e)
+
+steady : (s : FileSystem) (cs : List Change) (f : ℕ) (m : List ℕ) → is_pending f m cs ≡ false → may_lead f m [] s cs ≡ lookup (after_changes s cs).names f m ∷ []
+steady s [] f m h = refl
+steady s (c ∷ cs) f m h =
+    let n = none_had (is_none (says c (length s.nodes) f m)) (is_unsynced c cs) (is_pending f m cs) (is_some (says c 0 f m)) (lookup s.names f m ∷ []) (says_any c (length s.nodes) f m) h in
+    ap (λ had. may_lead f m had (after_change s c) cs) n.0 ∙ steady (after_change s c) cs f m n.1
+
+-- a name of which nothing waits may lead only where it leads
+pub leads_only : (log : CallLog) (f : ℕ) (m : List ℕ) (x : Option ℕ) → is_pending f m log.changes ≡ false → MayLead log f m x → x ≡ lookup (current log).names f m
+leads_only log f m x h lead = only_one _ _ _ (steady log.opening log.changes f m h) lead
+
+-- this change settles nothing: it is no sync
+abbrev pub SettlesNone : Change → Type 0
+SettlesNone c = (i : ℕ) → is_settled i (c ∷ []) ≡ false
+
+and_false : (b : Bool) → (b && false) ≡ false
+and_false true = refl
+and_false false = refl
+
+pub settles_none_nothing : SettlesNone Nothing
+settles_none_nothing i = refl
+
+pub settles_none_made : (f : ℕ) (m : List ℕ) (made : _) → SettlesNone (Makes f m made)
+settles_none_made f m made i = refl
+
+pub settles_none_removed : (f : ℕ) (m : List ℕ) (j : ℕ) → SettlesNone (Removes f m j)
+settles_none_removed f m j i = ap (λ b. b || false) (and_false (j == i))
+
+pub settles_none_moved : (f : ℕ) (old : List ℕ) (g : ℕ) (new : List ℕ) (k : ℕ) (r : Option ℕ) → SettlesNone (Moves f old g new k r)
+settles_none_moved f old g new k None i = refl
+settles_none_moved f old g new k (Some j) i = ap (λ b. b || false) (and_false (j == i))
+
+pub settles_none_set : (k mode : ℕ) → SettlesNone (Sets k mode)
+settles_none_set k mode i = refl
+
+pub settles_none_written : (k : ℕ) (bytes : List ℕ) (time : _) → SettlesNone (Writes k bytes time)
+settles_none_written k bytes time i = refl
+
+settled_still : (c : Change) → SettlesNone c → (i : ℕ) (later : List Change) → is_settled i (later ++ c ∷ []) ≡ is_settled i later
+settled_still c none i [] = none i
+settled_still c none i (Syncs j ∷ later) = ap (λ b. (j == i) || b) (settled_still c none i later)
+settled_still c none i (Removes f name j ∷ later) =
+    ap (λ b. ((j == i) && b) || is_settled i (later ++ c ∷ [])) (settled_still c none f later) ∙ ap (λ b. ((j == i) && is_settled f later) || b) (settled_still c none i later)
+settled_still c none i (Moves f old g new k (Some j) ∷ later) =
+    ap (λ b. ((j == i) && (b && is_settled g (later ++ c ∷ []))) || is_settled i (later ++ c ∷ [])) (settled_still c none f later)
+    ∙ (ap (λ b. ((j == i) && (is_settled f later && b)) || is_settled i (later ++ c ∷ [])) (settled_still c none g later)
+    ∙ ap (λ b. ((j == i) && (is_settled f later && is_settled g later)) || b) (settled_still c none i later))
+settled_still c none i (Moves f old g new k None ∷ later) = settled_still c none i later
+settled_still c none i (Nothing ∷ later) = settled_still c none i later
+settled_still c none i (Makes f name made ∷ later) = settled_still c none i later
+settled_still c none i (Sets j mode ∷ later) = settled_still c none i later
+settled_still c none i (Writes j bytes mtime ∷ later) = settled_still c none i later
+
+unsynced_still : (c : Change) → SettlesNone c → (d : Change) (later : List Change) → is_unsynced d (later ++ c ∷ []) ≡ is_unsynced d later
+unsynced_still c none Nothing later = refl
+unsynced_still c none (Makes f name made) later = ap not (settled_still c none f later)
+unsynced_still c none (Moves f old g new i r) later =
+    ap (λ b. not (b && is_settled g (later ++ c ∷ []))) (settled_still c none f later) ∙ ap (λ b. not (is_settled f later && b)) (settled_still c none g later)
+unsynced_still c none (Removes f name i) later = ap not (settled_still c none f later)
+unsynced_still c none (Sets i mode) later = ap not (settled_still c none i later)
+unsynced_still c none (Writes i bytes mtime) later = ap not (settled_still c none i later)
+unsynced_still c none (Syncs i) later = refl
+
+-- what waits goes on waiting where nothing was settled
+pub pending_still : (f : ℕ) (m : List ℕ) (cs : List Change) (c : Change) → SettlesNone c → is_pending f m cs ≡ true → is_pending f m (cs ++ c ∷ []) ≡ true
+pending_still f m [] c none h = absurd (false≢true h)
+pending_still f m (d ∷ cs) c none h = by_parts (is_some (says d 0 f m)) (is_unsynced d cs) (is_pending f m cs) h (unsynced_still c none d cs) (pending_still f m cs c none)
+  where
+    by_parts : (s u p : Bool) → ((s && u) || p) ≡ true → is_unsynced d (cs ++ c ∷ []) ≡ u → (p ≡ true → is_pending f m (cs ++ c ∷ []) ≡ true)
+        → ((s && is_unsynced d (cs ++ c ∷ [])) || is_pending f m (cs ++ c ∷ [])) ≡ true
+    by_parts true true p h e next = ap (λ b. b || is_pending f m (cs ++ c ∷ [])) e
+    by_parts true false p h e next = or_right _ _ (next h)
+    by_parts false u p h e next = next h
+
+-- what waits after one call more waited before, or the call's change is of it
+pub pending_less : (f : ℕ) (m : List ℕ) (cs : List Change) (c : Change) → is_pending f m (cs ++ c ∷ []) ≡ true → (is_pending f m cs ≡ true) ⊎ (is_some (says c 0 f m) ≡ true)
+pending_less f m [] c h = inr (own (is_some (says c 0 f m)) (is_unsynced c []) h)
+  where
+    own : (s u : Bool) → ((s && u) || false) ≡ true → s ≡ true
+    own true u h = refl
+    own false u h = absurd (false≢true h)
+pending_less f m (d ∷ cs) c h =
+    either (is_some (says d 0 f m)) (is_unsynced d (cs ++ c ∷ [])) (is_unsynced d cs) (is_pending f m (cs ++ c ∷ [])) (is_pending f m cs) (is_some (says c 0 f m)) (is_unsynced-more d cs (c ∷ [])) h
+    (pending_less f m cs c)
+  where
+    either : (s u v p q r : Bool) → (v ≡ false → u ≡ false) → ((s && u) || p) ≡ true → (p ≡ true → (q ≡ true) ⊎ (r ≡ true)) → (((s && v) || q) ≡ true) ⊎ (r ≡ true)
+    either true true true p q r more h next = inl refl
+    either true true false p q r more h next = absurd (true≢false (more refl))
+    either true false v p q r more h next = elim (next h) [ inl old ↦ inl (or_right v q old) | inr new ↦ inr new ]
+    either false u v p q r more h next = next h
+
+-- a renaming stays within its folder
+abbrev pub is_within : Change → Bool
+is_within (Moves a old b new i r) = a == b
+is_within Nothing = true
+is_within (Makes f name made) = true
+is_within (Removes f name i) = true
+is_within (Sets i mode) = true
+is_within (Writes i bytes mtime) = true
+is_within (Syncs i) = true
+
+-- each of these renamings does, or it waits for nothing any more
+abbrev pub all_within : List Change → Bool
+all_within [] = true
+all_within (c ∷ cs) = (is_within c || not (is_unsynced c cs)) && all_within cs
+
+still_within : (a u v : Bool) → (u ≡ false → v ≡ false) → (a || not u) ≡ true → (a || not v) ≡ true
+still_within true u v f h = refl
+still_within false true v f h = absurd (false≢true h)
+still_within false false v f h = ap not (f refl)
+
+pub within_more : (cs : List Change) (c : Change) → is_within c ≡ true → all_within cs ≡ true → all_within (cs ++ c ∷ []) ≡ true
+within_more [] c one all = and_from _ _ (or_left _ _ one) refl
+within_more (d ∷ cs) c one all =
+    and_from _ _ (still_within (is_within d) (is_unsynced d cs) (is_unsynced d (cs ++ c ∷ [])) (is_unsynced-more d cs (c ∷ [])) (and_parts _ _ all).0) (within_more cs c one (and_parts _ _ all).1)
+
+later_within : (c : Change) (cs : List Change) → all_within (c ∷ cs) ≡ true → all_within cs ≡ true
+later_within c cs all = (and_parts (is_within c || not (is_unsynced c cs)) (all_within cs) all).1
+
+pub within_settled : (cs : List Change) → all_settled cs ≡ true → all_within cs ≡ true
+within_settled [] h = refl
+within_settled (c ∷ cs) h =
+    let parts = and_parts (not (is_unsynced c cs)) (all_settled cs) h in
+    and_from (is_within c || not (is_unsynced c cs)) (all_within cs) (or_right (is_within c) (not (is_unsynced c cs)) parts.0) (within_settled cs parts.1)
+
+unless : (s u p : Bool) → (s ≡ true → u ≡ false) → p ≡ false → ((s && u) || p) ≡ false
+unless true u p f h = ap (λ b. b || p) (f refl) ∙ h
+unless false u p f h = h
+
+one_said : (b : Bool) (to : Option ℕ) → is_some (let o : Option (Option ℕ) = cond b (Some to) None in o) ≡ true → b ≡ true
+one_said true to h = refl
+one_said false to h = absurd (false≢true h)
+
+two_said : (a b : Bool) (x y : Option ℕ) → is_some (let o : Option (Option ℕ) = cond a (Some x) (cond b (Some y) None) in o) ≡ true → (a ≡ true) ⊎ (b ≡ true)
+two_said true b x y h = inl refl
+two_said false b x y h = inr (one_said b y h)
+
+settled_end : (f g : ℕ) (cs : List Change) → g ≡ f → is_settled g (cs ++ Syncs f ∷ []) ≡ true
+settled_end f g cs e = subst (λ j. is_settled j (cs ++ Syncs f ∷ []) ≡ true) (sym e) (is_settled-end f cs)
+
+-- after a sync of its folder nothing of a name waits
+pub pending_synced : (f : ℕ) (m : List ℕ) (cs : List Change) → all_within cs ≡ true → is_pending f m (cs ++ Syncs f ∷ []) ≡ false
+pending_synced f m [] all = refl
+pending_synced f m (Nothing ∷ cs) all = pending_synced f m cs (later_within Nothing cs all)
+pending_synced f m (Makes g name made ∷ cs) all =
+    unless (is_some (says (Makes g name made) 0 f m)) (not (is_settled g (cs ++ Syncs f ∷ []))) (is_pending f m (cs ++ Syncs f ∷ []))
+    (λ s. ap not (settled_end f g cs (same_name-true g f name m (one_said (same_name g name f m) (Some 0) s)).0)) (pending_synced f m cs (later_within (Makes g name made) cs all))
+pending_synced f m (Moves a old b new i r ∷ cs) all =
+    unless (is_some (says (Moves a old b new i r) 0 f m)) (is_unsynced (Moves a old b new i r) (cs ++ Syncs f ∷ [])) (is_pending f m (cs ++ Syncs f ∷ []))
+    (λ s. by (a == b) (is_unsynced (Moves a old b new i r) cs) refl refl (and_parts _ _ all).0 (two_said (same_name b new f m) (same_name a old f m) (Some i) None s)) (pending_synced f m cs (later_within (Moves a old b new i r) cs all))
+  where
+    by : (w u : Bool) → (a == b) ≡ w → is_unsynced (Moves a old b new i r) cs ≡ u → (w || not u) ≡ true → (same_name b new f m ≡ true) ⊎ (same_name a old f m ≡ true)
+        → is_unsynced (Moves a old b new i r) (cs ++ Syncs f ∷ []) ≡ false
+    by true u w_is u_is h here =
+        let same : a ≡ b = eqb-true a b w_is in
+        let both : (a ≡ f) × (b ≡ f) = elim here [
+          | inl at ↦ let e = (same_name-true b f new m at).0 in (same ∙ e, e)
+          | inr at ↦ let e = (same_name-true a f old m at).0 in (e, sym same ∙ e)
+        ] in
+        ap not (and_from _ _ (settled_end f a cs both.0) (settled_end f b cs both.1))
+    by false true w_is u_is h here = absurd (false≢true h)
+    by false false w_is u_is h here = is_unsynced-more (Moves a old b new i r) cs (Syncs f ∷ []) u_is
+pending_synced f m (Removes g name i ∷ cs) all =
+    unless (is_some (says (Removes g name i) 0 f m)) (not (is_settled g (cs ++ Syncs f ∷ []))) (is_pending f m (cs ++ Syncs f ∷ []))
+    (λ s. ap not (settled_end f g cs (same_name-true g f name m (one_said (same_name g name f m) None s)).0)) (pending_synced f m cs (later_within (Removes g name i) cs all))
+pending_synced f m (Sets i mode ∷ cs) all = pending_synced f m cs (later_within (Sets i mode) cs all)
+pending_synced f m (Writes i bytes mtime ∷ cs) all = pending_synced f m cs (later_within (Writes i bytes mtime) cs all)
+pending_synced f m (Syncs i ∷ cs) all = pending_synced f m cs (later_within (Syncs i) cs all)
+
+-- nothing of any name waits where nothing does
+pub pending_settled : (f : ℕ) (m : List ℕ) (cs : List Change) → all_settled cs ≡ true → is_pending f m cs ≡ false
+pending_settled f m [] h = refl
+pending_settled f m (c ∷ cs) h =
+    unless (is_some (says c 0 f m)) (is_unsynced c cs) (is_pending f m cs) (λ s. not-true _ (and_parts _ _ h).0) (pending_settled f m cs (and_parts _ _ h).1)

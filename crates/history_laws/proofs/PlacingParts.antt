@@ -1,0 +1,223 @@
+-- The renaming of a part to the target.
+use Rattle.std.proofs.Common.{◌≡◌, ◌⊎◌, ℕ, ◌<◌, Bool, true, false, not, ◌&&◌, List, [], ◌∷◌, ◌++◌, length, refl, sym, ◌∙◌, ap, subst, inl, inr, Option, Some, None, arith, cond, length-append}
+use Rattle.std.specs.Prelude.{is_some, option_and_then, ◌==◌}
+use Rattle.std.specs.Option.{option_map, option_map_or}
+use Rattle.std.proofs.lemmas.Bool.{true≢false, both_ways, false_from_ne_true, eqb-true, eq-eqb}
+use Rattle.mc_text.specs.Routes.{Route, same_path}
+use Rattle.tree_trait.specs.declared.file_system.FileSystem.{FileSystem}
+use Rattle.tree_trait.specs.FileSystem.{lookup, find, node, value, visible_tree, starts_mount}
+use Rattle.tree_trait.specs.Refusals.{is_folder}
+use Rattle.tree_trait.specs.Change.{Change, Moves, CallLog, current, with_change}
+use Rattle.tree_trait.specs.CrashImages.{says, same_name, Among, is_clean}
+use Rattle.tree_trait.proofs.Kept.{folder_there}
+use Rattle.tree_trait.proofs.Finding.{same_name-true, same_name-self}
+use Rattle.tree_trait.proofs.Visible.{same_path-true}
+use Rattle.crash_law.specs.Guarded.{Marks, IsNaming}
+use Rattle.crash_law.proofs.Guarding.{settle_law, find_same, found_at, said, unsaid, found_there}
+use Rattle.crash_law.proofs.Leading.{current_more}
+use Rattle.crash_law.proofs.Placing.{placing_law}
+use Rattle.crash_law.proofs.Syncing.{unaltered_law}
+use Rattle.crash_law.proofs.Tops.{under_moved, none_below}
+use Rattle.history_laws.proofs.Pending.{settles_none_moved}
+use Rattle.history_laws.proofs.Resting.{bare_may}
+use Rattle.history_laws.proofs.Knowing.{Said, IsKnown, held}
+use Rattle.history_laws.proofs.Renaming.{naming_known}
+use Rattle.history_laws.proofs.Changing.{seen_nowhere, none_below_file, folder_anchored, off_itself, said_two, some_none, some_is}
+
+some_route : (p q : Route) → (let o : Option Route = Some p in o) ≡ Some q → q ≡ p
+some_route p q h = cc
+
+-- a node that is on the disk is loose no more
+abbrev pub marks_firm : Marks → ℕ → Marks
+marks_firm marks i = record marks { loose = λ j. marks.loose j && not (j == i) }
+
+still : (a b : Bool) → a ≡ false → (a && not b) ≡ false
+still true b h = absurd (true≢false h)
+still false b h = refl
+
+was_or : (a b : Bool) → (a && not b) ≡ false → (a ≡ false) ⊎ (b ≡ true)
+was_or true true h = inr refl
+was_or true false h = absurd (true≢false h)
+was_or false b h = inl refl
+
+pub firm_known : (told : Said) (dirty : List Route) (marks : Marks) (log : CallLog) (i : ℕ) → is_clean i log.changes ≡ true → IsKnown told dirty marks log → IsKnown told dirty (marks_firm marks i) log
+firm_known told dirty marks log i clean known = record {
+  guarded = settle_law marks (marks_firm marks i) log known.guarded (record {
+    paths = λ p out. inl (out, refl);
+    nodes = λ j firm. elim (was_or (marks.loose j) (j == i) firm) [ inl same ↦ inl same | inr is ↦ inr (subst (λ k. is_clean k log.changes ≡ true) (sym (eqb-true j i is)) clean) ];
+    firm = λ p j out at. elim (known.guarded.firm p j out at) [ inl firm ↦ inl (still _ _ firm) | inr folder ↦ inr folder ];
+    places = λ j stays. inl stays;
+  });
+  files = known.files;
+  folders = λ j is. let k = known.folders j is in (k.0, still _ _ k.1);
+  aside = known.aside;
+  was_there = λ p j out is. let t = known.was_there p j out is in (t.0, still _ _ t.1);
+  was_shown = known.was_shown;
+  shows = known.shows;
+  part = known.part;
+  tracked = known.tracked;
+}
+
+-- A part that is to be placed, and what the history says once it is.
+pub record PlacesPart (told after : Said) (marks : Marks) (log : CallLog) (part target : List ℕ) (up : Route) (f i : ℕ) : Type 0 where
+  pub part_is : told.part ≡ Some (part ∷ up)
+  pub at : find (current log) up ≡ Some f
+  pub folder : is_folder (node (current log) f) ≡ true
+  pub leads : find (current log) (part ∷ up) ≡ Some i
+  pub apart : part ≡ target → ⊥
+  pub moves : marks.roams i ≡ true
+  pub firm : marks.loose i ≡ false
+  pub file : is_folder (node (current log) i) ≡ false
+  pub out : marks.aside (target ∷ up) ≡ false
+  pub free : find (current log) (target ∷ up) ≡ None
+  pub was : marks.was (target ∷ up) ≡ None
+  pub no_mount : starts_mount (current log) i ≡ false
+  pub named : (p : Route) → marks.aside p ≡ true → Among after.named p
+  pub off : (p : Route) → same_path p (target ∷ up) ≡ false → (after.tree p ≡ told.tree p) × (after.earlier p ≡ told.earlier p)
+  pub placed : after.tree (target ∷ up) ≡ record { value = Some (value (node (current log) i)); is_mount = false }
+  pub earlier : (after.earlier (target ∷ up)).value ≡ None
+  pub none : after.part ≡ None
+
+module _ (told after : Said) (dirty dirty_after : List Route) (marks : Marks) (log : CallLog) (known : IsKnown told dirty marks log) (part target : List ℕ) (up : Route) (f i : ℕ) (r : Option ℕ)
+    (h : PlacesPart told after marks log part target up f i) where
+  abbrev moves : Change
+  moves = Moves f part f target i r
+
+  abbrev now : CallLog
+  now = with_change log moves
+
+  part_name : lookup (current log).names f part ≡ Some i
+  part_name = sym (ap (option_and_then (λ g. lookup (current log).names g part)) h.at) ∙ h.leads
+
+  target_name : lookup (current log).names f target ≡ None
+  target_name = sym (ap (option_and_then (λ g. lookup (current log).names g target)) h.at) ∙ h.free
+
+  other : same_name f target f part ≡ false
+  other = false_from_ne_true _ (λ e. h.apart (sym (same_name-true f f target part e).1))
+
+  naming : IsNaming marks log moves
+  naming = placing_law marks log up part target f i r known.guarded (record {
+    stands = record { at = h.at; anchored = folder_anchored told dirty marks log known up f h.at h.folder };
+    folder = h.folder;
+    leads = part_name;
+    other = other;
+    is_aside = (known.part (part ∷ up) h.part_is).0;
+    moves = h.moves;
+    firm = h.firm;
+    file = λ m y lead. bare_may log known.guarded.tree known.files i m y h.file lead;
+    found = λ out. h.free ∙ sym h.was;
+    under = λ rest out. inr (none_below log rest (target ∷ up) h.free);
+  })
+
+  no_longer : (rest : Route) (m : List ℕ) → up ≡ rest ++ m ∷ up → ⊥
+  no_longer rest m e = let l = ap (λ (q : Route). length q) e in let k = length-append rest (m ∷ up) in absurd (omega (arith, l, k))
+
+  stands : find (current now) up ≡ Some f
+  stands = elim (find_same log moves up) [
+    | inl same ↦ same ∙ h.at
+    | inr under ↦ elim (under_moved log known.guarded.tree up f h.at part target i r up under) [ inl u ↦ absurd (no_longer u.0 target u.1) | inr u ↦ absurd (no_longer u.0 part u.1) ]
+  ]
+
+  abbrev two : Bool → Bool → Option (Option ℕ)
+  two a b = cond a (Some (Some i)) (cond b (Some None) None)
+
+  target_leads : lookup (current now).names f target ≡ Some i
+  target_leads = Rattle.crash_law.proofs.Guarding.said log moves f target (Some i) (ap (λ a. two a (same_name f part f target)) (same_name-self f target))
+
+  part_gone : lookup (current now).names f part ≡ None
+  part_gone = Rattle.crash_law.proofs.Guarding.said log moves f part None (ap (λ a. two a (same_name f part f part)) other ∙ ap (λ b. two false b) (same_name-self f part))
+
+  pub target_at : find (current now) (target ∷ up) ≡ Some i
+  target_at = ap (option_and_then (λ g. lookup (current now).names g target)) stands ∙ target_leads
+
+  part_at : find (current now) (part ∷ up) ≡ None
+  part_at = ap (option_and_then (λ g. lookup (current now).names g part)) stands ∙ part_gone
+
+  there : i < length (current log).nodes
+  there = known.guarded.there (part ∷ up) i (found_at log (part ∷ up) (Some i) h.leads)
+
+  node_same : node (current now) i ≡ node (current log) i
+  node_same = unaltered_law log moves i (naming.bytes i) there
+
+  file_now : is_folder (node (current now) i) ≡ false
+  file_now = ap is_folder node_same ∙ h.file
+
+  off_both : (p : Route) → same_path p (target ∷ up) ≡ false → same_path p (part ∷ up) ≡ false → find (current now) p ≡ find (current log) p
+  off_both p first second = elim (find_same log moves p) [
+    | inl same ↦ same
+    | inr under ↦ elim (under_moved log known.guarded.tree up f h.at part target i r p under) [ inl u ↦ below_target u.0 u.1 | inr u ↦ below_part u.0 u.1 ]
+  ]
+    where
+      below_target : (rest : Route) → p ≡ rest ++ target ∷ up → find (current now) p ≡ find (current log) p
+      below_target [] e = absurd (off_itself p (target ∷ up) e first)
+      below_target (more ∷ rest) e =
+          ap (find (current now)) e ∙ none_below_file (current now) naming.tree (target ∷ up) i target_at file_now more rest
+          ∙ sym (ap (find (current log)) e ∙ none_below log (more ∷ rest) (target ∷ up) h.free)
+
+      below_part : (rest : Route) → p ≡ rest ++ part ∷ up → find (current now) p ≡ find (current log) p
+      below_part [] e = absurd (off_itself p (part ∷ up) e second)
+      below_part (more ∷ rest) e =
+          ap (find (current now)) e ∙ none_below now (more ∷ rest) (part ∷ up) part_at
+          ∙ sym (ap (find (current log)) e ∙ none_below_file (current log) known.guarded.tree (part ∷ up) i h.leads h.file more rest)
+
+  name_is : (m : List ℕ) → is_some (says moves 0 f m) ≡ true → (target ≡ m) ⊎ (part ≡ m)
+  name_is m s = elim (said_two (same_name f target f m) (same_name f part f m) (Some i) None s) [
+    | inl e ↦ inl (same_name-true f f target m e).1
+    | inr e ↦ inr (same_name-true f f part m e).1
+  ]
+
+  mounts_now : starts_mount (current now) i ≡ false
+  mounts_now = ap (λ (s : FileSystem). starts_mount s i) (current_more log moves) ∙ h.no_mount
+
+  other_part : (p : Route) → same_path p (part ∷ up) ≡ false → told.part ≡ Some p → ⊥
+  other_part p off is = off_itself p (part ∷ up) (some_route (part ∷ up) p (sym h.part_is ∙ is)) off
+
+  placed_shown : visible_tree (current now) (target ∷ up) ≡ after.tree (target ∷ up)
+  placed_shown =
+      ap (λ o. (let v : _ = record { value = option_map (λ j. value (node (current now) j)) o; is_mount = option_map_or (starts_mount (current now)) o false } in v)) target_at
+      ∙ (ap (λ n. (let v : _ = record { value = Some (value n); is_mount = starts_mount (current now) i } in v)) node_same
+      ∙ (ap (λ b. (let v : _ = record { value = Some (value (node (current log) i)); is_mount = b } in v)) mounts_now ∙ sym h.placed))
+
+  part_shown : visible_tree (current now) (part ∷ up) ≡ after.tree (part ∷ up)
+  part_shown = seen_nowhere (current now) (part ∷ up) part_at ∙ sym ((h.off (part ∷ up) apart_path).0 ∙ (known.part (part ∷ up) h.part_is).1)
+    where
+      apart_path : same_path (part ∷ up) (target ∷ up) ≡ false
+      apart_path = false_from_ne_true _ (λ e. let s : (part ∷ up) ≡ target ∷ up = same_path-true (part ∷ up) (target ∷ up) e in h.apart cc)
+
+  pub placed_known : Among dirty_after up → ((q : Route) → Among dirty q → Among dirty_after q) → IsKnown after dirty_after marks now
+  placed_known listed more = naming_known told after dirty dirty_after marks log moves up (target ∷ up) (part ∷ up) f known (record {
+    naming = naming;
+    within = ap_same;
+    settles = settles_none_moved f part f target i r;
+    stands = stands;
+    folder = h.folder;
+    here = λ g m s. elim (said_two (same_name f target g m) (same_name f part g m) (Some i) None s) [
+      | inl e ↦ sym (same_name-true f g target m e).0
+      | inr e ↦ sym (same_name-true f g part m e).0
+    ];
+    files = λ m j s lead. elim (name_is m s) [
+      | inl e ↦ some_none j (sym lead ∙ (ap (lookup (current log).names f) (sym e) ∙ target_name))
+      | inr e ↦ subst (λ k. is_folder (node (current log) k) ≡ false) (sym (some_is i j (sym part_name ∙ (ap (lookup (current log).names f) e ∙ lead)))) h.file
+    ];
+    files_now = λ m j s lead. elim (name_is m s) [
+      | inl e ↦ subst (λ k. is_folder (node (current now) k) ≡ false) (sym (some_is i j (sym target_leads ∙ (ap (lookup (current now).names f) e ∙ lead)))) file_now
+      | inr e ↦ some_none j (sym lead ∙ (ap (lookup (current now).names f) (sym e) ∙ part_gone))
+    ];
+    made = λ j past. false_from_ne_true _ (λ is. let t = folder_there (current now).nodes j is in let n = ap (λ (s : FileSystem). length s.nodes) (current_more log moves) in absurd (omega (arith, past, t, n)));
+    listed = listed;
+    more = more;
+    named = h.named;
+    off = λ p first second. let o = h.off p first in (off_both p first second, o.0, o.1, other_part p second);
+    shown = λ p at _. elim at [
+      | inl e ↦ subst (λ q. visible_tree (current now) q ≡ after.tree q) (sym e) placed_shown
+      | inr e ↦ subst (λ q. visible_tree (current now) q ≡ after.tree q) (sym e) part_shown
+    ];
+    was = λ p at out. elim at [
+      | inl e ↦ inr (ap (held (current log)) (ap marks.was e ∙ h.was) ∙ sym (ap (λ q. (after.earlier q).value) e ∙ h.earlier))
+      | inr e ↦ absurd (both_ways _ (subst (λ q. marks.aside q ≡ false) e out) (known.part (part ∷ up) h.part_is).0)
+    ];
+    part = λ p is. absurd (let e = h.none in let n : (let o : Option Route = None in o) ≡ Some p = sym e ∙ is in cc);
+  })
+    where
+      ap_same : (f == f) ≡ true
+      ap_same = eq-eqb f f refl

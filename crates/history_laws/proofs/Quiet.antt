@@ -1,0 +1,118 @@
+-- Calls that change no name keep what is known: a sync, a write to the part that stands, another mode of it.
+use Rattle.std.proofs.Common.{◌≡◌, ℕ, ◌<◌, Bool, true, false, List, length, refl, sym, ◌∙◌, ap, subst, inl, inr, Option, Some, None}
+use Rattle.std.specs.Prelude.{is_some, ◌==◌}
+use Rattle.std.specs.List.{list_any}
+use Rattle.std.specs.Option.{option_map, option_map_or}
+use Rattle.std.proofs.lemmas.Bool.{false≢true, both_ways, false_from_ne_true}
+use Rattle.mc_text.specs.Routes.{Route}
+use Rattle.tree_trait.specs.declared.file_system.FileSystem.{FileSystem}
+use Rattle.tree_trait.specs.declared.file_system.Mount.{Mount}
+use Rattle.tree_trait.specs.FileSystem.{Spot, find, node, value, value_at, starts_mount, visible_tree}
+use Rattle.tree_trait.specs.Refusals.{is_folder}
+use Rattle.tree_trait.specs.Change.{Change, Nothing, Makes, Moves, Removes, Sets, Writes, Syncs, CallLog, current, with_change, after_change}
+use Rattle.tree_trait.specs.CrashImages.{says, alters}
+use Rattle.tree_trait.proofs.Kept.{folder_there}
+use Rattle.crash_law.specs.Guarded.{Marks, IsQuiet}
+use Rattle.crash_law.proofs.Guarding.{quiet_law, same_quiet, leads_as_before, folder_kept, found_at}
+use Rattle.crash_law.proofs.Leading.{current_more}
+use Rattle.crash_law.proofs.Syncing.{unaltered_law}
+use Rattle.history_laws.specs.Doubt.{is_pending}
+use Rattle.history_laws.proofs.Pending.{is_within, within_more, pending_less, says_at}
+use Rattle.history_laws.proofs.Knowing.{Said, IsKnown, held}
+
+mounts_after : (s : FileSystem) (c : Change) → (after_change s c).mounts ≡ s.mounts
+mounts_after s Nothing = refl
+mounts_after s (Makes f name made) = refl
+mounts_after s (Moves f old g new k r) = refl
+mounts_after s (Removes f name k) = refl
+mounts_after s (Sets k mode) = refl
+mounts_after s (Writes k bytes time) = refl
+mounts_after s (Syncs k) = refl
+
+module _ (log : CallLog) (c : Change) where
+  -- mounts begin where they began
+  pub mounts_same : (current (with_change log c)).mounts ≡ (current log).mounts
+  mounts_same = ap (λ (s : FileSystem). s.mounts) (current_more log c) ∙ mounts_after (current log) c
+
+  -- a node that is there keeps its kind
+  pub kind_same : (i : ℕ) → i < length (current log).nodes → is_folder (node (current (with_change log c)) i) ≡ is_folder (node (current log) i)
+  kind_same i there = ap (λ (s : FileSystem). is_folder (node s i)) (current_more log c) ∙ folder_kept (current log) c i there
+
+  -- what is no folder after the call was none, or it wasn't there
+  pub was_bare : (i : ℕ) → is_folder (node (current (with_change log c)) i) ≡ false → is_folder (node (current log) i) ≡ false
+  was_bare i bare = by (is_folder (node (current log) i)) refl
+    where
+      by : (b : Bool) → is_folder (node (current log) i) ≡ b → is_folder (node (current log) i) ≡ false
+      by false is = is
+      by true is = absurd (both_ways _ bare (kind_same i (folder_there (current log).nodes i is) ∙ is))
+
+  spot_by : (o : Option ℕ) → ((i : ℕ) → o ≡ Some i → node (current (with_change log c)) i ≡ node (current log) i)
+      → (option_map (λ i. value (node (current (with_change log c)) i)) o ≡ option_map (λ i. value (node (current log) i)) o)
+      × (option_map_or (starts_mount (current (with_change log c))) o false ≡ option_map_or (starts_mount (current log)) o false)
+  spot_by None same = (refl, refl)
+  spot_by (Some i) same = (ap (λ n. Some (value n)) (same i refl), ap (λ (ms : List Mount). list_any (λ (m : Mount). m.folder == i) ms) mounts_same)
+
+  -- a path that leads where it led, to a node that is as it was, shows what it showed
+  pub shows_same : (p : Route) → find (current (with_change log c)) p ≡ find (current log) p
+      → ((i : ℕ) → find (current log) p ≡ Some i → node (current (with_change log c)) i ≡ node (current log) i)
+      → visible_tree (current (with_change log c)) p ≡ visible_tree (current log) p
+  shows_same p found same =
+      let e = spot_by (find (current log) p) same in
+      ap (λ o. (let s : Spot = record { value = option_map (λ i. value (node (current (with_change log c)) i)) o; is_mount = option_map_or (starts_mount (current (with_change log c))) o false } in s)) found
+      ∙ (ap (λ v. (let s : Spot = record { value = v; is_mount = option_map_or (starts_mount (current (with_change log c))) (find (current log) p) false } in s)) e.0
+      ∙ ap (λ m. (let s : Spot = record { value = value_at (current log) p; is_mount = m } in s)) e.1)
+
+  pub held_same : (o : Option ℕ) → ((i : ℕ) → o ≡ Some i → node (current (with_change log c)) i ≡ node (current log) i) → held (current (with_change log c)) o ≡ held (current log) o
+  held_same o same = (spot_by o same).0
+
+-- a quiet call, and what it alters is nothing that can be seen but the part that stands
+pub record IsCalm (said : Said) (marks : Marks) (log : CallLog) (c : Change) : Type 0 where
+  pub quiet : IsQuiet marks log c
+  pub within : is_within c ≡ true
+  pub still : (p : Route) (i : ℕ) → (said.part ≡ Some p → ⊥) → find (current log) p ≡ Some i → alters i c ≡ false
+
+module _ (said : Said) (dirty : List Route) (marks : Marks) (log : CallLog) (c : Change) (known : IsKnown said dirty marks log) (calm : IsCalm said marks log c) where
+  abbrev now : CallLog
+  now = with_change log c
+
+  quiet_of : IsQuiet marks log c
+  quiet_of = calm.quiet
+
+  said_none : (f : ℕ) (m : List ℕ) → is_some (says c 0 f m) ≡ true → ⊥
+  said_none f m h = false≢true (sym (ap is_some (quiet_of.names f m)) ∙ (sym (says_at c (length (current log).nodes) f m) ∙ h))
+
+  -- what waits waited before
+  waited : (f : ℕ) (m : List ℕ) → is_pending f m now.changes ≡ true → is_pending f m log.changes ≡ true
+  waited f m h = elim (pending_less f m log.changes c h) [ inl old ↦ old | inr new ↦ absurd (said_none f m new) ]
+
+  waits_not : (f : ℕ) (m : List ℕ) → is_pending f m log.changes ≡ false → is_pending f m now.changes ≡ false
+  waits_not f m h = false_from_ne_true _ (λ waits. both_ways _ h (waited f m waits))
+
+  there_before : (i : ℕ) → i < length (current now).nodes → i < length (current log).nodes
+  there_before i h = subst (λ n. i < n) quiet_of.count h
+
+  was_folder : (i : ℕ) → is_folder (node (current now) i) ≡ true → is_folder (node (current log) i) ≡ true
+  was_folder i h = sym (kind_same log c i (there_before i (folder_there (current now).nodes i h))) ∙ h
+
+  unaltered : (i : ℕ) → alters i c ≡ false → i < length (current log).nodes → node (current now) i ≡ node (current log) i
+  unaltered i same there = unaltered_law log c i same there
+
+  pub calm_known : IsKnown said dirty marks now
+  calm_known = record {
+    guarded = quiet_law marks log c known.guarded quiet_of;
+    files = record {
+      within = within_more log.changes c calm.within known.files.within;
+      bare = λ i m h. waits_not i m (known.files.bare i m (was_bare log c i h));
+      firm = λ f m j lead folder. waits_not f m (known.files.firm f m j (leads_as_before log c f m (Some j) (quiet_of.names f m) lead) (was_folder j folder));
+    };
+    folders = λ i folder. known.folders i (was_folder i folder);
+    aside = known.aside;
+    was_there = λ p i out is. let t = known.was_there p i out is in (subst (λ n. i < n) (sym quiet_of.count) t.0, t.1);
+    was_shown = λ p out. elim (known.was_shown p out) [
+      | inl same ↦ inl (same ∙ sym (same_quiet log c quiet_of.names p))
+      | inr shown ↦ inr (held_same log c (marks.was p) (λ i is. let t = known.was_there p i out is in unaltered i (quiet_of.others i t.1) t.0) ∙ shown)
+    ];
+    shows = λ p other. shows_same log c p (same_quiet log c quiet_of.names p) (λ i is. unaltered i (calm.still p i other is) (known.guarded.there p i (found_at log p (Some i) is))) ∙ known.shows p other;
+    part = λ p is. let k = known.part p is in (k.0, k.1, ap is_some (same_quiet log c quiet_of.names p) ∙ k.2);
+    tracked = λ f m waits. let t = known.tracked f m (waited f m waits) in (t.0, t.1, same_quiet log c quiet_of.names t.0 ∙ t.2);
+  }

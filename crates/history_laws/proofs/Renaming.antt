@@ -1,0 +1,189 @@
+-- Calls that change the names of files keep what is known, where the job knew its paths.
+use Rattle.std.proofs.Common.{◌≡◌, ◌⊎◌, ℕ, ◌<◌, ◌≤◌, Bool, true, false, List, [], ◌∷◌, length, refl, sym, ◌∙◌, ap, subst, inl, inr, Option, Some, None, arith}
+use Rattle.std.specs.Prelude.{is_some, option_and_then}
+use Rattle.std.proofs.lemmas.Bool.{true≢false, both_ways, false_from_ne_true}
+use Rattle.std.proofs.lemmas.Bool.{cases_lt}
+use Rattle.mc_text.specs.Routes.{Route, same_path}
+use Rattle.tree_trait.specs.FileSystem.{lookup, find, node, visible_tree}
+use Rattle.tree_trait.specs.Refusals.{is_folder}
+use Rattle.tree_trait.specs.Change.{Change, CallLog, current, with_change}
+use Rattle.tree_trait.specs.CrashImages.{says, Among}
+use Rattle.tree_trait.proofs.Kept.{folder_there}
+use Rattle.tree_trait.proofs.Visible.{same_path-true}
+use Rattle.crash_law.specs.Possible.{MayLead}
+use Rattle.crash_law.specs.Guarded.{Marks, IsNaming, IsUnder, Touches}
+use Rattle.crash_law.proofs.Guarding.{naming_law, leads_as_before, find_same, found_at}
+use Rattle.crash_law.proofs.Leading.{leads_more}
+use Rattle.crash_law.proofs.Syncing.{unaltered_law}
+use Rattle.history_laws.specs.Doubt.{is_pending}
+use Rattle.history_laws.proofs.Pending.{SettlesNone, is_within, within_more, pending_less, pending_still, says_at, leads_only}
+use Rattle.history_laws.proofs.Knowing.{Said, IsKnown, held, nowhere}
+use Rattle.history_laws.proofs.Quiet.{kind_same, was_bare, shows_same, held_same}
+
+-- A call that changes the names of files in one folder, at these two paths alone, and what the history says then.
+pub record IsFileNaming (said after : Said) (dirty dirty_after : List Route) (marks : Marks) (log : CallLog) (c : Change) (up first second : Route) (f : ℕ) : Type 0 where
+  pub naming : IsNaming marks log c
+  pub within : is_within c ≡ true
+  pub settles : SettlesNone c
+  pub stands : find (current (with_change log c)) up ≡ Some f
+  pub folder : is_folder (node (current log) f) ≡ true
+  pub here : (g : ℕ) (m : List ℕ) → is_some (says c 0 g m) ≡ true → g ≡ f
+  -- the names lead to no folder, before and after
+  pub files : (m : List ℕ) (j : ℕ) → is_some (says c 0 f m) ≡ true → lookup (current log).names f m ≡ Some j → is_folder (node (current log) j) ≡ false
+  pub files_now : (m : List ℕ) (j : ℕ) → is_some (says c 0 f m) ≡ true → lookup (current (with_change log c)).names f m ≡ Some j → is_folder (node (current (with_change log c)) j) ≡ false
+  pub made : (i : ℕ) → length (current log).nodes ≤ i → is_folder (node (current (with_change log c)) i) ≡ false
+  -- the folder is dirty then
+  pub listed : Among dirty_after up
+  pub more : (q : Route) → Among dirty q → Among dirty_after q
+  pub named : (p : Route) → marks.aside p ≡ true → Among after.named p
+  -- elsewhere all is as it was
+  pub off : (p : Route) → same_path p first ≡ false → same_path p second ≡ false
+      → (find (current (with_change log c)) p ≡ find (current log) p) × (after.tree p ≡ said.tree p) × (after.earlier p ≡ said.earlier p) × (said.part ≡ Some p → ⊥)
+  pub shown : (p : Route) → (p ≡ first) ⊎ (p ≡ second) → (after.part ≡ Some p → ⊥) → visible_tree (current (with_change log c)) p ≡ after.tree p
+  pub was : (p : Route) → (p ≡ first) ⊎ (p ≡ second) → marks.aside p ≡ false
+      → (marks.was p ≡ find (current (with_change log c)) p) ⊎ (held (current log) (marks.was p) ≡ (after.earlier p).value)
+  pub part : (p : Route) → after.part ≡ Some p → (marks.aside p ≡ true) × (after.tree p ≡ nowhere) × (is_some (find (current (with_change log c)) p) ≡ true)
+
+module _ (said after : Said) (dirty dirty_after : List Route) (marks : Marks) (log : CallLog) (c : Change) (up first second : Route) (f : ℕ)
+    (known : IsKnown said dirty marks log) (n : IsFileNaming said after dirty dirty_after marks log c up first second f) where
+  abbrev now : CallLog
+  now = with_change log c
+
+  naming_of : IsNaming marks log c
+  naming_of = n.naming
+
+  said_so : (g : ℕ) (m : List ℕ) → is_some (says c (length (current log).nodes) g m) ≡ true → is_some (says c 0 g m) ≡ true
+  said_so g m h = says_at c (length (current log).nodes) g m ∙ h
+
+  unaltered : (i : ℕ) → i < length (current log).nodes → node (current now) i ≡ node (current log) i
+  unaltered i there = unaltered_law log c i (naming_of.bytes i) there
+
+  -- a folder then was one before
+  was_folder : (i : ℕ) → is_folder (node (current now) i) ≡ true → is_folder (node (current log) i) ≡ true
+  was_folder i h = elim (cases_lt i (length (current log).nodes)) [
+    | inl there ↦ sym (kind_same log c i there) ∙ h
+    | inr past ↦ absurd (both_ways _ (n.made i past) h)
+  ]
+
+  -- a path that leads to a folder goes through no name that is changed
+  no_folder_under : (p : Route) (j : ℕ) → IsUnder log c p → find (current log) p ≡ Some j → is_folder (node (current log) j) ≡ true → ⊥
+  no_folder_under [] j under at folder = under
+  no_folder_under (name ∷ q) j (inl under) at folder = by (find (current log) q) refl (λ g is shape. no_folder_under q g under is shape)
+    where
+      by : (o : Option ℕ) → find (current log) q ≡ o → ((g : ℕ) → find (current log) q ≡ Some g → is_folder (node (current log) g) ≡ true → ⊥) → ⊥
+      by None is above = let e : (let o : Option ℕ = None in o) ≡ Some j = sym (ap (option_and_then (λ g. lookup (current log).names g name)) is) ∙ at in cc
+      by (Some g) is above =
+          above g is (known.guarded.tree.in_folders g name j (sym (ap (option_and_then (λ h. lookup (current log).names h name)) is) ∙ at))
+  no_folder_under (name ∷ q) j (inr touches) at folder = by (find (current log) q) refl touches
+    where
+      by : (o : Option ℕ) → find (current log) q ≡ o → Touches log c o name → ⊥
+      by None is h = h
+      by (Some g) is h =
+          let s = said_so g name h in
+          let g_is : g ≡ f = n.here g name s in
+          let leads : lookup (current log).names g name ≡ Some j = sym (ap (option_and_then (λ k. lookup (current log).names k name)) is) ∙ at in
+          both_ways _ (n.files name j (subst (λ k. is_some (says c 0 k name) ≡ true) g_is s) (subst (λ k. lookup (current log).names k name ≡ Some j) g_is leads)) folder
+
+  -- a folder stands where it stood
+  folder_stays : (p : Route) (j : ℕ) → find (current log) p ≡ Some j → is_folder (node (current log) j) ≡ true → find (current now) p ≡ Some j
+  folder_stays p j at folder = elim (find_same log c p) [ inl same ↦ same ∙ at | inr under ↦ absurd (no_folder_under p j under at folder) ]
+
+  waits_in_folder : (g : ℕ) (m : List ℕ) → is_pending g m log.changes ≡ true → is_folder (node (current log) g) ≡ true
+  waits_in_folder g m waits = by (is_folder (node (current log) g)) refl
+    where
+      by : (b : Bool) → is_folder (node (current log) g) ≡ b → is_folder (node (current log) g) ≡ true
+      by true is = is
+      by false is = absurd (both_ways _ (known.files.bare g m is) waits)
+
+  bare_now : (i : ℕ) (m : List ℕ) → is_folder (node (current now) i) ≡ false → is_pending i m now.changes ≡ true → ⊥
+  bare_now i m bare waits = elim (pending_less i m log.changes c waits) [
+    | inl old ↦ both_ways _ (known.files.bare i m (was_bare log c i bare)) old
+    | inr new ↦
+        let i_is : i ≡ f = n.here i m new in
+        let there = folder_there (current log).nodes f n.folder in
+        both_ways _ (subst (λ k. is_folder (node (current now) k) ≡ false) i_is bare) (kind_same log c f there ∙ n.folder)
+  ]
+
+  firm_now : (g : ℕ) (m : List ℕ) (j : ℕ) → MayLead now g m (Some j) → is_folder (node (current now) j) ≡ true → is_pending g m now.changes ≡ true → ⊥
+  firm_now g m j lead folder waits = by (is_some (says c 0 g m)) refl
+    where
+      before : MayLead log g m (Some j) → is_pending g m log.changes ≡ false
+      before old = known.files.firm g m j old (was_folder j folder)
+
+      none_of : (o : Option (Option ℕ)) → is_some o ≡ false → o ≡ None
+      none_of None h = refl
+      none_of (Some x) h = absurd (true≢false h)
+
+      by : (b : Bool) → is_some (says c 0 g m) ≡ b → ⊥
+      by false not_said =
+          let old = leads_as_before log c g m (Some j) (none_of _ (sym (says_at c (length (current log).nodes) g m) ∙ not_said)) lead in
+          elim (pending_less g m log.changes c waits) [ inl waited ↦ both_ways _ (before old) waited | inr new ↦ both_ways _ not_said new ]
+      by true is_said =
+          let g_is : g ≡ f = n.here g m is_said in
+          let at_f = subst (λ k. is_some (says c 0 k m) ≡ true) g_is is_said in
+          elim (leads_more log c g m (Some j) lead) [
+            | inl here ↦ both_ways _ (n.files_now m j at_f (subst (λ k. lookup (current now).names k m ≡ Some j) g_is (sym here))) folder
+            | inr old ↦ both_ways _ (n.files m j at_f (subst (λ k. lookup (current log).names k m ≡ Some j) g_is (sym (leads_only log g m (Some j) (before old) old)))) (was_folder j folder)
+          ]
+
+  -- one of the two paths, or another
+  abbrev Where : Route → Type 0
+  Where p = ((p ≡ first) ⊎ (p ≡ second)) ⊎ ((same_path p first ≡ false) × (same_path p second ≡ false))
+
+  where_is : (p : Route) → Where p
+  where_is p = by (same_path p first) refl (same_path p second) refl
+    where
+      by : (a : Bool) → same_path p first ≡ a → (b : Bool) → same_path p second ≡ b → Where p
+      by true a_is b b_is = inl (inl (same_path-true p first a_is))
+      by false a_is true b_is = inl (inr (same_path-true p second b_is))
+      by false a_is false b_is = inr (a_is, b_is)
+
+  held_still : (p : Route) → marks.aside p ≡ false → held (current now) (marks.was p) ≡ held (current log) (marks.was p)
+  held_still p out = held_same log c (marks.was p) (λ i is. unaltered i (known.was_there p i out is).0)
+
+  was_shown : (p : Route) → marks.aside p ≡ false → (marks.was p ≡ find (current now) p) ⊎ (held (current now) (marks.was p) ≡ (after.earlier p).value)
+  was_shown p out = elim (where_is p) [
+    | inl at ↦ elim (n.was p at out) [ inl same ↦ inl same | inr shown ↦ inr (held_still p out ∙ shown) ]
+    | inr off ↦
+        let o = n.off p off.0 off.1 in
+        elim (known.was_shown p out) [
+          | inl same ↦ inl (same ∙ sym o.0)
+          | inr shown ↦ inr (held_still p out ∙ (shown ∙ sym (ap (λ (s : _). s.value) o.2)))
+        ]
+  ]
+
+  shows : (p : Route) → (after.part ≡ Some p → ⊥) → visible_tree (current now) p ≡ after.tree p
+  shows p other = elim (where_is p) [
+    | inl at ↦ n.shown p at other
+    | inr off ↦
+        let o = n.off p off.0 off.1 in
+        shows_same log c p o.0 (λ i is. unaltered i (known.guarded.there p i (found_at log p (Some i) is))) ∙ (known.shows p o.3 ∙ sym o.1)
+  ]
+
+  tracked : (g : ℕ) (m : List ℕ) → is_pending g m now.changes ≡ true → (q : Route) × Among dirty_after q × (find (current now) q ≡ Some g)
+  tracked g m waits = elim (pending_less g m log.changes c waits) [
+    | inl old ↦
+        let t = known.tracked g m old in
+        (t.0, n.more t.0 t.1, folder_stays t.0 g t.2 (waits_in_folder g m old))
+    | inr new ↦ (up, n.listed, n.stands ∙ ap (λ k. Some k) (sym (n.here g m new)))
+  ]
+
+  pub naming_known : IsKnown after dirty_after marks now
+  naming_known = record {
+    guarded = naming_law marks log c known.guarded naming_of;
+    files = record {
+      within = within_more log.changes c n.within known.files.within;
+      bare = λ i m bare. false_from_ne_true _ (bare_now i m bare);
+      firm = λ g m j lead folder. false_from_ne_true _ (firm_now g m j lead folder);
+    };
+    folders = λ i folder. known.folders i (was_folder i folder);
+    aside = n.named;
+    was_there = λ p i out is. let t = known.was_there p i out is in (let k = naming_of.count in let l = t.0 in omega (arith, k, l), t.1);
+    was_shown = was_shown;
+    shows = shows;
+    part = n.part;
+    tracked = tracked;
+  }
+
+  pub name_waits : (g : ℕ) (m : List ℕ) → is_pending g m log.changes ≡ true → is_pending g m now.changes ≡ true
+  name_waits g m waits = pending_still g m log.changes c n.settles waits

@@ -1,0 +1,98 @@
+-- What a report makes of the live jobs, and of what is known of them.
+use Rattle.std.proofs.Common.{◌≡◌, ℕ, Bool, true, false, List, [], ◌∷◌, refl, sym, ◌∙◌, ap, subst, Option, Some, None}
+use Rattle.std.specs.Prelude.{◌==◌, if◌then◌else◌, is_some, ◌&&◌}
+use Rattle.std.proofs.lemmas.Bool.{false≢true, and_parts, eq-eqb}
+use Rattle.mc_text.specs.Routes.{Route, parent_of}
+use Rattle.tree_trait.specs.declared.file_system.FileSystem.{FileSystem}
+use Rattle.crash_law.specs.Guarded.{Marks}
+use Rattle.file_copy.specs.declared.report.Did.{Did}
+use Rattle.file_copy.specs.declared.report.Did.TheVariants.{Began, Chunk, Placed, Removed, Skipped, Cleaned, Barrier, Troubled, Ended}
+use Rattle.copy_move.specs.declared.history.Job.{Job}
+use Rattle.copy_move.specs.declared.history.Job.TheVariants as plan
+use Rattle.copy_move.specs.declared.run.Course.TheVariants.{GoesOn}
+use Rattle.copy_move.specs.declared.work.Work.{Work}
+use Rattle.copy_move.specs.Jobs.{Running, ends, first_work}
+use Rattle.history_laws.specs.LiveJobs.{LiveJob, after_report}
+use Rattle.history_laws.specs.Traces.{before_others, unless_ended, with_job}
+use Rattle.history_laws.proofs.Knowing.{Said}
+use Rattle.history_laws.proofs.JobKnows.{HasName, KnowsAfter, WorkKnows}
+use Rattle.history_laws.proofs.Sources.{source_in}
+use Rattle.history_laws.proofs.Stepped.{part_after}
+
+-- what is known of the live jobs: of none no part stands
+abbrev pub JobsKnow : Said → List Route → Marks → FileSystem → List Running → Type 0
+JobsKnow told dirty marks s [] = told.part ≡ None
+JobsKnow told dirty marks s (job ∷ []) = WorkKnows told dirty marks s job.course job.work
+JobsKnow told dirty marks s (job ∷ other ∷ jobs) = ⊥
+
+-- the history tells of these live jobs
+abbrev pub HasLive : List LiveJob → List Running → Option Route → Type 0
+HasLive live [] part = live ≡ []
+HasLive live (job ∷ []) part = (w : Work) × (live ≡ (let l : LiveJob = record { id = job.id; work = w; part = part } in l) ∷ []) × (source_in w ≡ source_in job.work)
+HasLive live (job ∷ other ∷ jobs) part = ⊥
+
+same_id : (id : ℕ) → (id == id) ≡ true
+same_id id = eq-eqb id id refl
+
+pub with_one : (job : Running) (new : Option Running) → with_job job.id new (job ∷ []) ≡ before_others new []
+with_one job new = ap (λ b. if◌then◌else◌ b (before_others new []) (job ∷ [])) (same_id job.id)
+
+module _ (told : Said) (dirty : List Route) (marks : Marks) (s : FileSystem) (new : Running) where
+  -- the jobs after a report
+  pub knows_after : (did : Did) → KnowsAfter did told dirty s new.course new.work marks → JobsKnow told dirty marks s (before_others (unless_ended did new) [])
+  knows_after (Ended ending part) k = k
+  knows_after (Began part) k = k
+  knows_after (Chunk count) k = k
+  knows_after (Placed path) k = k
+  knows_after (Removed path) k = k
+  knows_after (Skipped path why) k = k
+  knows_after (Cleaned part) k = k
+  knows_after Barrier k = k
+  knows_after (Troubled trouble) k = k
+
+module _ (id : ℕ) (w : Work) (part : Option Route) (new : Running) (same : new.id ≡ id) (source : source_in w ≡ source_in new.work) where
+  abbrev one : List LiveJob
+  one = (let l : LiveJob = record { id = id; work = w; part = part } in l) ∷ []
+
+  stays : (later : Option Route) → (live : List LiveJob) → live ≡ (let l : LiveJob = record { id = id; work = w; part = later } in l) ∷ [] → HasLive live (new ∷ []) later
+  stays later live is = (w, is ∙ ap (λ n. (let l : LiveJob = record { id = n; work = w; part = later } in l) ∷ []) (sym same), source)
+
+  kept_if : (b : Bool) (x y : List LiveJob) → b ≡ true → if◌then◌else◌ b x y ≡ x
+  kept_if true x y h = refl
+  kept_if false x y h = absurd (false≢true h)
+
+  pub live_after : (did : Did) → HasLive (after_report id did one) (before_others (unless_ended did new) []) (part_after did part)
+  live_after (Ended ending left) = kept_if (id == id) _ _ (same_id id)
+  live_after (Began p) = stays (Some p) _ (kept_if (id == id) _ _ (same_id id))
+  live_after (Chunk count) = stays part _ (kept_if (id == id) _ _ (same_id id))
+  live_after (Placed path) = stays None _ (kept_if (id == id) _ _ (same_id id))
+  live_after (Removed path) = stays part _ (kept_if (id == id) _ _ (same_id id))
+  live_after (Skipped path why) = stays part _ (kept_if (id == id) _ _ (same_id id))
+  live_after (Cleaned p) = stays None _ (kept_if (id == id) _ _ (same_id id))
+  live_after Barrier = stays part _ (kept_if (id == id) _ _ (same_id id))
+  live_after (Troubled trouble) = stays part _ (kept_if (id == id) _ _ (same_id id))
+
+has_name : (p : Route) → is_some (parent_of p) ≡ true → HasName p
+has_name [] h = absurd (false≢true h)
+has_name (name ∷ folder) h = record { name = name; is = refl }
+
+-- the work of a plan knows its target
+module _ (told : Said) (dirty : List Route) (marks : Marks) (s : FileSystem) (none : told.part ≡ None) where
+  deletes : (path : Route) (w : Work) (b : Bool) → is_some (parent_of path) ≡ b → (let o : Option Work = if◌then◌else◌ b (Some (Rattle.copy_move.specs.Jobs.deletes path)) None in o) ≡ Some w → WorkKnows told dirty marks s GoesOn w
+  deletes path w true has is = subst (λ x. WorkKnows told dirty marks s GoesOn x) (let e : Rattle.copy_move.specs.Jobs.deletes path ≡ w = cc in e) (has_name path has, none)
+  deletes path w false has is = absurd (let f : ⊥ = cc in f)
+
+  copies : (id : ℕ) (source target : Route) (w : Work) (b : Bool) → (is_some (parent_of source) && is_some (parent_of target)) ≡ b
+      → (let o : Option Work = if◌then◌else◌ b (Some (Rattle.copy_move.specs.Jobs.copies id source target)) None in o) ≡ Some w → WorkKnows told dirty marks s GoesOn w
+  copies id source target w true has is =
+      subst (λ x. WorkKnows told dirty marks s GoesOn x) (let e : Rattle.copy_move.specs.Jobs.copies id source target ≡ w = cc in e)
+      (has_name target (and_parts _ _ has).1, (λ e. absurd (let f : ⊥ = cc in f)), (none, λ e. absurd (let f : ⊥ = cc in f)))
+  copies id source target w false has is = absurd (let f : ⊥ = cc in f)
+
+  pub first_knows : (id : ℕ) (job : Job) (w : Work) → first_work id job ≡ Some w → WorkKnows told dirty marks s GoesOn w
+  first_knows id (plan.Delete []) w is = absurd (let f : ⊥ = cc in f)
+  first_knows id (plan.Delete (path ∷ [])) w is = deletes path w (is_some (parent_of path)) refl is
+  first_knows id (plan.Delete (path ∷ more ∷ paths)) w is = absurd (let f : ⊥ = cc in f)
+  first_knows id (plan.Copy []) w is = absurd (let f : ⊥ = cc in f)
+  first_knows id (plan.Copy (pair ∷ [])) w is = copies id pair.source pair.target w (is_some (parent_of pair.source) && is_some (parent_of pair.target)) refl is
+  first_knows id (plan.Copy (pair ∷ more ∷ pairs)) w is = absurd (let f : ⊥ = cc in f)

@@ -1,0 +1,6 @@
+pub mod Doubt
+pub mod LiveJobs
+pub mod Owed
+pub mod Replayed
+pub mod Safe
+pub mod Traces

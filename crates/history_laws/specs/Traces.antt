@@ -1,0 +1,114 @@
+-- What a history says of the tree's calls: each step of a job is one piece of its work with the calls that belong to it, or
+-- the sync of a folder that an ended job left, and nothing else changes the tree. Histories stand newest first here.
+use Rattle.std.specs.Prelude.{◌≡◌, ◌⊎◌, ℕ, ◌+◌, ◌==◌, Bool, true, false, if◌then◌else◌, List, [], ◌∷◌, length, map, Option, Some, None}
+use Rattle.std.specs.Option.{option_map_or}
+use Rattle.mc_text.specs.Routes.{Route}
+use Rattle.tree_trait.specs.Change.{CallLog, current}
+use Rattle.tree_trait.specs.CrashImages.{Among}
+use Rattle.file_copy.specs.declared.report.Ending.TheVariants.{NoMemory}
+use Rattle.file_copy.specs.declared.report.Did.{Did}
+use Rattle.file_copy.specs.declared.report.Did.TheVariants.{Ended}
+use Rattle.copy_move.specs.declared.history.Job.{Job}
+use Rattle.copy_move.specs.declared.history.Event.{Event}
+use Rattle.copy_move.specs.declared.history.Event.TheVariants.{Key, Look, Began, Order, Step, Closed}
+use Rattle.copy_move.specs.declared.history.JobOrder.{JobOrder}
+use Rattle.copy_move.specs.declared.history.JobOrder.TheVariants.{Answered}
+use Rattle.copy_move.specs.declared.history.Entry.{Entry}
+use Rattle.copy_move.specs.declared.run.Course.TheVariants.{GoesOn}
+use Rattle.copy_move.specs.Jobs.{Running, JobTells, JobCalls, answered, closed_job, ends, first_work, is_fresh, part_of}
+use Rattle.copy_move.specs.Settling.{NoneOwed, changed_folder}
+use Rattle.copy_move.specs.Steps.{LeavesDirty, SyncsFolder}
+use Rattle.copy_move.specs.Told.{is_closed, running}
+use Rattle.copy_move.specs.Traces.{IsUnclaimed}
+
+-- where a session stands: its live jobs, and the folders with a change of names that no sync has brought onto the disk
+pub record Stand : Type 0 where
+  pub jobs : List Running
+  pub dirty : List Route
+
+-- a live job with this number
+abbrev pub IsJob : ℕ → List Running → Running → Type 0
+IsJob id [] job = ⊥
+IsJob id (first ∷ jobs) job = ((first.id ≡ id) × (job ≡ first)) ⊎ IsJob id jobs job
+
+-- a job that stands so now, or has ended, before others
+abbrev pub before_others : Option Running → List Running → List Running
+before_others None jobs = jobs
+before_others (Some job) jobs = job ∷ jobs
+
+-- the live jobs, where the one with this number stands so now, or has ended
+abbrev pub with_job : ℕ → Option Running → List Running → List Running
+with_job id new [] = []
+with_job id new (job ∷ jobs) = if job.id == id then before_others new jobs else job ∷ with_job id new jobs
+
+-- A step of a job's own work. The first change comes only where no dirty folder lies on that mount.
+pub record WorkLeads (job : Running) (did : Did) (new : Running) (dirty dirty_after : List Route) (log now : CallLog) : Type 0 where
+  pub tells : JobTells job did new
+  pub called : JobCalls IsUnclaimed job did new log (Some now)
+  pub settled : job.course ≡ GoesOn → is_fresh job.work ≡ true → NoneOwed (current log) (changed_folder job.work) dirty
+  pub leaves : LeavesDirty job.course job.work did new.work dirty dirty_after (Some log) (Some now)
+
+-- a job that has changed nothing yet syncs a folder that an ended job left, or waits where that is refused
+pub record SyncLeads (job : Running) (did : Did) (new : Running) (dirty dirty_after : List Route) (log now : CallLog) : Type 0 where
+  pub goes : job.course ≡ GoesOn
+  pub fresh : is_fresh job.work ≡ true
+  pub folder : Route
+  pub owed : Among dirty folder
+  pub synced : SyncsFolder job folder did new dirty dirty_after (Some log) (Some now)
+
+-- a job ends for want of memory for the entry, and makes no call
+pub record GivesUp (job : Running) (did : Did) (dirty dirty_after : List Route) (log now : CallLog) : Type 0 where
+  pub did_is : did ≡ Ended NoMemory (part_of job.work)
+  pub same : dirty_after ≡ dirty
+  pub none : now ≡ log
+
+-- where a job stands after a report
+abbrev pub unless_ended : Did → Running → Option Running
+unless_ended did new = if ends did then None else Some new
+
+-- what a step of a job says of it, of the dirty folders and of the tree's calls
+abbrev pub StepLeads : Running → Did → Option Running → List Route → List Route → CallLog → CallLog → Type 0
+StepLeads job did after dirty dirty_after log now =
+    ((new : Running) × (WorkLeads job did new dirty dirty_after log now ⊎ SyncLeads job did new dirty dirty_after log now) × (after ≡ unless_ended did new))
+    ⊎ (GivesUp job did dirty dirty_after log now × (after ≡ None))
+
+-- the job that a plan begins
+abbrev pub begun : ℕ → Job → List Running
+begun id plan = option_map_or (λ work. running id work ∷ []) (first_work id plan) []
+
+-- an order to the job with this number
+abbrev pub ordered : ℕ → JobOrder → Running → Running
+ordered id (Answered answer) job = if job.id == id then answered answer job else job
+
+-- What an event says of where the session stands and of the tree's calls. Today one job is live at a time.
+abbrev pub EventLeads : Stand → Event → Stand → CallLog → CallLog → Type 0
+EventLeads was (Step id did) after log now =
+    (job : Running) × IsJob id was.jobs job × ((new : Option Running) × StepLeads job did new was.dirty after.dirty log now × (after.jobs ≡ with_job id new was.jobs))
+EventLeads was (Began id plan background) after log now = (was.jobs ≡ []) × (after ≡ record was { jobs = begun id plan }) × (now ≡ log)
+EventLeads was (Order id order) after log now = (after ≡ record was { jobs = map (ordered id order) was.jobs }) × (now ≡ log)
+EventLeads was (Key key time refusals lost) after log now = (after ≡ was) × (now ≡ log)
+EventLeads was (Look refusals) after log now = (after ≡ was) × (now ≡ log)
+EventLeads was Closed after log now = (after ≡ was) × (now ≡ log)
+
+-- on a closed session each job that waits for an answer is aborted
+abbrev pub if_closed : Bool → Stand → Stand
+if_closed true stand = record stand { jobs = map closed_job stand.jobs }
+if_closed false stand = stand
+
+-- An entry after older ones: from where the session stood, and the log so far, to these. It counts the changing calls that
+-- the session has made by its end.
+pub record Follows (opening : CallLog) (e : Entry) (older : List Entry) (was : Stand) (before : CallLog) (stand : Stand) (now : CallLog) : Type 0 where
+  pub after : Stand
+  pub leads : EventLeads was e.what after before now
+  pub stand_is : stand ≡ if_closed (is_closed (e ∷ older)) after
+  pub counts : length now.changes ≡ length opening.changes + e.calls
+
+-- where a session begins
+abbrev pub nothing_live : Stand
+nothing_live = record { jobs = []; dirty = [] }
+
+-- The tree's log has come from the opening to this one as these entries tell, and the session has come to stand so.
+abbrev pub IsTraced : CallLog → List Entry → Stand → CallLog → Type 0
+IsTraced opening [] stand now = (stand ≡ nothing_live) × (now ≡ opening)
+IsTraced opening (e ∷ older) stand now =
+    (was : Stand) × (before : CallLog) × IsTraced opening older was before × Follows opening e older was before stand now

@@ -1,0 +1,37 @@
+//! Laws of sessions: what a crash leaves of one at each moment, and what its history tells of the tree. The functions do
+//! nothing: their contracts are laws of the definitions in `specs/`.
+#![tactic(auto)]
+
+ghost use Rattle.history_laws.specs.Owed.{FinishedLaw, FirstChangeLaw, OwedLaw, StepLaw};
+ghost use Rattle.history_laws.specs.Safe.{ReplayLaw, SessionLaw};
+
+/// At each moment of a session, inside a call too, each path holds after a crash what the history says, or what it held
+/// before its last change, as long as that isn't on the disk; parts may be missing or hold anything.
+pub fn what_a_crash_leaves_of_a_session()
+    ensures { SessionLaw }
+{}
+
+/// What can be seen at its end is what the history makes of the opening, but for the parts of live jobs.
+pub fn what_a_session_shows()
+    ensures { ReplayLaw }
+{}
+
+/// A path of which a change isn't on the disk yet lies in a dirty folder.
+pub fn where_doubt_lies()
+    ensures { OwedLaw }
+{}
+
+/// Once a job has made its first change, each change that isn't on the disk yet is in its own folder, or on another mount.
+pub fn what_a_first_change_leaves_in_doubt()
+    ensures { FirstChangeLaw }
+{}
+
+/// A job that may report that it is finished, and has changed something, has left nothing in its folder that isn't on the disk.
+pub fn what_a_finished_job_leaves()
+    ensures { FinishedLaw }
+{}
+
+/// The machine's own step is one of which such a history tells.
+pub fn what_a_step_of_a_run_tells()
+    ensures { StepLaw }
+{}

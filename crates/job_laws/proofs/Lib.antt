@@ -1,0 +1,13 @@
+pub mod PathLemmas
+pub mod ClaimLemmas
+pub mod LocalLemmas
+pub mod PlaceLemmas
+pub mod CopyLemmas
+pub mod MoveLemmas
+pub mod OtherLemmas
+pub mod Whole
+pub mod SoundLemmas
+pub mod CommutingLemmas
+pub mod PlannedLemmas
+pub mod KeepingLemmas
+pub mod RecursionLemmas

@@ -1,0 +1,12 @@
+pub mod Ways
+pub mod Near
+pub mod Views
+pub mod Works
+pub mod Outcome
+pub mod Local
+pub mod Fits
+pub mod Commuting
+pub mod Planned
+pub mod Keeping
+pub mod Recursion
+pub mod Items

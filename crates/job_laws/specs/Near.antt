@@ -1,0 +1,19 @@
+-- What claims say of a path, and claims of which some clash.
+use Rattle.std.specs.Prelude.{Bool, ◌&&◌, List}
+use Rattle.std.specs.List.{list_any}
+use Rattle.mc_text.specs.Routes.{Route, is_prefix}
+use Rattle.op_plan.specs.declared.claim.Claim.{Claim}
+use Rattle.op_plan.specs.Meeting.{meet}
+use Rattle.op_plan.specs.Claiming.{clash}
+
+-- a claim of mine clashes with one of theirs
+abbrev pub clashes : List Claim → List Claim → Bool
+clashes mine theirs = list_any (λ c. list_any (clash c) theirs) mine
+
+-- a path lies under a claim for writing
+abbrev pub is_written : List Claim → Route → Bool
+is_written cs p = list_any (λ c. c.writes && is_prefix c.path p) cs
+
+-- a path lies under a claim, or above one
+abbrev pub is_near : List Claim → Route → Bool
+is_near cs p = list_any (λ c. meet c.path p) cs

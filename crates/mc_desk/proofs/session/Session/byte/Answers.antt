@@ -1,0 +1,49 @@
+-- The keys that a byte completes are worked, all or but the last.
+use Rattle.std.proofs.Common.{rules, ◌≡◌, ◌+◌, ◌∷◌, ◌++◌, [], None, ap, subst, ◌∙◌}
+use Rattle.key_screen.specs.DecodedKeys.{decoded_keys, keys_fed}
+use Rattle.mc_desk.specs.Tallies.{keys_in}
+use Rattle.mc_desk.specs.Desks.{Seen}
+use Rattle.mc_desk.proofs.Taking.{takes_none, takes_one, takes_two, lacks_second}
+use Rattle.mc_desk.proofs.session.Session.byte.Goals as goal
+
+pub returns-in_default-first-clause-keys : goal.returns-in_default-first-clause-keys
+returns-in_default-first-clause-keys g c goes bytes taken =
+    let old = c.args.self.now in
+    let now : decoded_keys (old.pending ++ c.args.byte ∷ []) ≡ record { keys = keys_fed c.feed-first.result; rest = c.feed-first.new.self } =
+    subst (λ p. decoded_keys (p ++ c.args.byte ∷ []) ≡ record { keys = keys_fed c.feed-first.result; rest = c.feed-first.new.self }) (ap (λ (d : Seen). d.pending) c.self.view_is) c.feed-first.ensures.keys in
+    let first : c.feed-first.result.first ≡ None = search rules in
+    let second : c.feed-first.result.second ≡ None = search rules in
+    let counted : c.redraw.new.self.taken ≡ old.taken + 1 = search rules in
+    takes_none bytes c.args.byte old c.redraw.new.self c.feed-first.result c.feed-first.new.self taken now c.redraw.ensures.keys.pending counted c.redraw.result first second
+    (c.redraw.ensures.keys.keys ∙ ap keys_in (c.reserve.ensures.same ∙ ap (λ (d : Seen). d.newest) c.self.view_is))
+
+pub returns-in_default-second-clause-keys : goal.returns-in_default-second-clause-keys
+returns-in_default-second-clause-keys g c goes bytes taken =
+    let old = c.args.self.now in
+    let now : decoded_keys (old.pending ++ c.args.byte ∷ []) ≡ record { keys = keys_fed c.feed-first.result; rest = c.feed-first.new.self } =
+    subst (λ p. decoded_keys (p ++ c.args.byte ∷ []) ≡ record { keys = keys_fed c.feed-first.result; rest = c.feed-first.new.self }) (ap (λ (d : Seen). d.pending) c.self.view_is) c.feed-first.ensures.keys in
+    let second : c.feed-first.result.second ≡ None = search rules in
+    let counted : c.work_key-reply.new.self.taken ≡ old.taken + 1 = search rules in
+    takes_one bytes c.args.byte old c.work_key-reply.new.self c.feed-first.result c.feed-first.new.self taken now c.work_key-reply.ensures.pending counted c.work_key-reply.result c.in-Some-first.first c.in-Some-first.is second
+    (c.work_key-reply.ensures.keys ∙ ap (λ es. keys_in es ++ c.in-Some-first.first ∷ []) (c.reserve.ensures.same ∙ ap (λ (d : Seen). d.newest) c.self.view_is))
+
+pub returns-in-Err-clause-keys : goal.returns-in-Err-clause-keys
+returns-in-Err-clause-keys g c goes bytes taken =
+    let old = c.args.self.now in
+    let now : decoded_keys (old.pending ++ c.args.byte ∷ []) ≡ record { keys = keys_fed c.feed-first.result; rest = c.feed-first.new.self } =
+    subst (λ p. decoded_keys (p ++ c.args.byte ∷ []) ≡ record { keys = keys_fed c.feed-first.result; rest = c.feed-first.new.self }) (ap (λ (d : Seen). d.pending) c.self.view_is) c.feed-first.ensures.keys in
+    let counted : c.work_key-reply.new.self.taken ≡ old.taken + 1 = search rules in
+    lacks_second bytes c.args.byte old c.work_key-reply.new.self c.feed-first.result c.feed-first.new.self taken now c.work_key-reply.ensures.pending counted c.in-Err.error c.in-Some-first.first c.in-Some-second.second
+    c.in-Some-first.is c.in-Some-second.is
+    (c.work_key-reply.ensures.keys ∙ ap (λ es. keys_in es ++ c.in-Some-first.first ∷ []) (c.reserve.ensures.same ∙ ap (λ (d : Seen). d.newest) c.self.view_is)) c.in-Err.ensures.shut
+
+pub returns-in-Ok-clause-keys : goal.returns-in-Ok-clause-keys
+returns-in-Ok-clause-keys g c goes bytes taken =
+    let old = c.args.self.now in
+    let now : decoded_keys (old.pending ++ c.args.byte ∷ []) ≡ record { keys = keys_fed c.feed-first.result; rest = c.feed-first.new.self } =
+    subst (λ p. decoded_keys (p ++ c.args.byte ∷ []) ≡ record { keys = keys_fed c.feed-first.result; rest = c.feed-first.new.self }) (ap (λ (d : Seen). d.pending) c.self.view_is) c.feed-first.ensures.keys in
+    let counted : c.work_key.new.self.taken ≡ old.taken + 1 = search rules in
+    takes_two bytes c.args.byte old c.work_key.new.self c.feed-first.result c.feed-first.new.self taken now (c.work_key.ensures.pending ∙ c.work_key-reply.ensures.pending) counted c.work_key.result c.in-Some-first.first
+    c.in-Some-second.second c.in-Some-first.is c.in-Some-second.is
+    (c.work_key.ensures.keys ∙ ap (λ ks. ks ++ c.in-Some-second.second ∷ [])
+    (c.work_key-reply.ensures.keys ∙ ap (λ es. keys_in es ++ c.in-Some-first.first ∷ []) (c.reserve.ensures.same ∙ ap (λ (d : Seen). d.newest) c.self.view_is)))

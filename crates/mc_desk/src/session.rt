@@ -1,0 +1,173 @@
+//! A session over its devices: its screen, its job and its history. Every call leaves it whole. Where its bytes come from, it
+//! doesn't know: that is the desk's.
+ghost use Rattle.std.specs.Prelude.{◌≡◌, ◌≤◌, false, true, [], IfOk, IfErr, OnOk, None, Some};
+ghost use Rattle.tree_trait.specs.Calls.{ListFolder};
+ghost use Rattle.tree_trait.specs.Refusals.{refusal_of};
+ghost use Rattle.tree_trait.specs.Change.{current};
+ghost use Rattle.tree_trait.specs.Answers.{IfKnown, HasRisen};
+ghost use Rattle.mc_desk.specs.Sessions.{BeginsIn};
+ghost use Rattle.mc_desk.specs.Starts.{IsStartCause, is_start_fault};
+
+mod keys;
+mod steps;
+
+use crate::log::Log;
+use crate::opening::open;
+use crate::replies::Refused;
+use crate::starts::Start;
+use crate::tag::Tag;
+use copy_move::{Dirty, Run};
+use key_screen::KeyReader;
+use mc_text::Path;
+use mc_ui::Ui;
+use std::alloc::Global;
+use std::marker::{Model, PhantomData};
+use tree_trait::{Sink, Spawner, Tree};
+
+/// What is to be looked at before the next key is taken.
+#[derive(Clone, Copy, Debug, Drop, PartialEq, Eq)]
+enum Due {
+    Nothing,
+    /// The opening frame.
+    First,
+    /// This job, once it isn't ready.
+    Job(u32),
+}
+
+/// A session. `N` names the world as it found it.
+#[derive(Drop)]
+pub struct Session<N: Tag, T: Tree, S: Sink, P: Spawner> {
+    tree: T,
+    screen: S,
+    spawner: P,
+    keys: KeyReader,
+    ui: Ui,
+    job: Option<Run>,
+    dirty: Dirty,
+    log: Log,
+    taken: u64,
+    last_id: u32,
+    calls: u64,
+    shown: u128,
+    unseen: bool,
+    stuck_at: Option<Path>,
+    due: Due,
+    closed: bool,
+    quit: bool,
+    failed: bool,
+    lost: bool,
+    of: PhantomData<N>,
+}
+
+impl<N: Tag, T: Tree, S: Sink, P: Spawner> Model for Session<N, T, S, P> {
+    ghost use Rattle.std.specs.Option.{option_map};
+    ghost use Rattle.copy_move.specs.Told.{told};
+    ghost use Rattle.mc_desk.specs.Desks.{Seen, KeepsDesk, awaited};
+
+    ghost Value = { Seen };
+
+    ghost view = { λ d. record {
+      newest = d.log.newest;
+      spare = d.log.spare;
+      screen = d.ui;
+      job = d.job;
+      dirty = d.dirty;
+      tally = record {
+        job = option_map told d.job;
+        last = d.last_id;
+        unseen = d.unseen;
+        closed = d.closed;
+        due = awaited d.due;
+        lost = d.lost;
+        calls = d.calls;
+      };
+      taken = d.taken;
+      pending = d.keys;
+      quit = d.quit;
+      failed = d.failed;
+    } };
+
+    ghost invariant = { λ d. KeepsDesk N.start N.opening (T.contents d.tree) (record {
+      newest = d.log.newest;
+      spare = d.log.spare;
+      screen = d.ui;
+      job = d.job;
+      dirty = d.dirty;
+      tally = record {
+        job = option_map told d.job;
+        last = d.last_id;
+        unseen = d.unseen;
+        closed = d.closed;
+        due = awaited d.due;
+        lost = d.lost;
+        calls = d.calls;
+      };
+      taken = d.taken;
+      pending = d.keys;
+      quit = d.quit;
+      failed = d.failed;
+    }) N.tree_faults (T.fault_count d.tree) d.failed N.sink_faults (S.fault_count d.screen)
+        N.runs (P.runs d.spawner) N.spawner_faults (P.fault_count d.spawner) };
+}
+
+impl<N: Tag, T: Tree, S: Sink, P: Spawner> Session<N, T, S, P> {
+    /// Opens a session in two folders. It is refused as `list` of the first is that can't be listed, or for want of memory;
+    /// the tree is as it was then.
+    pub fn begin(
+        alloc: Global,
+        start: Start,
+        tree: T,
+        screen: S,
+        spawner: P,
+    ) -> Result<Session<N, T, S, P>, Refused<T, S, P>>
+        requires start { BeginsIn N.start start }
+        requires opening { T.contents tree ≡ N.opening }
+        requires faults { N.tree_faults ≤ T.fault_count tree }
+        requires sink { N.sink_faults ≤ S.fault_count screen }
+        requires runs { P.runs spawner ≡ N.runs }
+        requires spawner { P.fault_count spawner ≡ N.spawner_faults }
+        ensures opened { IfOk result (λ session. session.newest ≡ []) }
+        ensures none_taken { IfOk result (λ session. (session.taken ≡ 0) × (session.pending ≡ [])) }
+        ensures unclosed { IfOk result (λ session. (session.tally.closed ≡ false) × (session.quit ≡ false)) }
+        ensures permitted { IfKnown (T.contents tree) (λ log.
+            OnOk result ((refusal_of (current log) (ListFolder start.left) ≡ None) × (refusal_of (current log) (ListFolder start.right) ≡ None))) }
+        ensures cause { IfKnown (T.contents tree) (λ log. IfErr result (λ r. IsStartCause (current log) start.left start.right r.error)) }
+        ensures fault { IfErr result (λ r. is_start_fault r.error ≡ true → HasRisen (T.fault_count tree) (T.fault_count r.tree)) }
+        ensures same { IfErr result (λ r. T.contents r.tree ≡ T.contents tree) }
+        ensures later { IfErr result (λ r. T.fault_count tree ≤ T.fault_count r.tree) }
+        ensures same_screen { IfErr result (λ r. r.screen ≡ screen) }
+        ensures same_spawner { IfErr result (λ r. r.spawner ≡ spawner) }
+    {
+        let mut tree = tree;
+        match open(alloc, &mut tree, start) {
+            Err(error) => Err(Refused {
+                error,
+                tree,
+                screen,
+                spawner,
+            }),
+            Ok((ui, log)) => Ok(Session {
+                tree,
+                screen,
+                spawner,
+                keys: KeyReader::new(),
+                ui,
+                job: None,
+                dirty: Dirty::new(alloc),
+                log,
+                taken: 0,
+                last_id: 0,
+                calls: 0,
+                shown: 0,
+                unseen: false,
+                stuck_at: None,
+                due: Due::First,
+                closed: false,
+                quit: false,
+                failed: false,
+                lost: false,
+                of: PhantomData,
+            }),
+        }
+    }
+}

@@ -1,0 +1,220 @@
+//! Steps of the job, and the end of a session.
+ghost use Rattle.std.specs.Prelude.{◌≡◌, ◌<◌, ◌≤◌, true, Option, Some, None, IsSome, ◌||◌, reverse, if◌then◌else◌};
+ghost use Rattle.std.specs.Option.{option_map};
+ghost use Rattle.copy_move.specs.Jobs.{closed_job};
+ghost use Rattle.copy_move.specs.Ranks.{rank_with};
+ghost use Rattle.copy_move.specs.Told.{if_closed, live_job, IsReady};
+ghost use Rattle.copy_move.specs.Replay.{IsReplayed};
+ghost use Rattle.copy_move.specs.Traces.{IsTracedTo};
+ghost use Rattle.mc_desk.specs.Sessions.{EndsSession};
+ghost use Rattle.mc_desk.specs.Tallies.{can_step, faults_in, keys_in, has_lost};
+ghost use Rattle.mc_desk.specs.Desks.{Blames, KeepsKeys, MovesDirty, RanNothing, idle_reply};
+ghost use Rattle.mc_desk.specs.Logs.{jobs_begun};
+
+use super::{Due, Session};
+use crate::claims::NoClaims;
+use crate::replies::{Ended, StepReply};
+use crate::tag::Tag;
+use copy_move::{Did, Ending, Entry, Event, Run, Stepped, is_end, stuck_at};
+use mc_text::Path;
+use std::alloc::Global;
+use tree_trait::{Sink, Spawner, Tree};
+
+impl<N: Tag, T: Tree, S: Sink, P: Spawner> Session<N, T, S, P> {
+    /// Closes the session: no more keys are taken, and a job that waits for an answer is aborted. It takes no memory. A closed
+    /// one stays as it is.
+    pub fn close(&mut self)
+        ensures closed { self.new.tally.closed ≡ true }
+        ensures screen { self.new.screen ≡ self.old.screen }
+        ensures keys { KeepsKeys self.old self.new }
+        ensures dirty { self.new.dirty ≡ self.old.dirty }
+        ensures failed { self.new.failed ≡ self.old.failed }
+        ensures quit { self.new.quit ≡ self.old.quit }
+    {
+        if self.closed {
+            return;
+        }
+        self.log.note(closing(self.calls, self.tree.faults()));
+        self.job = closed(self.job.take());
+        self.due = Due::Nothing;
+        self.closed = true;
+    }
+
+    /// Makes one step of the job, if it is ready: `Did` where an entry was added. Without memory for the entry no call of
+    /// the tree is made, and the job ends by the entry for which room was kept.
+    pub fn step(&mut self, alloc: Global, seat: u32) -> StepReply
+        ensures screen { self.new.screen ≡ self.old.screen }
+        ensures keys { KeepsKeys self.old self.new }
+        ensures dirty { MovesDirty self.old.job self.new.newest self.old.dirty self.new.dirty }
+        ensures same { (self.new.tally.closed ≡ self.old.tally.closed) × (self.new.tally.due ≡ self.old.tally.due) }
+        ensures quit { self.new.quit ≡ self.old.quit }
+        ensures reply { result ≡ (if can_step self.old.tally.job then StepReply.Did else idle_reply self.old.tally.closed) }
+        ensures nearer { self.old.tally.closed ≡ true → IsSome self.old.job → rank_with self.new.dirty self.new.job < rank_with self.old.dirty self.old.job }
+        ensures worked { IsReady self.old.job → rank_with self.new.dirty self.new.job < rank_with self.old.dirty self.old.job }
+    {
+        let Some(mut job) = self.job.take() else {
+            return idle(self.closed);
+        };
+        if job.waits() {
+            self.job = Some(job);
+            return idle(self.closed);
+        }
+        let id = job.id();
+        if self.log.reserve(3).is_err() {
+            self.log.note(Entry {
+                seat,
+                calls: self.calls,
+                faults: self.tree.faults(),
+                shown: 0,
+                what: Event::Step {
+                    job: id,
+                    did: ended_without_memory(job.give_up()),
+                },
+            });
+            self.unseen = true;
+            return StepReply::Did;
+        }
+        let Stepped { did, calls } = job.step(alloc, &mut self.tree, &NoClaims, &mut self.dirty);
+        self.calls = self.calls.saturating_add(calls);
+        let ended = is_end(&did);
+        self.stuck_at = stuck_at(alloc, &did);
+        self.log.note(Entry {
+            seat,
+            calls: self.calls,
+            faults: self.tree.faults(),
+            shown: 0,
+            what: Event::Step { job: id, did },
+        });
+        self.unseen = either(ended, self.unseen);
+        self.job = left(job, ended, self.closed);
+        StepReply::Did
+    }
+
+    /// Steps the job of a closed session to its end.
+    fn work_off(&mut self, alloc: Global)
+        requires closed { self.old.tally.closed ≡ true }
+        ensures idle { self.new.job ≡ None }
+        ensures keys { keys_in self.new.newest ≡ keys_in self.old.newest }
+        ensures quit { self.new.quit ≡ self.old.quit }
+    {
+        while self.job.is_some() {
+            self.step(alloc, 0);
+        }
+    }
+
+    /// Ends the session: it is closed, and its job stepped to the end.
+    pub fn end(self, alloc: Global) -> Ended<T, S, P>
+        ensures session { EndsSession N.start N.opening N.tree_faults (reverse result.history.entries) (T.contents result.tree) result.quit }
+        ensures traced { IsTracedTo N.opening (T.contents result.tree) (reverse result.history.entries) None }
+        ensures replayed { IsReplayed N.opening (T.contents result.tree) (reverse result.history.entries) }
+        ensures idle { live_job (reverse result.history.entries) ≡ None }
+        ensures counted { result.history.started ≡ jobs_begun result.history.entries }
+        ensures keys { keys_in (reverse result.history.entries) ≡ keys_in self.newest }
+        ensures lost { result.lost ≡ has_lost (reverse result.history.entries) }
+        ensures quit { result.quit ≡ self.quit }
+        ensures screen { Blames result.failed N.sink_faults (S.fault_count result.screen) }
+        ensures faults { faults_in N.tree_faults (reverse result.history.entries) ≤ T.fault_count result.tree }
+        ensures commands { RanNothing N.runs (P.runs result.spawner) N.spawner_faults (P.fault_count result.spawner) }
+    {
+        let mut session = self;
+        session.close();
+        session.work_off(alloc);
+        let Session {
+            tree,
+            screen,
+            spawner,
+            keys: _,
+            ui: _,
+            job: _,
+            dirty: _,
+            log,
+            taken: _,
+            last_id: _,
+            calls: _,
+            shown: _,
+            unseen: _,
+            stuck_at: _,
+            due: _,
+            closed: _,
+            quit,
+            failed,
+            lost,
+            of: _,
+        } = session;
+        Ended {
+            tree,
+            screen,
+            spawner,
+            history: log.into_history(),
+            quit,
+            failed,
+            lost,
+        }
+    }
+}
+
+/// The reply where no job can be stepped.
+fn idle(is_closed: bool) -> StepReply
+    ensures { result ≡ idle_reply is_closed }
+{
+    if is_closed {
+        StepReply::Ended
+    } else {
+        StepReply::Idle
+    }
+}
+
+fn either(one: bool, other: bool) -> bool
+    ensures { result ≡ (one || other) }
+{
+    one || other
+}
+
+fn ended_without_memory(part: Option<Path>) -> Did
+    ensures { result ≡ Did.Ended Ending.NoMemory part }
+{
+    Did::Ended {
+        ending: Ending::NoMemory,
+        part,
+    }
+}
+
+/// The entry that closes a session.
+pub(super) fn closing(calls: u64, faults: u64) -> Entry
+    ensures { result ≡ record { seat = 0; calls = calls; faults = faults; shown = 0; what = Event.Closed } }
+{
+    Entry {
+        seat: 0,
+        calls,
+        faults,
+        shown: 0,
+        what: Event::Closed,
+    }
+}
+
+/// The job of a session that closes.
+pub(super) fn closed(job: Option<Run>) -> Option<Run>
+    ensures { result ≡ option_map closed_job job }
+{
+    match job {
+        None => None,
+        Some(mut job) => {
+            job.close();
+            Some(job)
+        }
+    }
+}
+
+/// What is left of a job after a step: nothing after its end, and in a closed session no job waits.
+fn left(job: Run, ended: bool, is_closed: bool) -> Option<Run>
+    ensures { result ≡ if_closed is_closed (if ended then None else Some job) }
+{
+    if ended {
+        return None;
+    }
+    if is_closed {
+        closed(Some(job))
+    } else {
+        Some(job)
+    }
+}

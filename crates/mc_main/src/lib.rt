@@ -1,0 +1,12 @@
+//! The top call: one run of the file manager over any devices.
+#![tactic(auto)]
+
+mod endings;
+mod outcome;
+mod run;
+mod session;
+mod words;
+
+pub use outcome::Outcome;
+pub use run::{Env, Gate, mc_run};
+pub use words::{USAGE, WordsError, read_words};

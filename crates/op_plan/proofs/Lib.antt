@@ -1,0 +1,9 @@
+pub mod Paths
+pub mod Sorted
+pub mod Twos
+pub mod MaskLemmas
+pub mod CheckLemmas
+pub mod SplitLemmas
+pub mod NamingLemmas
+pub mod ChildLemmas
+pub mod PlanLemmas

@@ -1,0 +1,53 @@
+-- What an answer may be besides that of the definition, and checks that follow one another.
+use Rattle.std.specs.Prelude.{◌≡◌, ℕ, ◌≤◌, Bool, true, false, ◌||◌, Option, Some, None, Result, Ok, Err, IfErr}
+use Rattle.tree_trait.specs.declared.calls.TreeError.{TreeError}
+use Rattle.tree_trait.specs.declared.calls.TreeError.TheVariants as tree
+use Rattle.tree_trait.specs.Answers.{HasRisen}
+use Rattle.resolving.specs.declared.error.ResolveError.{ResolveError}
+use Rattle.resolving.specs.declared.error.ResolveError.TheVariants as resolving
+use Rattle.op_plan.specs.declared.error.PlanError.{PlanError}
+use Rattle.op_plan.specs.declared.error.PlanError.TheVariants.{Source, Target, Memory, BadMask}
+
+abbrev pub is_tree_fault : TreeError → Bool
+is_tree_fault tree.Fault = true
+is_tree_fault e = false
+
+abbrev pub is_walk_fault : ResolveError → Bool
+is_walk_fault resolving.Fault = true
+is_walk_fault e = false
+
+-- the device failed
+abbrev pub is_fault : PlanError → Bool
+is_fault (Source path e) = is_tree_fault e
+is_fault (Target e) = is_walk_fault e
+is_fault e = false
+
+-- no memory was left
+abbrev pub is_memory : PlanError → Bool
+is_memory Memory = true
+is_memory e = false
+
+-- an answer is the expected one, unless the device failed or no memory was left
+abbrev pub Plans : {A : Type 0} → Result A PlanError → Result A PlanError → Type 0
+Plans expected (Ok x) = expected ≡ Ok x
+Plans expected (Err e) = (is_fault e || is_memory e) ≡ false → expected ≡ Err e
+
+-- the count of faults doesn't fall, and a fault is answered only where it has risen
+pub record HasPlanCause {A : Type 0} (before after : ℕ) (result : Result A PlanError) : Type 0 where
+  pub later : before ≤ after
+  pub risen : IfErr result (λ e. is_fault e ≡ true → HasRisen before after)
+
+-- a check, and what comes after it
+abbrev pub and_then : {A B : Type 0} → Result A PlanError → (A → Result B PlanError) → Result B PlanError
+and_then (Ok x) next = next x
+and_then (Err e) next = Err e
+
+-- what there is, or a bad mask
+abbrev pub or_bad_mask : {A : Type 0} → Option A → Result A PlanError
+or_bad_mask (Some x) = Ok x
+or_bad_mask None = Err BadMask
+
+-- nothing is refused, or this
+abbrev pub unless : Option PlanError → Result (Unit {0}) PlanError
+unless None = Ok tt
+unless (Some e) = Err e

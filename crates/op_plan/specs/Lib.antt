@@ -1,0 +1,10 @@
+pub mod Meeting
+pub mod Sorting
+pub mod Claiming
+pub mod Masks
+pub mod Destinations
+pub mod Naming
+pub mod Answering
+pub mod Checks
+pub mod Planning
+pub mod Soundness

@@ -1,0 +1,67 @@
+//! Where a typed text leads: a folder, or a folder and what stands behind the text's last slash.
+ghost use Rattle.std.specs.Prelude.{◌≡◌, Ok};
+ghost use Rattle.tree_trait.specs.Change.{current};
+ghost use Rattle.tree_trait.specs.Answers.{IfKnown};
+ghost use Rattle.op_plan.specs.Destinations.{front_of, last_part, folder_there, folder_at};
+ghost use Rattle.op_plan.specs.Answering.{Plans, HasPlanCause};
+
+use crate::error::PlanError;
+use mc_text::Path;
+use resolving::{ResolveError, resolve_folder};
+use std::alloc::Global;
+use text_scan::split_at_last_mark;
+use tree_trait::Tree;
+
+/// What stands before the last slash of a text, the root's slash where nothing else does, and what stands behind it.
+pub fn split_last(text: &str) -> (&str, &str)
+    ensures front { result.0.now ≡ front_of text.now }
+    ensures last { result.1.now ≡ last_part text.now }
+{
+    match split_at_last_mark(text, '/') {
+        None => ("", text),
+        Some((front, last)) => {
+            if front.is_empty() {
+                ("/", last)
+            } else {
+                (front, last)
+            }
+        }
+    }
+}
+
+/// The folder that the whole text leads to, if it leads to one.
+pub fn folder_there<T: Tree>(
+    alloc: Global,
+    tree: &mut T,
+    from: &Path,
+    to: &str,
+) -> Result<Option<Path>, PlanError>
+    ensures answer { IfKnown (T.contents tree.old) (λ log. Plans (Ok (folder_there (current log) from.now to.now)) result) }
+    ensures same { T.contents tree.new ≡ T.contents tree.old }
+    ensures cause { HasPlanCause (T.fault_count tree.old) (T.fault_count tree.new) result }
+{
+    match resolve_folder(alloc, tree, from, to) {
+        Ok(folder) => Ok(Some(folder)),
+        Err(ResolveError::Fault) => Err(PlanError::Target(ResolveError::Fault)),
+        Err(ResolveError::Memory) => Err(PlanError::Memory),
+        Err(_) => Ok(None),
+    }
+}
+
+/// The folder of a target.
+pub fn folder_at<T: Tree>(
+    alloc: Global,
+    tree: &mut T,
+    from: &Path,
+    front: &str,
+) -> Result<Path, PlanError>
+    ensures answer { IfKnown (T.contents tree.old) (λ log. Plans (folder_at (current log) from.now front.now) result) }
+    ensures same { T.contents tree.new ≡ T.contents tree.old }
+    ensures cause { HasPlanCause (T.fault_count tree.old) (T.fault_count tree.new) result }
+{
+    match resolve_folder(alloc, tree, from, front) {
+        Ok(folder) => Ok(folder),
+        Err(ResolveError::Memory) => Err(PlanError::Memory),
+        Err(error) => Err(PlanError::Target(error)),
+    }
+}

@@ -1,0 +1,23 @@
+//! Plans: what a job will do, told before it does anything; why it must not be begun; and what it claims.
+#![tactic(auto)]
+
+mod apart;
+mod claim;
+mod claiming;
+mod destination;
+mod error;
+mod job;
+mod mask;
+mod meeting;
+mod naming;
+mod plan;
+mod request;
+mod sources;
+
+pub use claim::{Claim, Claims};
+pub use claiming::{claims, clash};
+pub use error::PlanError;
+pub use job::{Job, Pair, Pairs};
+pub use mask::MaskPiece;
+pub use plan::make_plan;
+pub use request::Request;

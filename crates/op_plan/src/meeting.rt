@@ -1,0 +1,116 @@
+//! Paths of which one is the other or lies below it, found by sorting: the number of paths is never squared.
+ghost use Rattle.std.specs.Prelude.{◌≡◌, ◌+◌, ◌<◌, true, false, IfOk, take, length};
+ghost use Rattle.std.specs.List.{position};
+ghost use Rattle.std.specs.Cmp.Lexicographic.{slice_cmp};
+ghost use Rattle.std.specs.List.Sorted.{IsPermutation, IsSorted};
+ghost use Rattle.tree_trait.specs.Answers.{name_cmp};
+ghost use Rattle.op_plan.specs.Meeting.{meet, has_two};
+ghost use Rattle.op_plan.specs.Sorting.{route_cmp, neighbours_meet, IsFirstMeeting};
+
+use crate::claim::meet;
+use mc_text::{Name, NoMemory, Path, Paths};
+use std::alloc::Global;
+use std::cmp::Ordering;
+
+/// The shortest front of the paths in which two meet: the first that its last one meets, and that last one, by their
+/// positions. The time grows as the number of paths times the square of its logarithm.
+pub fn first_meeting(alloc: Global, paths: &[Path]) -> Result<Option<(usize, usize)>, NoMemory>
+    ensures { IfOk result (λ found. IsFirstMeeting paths.now found) }
+{
+    if !any_meet(alloc, paths)? {
+        return Ok(None);
+    }
+    let last = last_of_front(alloc, paths)?;
+    match first_met(&paths[..last], &paths[last]) {
+        Some(first) => Ok(Some((first, last))),
+        None => unreachable!(),
+    }
+}
+
+/// Whether two of the paths meet. Once they are sorted, two neighbours do then.
+fn any_meet(alloc: Global, paths: &[Path]) -> Result<bool, NoMemory>
+    ensures { IfOk result (λ found. found ≡ has_two meet paths.now) }
+{
+    let sorted = sorted(alloc, paths)?;
+    Ok(neighbours_meet(sorted.as_slice()))
+}
+
+/// The paths in their order by names.
+fn sorted(alloc: Global, paths: &[Path]) -> Result<Paths, NoMemory>
+    ensures permutation { IfOk result (λ sorted. IsPermutation paths.now sorted) }
+    ensures sorted { IfOk result (λ sorted. IsSorted route_cmp sorted) }
+{
+    let mut copies = Vec::new(alloc);
+    for path in paths {
+        copies.push(path.copy(alloc)?)?;
+    }
+    copies.sort_by(|mine, theirs| order(mine, theirs))?;
+    Ok(Paths(copies))
+}
+
+/// How two paths stand in the order of their names, from the root on. A path comes directly before all that lies below it.
+fn order(mine: &Path, theirs: &Path) -> Ordering
+    ensures { result ≡ route_cmp mine.now theirs.now }
+{
+    names_order(mine.names(), theirs.names())
+}
+
+/// How two lists of names stand in the order of their first names, then of their second ones, and so on.
+fn names_order(mine: &[Name], theirs: &[Name]) -> Ordering
+    ensures { result ≡ slice_cmp name_cmp mine.now theirs.now }
+{
+    let Some((name, below)) = mine.split_first() else {
+        return if theirs.is_empty() {
+            Ordering::Equal
+        } else {
+            Ordering::Less
+        };
+    };
+    let Some((other, others)) = theirs.split_first() else {
+        return Ordering::Greater;
+    };
+    match name.order(other) {
+        Ordering::Equal => names_order(below, others),
+        Ordering::Less => Ordering::Less,
+        Ordering::Greater => Ordering::Greater,
+    }
+}
+
+/// Whether a path begins with the one before it.
+fn neighbours_meet(sorted: &[Path]) -> bool
+    ensures { result ≡ neighbours_meet sorted.now }
+{
+    for i in 1..sorted.len() {
+        if sorted[i - 1].is_prefix_of(&sorted[i]) {
+            return true;
+        }
+    }
+    false
+}
+
+/// The position of the last path of the shortest front in which two meet.
+fn last_of_front(alloc: Global, paths: &[Path]) -> Result<usize, NoMemory>
+    requires { has_two meet paths.now ≡ true }
+    ensures within { IfOk result (λ last. last < length paths.now) }
+    ensures before { IfOk result (λ last. has_two meet (take last paths.now) ≡ false) }
+    ensures meets { IfOk result (λ last. has_two meet (take (last + 1) paths.now) ≡ true) }
+{
+    let mut apart = 0;
+    let mut meeting = paths.len();
+    while apart + 1 < meeting {
+        let middle = apart + (meeting - apart) / 2;
+        if any_meet(alloc, &paths[..middle])? {
+            meeting = middle;
+        } else {
+            apart = middle;
+        }
+    }
+    Ok(apart)
+}
+
+/// The first of the paths that meets this one.
+fn first_met(paths: &[Path], path: &Path) -> Option<usize>
+    ensures { result ≡ position (λ other. meet other path.now) paths.now }
+{
+    paths.iter().position(|other| meet(other, path))
+}

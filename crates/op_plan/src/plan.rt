@@ -1,0 +1,305 @@
+//! A plan is made of a request: the first check that stands refuses it.
+ghost use Rattle.std.specs.Prelude.{◌≡◌, ◌≢◌, ◌≤◌, ◌==◌, false, All, Ok, IfOk, IfErr};
+ghost use Rattle.tree_trait.specs.Change.{current};
+ghost use Rattle.tree_trait.specs.Answers.{IfKnown};
+ghost use Rattle.op_plan.specs.Answering.{Plans, and_then, is_fault, HasPlanCause};
+ghost use Rattle.std.specs.Bool.{OnTrue, OnFalse};
+ghost use Rattle.std.specs.List.{list_any};
+ghost use Rattle.tree_trait.specs.Answers.{IsLinkText};
+ghost use Rattle.tree_trait.specs.Calls.{Stat};
+ghost use Rattle.tree_trait.specs.Refusals.{refusal_of};
+ghost use Rattle.op_plan.specs.Planning.{plan_of, pairs_of, sources_of, folder_for, placed_there, placed_masked, place_of, nothing_there, is_link_text, link_of};
+ghost use Rattle.op_plan.specs.Soundness.{AreApart, ArePairsApart, IsSound, HasMode};
+
+use crate::apart::{pairs_into, target_in};
+use crate::destination::{folder_at, folder_there, split_last};
+use crate::error::PlanError;
+use crate::job::{Job, Pairs};
+use crate::mask::Mask;
+use crate::naming::{choose, name_in, names_for, read_pattern};
+use crate::request::Request;
+use crate::sources::{look_at_all, refuse_nested};
+use mc_text::{Path, Paths, Text};
+use resolving::ResolveError;
+use std::alloc::Global;
+use std::convert::AsStr;
+use tagging::ShellPattern;
+use tree_trait::{Tree, TreeError};
+
+/// The job that a request comes to, or the first reason why it must not be begun.
+pub fn make_plan<T: Tree>(alloc: Global, tree: &mut T, request: Request) -> Result<Job, PlanError>
+    requires { HasMode request }
+    ensures answer { IfKnown (T.contents tree.old) (λ log. Plans (plan_of (current log) request) result) }
+    ensures same { T.contents tree.new ≡ T.contents tree.old }
+    ensures cause { HasPlanCause (T.fault_count tree.old) (T.fault_count tree.new) result }
+    ensures sound { IfOk result IsSound }
+{
+    match request {
+        Request::Copy {
+            sources,
+            mask,
+            from,
+            to,
+        } => plan_copy(alloc, tree, sources, mask.as_str(), &from, to.as_str()),
+        Request::Move {
+            sources,
+            mask,
+            from,
+            to,
+        } => plan_move(alloc, tree, sources, mask.as_str(), &from, to.as_str()),
+        Request::Delete { sources } => plan_deletion(alloc, tree, sources),
+        Request::MakeFolder { from, to } => plan_folder(alloc, tree, &from, to.as_str()),
+        Request::SetMode { sources, mode } => plan_mode(alloc, tree, sources, mode),
+        Request::MakeLink { from, to, text } => plan_link(alloc, tree, &from, to.as_str(), text),
+        Request::Save { path, bytes } => Ok(Job::Save(path, bytes)),
+    }
+}
+
+/// The copy of sources.
+fn plan_copy<T: Tree>(
+    alloc: Global,
+    tree: &mut T,
+    sources: Paths,
+    mask: &str,
+    from: &Path,
+    to: &str,
+) -> Result<Job, PlanError>
+    ensures answer { IfKnown (T.contents tree.old) (λ log. Plans (and_then (pairs_of (current log) sources mask.now from.now to.now) (λ pairs. Ok (Job.Copy pairs))) result) }
+    ensures same { T.contents tree.new ≡ T.contents tree.old }
+    ensures cause { HasPlanCause (T.fault_count tree.old) (T.fault_count tree.new) result }
+    ensures sound { IfOk result IsSound }
+{
+    Ok(Job::Copy(plan_pairs(alloc, tree, sources, mask, from, to)?))
+}
+
+/// The move of sources.
+fn plan_move<T: Tree>(
+    alloc: Global,
+    tree: &mut T,
+    sources: Paths,
+    mask: &str,
+    from: &Path,
+    to: &str,
+) -> Result<Job, PlanError>
+    ensures answer { IfKnown (T.contents tree.old) (λ log. Plans (and_then (pairs_of (current log) sources mask.now from.now to.now) (λ pairs. Ok (Job.Move pairs))) result) }
+    ensures same { T.contents tree.new ≡ T.contents tree.old }
+    ensures cause { HasPlanCause (T.fault_count tree.old) (T.fault_count tree.new) result }
+    ensures sound { IfOk result IsSound }
+{
+    Ok(Job::Move(plan_pairs(alloc, tree, sources, mask, from, to)?))
+}
+
+/// The deletion of sources.
+fn plan_deletion<T: Tree>(alloc: Global, tree: &mut T, sources: Paths) -> Result<Job, PlanError>
+    ensures answer { IfKnown (T.contents tree.old) (λ log. Plans (and_then (sources_of (current log) sources) (λ left. Ok (Job.Delete left))) result) }
+    ensures same { T.contents tree.new ≡ T.contents tree.old }
+    ensures cause { HasPlanCause (T.fault_count tree.old) (T.fault_count tree.new) result }
+    ensures sound { IfOk result IsSound }
+{
+    Ok(Job::Delete(plan_sources(alloc, tree, sources)?))
+}
+
+/// The setting of a mode.
+fn plan_mode<T: Tree>(
+    alloc: Global,
+    tree: &mut T,
+    sources: Paths,
+    mode: u16,
+) -> Result<Job, PlanError>
+    requires { mode ≤ 0o7777 }
+    ensures answer { IfKnown (T.contents tree.old) (λ log. Plans (and_then (sources_of (current log) sources) (λ left. Ok (Job.SetMode left mode))) result) }
+    ensures same { T.contents tree.new ≡ T.contents tree.old }
+    ensures cause { HasPlanCause (T.fault_count tree.old) (T.fault_count tree.new) result }
+    ensures sound { IfOk result IsSound }
+{
+    Ok(Job::SetMode(plan_sources(alloc, tree, sources)?, mode))
+}
+
+/// The making of a folder.
+fn plan_folder<T: Tree>(
+    alloc: Global,
+    tree: &mut T,
+    from: &Path,
+    to: &str,
+) -> Result<Job, PlanError>
+    ensures answer { IfKnown (T.contents tree.old) (λ log. Plans (and_then (place_of (current log) from.now to.now) (λ path. Ok (Job.MakeFolder path))) result) }
+    ensures same { T.contents tree.new ≡ T.contents tree.old }
+    ensures cause { HasPlanCause (T.fault_count tree.old) (T.fault_count tree.new) result }
+    ensures sound { IfOk result IsSound }
+{
+    Ok(Job::MakeFolder(plan_place(alloc, tree, from, to)?))
+}
+
+/// The sources that the mask leaves in, each with its target.
+fn plan_pairs<T: Tree>(
+    alloc: Global,
+    tree: &mut T,
+    sources: Paths,
+    mask: &str,
+    from: &Path,
+    to: &str,
+) -> Result<Pairs, PlanError>
+    ensures answer { IfKnown (T.contents tree.old) (λ log.
+        Plans (pairs_of (current log) sources mask.now from.now to.now) result) }
+    ensures same { T.contents tree.new ≡ T.contents tree.old }
+    ensures cause { HasPlanCause (T.fault_count tree.old) (T.fault_count tree.new) result }
+    ensures apart { IfOk result ArePairsApart }
+{
+    let pattern = read_pattern(alloc, mask)?;
+    let sources = plan_sources(alloc, tree, choose(&pattern, sources))?;
+    let (front, last) = split_last(to);
+    let mask = Mask::parse(alloc, last)?;
+    match folder_for(alloc, tree, &mask, from, to)? {
+        Some(folder) => plan_into(alloc, &pattern, sources.as_slice(), &folder),
+        None => plan_masked(
+            alloc,
+            tree,
+            &pattern,
+            sources.as_slice(),
+            &mask,
+            from,
+            front,
+        ),
+    }
+}
+
+/// The folder that the whole text leads to, if its last part asks for nothing of a source's name.
+fn folder_for<T: Tree>(
+    alloc: Global,
+    tree: &mut T,
+    mask: &Mask,
+    from: &Path,
+    to: &str,
+) -> Result<Option<Path>, PlanError>
+    ensures answer { IfKnown (T.contents tree.old) (λ log. Plans (Ok (folder_for (current log) mask.now from.now to.now)) result) }
+    ensures same { T.contents tree.new ≡ T.contents tree.old }
+    ensures cause { HasPlanCause (T.fault_count tree.old) (T.fault_count tree.new) result }
+{
+    if mask.asks() {
+        return Ok(None);
+    }
+    folder_there(alloc, tree, from, to)
+}
+
+/// The sources, each with the target of its own name in a folder.
+fn plan_into(
+    alloc: Global,
+    pattern: &Option<ShellPattern>,
+    sources: &[Path],
+    folder: &Path,
+) -> Result<Pairs, PlanError>
+    requires { AreApart sources.now }
+    ensures answer { Plans (placed_there pattern.now sources.now folder.now) result }
+    ensures apart { IfOk result ArePairsApart }
+    ensures no_fault { IfErr result (λ e. is_fault e ≡ false) }
+{
+    let star = Mask::star(alloc)?;
+    let names = names_for(alloc, pattern, &star, sources)?;
+    pairs_into(alloc, folder, sources, names.as_slice())
+}
+
+/// The sources, each with the target that the mask makes of its name, in the folder that the front leads to.
+fn plan_masked<T: Tree>(
+    alloc: Global,
+    tree: &mut T,
+    pattern: &Option<ShellPattern>,
+    sources: &[Path],
+    mask: &Mask,
+    from: &Path,
+    front: &str,
+) -> Result<Pairs, PlanError>
+    requires { AreApart sources.now }
+    ensures answer { IfKnown (T.contents tree.old) (λ log. Plans (placed_masked (current log) pattern.now sources.now mask.now from.now front.now) result) }
+    ensures same { T.contents tree.new ≡ T.contents tree.old }
+    ensures cause { HasPlanCause (T.fault_count tree.old) (T.fault_count tree.new) result }
+    ensures apart { IfOk result ArePairsApart }
+{
+    let names = names_for(alloc, pattern, mask, sources)?;
+    let folder = folder_at(alloc, tree, from, front)?;
+    pairs_into(alloc, &folder, sources, names.as_slice())
+}
+
+/// The sources: at least one, of which none lies in another, and each is there.
+fn plan_sources<T: Tree>(alloc: Global, tree: &mut T, sources: Paths) -> Result<Paths, PlanError>
+    ensures answer { IfKnown (T.contents tree.old) (λ log. Plans (sources_of (current log) sources) result) }
+    ensures same { T.contents tree.new ≡ T.contents tree.old }
+    ensures cause { HasPlanCause (T.fault_count tree.old) (T.fault_count tree.new) result }
+    ensures left { IfOk result (λ left. left ≡ sources) }
+    ensures apart { IfOk result AreApart }
+{
+    if sources.as_slice().is_empty() {
+        return Err(PlanError::NoSelection);
+    }
+    refuse_nested(alloc, sources.as_slice())?;
+    look_at_all(alloc, tree, sources.as_slice())?;
+    Ok(sources)
+}
+
+/// The path that a text leads to, at which nothing stands yet.
+fn plan_place<T: Tree>(
+    alloc: Global,
+    tree: &mut T,
+    from: &Path,
+    to: &str,
+) -> Result<Path, PlanError>
+    ensures answer { IfKnown (T.contents tree.old) (λ log. Plans (place_of (current log) from.now to.now) result) }
+    ensures same { T.contents tree.new ≡ T.contents tree.old }
+    ensures cause { HasPlanCause (T.fault_count tree.old) (T.fault_count tree.new) result }
+{
+    let (front, last) = split_last(to);
+    let name = name_in(alloc, last)?;
+    let folder = folder_at(alloc, tree, from, front)?;
+    let target = target_in(alloc, &folder, &name)?;
+    refuse_there(alloc, tree, target)
+}
+
+/// Refuses a path at which something stands.
+fn refuse_there<T: Tree>(alloc: Global, tree: &mut T, target: Path) -> Result<Path, PlanError>
+    ensures answer { IfKnown (T.contents tree.old) (λ log. Plans (nothing_there (refusal_of (current log) (Stat target)) target) result) }
+    ensures same { T.contents tree.new ≡ T.contents tree.old }
+    ensures cause { HasPlanCause (T.fault_count tree.old) (T.fault_count tree.new) result }
+{
+    match tree.stat(alloc, &target) {
+        Ok(_) => Err(PlanError::TargetThere(target)),
+        Err(TreeError::Missing) => Ok(target),
+        Err(TreeError::Fault) => Err(PlanError::Target(ResolveError::Fault)),
+        Err(TreeError::Memory) => Err(PlanError::Memory),
+        Err(error) => Err(PlanError::Target(ResolveError::Tree(target, error))),
+    }
+}
+
+/// The link that a text makes where another leads.
+fn plan_link<T: Tree>(
+    alloc: Global,
+    tree: &mut T,
+    from: &Path,
+    to: &str,
+    text: Text,
+) -> Result<Job, PlanError>
+    ensures answer { IfKnown (T.contents tree.old) (λ log. Plans (link_of (current log) from.now to.now text) result) }
+    ensures same { T.contents tree.new ≡ T.contents tree.old }
+    ensures cause { HasPlanCause (T.fault_count tree.old) (T.fault_count tree.new) result }
+    ensures sound { IfOk result IsSound }
+{
+    let path = plan_place(alloc, tree, from, to)?;
+    if !is_link_text(text.as_str()) {
+        return Err(PlanError::BadLinkText);
+    }
+    Ok(Job::MakeLink(path, text))
+}
+
+/// Whether a link may say this: 1 to 4,095 bytes and no NUL.
+fn is_link_text(text: &str) -> bool
+    ensures test { result ≡ is_link_text text.now }
+    ensures allowed { OnTrue result (IsLinkText text.now) }
+{
+    !text.is_empty() && text.len() <= 4095 && !has_nul(text)
+}
+
+/// Whether a text has a NUL.
+fn has_nul(text: &str) -> bool
+    ensures test { result ≡ list_any (λ byte. byte == 0) text.now }
+    ensures none { OnFalse result (All (λ byte. byte ≢ 0) text.now) }
+{
+    text.as_bytes().iter().any(|byte| *byte == 0)
+}

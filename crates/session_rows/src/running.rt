@@ -1,0 +1,76 @@
+//! Runs of the top call over devices in memory.
+use mc_main::{Env, Gate, Outcome, mc_run};
+use mc_text::{Bytes, Text};
+use mem_devices::{FakeSpawner, FixedClock, MemSink, MemSource, Mute, Outcomes};
+use mem_tree::MemTree;
+use std::alloc::Global;
+use std::marker::Brand;
+
+/// A gate that is always open.
+struct Open;
+
+impl Gate for Open {
+    fn pass(&self, _worker: u32, _turn: u64) {}
+}
+
+fn env(alloc: Global) -> Env {
+    Env {
+        folder: Text(String::new(alloc)),
+        lines: None,
+        columns: None,
+        home: None,
+        workers: None,
+    }
+}
+
+/// A run over devices that tell what they hold; the type that the call is given names what they tell.
+pub fn run_told(
+    alloc: Global,
+    tree: MemTree,
+    words: &[Text],
+    keys: Bytes,
+) -> Outcome<MemTree, MemSink, FakeSpawner> {
+    let mut source = MemSource::new(keys, None);
+    mc_run::<Brand, MemTree, MemSource, MemSink, FakeSpawner, FixedClock, Open>(
+        alloc,
+        words,
+        &env(alloc),
+        tree,
+        MemSink::new(alloc, None),
+        &mut source,
+        FakeSpawner::new(Outcomes(Vec::new(alloc))),
+        &FixedClock::new(0),
+        &Open,
+    )
+}
+
+/// A run over devices that tell nothing. The keyboard and the screen fail at the calls of these numbers.
+pub fn run_mute(
+    alloc: Global,
+    tree: MemTree,
+    words: &[Text],
+    keys: Bytes,
+    keyboard_fails: Option<u64>,
+    screen_fails: Option<u64>,
+) -> Outcome<Mute<MemTree>, Mute<MemSink>, Mute<FakeSpawner>> {
+    let mut source = Mute::new(MemSource::new(keys, keyboard_fails));
+    mc_run::<
+        Brand,
+        Mute<MemTree>,
+        Mute<MemSource>,
+        Mute<MemSink>,
+        Mute<FakeSpawner>,
+        FixedClock,
+        Open,
+    >(
+        alloc,
+        words,
+        &env(alloc),
+        Mute::new(tree),
+        Mute::new(MemSink::new(alloc, screen_fails)),
+        &mut source,
+        Mute::new(FakeSpawner::new(Outcomes(Vec::new(alloc)))),
+        &FixedClock::new(0),
+        &Open,
+    )
+}

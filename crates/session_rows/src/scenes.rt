@@ -1,0 +1,75 @@
+//! The trees that the rows begin with.
+ghost use Rattle.std.specs.Prelude.{◌≡◌, ◌≤◌, ◌<◌, [], length};
+
+use anyhow::{Result, bail};
+use mc_text::Path;
+use mem_tree::MemTree;
+use std::alloc::Global;
+
+/// The tree of a row, of which the calls of these numbers fail.
+pub fn planted(alloc: Global, scene: &str, fails: &[u64]) -> Result<MemTree> {
+    let mut tree = scene_tree(alloc, scene)?;
+    tree.fail_calls(alloc, fails)?;
+    Ok(tree)
+}
+
+fn scene_tree(alloc: Global, scene: &str) -> Result<MemTree> {
+    match scene {
+        "one file" => one_file(alloc, 0o755),
+        "fixed folder" => one_file(alloc, 0o555),
+        "two files" => two_files(alloc),
+        "room for 9" => file_and_mount(alloc, 9),
+        "room for 1" => file_and_mount(alloc, 1),
+        _ => bail!("no such tree"),
+    }
+}
+
+/// The folder `/a`, and in it the file `x`, which holds `hi`.
+fn one_file(alloc: Global, mode: u16) -> Result<MemTree>
+    requires { mode ≤ 0o7777 }
+{
+    let mut tree = MemTree::new(alloc, 0)?;
+    put_folder(alloc, &mut tree, "/a", mode)?;
+    put_file(alloc, &mut tree, "/a/x", 0o644, b"hi")?;
+    Ok(tree)
+}
+
+/// The folder `/a` with two files.
+fn two_files(alloc: Global) -> Result<MemTree> {
+    let mut tree = MemTree::new(alloc, 0)?;
+    put_folder(alloc, &mut tree, "/a", 0o755)?;
+    put_file(alloc, &mut tree, "/a/x", 0o644, b"hi")?;
+    put_file(alloc, &mut tree, "/a/y", 0o644, b"ho")?;
+    Ok(tree)
+}
+
+/// The folder `/s`, in it the file `x` of mode 640, and the folder `/t` on a mount whose files may have so many bytes.
+fn file_and_mount(alloc: Global, room: u64) -> Result<MemTree> {
+    let mut tree = MemTree::new(alloc, 0)?;
+    let target = Path::parse(alloc, "/t")?;
+    tree.mount(alloc, &target, room)?;
+    put_folder(alloc, &mut tree, "/s", 0o755)?;
+    put_file(alloc, &mut tree, "/s/x", 0o640, b"hi")?;
+    Ok(tree)
+}
+
+fn put_folder(alloc: Global, tree: &mut MemTree, path: &str, mode: u16) -> Result<()>
+    requires unused { tree.old.log.changes ≡ [] }
+    requires twelve_bits { mode ≤ 0o7777 }
+    ensures unused { tree.new.log.changes ≡ [] }
+{
+    let path = Path::parse(alloc, path)?;
+    tree.put_folder(alloc, &path, mode, 0)?;
+    Ok(())
+}
+
+fn put_file(alloc: Global, tree: &mut MemTree, path: &str, mode: u16, bytes: &[u8]) -> Result<()>
+    requires unused { tree.old.log.changes ≡ [] }
+    requires twelve_bits { mode ≤ 0o7777 }
+    requires short { length bytes.now < 8 }
+    ensures unused { tree.new.log.changes ≡ [] }
+{
+    let path = Path::parse(alloc, path)?;
+    tree.put_file(alloc, &path, mode, 0, bytes)?;
+    Ok(())
+}

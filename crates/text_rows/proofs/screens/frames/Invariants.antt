@@ -1,0 +1,5 @@
+use Rattle.std.proofs.Common.{◌≡◌}
+use Rattle.text_rows.proofs.screens.frames.Given as goal
+
+abbrev pub invariant-loop-written : goal.invariant-loop-written
+invariant-loop-written l = (l.screen.lines ≡ 10) × (l.screen.columns ≡ 40)

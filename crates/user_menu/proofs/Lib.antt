@@ -1,0 +1,6 @@
+pub mod WordLemmas
+pub mod CutLemmas
+pub mod TermLemmas
+pub mod DraftLemmas
+pub mod FileLemmas
+pub mod AskingLemmas

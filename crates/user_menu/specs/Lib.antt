@@ -1,0 +1,12 @@
+pub mod Words
+pub mod WordViews
+pub mod Conditions
+pub mod TermViews
+pub mod Courses
+pub mod MenuLines
+pub mod Menus
+pub mod MenuFiles
+pub mod Drafts
+pub mod Facts
+pub mod Holding
+pub mod ShownEntries
