@@ -1,8 +1,7 @@
 -- What a finished job did stays done: no crash at a later moment brings back what was before, until an entry names the path.
-use Rattle.std.proofs.Common.{◌≡◌, ◌⊎◌, ℕ, Bool, true, false, List, [], ◌∷◌, refl, sym, ◌∙◌, ap, subst, inl, inr, Option, Some, None}
+use Rattle.std.proofs.Common.{◌≡◌, true, false, List, [], ◌∷◌, refl, sym, ◌∙◌, ap, subst, inl, inr, Option, Some, None}
 use Rattle.std.proofs.lemmas.Bool.{both_ways}
 use Rattle.mc_text.specs.Routes.{Route, same_path}
-use Rattle.tree_trait.specs.declared.file_system.FileSystem.{FileSystem}
 use Rattle.tree_trait.specs.FileSystem.{Spot, View, value_at}
 use Rattle.tree_trait.specs.Change.{CallLog, current}
 use Rattle.tree_trait.specs.CrashImages.{Among}
@@ -22,7 +21,6 @@ use Rattle.history_laws.specs.LiveJobs.{IsLivePart, LiveJob, live_jobs, work_of}
 use Rattle.history_laws.specs.Replayed.{front, named_after, named_by, named_parts, placed_by, replayed_event, replayed_step, replayed_tree}
 use Rattle.history_laws.specs.Safe.{IsSafe, calls_in}
 use Rattle.history_laws.specs.Staying.{FinishedStaysLaw, IsUnnamedSince, names, names_path}
-use Rattle.history_laws.specs.Traces.{IsTraced, Stand}
 use Rattle.history_laws.proofs.Deleted.{put_off}
 use Rattle.history_laws.proofs.Finished.{finished_law}
 use Rattle.history_laws.proofs.Histories.{traced_reached}
