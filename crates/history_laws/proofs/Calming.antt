@@ -125,6 +125,7 @@ module _ (said : Said) (dirty : List Route) (marks : Marks) (log : CallLog) (kno
     shows = k.shows;
     part = k.part;
     tracked = λ g m waits. let t = k.tracked g m waits in (t.0, still_listed up t.0 dirty t.1 (off g m waits t.0 t.2), t.2);
+    doubts = k.doubts;
   }
     where
       k : IsKnown said dirty marks (with_change log (Syncs f))

@@ -71,6 +71,8 @@ pub record SaysGone (said after : Said) (marks : Marks) (log : CallLog) (path : 
   pub gone : after.tree path ≡ nowhere
   pub was : marks.aside path ≡ false → held (current log) (marks.was path) ≡ (after.earlier path).value
   pub part : after.part ≡ None
+  pub doubts : (p : Route) → said.doubt p ≡ true → after.doubt p ≡ true
+  pub doubted : after.doubt path ≡ true
 
 module _ (told after : Said) (dirty dirty_after : List Route) (marks : Marks) (log : CallLog) (known : IsKnown told dirty marks log) (path : Route) (r : IsRemovable (current log) path) (k : ℕ) where
   abbrev removes : Change
@@ -99,6 +101,9 @@ module _ (told after : Said) (dirty dirty_after : List Route) (marks : Marks) (l
     made = λ i past. false_from_ne_true _ (λ is. let t = folder_there (current (with_change log removes)).nodes i is in let n = ap (λ (s : FileSystem). length s.nodes) (current_more log removes) in absurd (omega (arith, past, t, n)));
     listed = listed;
     more = more;
+    at = λ m h. let m_is = (same_name-true r.f r.f r.name m (said_one (same_name r.f r.name r.f m) None h)).1 in inl (ap (λ q. (let l : Route = q ∷ r.up in l)) (sym m_is) ∙ sym r.path_is);
+    doubts = says.doubts;
+    touched = λ p at. subst (λ q. after.doubt q ≡ true) (sym (either p at)) says.doubted;
     named = says.named;
     off = λ p first second. let o = says.off p first in (off_path p first, o.0, o.1, o.2);
     shown = λ p at other. subst (λ q. visible_tree (current (with_change log removes)) q ≡ after.tree q) (sym (either p at)) (seen_nowhere (current (with_change log removes)) path gone_path ∙ sym says.gone);

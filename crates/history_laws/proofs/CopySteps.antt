@@ -2,7 +2,7 @@
 use Rattle.std.proofs.Common.{◌≡◌, ◌⊎◌, ℕ, ◌≤◌, ◌+◌, zero, suc, true, List, [], ◌∷◌, length, refl, sym, ◌∙◌, ap, subst, inl, inr, Option, Some, None, Ok, Err, arith}
 use Rattle.std.specs.Prelude.{unwrap_or, pos}
 use Rattle.std.specs.Option.{option_map}
-use Rattle.std.proofs.lemmas.Bool.{both_ways}
+use Rattle.std.proofs.lemmas.Bool.{both_ways, or_left, or_right}
 use Rattle.mc_text.specs.Routes.{Route}
 use Rattle.tree_trait.specs.declared.file_system.Node.{Node}
 use Rattle.tree_trait.specs.declared.file_system.FileSystem.{FileSystem}
@@ -30,6 +30,7 @@ use Rattle.file_copy.specs.CallRuns.{AllDone, RunStops}
 use Rattle.file_copy.specs.CopyCalls.{BeganOf, CopyCalls, CopyStops, making, next_bytes, placing, writing}
 use Rattle.file_copy.specs.Copying.{Copying, Tells, after_clean, folder_of, is_dirty, is_fresh, places_of}
 use Rattle.file_copy.proofs.CopyAnswers.{calm_stops, one_done, some_log}
+use Rattle.tree_trait.proofs.Visible.{same_path-self}
 use Rattle.copy_move.specs.declared.work.Work.{Work}
 use Rattle.copy_move.specs.declared.work.Work.TheVariants.{Copy}
 use Rattle.copy_move.specs.declared.run.Course.{Course}
@@ -78,6 +79,8 @@ part_cleaned told dirty marks log now work target part i kept has listed done = 
           gone = (kept.known.part part has.part_is).1;
           was = λ out. absurd (both_ways _ out aside);
           part = refl;
+          doubts = λ p h. or_left _ _ h;
+          doubted = or_right _ _ (same_path-self part);
         }) (λ out. absurd (both_ways _ out aside)) (subst (λ q. Among dirty q) (sym folder_is ∙ ap folder_of it.r.path_is) listed) (λ q among. among) in
         let after = with_change log (Removes it.r.f it.r.name it.k) in
         let shown = known.shows target (λ is. let e : (let o : Option Route = None in o) ≡ Some target = is in absurd (let f : ⊥ = cc in f)) in

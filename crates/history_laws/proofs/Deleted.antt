@@ -1,7 +1,7 @@
 -- Each step of a deletion keeps what is known.
 use Rattle.std.proofs.Common.{◌≡◌, ◌⊎◌, ℕ, false, List, ◌∷◌, sym, ◌∙◌, ap, subst, inl, inr, Option, Some, None, Ok, cond}
 use Rattle.std.specs.Prelude.{filter, not}
-use Rattle.std.proofs.lemmas.Bool.{both_ways, false_from_ne_true}
+use Rattle.std.proofs.lemmas.Bool.{both_ways, false_from_ne_true, or_left, or_right}
 use Rattle.mc_text.specs.Routes.{Route, same_path}
 use Rattle.tree_trait.specs.declared.file_system.FileSystem.{FileSystem}
 use Rattle.tree_trait.specs.FileSystem.{Value, Spot, View, find, node, starts_mount, put, value_at, visible_tree}
@@ -91,6 +91,8 @@ removes_file told dirty dirty_after marks log now path work knows kept none sure
           gone = put_at told.tree path None ∙ ap (λ b. (let s : Spot = record { value = None; is_mount = b } in s)) mountless;
           was = λ out. ap (held (current log)) (kept.was path out sure) ∙ (sym (ap (λ (s : Spot). s.value) shown) ∙ sym (ap (λ (s : Spot). s.value) (put_at told.earlier path (told.tree path).value)));
           part = none;
+          doubts = λ p h. or_left _ _ h;
+          doubted = or_right _ _ (same_path-self path);
         }) (λ out. kept.was path out sure) (subst (λ q. Among dirty_after (folder_of q)) it.r.path_is listed) more))
         (known_of (settled_marks now marks))
       where

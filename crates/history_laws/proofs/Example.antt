@@ -25,9 +25,11 @@ use Rattle.copy_move.specs.declared.run.Course.TheVariants.{GoesOn, InTrouble, E
 use Rattle.copy_move.specs.Deletions.{trouble_at, cause_of}
 use Rattle.copy_move.specs.Jobs.{Running}
 use Rattle.history_laws.specs.Doubt.{is_unsettled}
-use Rattle.history_laws.specs.Replayed.{earlier_tree, replayed_tree}
+use Rattle.history_laws.specs.LiveJobs.{IsLivePart, LiveJob, live_jobs}
+use Rattle.history_laws.specs.Replayed.{earlier_tree, front, replayed_tree}
 use Rattle.history_laws.specs.Traces.{IsTraced, Stand, nothing_live}
 use Rattle.history_laws.proofs.Moments.{session_law}
+use Rattle.history_laws.proofs.Staying.{stays_law}
 
 abbrev folder : Node
 folder = record { kind = Folder; bytes = []; mode = 0o755; mtime = pos 0; unnamed = 0 }
@@ -305,3 +307,19 @@ stays_away image left =
     by : Rattle.history_laws.specs.Safe.IsSafe (log []) settled_log settled_entries settled_log image ⊎ Rattle.history_laws.specs.Safe.IsSafe (log []) settled_log settled_entries settled_log image → value_at image the_file ≡ None
     by (inl safe) = either (safe the_file (λ part. part.named))
     by (inr safe) = either (safe the_file (λ part. part.named))
+
+-- The session closes. Of the file no change waits on, as the law says: it is settled since that sync.
+abbrev ended_entries : List Entry
+ended_entries = entry 4 Closed ∷ settled_entries
+
+ended_traced : IsTraced (log []) ended_entries (stand (second ∷ []) []) settled_log
+ended_traced = (stand (second ∷ []) [], settled_log, settled_traced, record { after = stand (second ∷ []) []; leads = (refl, refl); stand_is = refl; counts = refl })
+
+no_live_part : IsLivePart (live_jobs settled_entries) the_file → ⊥
+no_live_part (found, inl same, is) = let none : (let o : Option Route = None in o) ≡ Some the_file = ap (λ (l : LiveJob). l.part) (sym same) ∙ is in cc
+no_live_part (found, inr none, is) = none
+
+still_settled : is_unsettled (front (log []) 4 settled_log) the_file ≡ false
+still_settled =
+    stays_law (log []) settled_log ended_entries settled_entries ended_entries ended_entries (stand (second ∷ []) []) 4 the_file small_tree refl ended_traced (inl (refl, refl, refl)) (inr (refl, inl refl)) (inr (refl, inl refl))
+    refl no_live_part

@@ -8,12 +8,12 @@ use Rattle.copy_move.specs.declared.history.Event.{Event}
 use Rattle.copy_move.specs.declared.history.Entry.{Entry}
 use Rattle.history_laws.specs.LiveJobs.{live_jobs}
 use Rattle.history_laws.specs.Replayed.{earlier_event, earlier_tree, front, named_after, named_parts, replayed_event, replayed_tree}
-use Rattle.history_laws.proofs.Knowing.{Said}
+use Rattle.history_laws.proofs.Knowing.{Said, anywhere}
 use Rattle.history_laws.proofs.Stepped.{more}
 
 -- what a history says, over a tree that has come to this log
 abbrev pub told_of : CallLog → CallLog → List Entry → Option Route → Said
-told_of opening end g part = record { tree = replayed_tree opening end g; earlier = earlier_tree opening end g; named = named_parts g; part = part }
+told_of opening end g part = record { tree = replayed_tree opening end g; earlier = earlier_tree opening end g; named = named_parts g; part = part; doubt = anywhere }
 
 -- the same after one event more, by which so many calls were made
 abbrev pub told_with : CallLog → CallLog → List Entry → ℕ → Event → Option Route → Said
@@ -22,6 +22,7 @@ told_with opening end older calls what part = record {
   earlier = earlier_event what (replayed_tree opening end older) (earlier_tree opening end older);
   named = named_after what (named_parts older);
   part = part;
+  doubt = anywhere;
 }
 
 -- the calls of these entries were made
@@ -49,7 +50,7 @@ earlier_more opening now cs (e ∷ older) (few, w) =
     ∙ ap (earlier_event e.what (replayed_tree opening now older)) (earlier_more opening now cs older w)
 
 abbrev pub said_by : View → View → List Route → Option Route → Said
-said_by tree earlier named part = record { tree = tree; earlier = earlier; named = named; part = part }
+said_by tree earlier named part = record { tree = tree; earlier = earlier; named = named; part = part; doubt = anywhere }
 
 pub told_more : (opening now : CallLog) (cs : List Change) (g : List Entry) (part : Option Route) → AreWithin opening g now → told_of opening (more now cs) g part ≡ told_of opening now g part
 told_more opening now cs g part w =

@@ -15,6 +15,7 @@ use Rattle.crash_law.proofs.Guarding.{found_there}
 use Rattle.file_copy.specs.declared.report.Did.{Did}
 use Rattle.file_copy.specs.declared.report.Ending.TheVariants.{NoMemory}
 use Rattle.file_copy.specs.declared.report.Did.TheVariants.{Ended}
+use Rattle.file_copy.specs.declared.report.Did.TheVariants as reported
 use Rattle.copy_move.specs.declared.history.Answer.{Answer}
 use Rattle.copy_move.specs.declared.history.Answer.TheVariants.{Retry, Skip, SkipAll, Abort}
 use Rattle.copy_move.specs.declared.history.Event.{Event}
@@ -40,11 +41,11 @@ use Rattle.history_laws.proofs.Fronts.{AreWithin, earlier_more, replayed_more, s
 use Rattle.history_laws.proofs.JobKnows.{StageKnows, WorkKnows, work_course}
 use Rattle.history_laws.proofs.JobLeads.{sync_leads, work_leads}
 use Rattle.history_laws.proofs.JobSteps.{gives_up}
-use Rattle.history_laws.proofs.Knowing.{Said, IsKept}
+use Rattle.history_laws.proofs.Knowing.{Said, IsKept, anywhere}
 use Rattle.history_laws.proofs.Pending.{pending_settled, within_settled}
 use Rattle.history_laws.proofs.Reports.{HasLive, JobsKnow, first_knows, knows_after, live_after, with_one}
 use Rattle.history_laws.proofs.Sources.{IsSame, answer_same, replayed_same, source_in, tells_same}
-use Rattle.history_laws.proofs.Stepped.{AreMids, Comes, more, part_after, said_after}
+use Rattle.history_laws.proofs.Stepped.{AreMids, Comes, doubt_by, more, part_after, said_after}
 
 -- what holds after these entries
 pub record IsReached (opening : CallLog) (g : List Entry) (stand : Stand) (now : CallLog) : Type 0 where
@@ -54,6 +55,18 @@ pub record IsReached (opening : CallLog) (g : List Entry) (stand : Stand) (now :
   pub knows : JobsKnow (told_of opening now g part) stand.dirty marks (current now) stand.jobs
   pub live : HasLive (live_jobs g) stand.jobs part
   pub within : AreWithin opening g now
+
+-- a change of any path may wait after a report, where it might before
+doubt_anywhere : (did : Did) (part : Option Route) → doubt_by did part anywhere ≡ anywhere
+doubt_anywhere (Ended ending left) part = refl
+doubt_anywhere (reported.Began made) part = refl
+doubt_anywhere (reported.Placed path) part = refl
+doubt_anywhere (reported.Removed path) part = refl
+doubt_anywhere (reported.Cleaned gone) part = refl
+doubt_anywhere (reported.Chunk count) part = refl
+doubt_anywhere (reported.Skipped path cause) part = refl
+doubt_anywhere reported.Barrier part = refl
+doubt_anywhere (reported.Troubled trouble) part = refl
 
 -- what an event makes of it
 pub record IsEntered (opening : CallLog) (older : List Entry) (calls : ℕ) (what : Event) (told : Said) (before : CallLog) (after : Stand) (now : CallLog) : Type 0 where
@@ -197,6 +210,7 @@ module _ (opening : CallLog) (older : List Entry) (calls : ℕ) (was : Stand) (b
         ∙ ap (λ t. said_by (replayed_step now did (Some job.work) (replayed_tree opening before older)) t (Rattle.history_laws.specs.Replayed.named_by did (Rattle.history_laws.specs.Replayed.named_parts older)) (part_after did r.part))
         (ap (λ v. Rattle.history_laws.specs.Replayed.keeping (Rattle.history_laws.specs.Replayed.changed_by did) v (earlier_tree opening now older)) tree
         ∙ ap (Rattle.history_laws.specs.Replayed.keeping (Rattle.history_laws.specs.Replayed.changed_by did) (replayed_tree opening before older)) earlier)
+        ∙ ap (λ d. (let t : Said = record (said_after now did job.work told) { doubt = d } in t)) (sym (doubt_anywhere did r.part))
 
     job_knows : WorkKnows told was.dirty r.marks (current before) job.course job.work
     job_knows = subst (λ js. JobsKnow told was.dirty r.marks (current before) js) jobs_is r.knows
@@ -340,6 +354,7 @@ module _ (opening : CallLog) (tree : IsTree (current opening)) (settled : all_se
       shows = λ p other. refl;
       part = λ p is. absurd (let f : ⊥ = cc in f);
       tracked = λ f m waits. absurd (false≢true (sym (pending_settled f m opening.changes settled) ∙ waits));
+      doubts = λ p waits. refl;
     };
     aside = λ p is. absurd (false≢true is);
     was = λ p out sure. refl;

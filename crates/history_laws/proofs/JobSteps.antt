@@ -74,6 +74,7 @@ module _ (told : Said) (dirty dirty_after : List Route) (marks : Marks) (log now
           shows = λ p other. by p (same_path p part) refl;
           part = λ p e. absurd (let f : ⊥ = cc in f);
           tracked = kept.known.tracked;
+          doubts = kept.known.doubts;
         };
         aside = kept.aside;
         was = kept.was;

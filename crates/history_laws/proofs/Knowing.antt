@@ -16,13 +16,18 @@ use Rattle.crash_law.proofs.Leading.{find_law}
 use Rattle.history_laws.specs.Doubt.{is_pending, is_unsettled}
 use Rattle.history_laws.proofs.Resting.{IsOfFiles, settled_unless}
 
--- what a history says: what each path shows, what it showed before its last change, the paths that were named as parts, and
--- the part that stands
+-- what a history says: what each path shows, what it showed before its last change, the paths that were named as parts, the
+-- part that stands, and of which paths a change may wait for a sync
 pub record Said : Type 0 where
   pub tree : View
   pub earlier : View
   pub named : List Route
   pub part : Option Route
+  pub doubt : Route → Bool
+
+-- of any path
+abbrev pub anywhere : Route → Bool
+anywhere p = true
 
 -- what can be seen of a node
 abbrev pub held : FileSystem → Option ℕ → Option Value
@@ -44,6 +49,7 @@ pub record IsKnown (said : Said) (dirty : List Route) (marks : Marks) (log : Cal
   pub part : (p : Route) → said.part ≡ Some p → (marks.aside p ≡ true) × (said.tree p ≡ nowhere) × (is_some (find (current log) p) ≡ true)
   -- what waits lies in a dirty folder
   pub tracked : (f : ℕ) (m : List ℕ) → is_pending f m log.changes ≡ true → (up : Route) × Among dirty up × (find (current log) up ≡ Some f)
+  pub doubts : (p : Route) → is_unsettled log p ≡ true → said.doubt p ≡ true
 
 -- and where nothing waits nothing is left open
 pub record IsKept (said : Said) (dirty : List Route) (marks : Marks) (log : CallLog) : Type 0 where
@@ -157,6 +163,7 @@ module _ (said : Said) (dirty : List Route) (marks : Marks) (log : CallLog) (kno
       shows = known.shows;
       part = λ p is. let k = known.part p is in (still_aside p k.0 k.2, k.1, k.2);
       tracked = known.tracked;
+      doubts = known.doubts;
     };
     aside = λ p h. (aside_of p (marks.aside p) refl h).1;
     was = λ p h sure. (was_if p false sure).1 refl;

@@ -12,6 +12,7 @@ pub mod JobKnows
 pub mod JobLeads
 pub mod JobSteps
 pub mod Knowing
+pub mod Lasting
 pub mod MakingParts
 pub mod Moments
 pub mod Owing
@@ -24,4 +25,5 @@ pub mod Renaming
 pub mod Reports
 pub mod Resting
 pub mod Sources
+pub mod Staying
 pub mod Stepped

@@ -83,6 +83,7 @@ module _ (told : Said) (dirty : List Route) (marks : Marks) (log : CallLog) (kno
     shows = known.shows;
     part = λ p is. let k = known.part p is in (or_right _ _ k.0, k.1, k.2);
     tracked = known.tracked;
+    doubts = known.doubts;
   }
 
 -- A part is made where nothing stands.
@@ -93,7 +94,7 @@ pub record MakesPart (told : Said) (log : CallLog) (name : List ℕ) (up : Route
   pub free : lookup (current log).names f name ≡ None
 
 abbrev pub with_part : Said → Route → Said
-with_part told part = record (naming_part told part) { part = Some part }
+with_part told part = record (naming_part told part) { part = Some part; doubt = λ p. told.doubt p || same_path p part }
 
 module _ (told : Said) (dirty dirty_after : List Route) (marks : Marks) (log : CallLog) (known : IsKnown told dirty marks log) (name : List ℕ) (up : Route) (f : ℕ) (made : Node)
     (m : MakesPart told log name up f) (bare : is_folder made ≡ false) where
@@ -183,6 +184,9 @@ module _ (told : Said) (dirty dirty_after : List Route) (marks : Marks) (log : C
     made = made_bare;
     listed = listed;
     more = more;
+    at = λ k h. inl (ap (λ q. (let r : Route = q ∷ up in r)) (sym (name_is k h)));
+    doubts = λ p h. or_left _ _ h;
+    touched = λ p at. or_right _ _ (subst (λ q. same_path q part ≡ true) (sym (either_is p at)) (same_path-self part));
     named = marked.aside;
     off = λ p first second. (off_part p first, refl, refl, λ is. some_none_route p (sym m.none ∙ is));
     shown = λ p at other. absurd (other (ap (λ q. Some q) (sym (either_is p at))));

@@ -21,7 +21,7 @@ use Rattle.history_laws.proofs.Knowing.{IsKept, Said, safe_path}
 use Rattle.history_laws.proofs.Reports.{HasLive, JobsKnow}
 use Rattle.history_laws.proofs.Stepped.{cut, mid_at, more}
 
-abbrev log_of : CallLog → List Change → CallLog
+abbrev pub log_of : CallLog → List Change → CallLog
 log_of now xs = record now { changes = xs }
 
 -- what is known makes each image safe
@@ -31,9 +31,22 @@ safe_told opening end g part dirty marks log image kept left path apart =
     safe_path (told_of opening end g part) dirty marks log kept image left path (λ named stays. apart (record { named = named; stays = stays }))
 
 -- so many calls were made
-traced_count : (opening now : CallLog) (newest : List Entry) (stand : Stand) → IsTraced opening newest stand now → length now.changes ≡ length opening.changes + calls_in newest
+pub traced_count : (opening now : CallLog) (newest : List Entry) (stand : Stand) → IsTraced opening newest stand now → length now.changes ≡ length opening.changes + calls_in newest
 traced_count opening now [] stand traced = let same = ap (λ (l : CallLog). length l.changes) traced.1 in omega (arith, same)
 traced_count opening now (e ∷ older) stand traced = traced.3.counts
+
+-- the front at the end of these entries is the log then
+pub front_is : (opening end : CallLog) (calls : ℕ) (now : CallLog) (rest : List Change) → end ≡ more now rest → length opening.changes + calls ≡ length now.changes → front opening calls end ≡ now
+front_is opening end calls now rest end_is count =
+    ap (λ (l : CallLog). log_of l (take (length opening.changes + calls) l.changes)) end_is
+    ∙ ap (log_of now) (ap (λ n. take n (now.changes ++ rest)) count ∙ take-append_seam now.changes rest)
+
+-- and before it a front of that log
+pub front_cut : (opening end : CallLog) (calls : ℕ) (now : CallLog) (rest : List Change) → end ≡ more now rest → length opening.changes + calls ≤ length now.changes
+    → front opening calls end ≡ cut now (length opening.changes + calls)
+front_cut opening end calls now rest end_is few =
+    ap (λ (l : CallLog). log_of l (take (length opening.changes + calls) l.changes)) end_is
+    ∙ ap (log_of now) (take-append-le (length opening.changes + calls) now.changes rest few)
 
 module _ (opening : CallLog) (tree : IsTree (current opening)) (settled : all_settled opening.changes ≡ true) (end : CallLog) (calls : ℕ) (image : FileSystem) (standing coming : List Entry) where
   abbrev log : CallLog
@@ -49,18 +62,6 @@ module _ (opening : CallLog) (tree : IsTree (current opening)) (settled : all_se
       (subst (λ (l : CallLog). IsKept (told_of opening end g r.part) stand.dirty r.marks l) (sym log_is)
       (subst (λ t. IsKept t stand.dirty r.marks now) (sym (ap (λ (l : CallLog). told_of opening l g r.part) end_is ∙ told_more opening now rest g r.part r.within)) r.kept)) left
 
-  -- as many calls as these entries made
-  front_is : (now : CallLog) (rest : List Change) → end ≡ more now rest → length opening.changes + calls ≡ length now.changes → log ≡ now
-  front_is now rest end_is count =
-      ap (λ (l : CallLog). log_of l (take (length opening.changes + calls) l.changes)) end_is
-      ∙ ap (log_of now) (ap (λ n. take n (now.changes ++ rest)) count ∙ take-append_seam now.changes rest)
-
-  -- no more than these
-  front_cut : (now : CallLog) (rest : List Change) → end ≡ more now rest → length opening.changes + calls ≤ length now.changes → log ≡ cut now (length opening.changes + calls)
-  front_cut now rest end_is few =
-      ap (λ (l : CallLog). log_of l (take (length opening.changes + calls) l.changes)) end_is
-      ∙ ap (log_of now) (take-append-le (length opening.changes + calls) now.changes rest few)
-
   -- within an entry
   within_entry : (e : Entry) (older : List Entry) (was : Stand) (before : CallLog) (stand : Stand) (now : CallLog) (rest : List Change) (r : IsReached opening older was before)
       → (n : IsEntered opening older e.calls e.what (told_of opening before older r.part) before stand now) → IsReached opening (e ∷ older) stand now → end ≡ more now rest
@@ -68,9 +69,9 @@ module _ (opening : CallLog) (tree : IsTree (current opening)) (settled : all_se
       → IsSafe opening end older log image ⊎ IsSafe opening end (e ∷ older) log image
   within_entry e older was before stand now rest r n later end_is least most left =
       elim (mid_at (told_of opening before older r.part) n.made before (length opening.changes + calls) n.mids least (subst (λ (l : CallLog). length opening.changes + calls ≤ length l.changes) n.now_is most)) [
-        | inl whole ↦ inr (safe_here (e ∷ older) stand now rest later end_is (front_cut now rest end_is most ∙ (ap (λ (l : CallLog). cut l (length opening.changes + calls)) n.now_is ∙ (whole ∙ sym n.now_is))) left)
+        | inl whole ↦ inr (safe_here (e ∷ older) stand now rest later end_is (front_cut opening end calls now rest end_is most ∙ (ap (λ (l : CallLog). cut l (length opening.changes + calls)) n.now_is ∙ (whole ∙ sym n.now_is))) left)
         | inr mid ↦ inl (safe_told opening end older r.part mid.0 mid.1 log image
-            (subst (λ (l : CallLog). IsKept (told_of opening end older r.part) mid.0 mid.1 l) (sym (front_cut now rest end_is most ∙ ap (λ (l : CallLog). cut l (length opening.changes + calls)) n.now_is))
+            (subst (λ (l : CallLog). IsKept (told_of opening end older r.part) mid.0 mid.1 l) (sym (front_cut opening end calls now rest end_is most ∙ ap (λ (l : CallLog). cut l (length opening.changes + calls)) n.now_is))
             (subst (λ t. IsKept t mid.0 mid.1 (cut (more before n.made) (length opening.changes + calls)))
             (sym (ap (λ (l : CallLog). told_of opening l older r.part) (end_before n.made n.now_is) ∙ told_more opening before (n.made ++ rest) older r.part r.within)) mid.2)) left)
       ]
@@ -82,11 +83,11 @@ module _ (opening : CallLog) (tree : IsTree (current opening)) (settled : all_se
   safe_moment [] stand now rest traced end_is (standing_is, coming_is, calls_is) left =
       let r = traced_reached opening tree settled [] stand now traced in
       let count : length opening.changes + calls ≡ length now.changes = (let n = traced_count opening now [] stand traced in omega (arith, n, calls_is)) in
-      inl (subst (λ g. IsSafe opening end g log image) (sym standing_is) (safe_here [] stand now rest r end_is (front_is now rest end_is count) left))
+      inl (subst (λ g. IsSafe opening end g log image) (sym standing_is) (safe_here [] stand now rest r end_is (front_is opening end calls now rest end_is count) left))
   safe_moment (e ∷ older) stand now rest traced end_is (inl (standing_is, coming_is, calls_is)) left =
       let r = traced_reached opening tree settled (e ∷ older) stand now traced in
       let count : length opening.changes + calls ≡ length now.changes = (let n = traced_count opening now (e ∷ older) stand traced in omega (arith, n, calls_is)) in
-      inl (subst (λ g. IsSafe opening end g log image) (sym standing_is) (safe_here (e ∷ older) stand now rest r end_is (front_is now rest end_is count) left))
+      inl (subst (λ g. IsSafe opening end g log image) (sym standing_is) (safe_here (e ∷ older) stand now rest r end_is (front_is opening end calls now rest end_is count) left))
   safe_moment (e ∷ older) stand now rest (was, before, traced, f) end_is (inr (inl (standing_is, coming_is, least, most))) left =
       let r = traced_reached opening tree settled older was before traced in
       let n = enters opening older e.calls was before r e.what f.after now f.leads f.counts in
@@ -121,7 +122,7 @@ session_law opening now newest standing coming stand calls image tree settled tr
     safe_moment opening tree settled now calls image standing coming newest stand now [] traced
     (ap (log_of now) (sym (Rattle.std.proofs.Common.append-nil now.changes))) moment left
 
-live_part : (jobs : List Running) (told : Said) (dirty : List Route) (marks : Marks) (s : FileSystem) (live : List LiveJob) (path : Route) → JobsKnow told dirty marks s jobs → HasLive live jobs told.part → told.part ≡ Some path → IsLivePart live path
+pub live_part : (jobs : List Running) (told : Said) (dirty : List Route) (marks : Marks) (s : FileSystem) (live : List LiveJob) (path : Route) → JobsKnow told dirty marks s jobs → HasLive live jobs told.part → told.part ≡ Some path → IsLivePart live path
 live_part [] told dirty marks s live path knows is part = absurd (let e : (let o : Option Route = None in o) ≡ Some path = sym knows ∙ part in cc)
 live_part (job ∷ []) told dirty marks s live path knows (w, is, source) part = subst (λ l. IsLivePart l path) (sym is) ((let l : LiveJob = record { id = job.id; work = w; part = told.part } in l), inl refl, part)
 live_part (job ∷ other ∷ jobs) told dirty marks s live path knows is part = absurd knows

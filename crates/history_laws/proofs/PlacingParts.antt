@@ -56,6 +56,7 @@ firm_known told dirty marks log i clean known = record {
   shows = known.shows;
   part = known.part;
   tracked = known.tracked;
+  doubts = known.doubts;
 }
 
 -- A part that is to be placed, and what the history says once it is.
@@ -77,6 +78,8 @@ pub record PlacesPart (told after : Said) (marks : Marks) (log : CallLog) (part 
   pub placed : after.tree (target ∷ up) ≡ record { value = Some (value (node (current log) i)); is_mount = false }
   pub earlier : (after.earlier (target ∷ up)).value ≡ None
   pub none : after.part ≡ None
+  pub doubts : (p : Route) → told.doubt p ≡ true → after.doubt p ≡ true
+  pub doubted : (after.doubt (target ∷ up) ≡ true) × (after.doubt (part ∷ up) ≡ true)
 
 module _ (told after : Said) (dirty dirty_after : List Route) (marks : Marks) (log : CallLog) (known : IsKnown told dirty marks log) (part target : List ℕ) (up : Route) (f i : ℕ) (r : Option ℕ)
     (h : PlacesPart told after marks log part target up f i) where
@@ -206,6 +209,15 @@ module _ (told after : Said) (dirty dirty_after : List Route) (marks : Marks) (l
     made = λ j past. false_from_ne_true _ (λ is. let t = folder_there (current now).nodes j is in let n = ap (λ (s : FileSystem). length s.nodes) (current_more log moves) in absurd (omega (arith, past, t, n)));
     listed = listed;
     more = more;
+    at = λ m s. elim (name_is m s) [
+      | inl e ↦ inl (ap (λ q. (let l : Route = q ∷ up in l)) (sym e))
+      | inr e ↦ inr (ap (λ q. (let l : Route = q ∷ up in l)) (sym e))
+    ];
+    doubts = h.doubts;
+    touched = λ p at. elim at [
+      | inl e ↦ subst (λ q. after.doubt q ≡ true) (sym e) h.doubted.0
+      | inr e ↦ subst (λ q. after.doubt q ≡ true) (sym e) h.doubted.1
+    ];
     named = h.named;
     off = λ p first second. let o = h.off p first in (off_both p first second, o.0, o.1, other_part p second);
     shown = λ p at _. elim at [

@@ -1,8 +1,8 @@
 -- A full part is given its mode, synced, and gets the target's name; or one of these calls is refused.
 use Rattle.std.proofs.Common.{◌≡◌, ◌⊎◌, ℕ, ◌<◌, zero, suc, Bool, true, false, List, [], ◌∷◌, ◌++◌, take, refl, sym, ◌∙◌, ap, subst, inl, inr, Option, Some, None, Ok, arith}
 use Rattle.std.specs.Prelude.{◌==◌, unwrap_or, if◌then◌else◌, ℤ, option_and_then}
-use Rattle.std.specs.Option.{option_map}
-use Rattle.std.proofs.lemmas.Bool.{both_ways, false_from_ne_true, eqb-true, eq-eqb}
+use Rattle.std.specs.Option.{option_map, option_map_or}
+use Rattle.std.proofs.lemmas.Bool.{both_ways, false_from_ne_true, eqb-true, eq-eqb, or_left, or_right}
 use Rattle.std.proofs.Math.Seq.{take-length}
 use Rattle.mc_text.specs.Routes.{Route, same_path}
 use Rattle.tree_trait.specs.declared.file_system.Node.{Node}
@@ -14,7 +14,7 @@ use Rattle.tree_trait.specs.Calls.{Call, SetMode, SyncFile, Rename}
 use Rattle.tree_trait.specs.Change.{Change, Nothing, Moves, Sets, Syncs, CallLog, current, with_change, change_of, found}
 use Rattle.tree_trait.specs.CrashImages.{Among}
 use Rattle.tree_trait.specs.Answers.{Performs}
-use Rattle.tree_trait.proofs.Visible.{same_path-true}
+use Rattle.tree_trait.proofs.Visible.{same_path-self, same_path-true}
 use Rattle.tree_trait.proofs.Walking.{passed_walk, last_place}
 use Rattle.tree_trait.specs.Refusals.{walk, after_walk, rename_refusal}
 use Rattle.crash_law.specs.Guarded.{Marks}
@@ -253,6 +253,11 @@ module _ (told : Said) (dirty : List Route) (c : Copying) (tname : List ℕ) (ta
       earlier = subst (λ q. ((after now).earlier q).value ≡ None) target_is
           (ap (λ (s : Spot). s.value) (put_at told.earlier c.target (told.tree c.target).value) ∙ ap (λ (s : Spot). s.value) target_seen);
       none = refl;
+      doubts = λ p h. or_left _ _ (or_left _ _ h);
+      doubted = (
+        or_left _ _ (or_right _ _ (subst (λ q. same_path q c.target ≡ true) target_is (same_path-self c.target))),
+        or_right _ _ (ap (λ o. option_map_or (same_path (has.name ∷ up)) o false) (has.part_is ∙ ap (λ q. Some q) has.beside) ∙ same_path-self (has.name ∷ up)),
+      );
     }
 
     renamed : Placing mid now

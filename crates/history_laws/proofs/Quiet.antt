@@ -1,5 +1,5 @@
 -- Calls that change no name keep what is known: a sync, a write to the part that stands, another mode of it.
-use Rattle.std.proofs.Common.{◌≡◌, ℕ, ◌<◌, Bool, true, false, List, length, refl, sym, ◌∙◌, ap, subst, inl, inr, Option, Some, None}
+use Rattle.std.proofs.Common.{◌≡◌, ℕ, ◌<◌, Bool, true, false, List, [], ◌∷◌, length, refl, sym, ◌∙◌, ap, subst, inl, inr, Option, Some, None}
 use Rattle.std.specs.Prelude.{is_some, ◌==◌}
 use Rattle.std.specs.List.{list_any}
 use Rattle.std.specs.Option.{option_map, option_map_or}
@@ -16,7 +16,7 @@ use Rattle.crash_law.specs.Guarded.{Marks, IsQuiet}
 use Rattle.crash_law.proofs.Guarding.{quiet_law, same_quiet, leads_as_before, folder_kept, found_at}
 use Rattle.crash_law.proofs.Leading.{current_more}
 use Rattle.crash_law.proofs.Syncing.{unaltered_law}
-use Rattle.history_laws.specs.Doubt.{is_pending}
+use Rattle.history_laws.specs.Doubt.{is_pending, is_unsettled}
 use Rattle.history_laws.proofs.Pending.{is_within, within_more, pending_less, says_at}
 use Rattle.history_laws.proofs.Knowing.{Said, IsKnown, held}
 
@@ -97,6 +97,18 @@ module _ (said : Said) (dirty : List Route) (marks : Marks) (log : CallLog) (c :
   unaltered : (i : ℕ) → alters i c ≡ false → i < length (current log).nodes → node (current now) i ≡ node (current log) i
   unaltered i same there = unaltered_law log c i same there
 
+  -- a path of which a change waits was one before
+  unsettled_before : (p : Route) → is_unsettled now p ≡ true → is_unsettled log p ≡ true
+  unsettled_before [] waits = absurd (false≢true waits)
+  unsettled_before (name ∷ up) waits = by (find (current log) up) refl
+    where
+      in_now : (o : Option ℕ) → find (current log) up ≡ o → option_map_or (λ f. is_pending f name now.changes) o false ≡ true
+      in_now o is = sym (ap (λ x. option_map_or (λ f. is_pending f name now.changes) x false) (same_quiet log c quiet_of.names up ∙ is)) ∙ waits
+
+      by : (o : Option ℕ) → find (current log) up ≡ o → is_unsettled log (name ∷ up) ≡ true
+      by None is = absurd (false≢true (in_now None is))
+      by (Some f) is = ap (λ x. option_map_or (λ g. is_pending g name log.changes) x false) is ∙ waited f name (in_now (Some f) is)
+
   pub calm_known : IsKnown said dirty marks now
   calm_known = record {
     guarded = quiet_law marks log c known.guarded quiet_of;
@@ -115,4 +127,5 @@ module _ (said : Said) (dirty : List Route) (marks : Marks) (log : CallLog) (c :
     shows = λ p other. shows_same log c p (same_quiet log c quiet_of.names p) (λ i is. unaltered i (calm.still p i other is) (known.guarded.there p i (found_at log p (Some i) is))) ∙ known.shows p other;
     part = λ p is. let k = known.part p is in (k.0, k.1, ap is_some (same_quiet log c quiet_of.names p) ∙ k.2);
     tracked = λ f m waits. let t = known.tracked f m (waited f m waits) in (t.0, t.1, same_quiet log c quiet_of.names t.0 ∙ t.2);
+    doubts = λ p waits. known.doubts p (unsettled_before p waits);
   }

@@ -1,13 +1,15 @@
 -- Calls that change the names of files keep what is known, where the job knew its paths.
 use Rattle.std.proofs.Common.{◌≡◌, ◌⊎◌, ℕ, ◌<◌, ◌≤◌, Bool, true, false, List, [], ◌∷◌, length, refl, sym, ◌∙◌, ap, subst, inl, inr, Option, Some, None, arith}
 use Rattle.std.specs.Prelude.{is_some, option_and_then}
-use Rattle.std.proofs.lemmas.Bool.{true≢false, both_ways, false_from_ne_true}
+use Rattle.std.specs.Option.{option_map_or}
+use Rattle.std.proofs.lemmas.Bool.{false≢true, true≢false, both_ways, false_from_ne_true}
 use Rattle.std.proofs.lemmas.Bool.{cases_lt}
 use Rattle.mc_text.specs.Routes.{Route, same_path}
 use Rattle.tree_trait.specs.FileSystem.{lookup, find, node, visible_tree}
 use Rattle.tree_trait.specs.Refusals.{is_folder}
 use Rattle.tree_trait.specs.Change.{Change, CallLog, current, with_change}
 use Rattle.tree_trait.specs.CrashImages.{says, Among}
+use Rattle.tree_trait.proofs.Finding.{find-once}
 use Rattle.tree_trait.proofs.Kept.{folder_there}
 use Rattle.tree_trait.proofs.Visible.{same_path-true}
 use Rattle.crash_law.specs.Possible.{MayLead}
@@ -15,7 +17,7 @@ use Rattle.crash_law.specs.Guarded.{Marks, IsNaming, IsUnder, Touches}
 use Rattle.crash_law.proofs.Guarding.{naming_law, leads_as_before, find_same, found_at}
 use Rattle.crash_law.proofs.Leading.{leads_more}
 use Rattle.crash_law.proofs.Syncing.{unaltered_law}
-use Rattle.history_laws.specs.Doubt.{is_pending}
+use Rattle.history_laws.specs.Doubt.{is_pending, is_unsettled}
 use Rattle.history_laws.proofs.Pending.{SettlesNone, is_within, within_more, pending_less, pending_still, says_at, leads_only}
 use Rattle.history_laws.proofs.Knowing.{Said, IsKnown, held, nowhere}
 use Rattle.history_laws.proofs.Quiet.{kind_same, was_bare, shows_same, held_same}
@@ -35,6 +37,10 @@ pub record IsFileNaming (said after : Said) (dirty dirty_after : List Route) (ma
   -- the folder is dirty then
   pub listed : Among dirty_after up
   pub more : (q : Route) → Among dirty q → Among dirty_after q
+  -- of these two a change may wait then
+  pub at : (m : List ℕ) → is_some (says c 0 f m) ≡ true → ((m ∷ up) ≡ first) ⊎ ((m ∷ up) ≡ second)
+  pub doubts : (p : Route) → said.doubt p ≡ true → after.doubt p ≡ true
+  pub touched : (p : Route) → (p ≡ first) ⊎ (p ≡ second) → after.doubt p ≡ true
   pub named : (p : Route) → marks.aside p ≡ true → Among after.named p
   -- elsewhere all is as it was
   pub off : (p : Route) → same_path p first ≡ false → same_path p second ≡ false
@@ -168,6 +174,31 @@ module _ (said after : Said) (dirty dirty_after : List Route) (marks : Marks) (l
     | inr new ↦ (up, n.listed, n.stands ∙ ap (λ k. Some k) (sym (n.here g m new)))
   ]
 
+  -- a path of which a change waits was one before, or it is one of the two
+  doubts : (p : Route) → is_unsettled now p ≡ true → after.doubt p ≡ true
+  doubts [] waits = absurd (false≢true waits)
+  doubts (name ∷ q) waits = by (find (current now) q) refl
+    where
+      in_now : (o : Option ℕ) → find (current now) q ≡ o → option_map_or (λ g. is_pending g name now.changes) o false ≡ true
+      in_now o is = sym (ap (λ x. option_map_or (λ g. is_pending g name now.changes) x false) is) ∙ waits
+
+      waited : (g : ℕ) → find (current now) q ≡ Some g → is_pending g name log.changes ≡ true → after.doubt (name ∷ q) ≡ true
+      waited g is old =
+          let t = known.tracked g name old in
+          let same : t.0 ≡ q = find-once (current now) naming_of.tree t.0 q g (folder_stays t.0 g t.2 (waits_in_folder g name old)) is in
+          let at : find (current log) q ≡ Some g = subst (λ r. find (current log) r ≡ Some g) same t.2 in
+          n.doubts (name ∷ q) (known.doubts (name ∷ q) (ap (λ x. option_map_or (λ k. is_pending k name log.changes) x false) at ∙ old))
+
+      new : (g : ℕ) → find (current now) q ≡ Some g → is_some (says c 0 g name) ≡ true → after.doubt (name ∷ q) ≡ true
+      new g is s =
+          let g_is : g ≡ f = n.here g name s in
+          let same : up ≡ q = find-once (current now) naming_of.tree up q f n.stands (is ∙ ap (λ k. Some k) g_is) in
+          n.touched (name ∷ q) (subst (λ (r : Route). ((name ∷ r) ≡ first) ⊎ ((name ∷ r) ≡ second)) same (n.at name (subst (λ k. is_some (says c 0 k name) ≡ true) g_is s)))
+
+      by : (o : Option ℕ) → find (current now) q ≡ o → after.doubt (name ∷ q) ≡ true
+      by None is = absurd (false≢true (in_now None is))
+      by (Some g) is = elim (pending_less g name log.changes c (in_now (Some g) is)) [ inl old ↦ waited g is old | inr s ↦ new g is s ]
+
   pub naming_known : IsKnown after dirty_after marks now
   naming_known = record {
     guarded = naming_law marks log c known.guarded naming_of;
@@ -183,6 +214,7 @@ module _ (said after : Said) (dirty dirty_after : List Route) (marks : Marks) (l
     shows = shows;
     part = n.part;
     tracked = tracked;
+    doubts = doubts;
   }
 
   pub name_waits : (g : ℕ) (m : List ℕ) → is_pending g m log.changes ≡ true → is_pending g m now.changes ≡ true

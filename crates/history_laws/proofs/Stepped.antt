@@ -1,8 +1,9 @@
 -- What a step of a job comes to: at each call of it what is known holds, and at its end what the history says then.
-use Rattle.std.proofs.Common.{◌≡◌, ◌⊎◌, ℕ, ◌≤◌, List, [], ◌∷◌, ◌++◌, length, sym, ◌∙◌, ap, subst, inl, inr, Option, Some, None, arith, take, append_assoc, append-nil, length-append}
+use Rattle.std.proofs.Common.{◌≡◌, ◌⊎◌, ℕ, ◌≤◌, Bool, false, ◌||◌, List, [], ◌∷◌, ◌++◌, length, sym, ◌∙◌, ap, subst, inl, inr, Option, Some, None, arith, take, append_assoc, append-nil, length-append}
+use Rattle.std.specs.Option.{option_map_or}
 use Rattle.std.proofs.lemmas.Bool.{cases_lt}
 use Rattle.std.proofs.Math.Seq.{take-append_seam, take-length}
-use Rattle.mc_text.specs.Routes.{Route}
+use Rattle.mc_text.specs.Routes.{Route, same_path}
 use Rattle.tree_trait.specs.Change.{Change, CallLog, with_change}
 use Rattle.crash_law.specs.Guarded.{Marks}
 use Rattle.file_copy.specs.declared.report.Did.{Did}
@@ -65,12 +66,25 @@ part_after (Skipped path cause) before = before
 part_after Barrier before = before
 part_after (Troubled trouble) before = before
 
+-- of which paths a change may wait then
+abbrev pub doubt_by : Did → Option Route → (Route → Bool) → Route → Bool
+doubt_by (Began made) part before = λ p. before p || same_path p made
+doubt_by (Placed path) part before = λ p. (before p || same_path p path) || option_map_or (same_path p) part false
+doubt_by (Removed path) part before = λ p. before p || same_path p path
+doubt_by (Cleaned gone) part before = λ p. before p || same_path p gone
+doubt_by (Chunk count) part before = before
+doubt_by (Skipped path cause) part before = before
+doubt_by Barrier part before = before
+doubt_by (Troubled trouble) part before = before
+doubt_by (Ended ending left) part before = before
+
 abbrev pub said_after : CallLog → Did → Work → Said → Said
 said_after now did work told = record {
   tree = replayed_step now did (Some work) told.tree;
   earlier = keeping (changed_by did) told.tree told.earlier;
   named = named_by did told.named;
   part = part_after did told.part;
+  doubt = doubt_by did told.part told.doubt;
 }
 
 -- What a step comes to.

@@ -3,4 +3,5 @@ pub mod LiveJobs
 pub mod Owed
 pub mod Replayed
 pub mod Safe
+pub mod Staying
 pub mod Traces

@@ -4,6 +4,7 @@
 
 ghost use Rattle.history_laws.specs.Owed.{FinishedLaw, FirstChangeLaw, OwedLaw, StepLaw};
 ghost use Rattle.history_laws.specs.Safe.{ReplayLaw, SessionLaw};
+ghost use Rattle.history_laws.specs.Staying.{FinishedStaysLaw, StaysLaw};
 
 /// At each moment of a session, inside a call too, each path holds after a crash what the history says, or what it held
 /// before its last change, as long as that isn't on the disk; parts may be missing or hold anything.
@@ -29,6 +30,16 @@ pub fn what_a_first_change_leaves_in_doubt()
 /// A job that may report that it is finished, and has changed something, has left nothing in its folder that isn't on the disk.
 pub fn what_a_finished_job_leaves()
     ensures { FinishedLaw }
+{}
+
+/// A path of which no change waits for a sync waits for none at any later moment, inside a call too, until an entry names it.
+pub fn what_stays_on_the_disk()
+    ensures { StaysLaw }
+{}
+
+/// What a job that is finished did in its folder stays done: no crash at a later moment brings back what a path held before.
+pub fn what_a_finished_job_did_stays()
+    ensures { FinishedStaysLaw }
 {}
 
 /// The machine's own step is one of which such a history tells.

@@ -1,0 +1,5 @@
+use Rattle.history_laws.proofs.Staying.{stays_law}
+use Rattle.history_laws.proofs.what_stays_on_the_disk.Goals as goal
+
+pub returns : goal.returns
+returns c = stays_law

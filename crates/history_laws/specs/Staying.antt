@@ -1,0 +1,70 @@
+-- What is on the disk stays on the disk until an entry names it again; so what a finished job did stays done. Histories stand
+-- newest first here.
+use Rattle.std.specs.Prelude.{◌≡◌, ◌⊎◌, ℕ, ◌+◌, Bool, true, false, List, [], ◌∷◌, length, Option}
+use Rattle.std.specs.Option.{option_map_or}
+use Rattle.mc_text.specs.Routes.{Route, same_path}
+use Rattle.tree_trait.specs.declared.file_system.FileSystem.{FileSystem}
+use Rattle.tree_trait.specs.FileSystem.{value_at}
+use Rattle.tree_trait.specs.Shape.{IsTree}
+use Rattle.tree_trait.specs.Change.{CallLog, current}
+use Rattle.tree_trait.specs.CrashImages.{Among, all_settled, IsCrashImage}
+use Rattle.file_copy.specs.declared.report.Did.{Did}
+use Rattle.file_copy.specs.declared.report.Did.TheVariants.{Began, Chunk, Placed, Removed, Skipped, Cleaned, Barrier, Troubled, Ended}
+use Rattle.file_copy.specs.declared.report.Ending.TheVariants.{Finished}
+use Rattle.file_copy.specs.Copying.{folder_of}
+use Rattle.copy_move.specs.declared.history.Event.{Event}
+use Rattle.copy_move.specs.declared.history.Event.TheVariants.{Key, Look, Order, Step, Closed}
+use Rattle.copy_move.specs.declared.history.Event.TheVariants as event
+use Rattle.copy_move.specs.declared.history.Entry.{Entry}
+use Rattle.copy_move.specs.Jobs.{JobTells, Running}
+use Rattle.copy_move.specs.Settling.{changed_folder}
+use Rattle.history_laws.specs.Doubt.{is_unsettled}
+use Rattle.history_laws.specs.LiveJobs.{IsLivePart, live_jobs}
+use Rattle.history_laws.specs.Owed.{has_changed}
+use Rattle.history_laws.specs.Replayed.{front, named_parts, replayed_tree}
+use Rattle.history_laws.specs.Safe.{IsMoment, calls_in}
+use Rattle.history_laws.specs.Traces.{IsTraced, Stand}
+
+-- a report names this path: as a part that was made, is gone, or is left, or as what was placed or removed
+abbrev pub names : Did → Route → Bool
+names (Began part) path = same_path path part
+names (Placed target) path = same_path path target
+names (Removed file) path = same_path path file
+names (Cleaned part) path = same_path path part
+names (Ended ending part) path = option_map_or (same_path path) part false
+names (Chunk count) path = false
+names (Skipped file cause) path = false
+names Barrier path = false
+names (Troubled trouble) path = false
+
+abbrev pub names_path : Event → Route → Bool
+names_path (Step id did) path = names did path
+names_path (Key key now refusals lost) path = false
+names_path (Look refusals) path = false
+names_path (event.Began id plan background) path = false
+names_path (Order id order) path = false
+names_path Closed path = false
+
+-- these entries are the older ones with more on top, of which none names this path
+abbrev pub IsUnnamedSince : List Entry → Route → List Entry → Type 0
+IsUnnamedSince older path [] = older ≡ []
+IsUnnamedSince older path (e ∷ entries) = (older ≡ e ∷ entries) ⊎ ((names_path e.what path ≡ false) × IsUnnamedSince older path entries)
+
+-- A path of which no change waited for a sync where the older entries ended, and that was no live job's part, waits for none
+-- at any later moment, inside a call too, until an entry names it.
+abbrev pub StaysLaw : Type 0
+StaysLaw = (opening now : CallLog) (newest older standing coming : List Entry) (stand : Stand) (calls : ℕ) (path : Route)
+    → IsTree (current opening) → all_settled opening.changes ≡ true → IsTraced opening newest stand now → IsMoment newest standing coming calls
+    → IsUnnamedSince older path standing → IsUnnamedSince older path coming
+    → is_unsettled (front opening (calls_in older) now) path ≡ false → (IsLivePart (live_jobs older) path → ⊥)
+    → is_unsettled (front opening calls now) path ≡ false
+
+-- Where the older entries ended a job may report that it is finished, and it has changed something. From then on, at each
+-- moment, inside a call too, each path of its folder holds after any crash what the history said then, until an entry names
+-- it; but for paths that were named as parts.
+abbrev pub FinishedStaysLaw : Type 0
+FinishedStaysLaw = (opening now : CallLog) (newest older standing coming : List Entry) (was stand : Stand) (job new : Running) (part : Option Route) (calls : ℕ) (path : Route) (image : FileSystem)
+    → IsTree (current opening) → all_settled opening.changes ≡ true → IsTraced opening newest stand now → IsTraced opening older was (front opening (calls_in older) now)
+    → was.jobs ≡ job ∷ [] → JobTells job (Ended Finished part) new → has_changed job.id older ≡ true → folder_of path ≡ changed_folder job.work → (Among (named_parts older) path → ⊥)
+    → IsMoment newest standing coming calls → IsUnnamedSince older path standing → IsUnnamedSince older path coming → IsCrashImage now (length opening.changes + calls) image
+    → value_at image path ≡ (replayed_tree opening now older path).value
