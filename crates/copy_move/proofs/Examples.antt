@@ -1,6 +1,6 @@
 -- Small sessions: what the law says of them, and what it can't say.
 use Rattle.std.proofs.Common.{◌≡◌, ℕ, pos, true, false, List, [], ◌∷◌, refl, sym, inl, inr, true≢false, Some, None, Err, arith}
-use Rattle.mc_text.specs.declared.kind.Kind.TheVariants.{File, Folder}
+use Rattle.mc_text.specs.declared.kind.Kind.TheVariants.{File}
 use Rattle.mc_text.specs.Routes.{Route}
 use Rattle.tree_trait.specs.declared.file_system.Node.{Node}
 use Rattle.tree_trait.specs.declared.file_system.FileSystem.{FileSystem}
@@ -9,6 +9,7 @@ use Rattle.tree_trait.specs.FileSystem.{value_at, visible_tree}
 use Rattle.tree_trait.specs.Shape.{IsTree}
 use Rattle.tree_trait.specs.Change.{Change, Nothing, Makes, Removes, Syncs, CallLog, after_change}
 use Rattle.tree_trait.specs.CrashImages.{IsCrashImage}
+use Rattle.tree_trait.proofs.BareRoot.{bare, bare_tree}
 use Rattle.tree_trait.proofs.Kept.{tree_made}
 use Rattle.file_copy.specs.declared.report.Ending.TheVariants.{Finished, Aborted}
 use Rattle.file_copy.specs.declared.report.Did.TheVariants.{Removed, Skipped, Barrier, Troubled, Ended}
@@ -31,34 +32,18 @@ use Rattle.copy_move.specs.Crashes.{IsInDoubt, finished_files}
 use Rattle.copy_move.proofs.Crashed.{deletions_law}
 use Rattle.copy_move.proofs.OnlyDeletions.{deletion}
 
-abbrev folder : Node
-folder = record { kind = Folder; bytes = []; mode = 0o755; mtime = pos 0; unnamed = 0 }
-
 abbrev file : Node
 file = record { kind = File; bytes = 7 ∷ []; mode = 0o644; mtime = pos 0; unnamed = 0 }
 
-abbrev empty : FileSystem
-empty = record { nodes = folder ∷ []; names = []; mounts = [] }
-
 -- the root holds a file under the name 1
 abbrev small : FileSystem
-small = after_change empty (Makes 0 (1 ∷ []) file)
+small = after_change bare (Makes 0 (1 ∷ []) file)
 
 abbrev the_file : Route
 the_file = (1 ∷ []) ∷ []
 
-empty_tree : IsTree empty
-empty_tree = record {
-  one_name = λ f g m n i a b. absurd cc;
-  no_name = λ f m a. cc;
-  in_folders = λ f m i a. absurd cc;
-  there = λ f m i a. absurd cc;
-  root = refl;
-  mounts = λ i h. absurd cc;
-}
-
 small_tree : IsTree small
-small_tree = tree_made empty 0 (1 ∷ []) file empty_tree refl
+small_tree = tree_made bare 0 (1 ∷ []) file bare_tree refl
 
 abbrev log : List Change → CallLog
 log changes = record { opening = small; changes = changes }

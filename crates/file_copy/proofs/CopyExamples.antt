@@ -1,19 +1,16 @@
 -- The copy of a small file: what the law says of it, and why the order of its calls, and the answer to a trouble, matter.
-use Rattle.std.proofs.Common.{◌≡◌, ℕ, ◌≤◌, pos, ap, subst, true, false, List, [], ◌∷◌, refl, inl, inr, ◌⊎◌, Some, None, arith}
-use Rattle.std.specs.Prelude.{◌||◌, ◌==◌}
-use Rattle.mc_text.specs.declared.kind.Kind.TheVariants.{File, Folder}
+use Rattle.std.proofs.Common.{◌≡◌, ℕ, ◌≤◌, pos, true, List, [], ◌∷◌, refl, inl, inr, ◌⊎◌, Some, None, arith}
+use Rattle.mc_text.specs.declared.kind.Kind.TheVariants.{File}
 use Rattle.mc_text.specs.Routes.{Route}
 use Rattle.tree_trait.specs.declared.file_system.Node.{Node}
 use Rattle.tree_trait.specs.declared.file_system.FileSystem.{FileSystem}
-use Rattle.tree_trait.specs.declared.file_system.Mount.{Mount}
-use Rattle.tree_trait.specs.FileSystem.{node, starts_mount, value, value_at, visible_tree}
-use Rattle.tree_trait.specs.Refusals.{is_folder}
-use Rattle.std.proofs.lemmas.Bool.{cases_Bool, both_ways, eqb-true}
+use Rattle.tree_trait.specs.FileSystem.{value, value_at, visible_tree}
 use Rattle.tree_trait.specs.Shape.{IsTree}
 use Rattle.tree_trait.specs.Change.{Change, Makes, Moves, Writes, Syncs, CallLog, after_change, current}
 use Rattle.tree_trait.specs.CrashImages.{IsCrashImage, all_settled}
 use Rattle.std.specs.Str.{bytes_eq}
 use Rattle.std.proofs.lemmas.Slice.Eq.{bytes_eq-Decides}
+use Rattle.tree_trait.proofs.BareRoot.{bare, bare_tree}
 use Rattle.tree_trait.proofs.Kept.{tree_made}
 use Rattle.file_copy.specs.declared.report.Ending.TheVariants.{Finished, Aborted}
 use Rattle.file_copy.specs.declared.report.Did.TheVariants.{Began, Chunk, Placed, Barrier, Ended}
@@ -28,38 +25,15 @@ use Rattle.file_copy.proofs.CrashLaw.{copy_law}
 use Rattle.file_copy.proofs.FinishedLaw.{finished_law}
 use Rattle.file_copy.proofs.ShownLaw.{shown_law}
 
-abbrev folder : Node
-folder = record { kind = Folder; bytes = []; mode = 0o755; mtime = pos 0; unnamed = 0 }
-
 abbrev file : List ℕ → Node
 file bytes = record { kind = File; bytes = bytes; mode = 0o644; mtime = pos 0; unnamed = 0 }
 
-abbrev empty : FileSystem
-empty = record { nodes = folder ∷ []; names = []; mounts = (let m : Mount = record { folder = 0; capacity = 100 } in m) ∷ [] }
-
 -- the root holds a file of two bytes under the name 1
 abbrev small : FileSystem
-small = after_change empty (Makes 0 (1 ∷ []) (file (7 ∷ 8 ∷ [])))
-
-root_mount : (i : ℕ) → starts_mount empty i ≡ true → is_folder (node empty i) ≡ true
-root_mount i h =
-    elim (cases_Bool (0 == i)) [
-      | inl on ↦ subst (λ j. is_folder (node empty j) ≡ true) (eqb-true 0 i on) refl
-      | inr off ↦ absurd (both_ways _ (ap (λ b. b || false) off) h)
-    ]
-
-empty_tree : IsTree empty
-empty_tree = record {
-  one_name = λ f g m n i a b. absurd cc;
-  no_name = λ f m a. cc;
-  in_folders = λ f m i a. absurd cc;
-  there = λ f m i a. absurd cc;
-  root = refl;
-  mounts = root_mount;
-}
+small = after_change bare (Makes 0 (1 ∷ []) (file (7 ∷ 8 ∷ [])))
 
 small_tree : IsTree small
-small_tree = tree_made empty 0 (1 ∷ []) (file (7 ∷ 8 ∷ [])) empty_tree refl
+small_tree = tree_made bare 0 (1 ∷ []) (file (7 ∷ 8 ∷ [])) bare_tree refl
 
 abbrev log : List Change → CallLog
 log changes = record { opening = small; changes = changes }

@@ -33,6 +33,7 @@ tree_removed s g name j tree = record {
   there = λ f m i a. tree.there f m i (still _ _ i a);
   root = tree.root;
   mounts = tree.mounts;
+  mounted = tree.mounted;
 }
 
 -- a node more changes no node that was there
@@ -84,6 +85,7 @@ module _ (s : FileSystem) (g : ℕ) (name : List ℕ) (made : Node) (tree : IsTr
     ];
     root = folder_stays 0 tree.root;
     mounts = λ i h. folder_stays i (tree.mounts i h);
+    mounted = tree.mounted;
   }
 
 -- A thing that is moved, and neither at its old name nor at its new one, is lost. A crash never leaves that: the
@@ -138,6 +140,7 @@ module _ (s : FileSystem) (f : ℕ) (old : List ℕ) (g : ℕ) (new : List ℕ) 
     ];
     root = tree.root;
     mounts = tree.mounts;
+    mounted = tree.mounted;
   }
 
 -- a node that keeps its kind among nodes that keep theirs
@@ -159,4 +162,5 @@ tree_set s j n tree kind =
       there = λ f m i a. subst (λ k. i < k) (sym (length-set s.nodes j n)) (tree.there f m i a);
       root = same 0 ∙ tree.root;
       mounts = λ i h. same i ∙ tree.mounts i h;
+      mounted = tree.mounted;
     }

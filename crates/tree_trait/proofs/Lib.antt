@@ -11,3 +11,4 @@ pub mod Examples
 pub mod Choosing
 pub mod Kept
 pub mod Visible
+pub mod BareRoot

@@ -1,5 +1,6 @@
 -- The shape of a tree: no node has two names, the root has none, only folders hold names, names lead to nodes that are
--- there, and mounts begin at folders. Every file system that can be reached has it; a crash image need not.
+-- there, and mounts begin at folders, one of them at the root. Every file system that can be reached has it; a crash image
+-- need not.
 use Rattle.std.specs.Prelude.{◌≡◌, ℕ, ◌<◌, length, true, false, List, ◌∷◌, Some}
 use Rattle.tree_trait.specs.declared.file_system.FileSystem.{FileSystem}
 use Rattle.mc_text.specs.Routes.{Route}
@@ -13,6 +14,7 @@ pub record IsTree (s : FileSystem) : Type 0 where
   pub there : (f : ℕ) (m : List ℕ) (i : ℕ) → lookup s.names f m ≡ Some i → i < length s.nodes
   pub root : is_folder (node s 0) ≡ true
   pub mounts : (i : ℕ) → starts_mount s i ≡ true → is_folder (node s i) ≡ true
+  pub mounted : starts_mount s 0 ≡ true
 
 -- a file, or another thing that is no folder, stands under a name
 pub record IsRemovable (s : FileSystem) (path : Route) : Type 0 where
