@@ -176,6 +176,11 @@ pub captures_of-none : (part : GlobPart) (behind : List GlobPart) (name : List �
 unfolding captures_of
 captures_of-none part behind name none = ap (option_map (λ cut. map encode_utf8_all (wild_texts (part ∷ behind) cut))) none
 
+pub captures_of-unmatched : (parts : List GlobPart) (name : List ℕ) → is_match parts name ≡ false → captures_of parts name ≡ None
+unfolding captures_of
+captures_of-unmatched parts name differs =
+    ap (option_map (λ cut. map encode_utf8_all (wild_texts parts cut))) (not_matched parts name differs)
+
 pub captures_of-past : (c : ℕ) (text : List ℕ) → captures_of [] (c ∷ text) ≡ None
 unfolding captures_of
 captures_of-past c text = refl

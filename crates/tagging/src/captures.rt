@@ -13,12 +13,16 @@ use std::alloc::Global;
 
 impl ShellPattern {
     /// The texts that `*`, `?` and the brackets took, in their order, where the pattern matches the name. Where several
-    /// cuts fit, the first takes the longest text, then the second, and so on. At worst the time grows as the number of
-    /// parts times the name's length, squared: each `*` tries each length, the longest first.
+    /// cuts fit, the first takes the longest text, then the second, and so on. Where it doesn't match, the time is that of
+    /// `matches`; where it does, at worst that squared: each `*` tries each length, the longest first.
     pub fn captures(&self, alloc: Global, name: &str) -> Result<Option<Texts>, NoMemory>
         ensures longest { IfOk result (λ found. IfSome found (AreCaptures self.now (chars name.now))) }
         ensures value { IfOk result (λ found. found ≡ captures_of self.now (chars name.now)) }
     {
+        // Else a `*` would try each length before the miss is known.
+        if !self.matches(name) {
+            return Ok(None);
+        }
         let mut captured = Texts::new(alloc);
         let mut parts = self.parts();
         let mut rest = name;

@@ -2,7 +2,7 @@
 ghost use Rattle.std.specs.Prelude.{◌≡◌, ◌≢◌, true, None, Ok, Err, is_ok, is_some, filter, IfOk, IfErr, chars};
 ghost use Rattle.tagging.specs.GlobText.{pattern_of};
 ghost use Rattle.tagging.specs.Regexes.{meaning_of, found_in};
-ghost use Rattle.tagging.specs.Patterns.{is_found};
+ghost use Rattle.tagging.specs.Patterns.{is_pattern_of, is_found};
 ghost use Rattle.tagging.specs.Globs.{is_match};
 
 use crate::error::PatternError;
@@ -43,6 +43,7 @@ impl Pattern {
     /// A shell pattern.
     pub fn shell(alloc: Global, text: &str) -> Result<Pattern, PatternError>
         ensures ok { IfOk result (λ p. p ≡ record { kind = PatternKind.Shell; text = text.now }) }
+        ensures is_pattern { IfOk result (λ _. is_pattern_of PatternKind.Shell text.now ≡ true) }
         ensures refused { IfErr result (λ e. e ≢ PatternError.Memory → pattern_of text.now ≡ Err e) }
     {
         ShellPattern::parse(alloc, text)?;
@@ -55,6 +56,7 @@ impl Pattern {
     /// A regular expression. It matches where it is found anywhere in a name.
     pub fn regex(alloc: Global, text: &str) -> Result<Pattern, PatternError>
         ensures ok { IfOk result (λ p. p ≡ record { kind = PatternKind.Regex; text = text.now }) }
+        ensures is_pattern { IfOk result (λ _. is_pattern_of PatternKind.Regex text.now ≡ true) }
         ensures refused { IfErr result (λ e. e ≢ PatternError.Memory → (e ≡ PatternError.BadPattern) × (meaning_of text.now ≡ None)) }
     {
         NameRegex::new(alloc, text)?;

@@ -3,8 +3,12 @@ use Rattle.std.specs.Str.{chars}
 use Rattle.std.proofs.lemmas.List.{nil_from_length}
 use Rattle.tagging.specs.Globs.{is_wild, captures_of}
 use Rattle.tagging.proofs.CutLemmas.{AreCaptures-captures_of}
-use Rattle.tagging.proofs.FrontLemmas.{after_captures, captures_of-front, captures_of-none, captures_of-past, captures_of-end, after_captures-append}
+use Rattle.tagging.proofs.FrontLemmas.{after_captures, captures_of-front, captures_of-none, captures_of-past, captures_of-end, captures_of-unmatched, after_captures-append}
 use Rattle.tagging.proofs.glob.ShellPattern.captures.Goals as goal
+
+pub returns-then-not-matches-clause-value : goal.returns-then-not-matches-clause-value
+returns-then-not-matches-clause-value c =
+    sym (captures_of-unmatched c.args.self.now (chars c.args.name.now) (sym c.matches.ensures.test ∙ c.if-not-matches.true))
 
 pub returns-in_default-front_of-clause-value : goal.returns-in_default-front_of-clause-value
 returns-in_default-front_of-clause-value c =
