@@ -1,10 +1,11 @@
 -- What an answer may be besides that of the definition, and checks that follow one another.
-use Rattle.std.specs.Prelude.{◌≡◌, ℕ, ◌≤◌, Bool, true, false, ◌||◌, Option, Some, None, Result, Ok, Err, IfErr}
+use Rattle.std.specs.Prelude.{◌≡◌, ◌≢◌, ⊤, ℕ, ◌≤◌, Bool, true, false, ◌||◌, Option, Some, None, Result, Ok, Err, IfErr}
 use Rattle.tree_trait.specs.declared.calls.TreeError.{TreeError}
 use Rattle.tree_trait.specs.declared.calls.TreeError.TheVariants as tree
 use Rattle.tree_trait.specs.Answers.{HasRisen}
 use Rattle.resolving.specs.declared.error.ResolveError.{ResolveError}
 use Rattle.resolving.specs.declared.error.ResolveError.TheVariants as resolving
+use Rattle.resolving.specs.Errors.{CarriesCause}
 use Rattle.op_plan.specs.declared.error.PlanError.{PlanError}
 use Rattle.op_plan.specs.declared.error.PlanError.TheVariants.{Source, Target, Memory, BadMask}
 
@@ -32,10 +33,18 @@ abbrev pub Plans : {A : Type 0} → Result A PlanError → Result A PlanError �
 Plans expected (Ok x) = expected ≡ Ok x
 Plans expected (Err e) = (is_fault e || is_memory e) ≡ false → expected ≡ Err e
 
--- the count of faults doesn't fall, and a fault is answered only where it has risen
+-- What a refusal says of a path is a cause: no want of memory, which is an error of its own, and in the target's folder no
+-- fault, which names no path there.
+abbrev pub CarriesPlanCause : PlanError → Type 0
+CarriesPlanCause (Source path e) = e ≢ tree.Memory
+CarriesPlanCause (Target e) = (CarriesCause e) × (e ≢ resolving.Memory)
+CarriesPlanCause e = ⊤
+
+-- the count of faults doesn't fall, a fault is answered only where it has risen, and what a refusal says of a path is a cause
 pub record HasPlanCause {A : Type 0} (before after : ℕ) (result : Result A PlanError) : Type 0 where
   pub later : before ≤ after
   pub risen : IfErr result (λ e. is_fault e ≡ true → HasRisen before after)
+  pub carried : IfErr result CarriesPlanCause
 
 -- a check, and what comes after it
 abbrev pub and_then : {A B : Type 0} → Result A PlanError → (A → Result B PlanError) → Result B PlanError

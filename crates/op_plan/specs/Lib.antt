@@ -8,3 +8,4 @@ pub mod Answering
 pub mod Checks
 pub mod Planning
 pub mod Soundness
+pub mod Asking

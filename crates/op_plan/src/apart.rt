@@ -6,7 +6,7 @@ ghost use Rattle.std.specs.Str.{bytes_eq};
 ghost use Rattle.std.specs.BTreeSet.{contains_text};
 ghost use Rattle.mc_text.specs.Routes.{is_prefix, same_path};
 ghost use Rattle.op_plan.specs.declared.job.Pair.{Pair};
-ghost use Rattle.op_plan.specs.Answering.{Plans, is_fault};
+ghost use Rattle.op_plan.specs.Answering.{Plans, is_fault, CarriesPlanCause};
 ghost use Rattle.op_plan.specs.Meeting.{meet, has_two};
 ghost use Rattle.op_plan.specs.Checks.{none_same, none_across, none_twice, is_too_long, targets_in, targets_from, sources_in, paired, child_above};
 ghost use Rattle.op_plan.specs.Planning.{pairs_into};
@@ -33,7 +33,9 @@ pub fn pairs_into(
     requires named { length names.now ≡ length sources.now }
     ensures answer { Plans (pairs_into folder.now sources.now names.now) result }
     ensures apart { IfOk result ArePairsApart }
+    ensures sources { IfOk result (λ pairs. sources_in pairs ≡ sources.now) }
     ensures no_fault { IfErr result (λ e. is_fault e ≡ false) }
+    ensures carried { IfErr result CarriesPlanCause }
 {
     let targets = targets_in(alloc, folder, names)?;
     let pairs = paired(alloc, sources, targets.as_slice())?;
@@ -48,6 +50,7 @@ fn targets_in(alloc: Global, folder: &Path, names: &[Name]) -> Result<Paths, Pla
     ensures answer { Plans (targets_in folder.now names.now) result }
     ensures joined { IfOk result (λ targets. targets ≡ map (λ name. name ∷ folder.now) names.now) }
     ensures no_fault { IfErr result (λ e. is_fault e ≡ false) }
+    ensures carried { IfErr result CarriesPlanCause }
 {
     let mut targets = Vec::new(alloc);
     for name in names {
@@ -66,6 +69,7 @@ pub fn target_in(alloc: Global, folder: &Path, name: &Name) -> Result<Path, Plan
     ensures too_long { IfErr result (λ e. e ≢ PlanError.Memory
         → (e ≡ PlanError.Target ResolveError.TooLong) × (is_too_long folder.now name.now ≡ true)) }
     ensures no_fault { IfErr result (λ e. is_fault e ≡ false) }
+    ensures carried { IfErr result CarriesPlanCause }
 {
     match folder.join(alloc, name) {
         Ok(target) => Ok(target),
@@ -93,6 +97,7 @@ fn paired(alloc: Global, sources: &[Path], targets: &[Path]) -> Result<Pairs, No
 fn refuse_same(alloc: Global, pairs: &[Pair]) -> Result<(), PlanError>
     ensures answer { Plans (none_same pairs.now) result }
     ensures no_fault { IfErr result (λ e. is_fault e ≡ false) }
+    ensures carried { IfErr result CarriesPlanCause }
 {
     match first_same(pairs) {
         None => Ok(()),
@@ -119,6 +124,7 @@ fn refuse_across(
     ensures answer { Plans (none_across pairs.now) result }
     ensures apart { OnOk result (list_any (λ source. list_any (meet source) (targets_from pairs.now)) (sources_in pairs.now) ≡ false) }
     ensures no_fault { IfErr result (λ e. is_fault e ≡ false) }
+    ensures carried { IfErr result CarriesPlanCause }
 {
     let taken = texts_in(alloc, names)?;
     for pair in pairs {
@@ -184,6 +190,7 @@ fn refuse_twice(alloc: Global, pairs: &[Pair]) -> Result<(), PlanError>
     ensures answer { Plans (none_twice pairs.now) result }
     ensures apart { OnOk result (has_two meet (targets_from pairs.now) ≡ false) }
     ensures no_fault { IfErr result (λ e. is_fault e ≡ false) }
+    ensures carried { IfErr result CarriesPlanCause }
 {
     let targets = targets_from(alloc, pairs)?;
     match first_meeting(alloc, targets.as_slice())? {

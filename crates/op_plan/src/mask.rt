@@ -1,7 +1,7 @@
 //! The mask of a destination: how a target's name is made of a source's.
 ghost use Rattle.std.specs.Prelude.{◌≡◌, ◌≢◌, false, [], ◌∷◌, ◌++◌, IfOk, IfErr, OnOk, chars, Some, None};
 ghost use Rattle.std.specs.String.{string_bytes};
-ghost use Rattle.op_plan.specs.Answering.{is_fault};
+ghost use Rattle.op_plan.specs.Answering.{is_fault, CarriesPlanCause};
 ghost use Rattle.op_plan.specs.Masks.{pieces_of, quoted_piece, plain_piece, is_asking, asks, keeps_name, taken, added, filled};
 
 use crate::error::PlanError;
@@ -106,6 +106,7 @@ impl Mask {
         ensures bad { IfErr result (λ e. e ≢ PlanError.Memory
             → (e ≡ PlanError.BadMask) × (filled name.now captures.now captures.now self.now ≡ None)) }
         ensures no_fault { IfErr result (λ e. is_fault e ≡ false) }
+        ensures carried { IfErr result CarriesPlanCause }
     {
         let mut text = String::new(alloc);
         let mut stars = captures;
@@ -130,6 +131,7 @@ fn put_piece<'a>(
     ensures bad { IfErr result (λ e. e ≢ PlanError.Memory
         → (e ≡ PlanError.BadMask) × (taken name.now captures.now stars.now piece ≡ None)) }
     ensures no_fault { IfErr result (λ e. is_fault e ≡ false) }
+    ensures carried { IfErr result CarriesPlanCause }
 {
     match piece {
         MaskPiece::Plain(character) => {

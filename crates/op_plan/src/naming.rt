@@ -1,6 +1,6 @@
 //! Which sources a mask leaves in, and the names of their targets.
 ghost use Rattle.std.specs.Prelude.{◌≡◌, ◌≢◌, false, filter, length, IfOk, IfErr, None, Some, chars};
-ghost use Rattle.op_plan.specs.Answering.{is_fault};
+ghost use Rattle.op_plan.specs.Answering.{is_fault, CarriesPlanCause};
 ghost use Rattle.op_plan.specs.Naming.{pattern_in, chosen, has_match, target_text, target_name, all_of, names_for, checked_name};
 
 use crate::error::PlanError;
@@ -62,6 +62,7 @@ pub fn names_for(
     ensures bad { IfErr result (λ e. e ≢ PlanError.Memory
         → (e ≡ PlanError.BadMask) × (names_for pattern.now mask.now sources.now ≡ None)) }
     ensures no_fault { IfErr result (λ e. is_fault e ≡ false) }
+    ensures carried { IfErr result CarriesPlanCause }
 {
     match pattern {
         Some(pattern) => target_names(alloc, pattern, mask, sources),
@@ -81,6 +82,7 @@ fn target_names(
     ensures bad { IfErr result (λ e. e ≢ PlanError.Memory
         → (e ≡ PlanError.BadMask) × (all_of (target_name pattern.now mask.now) sources.now ≡ None)) }
     ensures no_fault { IfErr result (λ e. is_fault e ≡ false) }
+    ensures carried { IfErr result CarriesPlanCause }
 {
     let mut names = Vec::new(alloc);
     for source in sources {
@@ -103,6 +105,7 @@ fn target_name(
     ensures bad { IfErr result (λ e. e ≢ PlanError.Memory
         → (e ≡ PlanError.BadMask) × (target_name pattern.now mask.now source.now ≡ None)) }
     ensures no_fault { IfErr result (λ e. is_fault e ≡ false) }
+    ensures carried { IfErr result CarriesPlanCause }
 {
     let Some(name) = source.last() else {
         return Err(PlanError::BadMask);
@@ -114,8 +117,10 @@ fn target_name(
 /// The name that a text is.
 pub fn name_in(alloc: Global, text: &str) -> Result<Name, PlanError>
     ensures named { IfOk result (λ name. checked_name text.now ≡ Some name) }
+    ensures text { IfOk result (λ name. name ≡ text.now) }
     ensures bad { IfErr result (λ e. e ≢ PlanError.Memory → (e ≡ PlanError.BadMask) × (checked_name text.now ≡ None)) }
     ensures no_fault { IfErr result (λ e. is_fault e ≡ false) }
+    ensures carried { IfErr result CarriesPlanCause }
 {
     match Name::new(alloc, text) {
         Ok(name) => Ok(name),
@@ -135,6 +140,7 @@ fn target_text(
     ensures bad { IfErr result (λ e. e ≢ PlanError.Memory
         → (e ≡ PlanError.BadMask) × (target_text pattern.now mask.now name.now ≡ None)) }
     ensures no_fault { IfErr result (λ e. is_fault e ≡ false) }
+    ensures carried { IfErr result CarriesPlanCause }
 {
     if mask.keeps_name() {
         return Ok(Text::from_str(alloc, name)?);

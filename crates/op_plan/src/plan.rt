@@ -1,8 +1,8 @@
 //! A plan is made of a request: the first check that stands refuses it.
-ghost use Rattle.std.specs.Prelude.{◌≡◌, ◌≢◌, ◌≤◌, ◌==◌, false, All, Ok, IfOk, IfErr};
+ghost use Rattle.std.specs.Prelude.{◌≡◌, ◌≢◌, ◌≤◌, ◌==◌, false, All, Ok, IfOk, IfErr, Some};
 ghost use Rattle.tree_trait.specs.Change.{current};
 ghost use Rattle.tree_trait.specs.Answers.{IfKnown};
-ghost use Rattle.op_plan.specs.Answering.{Plans, and_then, is_fault, HasPlanCause};
+ghost use Rattle.op_plan.specs.Answering.{Plans, and_then, is_fault, HasPlanCause, CarriesPlanCause};
 ghost use Rattle.std.specs.Bool.{OnTrue, OnFalse};
 ghost use Rattle.std.specs.List.{list_any};
 ghost use Rattle.tree_trait.specs.Answers.{IsLinkText};
@@ -10,6 +10,11 @@ ghost use Rattle.tree_trait.specs.Calls.{Stat};
 ghost use Rattle.tree_trait.specs.Refusals.{refusal_of};
 ghost use Rattle.op_plan.specs.Planning.{plan_of, pairs_of, sources_of, folder_for, placed_there, placed_masked, place_of, nothing_there, is_link_text, link_of};
 ghost use Rattle.op_plan.specs.Soundness.{AreApart, ArePairsApart, IsSound, HasMode};
+ghost use Rattle.op_plan.specs.Asking.{IsJobFor};
+ghost use Rattle.op_plan.specs.Naming.{pattern_in, chosen};
+ghost use Rattle.op_plan.specs.Destinations.{last_part};
+ghost use Rattle.op_plan.specs.Checks.{sources_in};
+ghost use Rattle.mc_text.specs.Routes.{last_of};
 
 use crate::apart::{pairs_into, target_in};
 use crate::destination::{folder_at, folder_there, split_last};
@@ -33,6 +38,7 @@ pub fn make_plan<T: Tree>(alloc: Global, tree: &mut T, request: Request) -> Resu
     ensures same { T.contents tree.new ≡ T.contents tree.old }
     ensures cause { HasPlanCause (T.fault_count tree.old) (T.fault_count tree.new) result }
     ensures sound { IfOk result IsSound }
+    ensures asked { IfOk result (IsJobFor request) }
 {
     match request {
         Request::Copy {
@@ -68,6 +74,7 @@ fn plan_copy<T: Tree>(
     ensures same { T.contents tree.new ≡ T.contents tree.old }
     ensures cause { HasPlanCause (T.fault_count tree.old) (T.fault_count tree.new) result }
     ensures sound { IfOk result IsSound }
+    ensures asked { IfOk result (IsJobFor (Request.Copy sources mask.now from.now to.now)) }
 {
     Ok(Job::Copy(plan_pairs(alloc, tree, sources, mask, from, to)?))
 }
@@ -85,6 +92,7 @@ fn plan_move<T: Tree>(
     ensures same { T.contents tree.new ≡ T.contents tree.old }
     ensures cause { HasPlanCause (T.fault_count tree.old) (T.fault_count tree.new) result }
     ensures sound { IfOk result IsSound }
+    ensures asked { IfOk result (IsJobFor (Request.Move sources mask.now from.now to.now)) }
 {
     Ok(Job::Move(plan_pairs(alloc, tree, sources, mask, from, to)?))
 }
@@ -95,6 +103,7 @@ fn plan_deletion<T: Tree>(alloc: Global, tree: &mut T, sources: Paths) -> Result
     ensures same { T.contents tree.new ≡ T.contents tree.old }
     ensures cause { HasPlanCause (T.fault_count tree.old) (T.fault_count tree.new) result }
     ensures sound { IfOk result IsSound }
+    ensures asked { IfOk result (IsJobFor (Request.Delete sources)) }
 {
     Ok(Job::Delete(plan_sources(alloc, tree, sources)?))
 }
@@ -111,6 +120,7 @@ fn plan_mode<T: Tree>(
     ensures same { T.contents tree.new ≡ T.contents tree.old }
     ensures cause { HasPlanCause (T.fault_count tree.old) (T.fault_count tree.new) result }
     ensures sound { IfOk result IsSound }
+    ensures asked { IfOk result (IsJobFor (Request.SetMode sources mode)) }
 {
     Ok(Job::SetMode(plan_sources(alloc, tree, sources)?, mode))
 }
@@ -126,6 +136,7 @@ fn plan_folder<T: Tree>(
     ensures same { T.contents tree.new ≡ T.contents tree.old }
     ensures cause { HasPlanCause (T.fault_count tree.old) (T.fault_count tree.new) result }
     ensures sound { IfOk result IsSound }
+    ensures asked { IfOk result (IsJobFor (Request.MakeFolder from.now to.now)) }
 {
     Ok(Job::MakeFolder(plan_place(alloc, tree, from, to)?))
 }
@@ -144,6 +155,7 @@ fn plan_pairs<T: Tree>(
     ensures same { T.contents tree.new ≡ T.contents tree.old }
     ensures cause { HasPlanCause (T.fault_count tree.old) (T.fault_count tree.new) result }
     ensures apart { IfOk result ArePairsApart }
+    ensures sources { IfOk result (λ pairs. sources_in pairs ≡ chosen (pattern_in mask.now) sources) }
 {
     let pattern = read_pattern(alloc, mask)?;
     let sources = plan_sources(alloc, tree, choose(&pattern, sources))?;
@@ -191,7 +203,9 @@ fn plan_into(
     requires { AreApart sources.now }
     ensures answer { Plans (placed_there pattern.now sources.now folder.now) result }
     ensures apart { IfOk result ArePairsApart }
+    ensures sources { IfOk result (λ pairs. sources_in pairs ≡ sources.now) }
     ensures no_fault { IfErr result (λ e. is_fault e ≡ false) }
+    ensures carried { IfErr result CarriesPlanCause }
 {
     let star = Mask::star(alloc)?;
     let names = names_for(alloc, pattern, &star, sources)?;
@@ -213,6 +227,7 @@ fn plan_masked<T: Tree>(
     ensures same { T.contents tree.new ≡ T.contents tree.old }
     ensures cause { HasPlanCause (T.fault_count tree.old) (T.fault_count tree.new) result }
     ensures apart { IfOk result ArePairsApart }
+    ensures sources { IfOk result (λ pairs. sources_in pairs ≡ sources.now) }
 {
     let names = names_for(alloc, pattern, mask, sources)?;
     let folder = folder_at(alloc, tree, from, front)?;
@@ -245,6 +260,7 @@ fn plan_place<T: Tree>(
     ensures answer { IfKnown (T.contents tree.old) (λ log. Plans (place_of (current log) from.now to.now) result) }
     ensures same { T.contents tree.new ≡ T.contents tree.old }
     ensures cause { HasPlanCause (T.fault_count tree.old) (T.fault_count tree.new) result }
+    ensures named { IfOk result (λ path. last_of path ≡ Some (last_part to.now)) }
 {
     let (front, last) = split_last(to);
     let name = name_in(alloc, last)?;
@@ -258,6 +274,7 @@ fn refuse_there<T: Tree>(alloc: Global, tree: &mut T, target: Path) -> Result<Pa
     ensures answer { IfKnown (T.contents tree.old) (λ log. Plans (nothing_there (refusal_of (current log) (Stat target)) target) result) }
     ensures same { T.contents tree.new ≡ T.contents tree.old }
     ensures cause { HasPlanCause (T.fault_count tree.old) (T.fault_count tree.new) result }
+    ensures place { IfOk result (λ path. path ≡ target) }
 {
     match tree.stat(alloc, &target) {
         Ok(_) => Err(PlanError::TargetThere(target)),
@@ -280,6 +297,7 @@ fn plan_link<T: Tree>(
     ensures same { T.contents tree.new ≡ T.contents tree.old }
     ensures cause { HasPlanCause (T.fault_count tree.old) (T.fault_count tree.new) result }
     ensures sound { IfOk result IsSound }
+    ensures asked { IfOk result (IsJobFor (Request.MakeLink from.now to.now text)) }
 {
     let path = plan_place(alloc, tree, from, to)?;
     if !is_link_text(text.as_str()) {

@@ -2,7 +2,7 @@
 ghost use Rattle.std.specs.Prelude.{◌≡◌, false, IfErr, OnOk};
 ghost use Rattle.tree_trait.specs.Change.{current};
 ghost use Rattle.tree_trait.specs.Answers.{IfKnown};
-ghost use Rattle.op_plan.specs.Answering.{Plans, is_fault, HasPlanCause};
+ghost use Rattle.op_plan.specs.Answering.{Plans, is_fault, HasPlanCause, CarriesPlanCause};
 ghost use Rattle.op_plan.specs.Meeting.{meet, has_two};
 ghost use Rattle.op_plan.specs.Checks.{none_nested, all_there};
 
@@ -17,6 +17,7 @@ pub fn refuse_nested(alloc: Global, sources: &[Path]) -> Result<(), PlanError>
     ensures answer { Plans (none_nested sources.now) result }
     ensures apart { OnOk result (has_two meet sources.now ≡ false) }
     ensures no_fault { IfErr result (λ e. is_fault e ≡ false) }
+    ensures carried { IfErr result CarriesPlanCause }
 {
     match first_meeting(alloc, sources)? {
         None => Ok(()),

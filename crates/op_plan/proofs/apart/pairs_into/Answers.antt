@@ -31,3 +31,11 @@ returns-clause-apart c =
       across = ap (λ (l : List Pair). list_any (λ source. list_any (meet source) (targets_from l)) (sources_in l)) (sym c.as_slice-3.ensures)
           ∙ c.in_ok-refuse_across.ensures.apart;
     }
+
+pub returns-clause-sources : goal.returns-clause-sources
+returns-clause-sources c =
+    let targets = c.as_slice.result.now in
+    let made = c.as_slice.ensures ∙ c.in_ok-targets.ensures.joined in
+    let size : length targets ≡ length c.args.sources.now =
+    ap length made ∙ (length-map c.args.names.now (λ (name : List ℕ). name ∷ c.args.folder.now) ∙ c.requires.named) in
+    ap sources_in c.in_ok-pairs.ensures ∙ sources-paired c.args.sources.now targets size
