@@ -1,5 +1,5 @@
 -- Changes of one item, seen in the list.
-use Rattle.std.proofs.Common.{◌≡◌, ℕ, zero, suc, ◌-◌, ◌<◌, ◌≤◌, Bool, true, false, ◌&&◌, List, [], ◌∷◌, ◌++◌, length, get_or, set, remove, Option, Some, None, option_map, refl, ap, ◌∙◌, sym, subst, ⊎_elim, arith}
+use Rattle.std.proofs.Common.{◌≡◌, ℕ, zero, suc, ◌-◌, ◌<◌, ◌≤◌, Bool, true, false, ◌&&◌, List, [], ◌∷◌, ◌++◌, length, get_or, set, remove, Option, Some, None, is_none, option_map, refl, ap, ◌∙◌, sym, subst, ⊎_elim, arith}
 use Rattle.hotlist.specs.declared.items.HotItem.{HotItem}
 use Rattle.hotlist.specs.HotLists.{HotList, NoMore, AnEntry, AGroup, before, list_of, is_within}
 use Rattle.hotlist.specs.Places.{followed_by, changed_at, added, without_position, removed}
@@ -60,6 +60,34 @@ changed_at-none zero change (item ∷ items) default here none = none (list_of i
 changed_at-none (suc position) change (item ∷ items) default here none =
     changed_at-next position change item (list_of items)
     ∙ ap (option_map (before item)) (changed_at-none position change items default (omega arith) none)
+
+-- whether a group is missing hangs on its own item alone
+mapped-is_none : (f : HotList → HotList) (o : Option HotList) → is_none (option_map f o) ≡ is_none o
+mapped-is_none f None = refl
+mapped-is_none f (Some list) = refl
+
+first-is_none : (change : HotList → Option HotList) (item : HotItem) (others more : HotList)
+    → is_none (changed_at 0 change (before item others)) ≡ is_none (changed_at 0 change (before item more))
+first-is_none change item others more =
+    ⊎_elim
+    (λ (entry : (label : List ℕ) × (path : List ℕ) × ((others : HotList) → before item others ≡ AnEntry label path others)).
+    ap (λ list. is_none (changed_at 0 change list)) (entry.2 others)
+    ∙ sym (ap (λ list. is_none (changed_at 0 change list)) (entry.2 more)))
+    (λ (group : (label : List ℕ) × (items : HotList) × ((others : HotList) → before item others ≡ AGroup label items others)).
+    ap (λ list. is_none (changed_at 0 change list)) (group.2 others)
+    ∙ mapped-is_none (λ changed. AGroup group.0 changed others) (change group.1)
+    ∙ sym (mapped-is_none (λ changed. AGroup group.0 changed more) (change group.1))
+    ∙ sym (ap (λ list. is_none (changed_at 0 change list)) (group.2 more)))
+    (item_is item)
+
+pub changed_at-is_none : (position : ℕ) (change : HotList → Option HotList) (items : List HotItem) (default : HotItem) (others : HotList) → position < length items
+    → is_none (changed_at position change (list_of items)) ≡ is_none (changed_at 0 change (before (get_or items position default) others))
+changed_at-is_none position change [] default others here = absurd (omega arith)
+changed_at-is_none zero change (item ∷ items) default others here = first-is_none change item (list_of items) others
+changed_at-is_none (suc position) change (item ∷ items) default others here =
+    ap is_none (changed_at-next position change item (list_of items))
+    ∙ mapped-is_none (before item) (changed_at position change (list_of items))
+    ∙ changed_at-is_none position change items default others (omega arith)
 
 pub list_of-set : (position : ℕ) (items : List HotItem) (new default : HotItem) → position < length items
     → ((others : HotList) → before new others ≡ before (get_or items position default) others) → list_of (set items position new) ≡ list_of items

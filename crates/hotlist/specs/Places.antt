@@ -1,6 +1,8 @@
 -- Places in a hotlist: a position in the list, then one in that group, and so on, each counted from 0 (own).
-use Rattle.std.specs.Prelude.{ℕ, zero, suc, List, [], ◌∷◌, Option, Some, None, option_map}
-use Rattle.hotlist.specs.HotLists.{HotList, NoMore, AnEntry, AGroup}
+use Rattle.std.specs.Prelude.{ℕ, zero, suc, ◌-◌, Bool, true, false, List, [], ◌∷◌, length, Option, Some, None, is_none, option_map}
+use Rattle.hotlist.specs.declared.error.HotEditError.{HotEditError}
+use Rattle.hotlist.specs.declared.error.HotEditError.TheVariants.{NoSuchGroup, TooDeep}
+use Rattle.hotlist.specs.HotLists.{HotList, NoMore, AnEntry, AGroup, is_within}
 
 -- the items from a position on
 abbrev pub from_position : ℕ → HotList → HotList
@@ -45,6 +47,16 @@ changed_at (suc position) change (AGroup label items others) = option_map (AGrou
 abbrev pub added : List ℕ → HotList → HotList → Option HotList
 added [] item list = Some (followed_by list item)
 added (position ∷ place) item list = changed_at position (added place item) list
+
+-- why an item isn't added, by whether its group is missing and whether it nests to few enough levels
+abbrev pub fault_of : (is_missing fits : Bool) → Option HotEditError
+fault_of true fits = Some NoSuchGroup
+fault_of false false = Some TooDeep
+fault_of false true = None
+
+-- why an item isn't added to the group at a place: none stands there, or else groups would nest to more than 32 levels
+abbrev pub add_fault : List ℕ → HotList → HotList → Option HotEditError
+add_fault group item list = fault_of (is_none (added group item list)) (is_within (32 - length group) item)
 
 -- the list without the item at a position
 abbrev pub without_position : ℕ → HotList → Option HotList

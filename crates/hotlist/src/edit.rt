@@ -1,36 +1,46 @@
 //! Changes of a list of items.
-ghost use Rattle.std.specs.Prelude.{◌≡◌, ◌≢◌, Some, None, OnOk, OnErr, IfErr, IfNone, IfSome, MatchOption};
-ghost use Rattle.hotlist.specs.HotLists.{HotList, NoMore, before, list_of};
-ghost use Rattle.hotlist.specs.Places.{added, removed, changed_at, followed_by, item_at, inside};
+ghost use Rattle.std.specs.Prelude.{◌≡◌, ◌≢◌, true, false, Some, None, is_none, OnOk, OnErr, IfErr, IfNone, IfSome, MatchOption};
+ghost use Rattle.hotlist.specs.HotLists.{HotList, NoMore, before, list_of, is_within};
+ghost use Rattle.hotlist.specs.Places.{added, removed, changed_at, followed_by, item_at, inside, fault_of};
 
 use crate::error::HotEditError;
-use crate::items::HotItem;
+use crate::items::{HotItem, fits};
 
-/// Puts an item at the end of the group at a place. `NoSuchGroup` where none stands there.
+/// Puts an item at the end of the group at a place, if one stands there and the item nests to no more levels.
 #[cycle(adding)]
-pub fn add_in(items: &mut Vec<HotItem>, group: &[usize], item: HotItem) -> Result<(), HotEditError>
+pub fn add_in(
+    items: &mut Vec<HotItem>,
+    group: &[usize],
+    item: HotItem,
+    levels: usize,
+) -> Result<(), HotEditError>
     ensures added { OnOk result (added group.now (before item NoMore) (list_of items.old.items) ≡ Some (list_of items.new.items)) }
-    ensures refused { OnErr result (list_of items.new.items ≡ list_of items.old.items) }
-    ensures shallow { IfErr result (λ e. e ≢ HotEditError.TooDeep) }
-    ensures no_group { IfErr result (λ e. e ≡ HotEditError.NoSuchGroup → added group.now (before item NoMore) (list_of items.old.items) ≡ None) }
+    ensures fits { OnOk result (is_within levels (before item NoMore) ≡ true) }
+    ensures same { OnErr result (list_of items.new.items ≡ list_of items.old.items) }
+    ensures refused { IfErr result (λ e. e ≢ HotEditError.Memory →
+        fault_of (is_none (added group.now (before item NoMore) (list_of items.old.items))) (is_within levels (before item NoMore)) ≡ Some e) }
 {
     match group.split_first() {
-        None => push_last(items, item),
+        None => push_last(items, item, levels),
         Some((position, below)) => {
             if *position >= items.len() {
                 return Err(HotEditError::NoSuchGroup);
             }
-            add_below(&mut items[*position], below, item)
+            add_below(&mut items[*position], below, item, levels)
         }
     }
 }
 
-/// Puts an item at the end.
-fn push_last(items: &mut Vec<HotItem>, item: HotItem) -> Result<(), HotEditError>
+/// Puts an item at the end, if it nests to no more levels.
+fn push_last(items: &mut Vec<HotItem>, item: HotItem, levels: usize) -> Result<(), HotEditError>
     ensures added { OnOk result (list_of items.new.items ≡ followed_by (list_of items.old.items) (before item NoMore)) }
-    ensures refused { OnErr result (list_of items.new.items ≡ list_of items.old.items) }
-    ensures memory { IfErr result (λ e. e ≡ HotEditError.Memory) }
+    ensures fits { OnOk result (is_within levels (before item NoMore) ≡ true) }
+    ensures same { OnErr result (list_of items.new.items ≡ list_of items.old.items) }
+    ensures refused { IfErr result (λ e. e ≢ HotEditError.Memory → fault_of false (is_within levels (before item NoMore)) ≡ Some e) }
 {
+    if !fits(&item, levels) {
+        return Err(HotEditError::TooDeep);
+    }
     match items.push(item) {
         Ok(()) => Ok(()),
         Err(_refused) => Err(HotEditError::Memory),
@@ -39,15 +49,21 @@ fn push_last(items: &mut Vec<HotItem>, item: HotItem) -> Result<(), HotEditError
 
 /// The same within the group that the item is. `NoSuchGroup` where it is an entry.
 #[cycle(adding)]
-fn add_below(group: &mut HotItem, below: &[usize], item: HotItem) -> Result<(), HotEditError>
+fn add_below(
+    group: &mut HotItem,
+    below: &[usize],
+    item: HotItem,
+    levels: usize,
+) -> Result<(), HotEditError>
     ensures added { OnOk result ((others : HotList) → changed_at 0 (added below.now (before item NoMore)) (before group.old others) ≡ Some (before group.new others)) }
-    ensures refused { OnErr result ((others : HotList) → before group.new others ≡ before group.old others) }
-    ensures shallow { IfErr result (λ e. e ≢ HotEditError.TooDeep) }
-    ensures no_group { IfErr result (λ e. e ≡ HotEditError.NoSuchGroup → (others : HotList) → changed_at 0 (added below.now (before item NoMore)) (before group.old others) ≡ None) }
+    ensures fits { OnOk result (is_within levels (before item NoMore) ≡ true) }
+    ensures same { OnErr result ((others : HotList) → before group.new others ≡ before group.old others) }
+    ensures refused { IfErr result (λ e. e ≢ HotEditError.Memory → (others : HotList) →
+        fault_of (is_none (changed_at 0 (added below.now (before item NoMore)) (before group.old others))) (is_within levels (before item NoMore)) ≡ Some e) }
 {
     match group {
         HotItem::Entry { .. } => Err(HotEditError::NoSuchGroup),
-        HotItem::Group { items, .. } => add_in(items, below, item),
+        HotItem::Group { items, .. } => add_in(items, below, item, levels),
     }
 }
 

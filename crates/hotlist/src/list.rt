@@ -1,10 +1,10 @@
 //! A hotlist.
-ghost use Rattle.std.specs.Prelude.{◌≡◌, ◌-◌, true, false, Some, None, length, OnOk, OnErr, IfErr, IfNone, IfSome, MatchOption};
+ghost use Rattle.std.specs.Prelude.{◌≡◌, ◌≢◌, ◌-◌, true, Some, None, length, OnOk, OnErr, IfErr, IfNone, IfSome, MatchOption};
 ghost use Rattle.hotlist.specs.HotLists.{NoMore, before, list_of, is_within};
 
 use crate::edit::{add_in, remove_in};
 use crate::error::HotEditError;
-use crate::items::{HotItem, fits};
+use crate::items::HotItem;
 use std::alloc::Global;
 
 /// The most levels to which groups are nested.
@@ -19,7 +19,7 @@ pub struct Hotlist {
 
 impl Hotlist {
     ghost use Rattle.hotlist.specs.ListViews.{list_in};
-    ghost use Rattle.hotlist.specs.Places.{added, removed, item_at};
+    ghost use Rattle.hotlist.specs.Places.{added, add_fault, removed, item_at};
 
     /// None yet. It takes no memory.
     pub fn new(alloc: Global) -> Hotlist
@@ -30,20 +30,17 @@ impl Hotlist {
         }
     }
 
-    /// Puts an item at the end of the group at a place; the empty place is that of the list itself. `TooDeep` where the
-    /// item would nest past 32 levels there, else `NoSuchGroup` where no group stands there.
+    /// Puts an item at the end of the group at a place; the empty place is that of the list itself. `NoSuchGroup` where no
+    /// group stands there, else `TooDeep` where groups would nest to more than 32 levels.
     pub fn add(&mut self, group: &[usize], item: HotItem) -> Result<(), HotEditError>
         ensures added { OnOk result (added group.now (before item NoMore) (list_in self.old) ≡ Some (list_in self.new)) }
         ensures fits { OnOk result (is_within (32 - length group.now) (before item NoMore) ≡ true) }
-        ensures refused { OnErr result (list_in self.new ≡ list_in self.old) }
-        ensures too_deep { IfErr result (λ e. e ≡ HotEditError.TooDeep → is_within (32 - length group.now) (before item NoMore) ≡ false) }
-        ensures no_group { IfErr result (λ e. e ≡ HotEditError.NoSuchGroup →
-            (is_within (32 - length group.now) (before item NoMore) ≡ true) × (added group.now (before item NoMore) (list_in self.old) ≡ None)) }
+        ensures same { OnErr result (list_in self.new ≡ list_in self.old) }
+        ensures refused { IfErr result (λ e.
+            e ≢ HotEditError.Memory → add_fault group.now (before item NoMore) (list_in self.old) ≡ Some e) }
     {
-        if !fits(&item, NESTING.saturating_sub(group.len())) {
-            return Err(HotEditError::TooDeep);
-        }
-        add_in(&mut self.items, group, item)
+        let levels = NESTING.saturating_sub(group.len());
+        add_in(&mut self.items, group, item, levels)
     }
 
     /// Takes the item at a place out; with a group all that it holds. The empty place is that of no item.

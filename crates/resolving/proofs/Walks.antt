@@ -2,26 +2,30 @@
 use Rattle.std.proofs.Common.{◌≡◌, ◌≤◌, ℕ, suc, ◌+◌, Bool, true, false, List, [], ◌∷◌, ◌++◌, length, filter, Option, Some, None, Result, Ok, Err, refl, sym, subst, ◌∙◌, ◌≢◌, ◌*◌, cond, arith, not, length-append}
 use Rattle.std.specs.Prelude.{unwrap_or, is_none}
 use Rattle.std.proofs.lemmas.Bool.{true≢false}
-use Rattle.mc_text.specs.declared.kind.Kind.TheVariants.{Link}
+use Rattle.std.specs.Str.{bytes_eq}
+use Rattle.mc_text.specs.declared.kind.Kind.{Kind}
+use Rattle.mc_text.specs.declared.kind.Kind.TheVariants.{File, Folder, Link, Other}
 use Rattle.mc_text.specs.Routes.{Route, components_of}
 use Rattle.mc_text.proofs.Components.{bytes_of, bytes-components, bytes-cons}
+use Rattle.tree_trait.specs.declared.file_system.Node.{Node}
 use Rattle.tree_trait.specs.declared.file_system.FileSystem.{FileSystem}
 use Rattle.tree_trait.specs.declared.calls.TreeError.{TreeError}
 use Rattle.tree_trait.specs.declared.calls.TreeError.TheVariants as tree
 use Rattle.tree_trait.specs.Calls.{Stat, ReadLink}
 use Rattle.tree_trait.specs.FileSystem.{node}
-use Rattle.tree_trait.specs.Refusals.{Place, walk, is_link, first_of, missing, thing, refusal_of}
+use Rattle.tree_trait.specs.Refusals.{Place, holder, walk, is_link, first_of, missing, thing, refusal_of}
 use Rattle.tree_trait.specs.Change.{CallLog, current, found}
 use Rattle.tree_trait.specs.Answers.{Reads}
 use Rattle.tree_trait.proofs.Walking.{passed_walk, check_passes, walk-find}
 use Rattle.resolving.specs.declared.error.ResolveError.{ResolveError}
 use Rattle.resolving.specs.declared.error.ResolveError.TheVariants.{Tree, TooManyLinks, TooLong, BadName, Fault, Memory}
 use Rattle.resolving.specs.declared.looking.Step.{Step}
-use Rattle.resolving.specs.declared.looking.Step.TheVariants.{Into, Onto, Across}
+use Rattle.resolving.specs.declared.looking.Step.TheVariants.{Into, Up, Onto, Across}
 use Rattle.resolving.specs.declared.walking.Wanted.{Wanted}
 use Rattle.resolving.specs.declared.walking.Place as walking
 use Rattle.resolving.specs.Errors.{Answers, refused_by}
-use Rattle.resolving.specs.Resolution.{is_passed, steps_of, start_of, no_more, end_at, walk_on, walk_from, step_from}
+use Rattle.resolving.specs.Places.{end_of, into_folder}
+use Rattle.resolving.specs.Resolution.{is_passed, steps_of, start_of, no_more, end_at, end_by_kind, end_told, end_in, entry_fault, step_onto, told, look_unless, walk_on, walk_from, step_from}
 
 -- ---- a link that stands is readable
 
@@ -65,6 +69,9 @@ module _ (s : FileSystem) (wanted : Wanted) (links : ℕ) (folder : Route) (comp
   pub walk-into : (path : Route) → step_from s folder component ≡ Ok (Into path) → walk_from s wanted links folder (component ∷ rest) ≡ walk_from s wanted links path rest
   walk-into path h = rw h refl
 
+  pub walk-up : (path : Route) → step_from s folder component ≡ Ok (Up path) → walk_from s wanted links folder (component ∷ rest) ≡ walk_from s wanted links path rest
+  walk-up path h = rw h refl
+
   pub walk-onto : (path : Route) → step_from s folder component ≡ Ok (Onto path) → walk_from s wanted links folder (component ∷ rest) ≡ end_at wanted (no_more rest) path
   walk-onto path h = rw h refl
 
@@ -79,6 +86,38 @@ module _ (s : FileSystem) (wanted : Wanted) (links : ℕ) (folder : Route) (comp
   walk-refused TooManyLinks h = rw h refl
   walk-refused TooLong h = rw h refl
   walk-refused BadName h = rw h refl
+
+-- ---- a folder that was looked at
+
+kind_ends : (wanted : Wanted) (at path : Route) (kind : Kind) (text : List ℕ) → step_onto kind at text ≡ Into path
+    → (at ≡ path) × (end_by_kind wanted kind at ≡ Ok at)
+kind_ends wanted at path Folder text h = (let e : at ≡ path = cc in e, refl)
+kind_ends wanted at path Link text h = absurd (cc)
+kind_ends wanted at path File text h = absurd (cc)
+kind_ends wanted at path Other text h = absurd (cc)
+
+told_ends : (wanted : Wanted) (at path : Route) (refusal : Option TreeError) (thing : Node) → told refusal at thing ≡ Ok (Into path)
+    → (at ≡ path) × (end_told refusal wanted thing.kind at ≡ Ok at)
+told_ends wanted at path None thing h = kind_ends wanted at path thing.kind thing.bytes (let e : step_onto thing.kind at thing.bytes ≡ Into path = cc in e)
+told_ends wanted at path (Some e) thing h = absurd (cc)
+
+looked_ends : (s : FileSystem) (wanted : Wanted) (at path : Route) (fault : Option ResolveError) → look_unless fault s at ≡ Ok (Into path) → end_in s wanted path ≡ Ok path
+looked_ends s wanted at path None h =
+    let ends = told_ends wanted at path (refusal_of s (Stat at)) (node s (found s at)) h in
+    subst (λ p. end_in s wanted p ≡ Ok p) ends.0 ends.1
+looked_ends s wanted at path (Some e) h = absurd (cc)
+
+step_ends : (s : FileSystem) (wanted : Wanted) (folder path : Route) (component : List ℕ) (up : Bool)
+    → cond up (Ok (Up (holder folder))) (look_unless (entry_fault folder component) s (component ∷ folder)) ≡ Ok (Into path) → end_in s wanted path ≡ Ok path
+step_ends s wanted folder path component true h = absurd (cc)
+step_ends s wanted folder path component false h = looked_ends s wanted (component ∷ folder) path (entry_fault folder component) h
+
+-- it ends the walk where nothing is left
+pub walk-goes_into : (s : FileSystem) (wanted : Wanted) (links : ℕ) (folder : Route) (component : List ℕ) (rest : List (List ℕ)) (path : Route)
+    → step_from s folder component ≡ Ok (Into path) → walk_from s wanted links folder (component ∷ rest) ≡ end_of s wanted (into_folder path rest links)
+walk-goes_into s wanted links folder component [] path h =
+    walk-into s wanted links folder component [] path h ∙ step_ends s wanted folder path component (bytes_eq component (46 ∷ 46 ∷ [])) h
+walk-goes_into s wanted links folder component (next ∷ rest) path h = walk-into s wanted links folder component (next ∷ rest) path h
 
 -- a link that may be followed, and one that may not
 pub walk_on-more : (s : FileSystem) (wanted : Wanted) (links left : ℕ) (folder : Route) (ahead : List (List ℕ)) → left + 1 ≡ links

@@ -17,7 +17,7 @@ use Rattle.tree_trait.specs.Change.{found}
 use Rattle.resolving.specs.declared.error.ResolveError.{ResolveError}
 use Rattle.resolving.specs.declared.error.ResolveError.TheVariants.{Tree, TooManyLinks, TooLong, BadName}
 use Rattle.resolving.specs.declared.looking.Step.{Step}
-use Rattle.resolving.specs.declared.looking.Step.TheVariants.{Into, Onto, Across}
+use Rattle.resolving.specs.declared.looking.Step.TheVariants.{Into, Up, Onto, Across}
 use Rattle.resolving.specs.declared.walking.Wanted.{Wanted}
 use Rattle.resolving.specs.declared.walking.Wanted.TheVariants.{FolderAlone, AnyThing}
 
@@ -62,7 +62,7 @@ look_unless None s path = look_at s path
 -- One step: dot-dot leads to the folder above, which the root is itself, and any other component to the folder's entry.
 abbrev pub step_from : FileSystem → Route → List ℕ → Result Step ResolveError
 step_from s folder component =
-    if bytes_eq component (46 ∷ 46 ∷ []) then Ok (Into (holder folder)) else
+    if bytes_eq component (46 ∷ 46 ∷ []) then Ok (Up (holder folder)) else
     look_unless (entry_fault folder component) s (component ∷ folder)
 
 -- no component is left
@@ -77,18 +77,35 @@ end_at AnyThing false path = Err (Tree path NotFolder)
 end_at FolderAlone true path = Err (Tree path NotFolder)
 end_at FolderAlone false path = Err (Tree path NotFolder)
 
+-- a walk may end at a folder, and at a thing of another kind where any thing is wanted
+abbrev pub end_by_kind : Wanted → Kind → Route → Result Route ResolveError
+end_by_kind wanted Folder path = Ok path
+end_by_kind wanted File path = end_at wanted true path
+end_by_kind wanted Link path = end_at wanted true path
+end_by_kind wanted Other path = end_at wanted true path
+
+-- what a tree tells of the thing at which a walk ends, which it may refuse
+abbrev pub end_told : Option TreeError → Wanted → Kind → Route → Result Route ResolveError
+end_told (Some e) wanted kind path = Err (Tree path e)
+end_told None wanted kind path = end_by_kind wanted kind path
+
+-- What a walk ends at has to be there, whatever the text ended with.
+abbrev pub end_in : FileSystem → Wanted → Route → Result Route ResolveError
+end_in s wanted path = end_told (refusal_of s (Stat path)) wanted (node s (found s path)).kind path
+
 -- the answer where a step is refused, and what to do where it isn't
 abbrev pub after_step : Result Step ResolveError → (into : Route → Result Route ResolveError)
     (across : List ℕ → Result Route ResolveError) (onto : Route → Result Route ResolveError) → Result Route ResolveError
 after_step (Ok (Into path)) into across onto = into path
+after_step (Ok (Up path)) into across onto = into path
 after_step (Ok (Across text)) into across onto = across text
 after_step (Ok (Onto path)) into across onto = onto path
 after_step (Err e) into across onto = Err e
 
--- The walk along components. What is left is prefixed with a link's text, and `follow` walks on from where that begins.
+-- The walk along components, at whose end it is looked at what stands there. What is left is prefixed with a link's text, and `follow` walks on from where that begins.
 abbrev pub walk_along : FileSystem → Wanted → (follow : Route → List (List ℕ) → Result Route ResolveError)
     → Route → List (List ℕ) → Result Route ResolveError
-walk_along s wanted follow folder [] = Ok folder
+walk_along s wanted follow folder [] = end_in s wanted folder
 walk_along s wanted follow folder (component ∷ rest) =
     after_step (step_from s folder component)
     (λ path. walk_along s wanted follow path rest)
@@ -112,4 +129,5 @@ resolved s wanted from typed = walk_from s wanted 40 (start_of from typed) (step
 abbrev pub IsShort : Step → Type 0
 IsShort (Across text) = length text ≤ 4095
 IsShort (Into path) = ⊤
+IsShort (Up path) = ⊤
 IsShort (Onto path) = ⊤

@@ -2,6 +2,7 @@
 #![tactic(auto)]
 
 mod ahead;
+mod ending;
 mod error;
 mod looking;
 mod walking;

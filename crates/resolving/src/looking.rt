@@ -17,8 +17,10 @@ use tree_trait::{Tree, TreeError};
 /// What a component leads to.
 #[derive(Debug, Drop)]
 pub enum Step {
-    /// The folder at this path.
+    /// The folder at this path, which was looked at.
     Into(Path),
+    /// The folder above, which wasn't looked at.
+    Up(Path),
     /// What stands at this path and is neither a folder nor a link.
     Onto(Path),
     /// A link with this text.
@@ -40,7 +42,7 @@ pub fn step_to<T: Tree>(
     ensures short { IfOk result IsShort }
 {
     if component == ".." {
-        return Ok(Step::Into(above(alloc, folder)?));
+        return Ok(Step::Up(above(alloc, folder)?));
     }
     let path = entry(alloc, folder, component)?;
     look(alloc, tree, path)
@@ -113,7 +115,7 @@ fn read_text<T: Tree>(alloc: Global, tree: &mut T, path: Path) -> Result<Step, R
 }
 
 /// The error for a call that the tree refused at a path.
-fn refused(path: Path, error: TreeError) -> ResolveError
+pub fn refused(path: Path, error: TreeError) -> ResolveError
     ensures { result ≡ refused_by path error }
 {
     match error {

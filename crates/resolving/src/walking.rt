@@ -3,16 +3,17 @@ ghost use Rattle.std.specs.Prelude.{◌≡◌, ◌≢◌, ◌+◌, ◌≤◌, �
 ghost use Rattle.tree_trait.specs.Change.{current};
 ghost use Rattle.tree_trait.specs.Answers.{IfKnown, HasCause};
 ghost use Rattle.resolving.specs.Errors.{Answers, CarriesCause};
-ghost use Rattle.resolving.specs.Resolution.{resolved, walk_from, start_of, end_at, steps_of};
-ghost use Rattle.resolving.specs.Places.{end_of, way_of, way_from};
+ghost use Rattle.resolving.specs.Resolution.{resolved, walk_from, start_of, steps_of};
+ghost use Rattle.resolving.specs.Places.{end_of, into_folder, way_of, way_from};
 
 use crate::ahead::Ahead;
+use crate::ending::{end_in, end_on};
 use crate::error::ResolveError;
 use crate::looking::{Step, step_to};
 use mc_text::Path;
 use std::alloc::Global;
 use std::convert::AsStr;
-use tree_trait::{Tree, TreeError};
+use tree_trait::Tree;
 
 /// The most links that a walk follows (POSIX's SYMLOOP_MAX).
 const MOST_LINKS: u8 = 40;
@@ -110,7 +111,7 @@ fn walk<T: Tree>(
         }
     }
     let Place { folder, .. } = place;
-    Ok(folder)
+    end_in(alloc, tree, wanted, folder)
 }
 
 /// Takes the component that was nearest ahead of a place.
@@ -137,7 +138,8 @@ fn advance<T: Tree>(
         links,
     } = place;
     match step_to(alloc, tree, &folder, component)? {
-        Step::Into(folder) => Ok(Course::GoesOn(Place {
+        Step::Into(folder) => Ok(goes_into(folder, ahead, links)),
+        Step::Up(folder) => Ok(Course::GoesOn(Place {
             folder,
             ahead,
             links,
@@ -155,6 +157,20 @@ fn advance<T: Tree>(
             }
         }
     }
+}
+
+/// How a walk goes on in a folder that was looked at: it ends there where nothing is ahead, without a second look.
+fn goes_into(folder: Path, ahead: Ahead, links: u8) -> Course
+    ensures { result ≡ into_folder folder ahead links }
+{
+    if ahead.is_empty() {
+        return Course::EndsAt(folder);
+    }
+    Course::GoesOn(Place {
+        folder,
+        ahead,
+        links,
+    })
 }
 
 /// Follows a link with this text, whose folder the place is in.
@@ -179,17 +195,4 @@ fn across(alloc: Global, place: Place, text: &str) -> Result<Place, ResolveError
         ahead,
         links: links - 1,
     })
-}
-
-/// What comes of a thing that is no folder: it may end a walk, and nothing lies in it.
-fn end_on(wanted: Wanted, path: Path, is_last: bool) -> Result<Path, ResolveError>
-    ensures { result ≡ end_at wanted is_last path }
-{
-    match (wanted, is_last) {
-        (Wanted::AnyThing, true) => Ok(path),
-        (Wanted::AnyThing, false) | (Wanted::FolderAlone, _) => Err(ResolveError::Tree(
-            path,
-            TreeError::NotFolder,
-        )),
-    }
 }

@@ -60,7 +60,12 @@ const ROWS: &str = "/ /
 / shut/x
 / shut
 / n0
-/ n1";
+/ n1
+/gone .
+/gone 
+/gone ..
+/gone/x ..
+/a/f .";
 
 fn main(rt: HostRuntime) -> Result<()> {
     let alloc = rt.alloc();

@@ -1,7 +1,6 @@
 use Rattle.std.proofs.Common.{◌≡◌, ◌≢◌, [], Some, ap, ◌∙◌, sym}
 use Rattle.std.proofs.lemmas.Result.{IfErr-weaker}
 use Rattle.text_scan.specs.Lines.{lines_of}
-use Rattle.hotlist.specs.declared.error.HotError.{HotError}
 use Rattle.hotlist.specs.declared.error.HotError.TheVariants.{NotText, Memory}
 use Rattle.hotlist.specs.HotFiles.{fault_from, hotlist_fault}
 use Rattle.hotlist.proofs.GrammarLemmas.{hotlist_fault-text, hotlist_fault-no_text}

@@ -1,4 +1,4 @@
-use Rattle.std.proofs.Common.{◌≡◌, ◌∷◌, ◌++◌, [], ℕ, List, Option, Some, None, option_map, MatchOption, length, drop, ap, ◌∙◌, sym, ◌+◌}
+use Rattle.std.proofs.Common.{◌≡◌, ℕ, List, Option, Some, None, option_map, MatchOption, length, drop, ap, ◌∙◌, sym, ◌+◌}
 use denote.Ref.{Bor}
 use Rattle.std.specs.Str.Pattern.{FindsTextPrefix}
 use Rattle.hotlist.specs.HotLines.{behind_word}

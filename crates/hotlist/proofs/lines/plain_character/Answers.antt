@@ -1,4 +1,4 @@
-use Rattle.std.proofs.Common.{◌≡◌, ◌≢◌, ◌++◌, ap, ◌∙◌, sym, encode_utf8, false, arith}
+use Rattle.std.proofs.Common.{◌++◌, ap, ◌∙◌, encode_utf8, false}
 use Rattle.hotlist.specs.HotLines.{up_to_quote}
 use Rattle.hotlist.proofs.QuoteLemmas.{up_to_quote-character, up_to_quote-bad}
 use lib.Utf8.{encode}

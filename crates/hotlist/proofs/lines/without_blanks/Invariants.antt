@@ -1,7 +1,7 @@
 use Rattle.std.proofs.Common.{◌≡◌, length}
 use denote.Text.{Utf8}
 use denote.Shadow.{shadow}
-use Rattle.hotlist.specs.HotLines.{reading_of, without_blanks}
+use Rattle.hotlist.specs.HotLines.{without_blanks}
 use Rattle.hotlist.proofs.lines.without_blanks.Given as goal
 
 abbrev pub invariant-loop-behind : goal.invariant-loop-behind

@@ -1,4 +1,4 @@
-use Rattle.std.proofs.Common.{◌≡◌, ◌≢◌, ◌++◌, ap, ◌∙◌, sym, arith, encode_utf8}
+use Rattle.std.proofs.Common.{◌≢◌, ◌++◌, ap, ◌∙◌, sym, arith}
 use Rattle.std.specs.String.{string_bytes}
 use Rattle.hotlist.proofs.PrintLemmas.{escaped-character}
 use Rattle.hotlist.proofs.print.push_character.Goals as goal

@@ -1,7 +1,6 @@
-use Rattle.std.proofs.Common.{◌≡◌, ℕ, suc, ◌+◌, ◌-◌, ◌∷◌, ◌++◌, [], List, length, map, reverse, ap, ◌∙◌, sym, arith}
+use Rattle.std.proofs.Common.{◌≡◌, ℕ, suc, ◌-◌, ◌∷◌, ◌++◌, [], List, length, map, reverse, ap, ◌∙◌, arith}
 use Rattle.std.proofs.lemmas.List.{length-append, reverse-append, map-append}
 use Rattle.hotlist.specs.declared.draft.OpenGroup.{OpenGroup}
-use Rattle.hotlist.specs.declared.error.HotError.{HotError}
 use Rattle.hotlist.specs.HotLines.{Said, EndLine}
 use Rattle.hotlist.specs.HotFiles.{fault_at}
 use Rattle.hotlist.proofs.draft.Draft.end_group.Goals as goal
