@@ -102,7 +102,8 @@ after_step (Ok (Across text)) into across onto = across text
 after_step (Ok (Onto path)) into across onto = onto path
 after_step (Err e) into across onto = Err e
 
--- The walk along components, at whose end it is looked at what stands there. What is left is prefixed with a link's text, and `follow` walks on from where that begins.
+-- The walk along components, and what stands at its end. What is left is prefixed with a link's text, and `follow` walks on
+-- from where that begins.
 abbrev pub walk_along : FileSystem → Wanted → (follow : Route → List (List ℕ) → Result Route ResolveError)
     → Route → List (List ℕ) → Result Route ResolveError
 walk_along s wanted follow folder [] = end_in s wanted folder
