@@ -284,6 +284,29 @@ def check_dirty_folder(program, base, check):
         check(f"{what} has its box", b"r Retry  b Abort" in written)
 
 
+def check_part_left(program, base, check):
+    """A part that can't be removed is told; a message is closed by Enter, not by F10."""
+    user = None
+    if os.geteuid() == 0:  # root may remove all
+        user = SOMEBODY
+        program = for_somebody(program, base)
+    source, target = (os.path.join(base, f"{side} of a part") for side in ("source", "target"))
+    file = os.path.join(source, "x")
+    os.mkdir(source)
+    os.mkdir(target)
+    make_file(file, 100000, 0o640)
+    if user is not None:
+        for path in (source, target, file):
+            os.chown(path, user, user)
+    shut = lambda _: os.chmod(target, 0o500)
+    status, written, same = run(program, [source, target], COPY + [shut, b"b", F10, ENTER, F10], largest=70000, user=user)
+    os.chmod(target, 0o700)
+    part = os.path.join(target, ".mc.1.0.part")
+    rows = re.findall(rb"\x1b\[(?:19|20);1H([^\x1b]*)", written)
+    told = [b"part left".ljust(80), part.encode().ljust(80)]
+    check("a part that stays is told", status == 0 and same and os.path.exists(part) and all(row in rows for row in told))
+
+
 def main():
     program, starter = os.path.abspath(sys.argv[1]), os.path.abspath(sys.argv[2])
     base = tempfile.mkdtemp()
@@ -318,6 +341,7 @@ def main():
         check_copies(program, base, check)
         check_rows(program, base, check)
         check_dirty_folder(program, base, check)
+        check_part_left(program, base, check)
         check_set_id_bits(program, base, check)
         check_stty(program, base, check)
         check_signals(starter, base, check)

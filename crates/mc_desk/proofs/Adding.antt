@@ -1,5 +1,5 @@
 -- The entries of a desk, one kind at a time: each may follow.
-use Rattle.std.proofs.Common.{◌≡◌, ◌⊎◌, ℕ, ◌+◌, ◌-◌, ◌^◌, ◌≤◌, min, Bool, true, false, ◌||◌, List, [], ◌∷◌, length, refl, sym, ◌∙◌, ap, subst, inl, inr, IsSome, Option, Some, None, Ok, Err, arith}
+use Rattle.std.proofs.Common.{◌≡◌, ◌⊎◌, ℕ, ◌+◌, ◌-◌, ◌≤◌, Bool, true, false, ◌||◌, List, [], ◌∷◌, length, refl, sym, ◌∙◌, ap, subst, inl, inr, IsSome, Option, Some, None, Ok, Err, arith}
 use Rattle.std.specs.Prelude.{if◌then◌else◌, map, option_and_then}
 use Rattle.std.specs.Option.{option_map, option_map_or}
 use Rattle.std.proofs.lemmas.Bool.{eq-eqb}
@@ -35,7 +35,7 @@ use Rattle.history_laws.proofs.Owing.{step_law}
 use Rattle.history_laws.proofs.Reports.{with_one}
 use Rattle.mc_ui.specs.Screens.{Begins, Answers, Ends, KeyLeads, LookLeads, Screen, sight}
 use Rattle.mc_ui.specs.Refused.{has_fault}
-use Rattle.mc_desk.specs.Tallies.{Tally, faults_in, can_step, end_unseen_event}
+use Rattle.mc_desk.specs.Tallies.{Tally, faults_in, can_step, end_unseen_event, next_id, part_left}
 use Rattle.mc_desk.specs.Desks.{Seen, noted, stand_of, stand_with, with_end}
 use Rattle.mc_desk.specs.Sessions.{MayEnd}
 use Rattle.mc_desk.proofs.Answering.{may_answer_told, part_told, waits_told}
@@ -130,7 +130,7 @@ module _ (contents contents_after : Option CallLog) (faults : ℕ) (old new : Se
   pub adds_key : (key : KeyType) (now : ℕ) (refusals : List Refusal) → new.newest ≡ entry seat old.tally.calls count shown (Key key now refusals false) ∷ old.newest → new.tally ≡ old.tally → new.job ≡ old.job
       → new.tally.job ≡ option_map told new.job → old.tally.closed ≡ false → old.tally.due ≡ None → old.tally.lost ≡ false → old.screen.planned ≡ None → contents_after ≡ contents
       → faults_in faults old.newest ≤ count → (has_fault refusals ≡ true → HasRisen (faults_in faults old.newest) count) → IfKnown contents (λ log. AreRefused Stat log refusals)
-      → KeyLeads (sight contents) old.tally.job key refusals old.screen (noted new) → old.quit ≡ false → new.dirty ≡ old.dirty
+      → KeyLeads (sight contents) old.tally.job (next_id old.tally.last) key refusals old.screen (noted new) → old.quit ≡ false → new.dirty ≡ old.dirty
       → Adds contents contents_after faults old new (entry seat old.tally.calls count shown (Key key now refusals false))
   adds_key key now refusals more tally job tells unclosed looked unlost settled same later fault refused leads unasked dirty = record {
     more = more;
@@ -140,7 +140,7 @@ module _ (contents contents_after : Option CallLog) (faults : ℕ) (old new : Se
     counts = record { later = later; fault = fault; calls = omega arith; most = omega arith };
     leads = (
       record { unclosed = unclosed; looked = looked; unlost = unlost },
-      subst (λ s. KeyLeads (sight contents) old.tally.job key refusals s (noted new)) (sym (unasked_screen old unasked)) leads,
+      subst (λ s. KeyLeads (sight contents) old.tally.job (next_id old.tally.last) key refusals s (noted new)) (sym (unasked_screen old unasked)) leads,
     );
     caused = refused;
     traced = leads_still contents contents_after same old new (entry seat old.tally.calls count shown (Key key now refusals false)) refl dirty (λ log stays. (stays, refl)) (job ∙ open_job old.tally.closed old.job unclosed);
@@ -170,7 +170,7 @@ module _ (contents contents_after : Option CallLog) (faults : ℕ) (old new : Se
       → new.tally ≡ record old.tally { unseen = false; due = if can_step old.tally.job then old.tally.due else None } → new.job ≡ old.job → new.tally.job ≡ option_map told new.job
       → old.tally.closed ≡ false → old.screen.planned ≡ None → contents_after ≡ contents
       → faults_in faults old.newest ≤ count → (has_fault refusals ≡ true → HasRisen (faults_in faults old.newest) count) → IfKnown contents (λ log. AreRefused ListFolder log refusals)
-      → LookLeads (sight contents) old.tally.job old.tally.unseen refusals old.screen new.screen → new.quit ≡ old.quit → old.quit ≡ false → new.dirty ≡ old.dirty
+      → LookLeads (sight contents) old.tally.job old.tally.unseen (part_left old.newest) refusals old.screen new.screen → new.quit ≡ old.quit → old.quit ≡ false → new.dirty ≡ old.dirty
       → Adds contents contents_after faults old new (entry seat old.tally.calls count shown (Look refusals))
   adds_look refusals more tally job tells unclosed settled same later fault refused leads quit unasked dirty = record {
     more = more;
@@ -181,8 +181,8 @@ module _ (contents contents_after : Option CallLog) (faults : ℕ) (old new : Se
     counts = record { later = later; fault = fault; calls = omega arith; most = omega arith };
     leads = (
       unclosed,
-      subst (λ s. LookLeads (sight contents) old.tally.job old.tally.unseen refusals s (noted new)) (sym (unasked_screen old unasked))
-          (subst (λ s. LookLeads (sight contents) old.tally.job old.tally.unseen refusals old.screen s) (sym (unasked_screen new (quit ∙ unasked))) leads),
+      subst (λ s. LookLeads (sight contents) old.tally.job old.tally.unseen (part_left old.newest) refusals s (noted new)) (sym (unasked_screen old unasked))
+          (subst (λ s. LookLeads (sight contents) old.tally.job old.tally.unseen (part_left old.newest) refusals old.screen s) (sym (unasked_screen new (quit ∙ unasked))) leads),
     );
     caused = refused;
     traced = leads_still contents contents_after same old new (entry seat old.tally.calls count shown (Look refusals)) refl dirty (λ log stays. (stays, refl)) (job ∙ open_job old.tally.closed old.job unclosed);
@@ -193,7 +193,7 @@ module _ (contents contents_after : Option CallLog) (faults : ℕ) (old new : Se
   pub adds_began : (id : ℕ) (plan : Job) (run : Running) → new.newest ≡ entry seat old.tally.calls count shown (Began id plan false) ∷ old.newest
       → option_map (running id) (first_work id plan) ≡ Some run → new.job ≡ Some run → new.tally ≡ record old.tally { job = Some (told run); last = id; due = Some id }
       → old.tally.closed ≡ false → old.tally.job ≡ None → old.screen.planned ≡ Some (Begins plan) → contents_after ≡ contents → faults_in faults old.newest ≤ count
-      → id ≡ min (old.tally.last + 1) (2 ^ 32 - 1) → new.screen ≡ record old.screen { planned = None } → new.quit ≡ old.quit → old.quit ≡ false → old.job ≡ None → new.dirty ≡ old.dirty
+      → next_id old.tally.last ≡ Some id → new.screen ≡ record old.screen { planned = None } → new.quit ≡ old.quit → old.quit ≡ false → old.job ≡ None → new.dirty ≡ old.dirty
       → Adds contents contents_after faults old new (entry seat old.tally.calls count shown (Began id plan false))
   adds_began id plan run more started job tally unclosed idle planned same later id_is screen quit unasked none dirty = record {
     more = more;

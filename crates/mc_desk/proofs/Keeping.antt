@@ -16,7 +16,7 @@ use Rattle.history_laws.proofs.Moments.{traced_count}
 use Rattle.mc_ui.specs.Screens.{Screen, sight}
 use Rattle.mc_desk.specs.declared.starts.Start.{Start}
 use Rattle.mc_desk.specs.Logs.{Logged}
-use Rattle.mc_desk.specs.Tallies.{Tally, tally, after_entry, most_calls, faults_in}
+use Rattle.mc_desk.specs.Tallies.{Tally, tally, after_entry, most_calls, faults_in, part_left}
 use Rattle.mc_desk.specs.Sessions.{IsSession, Traces, BeginsIn, EventLeads, HasCauses, IsTimely, Counts, folders_of}
 use Rattle.mc_desk.specs.Starts.{IsOpened}
 use Rattle.mc_desk.specs.Desks.{Seen, IsWritten, IsDesk, noted, stand_of, stand_with}
@@ -62,7 +62,7 @@ pub record Adds (contents contents_after : Option CallLog) (faults : ℕ) (old n
   pub told : new.tally.job ≡ option_map told new.job
   pub timely : IsTimely e.what (noted old)
   pub counts : Counts (faults_in faults old.newest) old.tally.calls e
-  pub leads : EventLeads (sight contents) old.tally e.what (noted old) (noted new)
+  pub leads : EventLeads (sight contents) old.tally (part_left old.newest) e.what (noted old) (noted new)
   pub caused : IfKnown contents (HasCauses e.what)
   pub traced : Leads contents contents_after old new e
   pub unknown : contents ≡ None → contents_after ≡ None
@@ -135,7 +135,7 @@ module _ (faults : ℕ) (old new : Seen) (e : Entry) where
       record {
         timely = adds.timely;
         counts = subst (λ n. Counts (faults_in faults old.newest) n e) (ap (λ (t : Tally). t.calls) written.tally) adds.counts;
-        leads = subst (λ t. EventLeads (sight contents) t e.what (noted old) (noted new)) written.tally adds.leads;
+        leads = subst (λ t. EventLeads (sight contents) t (part_left old.newest) e.what (noted old) (noted new)) written.tally adds.leads;
         caused = adds.caused;
         traced = traced_more start opening contents contents_after written adds;
       },

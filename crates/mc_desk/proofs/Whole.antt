@@ -27,9 +27,9 @@ use Rattle.copy_move.specs.Traces.{AreRefused, IsUnclaimed}
 use Rattle.mc_ui.specs.declared.asks.Ask.{Ask}
 use Rattle.mc_ui.specs.declared.asks.Ask.TheVariants as ask
 use Rattle.mc_ui.specs.declared.asks.Confirmed.{Confirmed}
-use Rattle.mc_ui.specs.Screens.{Box, Screen, NoBox, DeleteBox, MaskBox, TargetBox, TroubleBox, Planned, Begins, Answers, ByBox, KeyLeads, LooksAgain, ShowsTrouble, WellAsked, plain_base, sight, with_ask}
+use Rattle.mc_ui.specs.Screens.{Box, Screen, NoBox, DeleteBox, MaskBox, TargetBox, TroubleBox, PartLeftBox, Planned, Begins, Answers, ByBox, KeyLeads, LooksAgain, ShowsTrouble, WellAsked, plain_base, sight, with_ask}
 use Rattle.mc_ui.specs.Refused.{has_fault}
-use Rattle.mc_desk.specs.Tallies.{Tally, faults_in, can_step}
+use Rattle.mc_desk.specs.Tallies.{Tally, faults_in, can_step, next_id, part_left}
 use Rattle.mc_desk.specs.declared.starts.Start.{Start}
 use Rattle.mc_desk.specs.Desks.{Seen, kept_room, IsWritten, IsDesk, noted}
 use Rattle.mc_desk.proofs.Adding.{adds_began, adds_closed, adds_given_up, adds_key, adds_look, adds_lost, adds_order, adds_settled, adds_step, entry, unasked_screen}
@@ -108,9 +108,14 @@ module _ (start : Option Start) (opening contents contents_after : Option CallLo
       mid : Seen
       mid = record old { newest = entry 0 old.tally.calls count shown (Key key now [] true) ∷ old.newest; tally = record old.tally { lost = true } }
 
-  module _ (refusals : List Refusal) (asked : Ask) (fault : has_fault refusals ≡ true → HasRisen (faults_in faults old.newest) count)
-      (refused : IfKnown contents (λ log. AreRefused Stat log refusals)) (leads : KeyLeads (sight contents) old.tally.job key refusals old.screen (with_ask asked new.screen))
+  module _ (refusals : List Refusal) (asked : Ask) (next : Option ℕ) (next_is : next ≡ next_id old.tally.last) (fault : has_fault refusals ≡ true → HasRisen (faults_in faults old.newest) count)
+      (refused : IfKnown contents (λ log. AreRefused Stat log refusals)) (leads : KeyLeads (sight contents) old.tally.job next key refusals old.screen (with_ask asked new.screen))
       (settled : new.screen.planned ≡ None) (room : 2 ≤ new.spare) (tells : new.tally.job ≡ option_map told new.job) where
+    key_leads : (screen : Screen) → with_ask asked new.screen ≡ screen → KeyLeads (sight contents) old.tally.job (next_id old.tally.last) key refusals old.screen screen
+    key_leads screen asks =
+        subst (λ n. KeyLeads (sight contents) old.tally.job n key refusals old.screen screen) next_is
+        (subst (λ s. KeyLeads (sight contents) old.tally.job next key refusals old.screen s) asks leads)
+
     -- a key that was worked
     pub desk_keyed : new.newest ≡ entry 0 old.tally.calls count shown (Key key now refusals false) ∷ old.newest → new.tally ≡ old.tally → new.job ≡ old.job → with_ask asked new.screen ≡ noted new
         → new.dirty ≡ old.dirty → IsDesk start opening contents_after faults new
@@ -118,7 +123,7 @@ module _ (start : Option Start) (opening contents contents_after : Option CallLo
         desk_of start opening contents_after faults new
         (written_more faults old new _ start opening contents contents_after desk.written
         (adds_key contents contents_after faults old new 0 count shown key now refusals more is job tells unclosed looked (unlost start opening contents faults old desk unclosed) desk.settled same later fault refused
-        (subst (λ s. KeyLeads (sight contents) old.tally.job key refusals old.screen s) asks leads) unasked dirty))
+        (key_leads (noted new) asks) unasked dirty))
         settled (λ h. ap (λ (t : Tally). t.closed) is ∙ desk.lost (sym (ap (λ (t : Tally). t.lost) is) ∙ h)) (λ h. ap (λ (t : Tally). t.due) is ∙ looked)
         (λ h. ap (λ (t : Tally). t.due) is ∙ desk.shut (sym (ap (λ (t : Tally). t.closed) is) ∙ h)) room
 
@@ -133,20 +138,20 @@ module _ (start : Option Start) (opening contents contents_after : Option CallLo
     keyed_written screen asks =
         written_more faults old (keyed screen) _ start opening contents contents_after desk.written
         (adds_key contents contents_after faults old (keyed screen) 0 count shown key now refusals refl refl refl desk.written.told unclosed looked (unlost start opening contents faults old desk unclosed) desk.settled same later fault
-        refused (subst (λ s. KeyLeads (sight contents) old.tally.job key refusals old.screen s) (asks ∙ sym (unasked_screen (keyed screen) unasked)) leads) unasked refl)
+        refused (key_leads (noted (keyed screen)) (asks ∙ sym (unasked_screen (keyed screen) unasked))) unasked refl)
 
     -- a key that confirmed a job, and the job that it begins
-    pub desk_began : (confirmed : Confirmed) (id began_count : ℕ) → asked ≡ ask.Begin confirmed → confirmed.run.id ≡ id → old.job ≡ None
+    pub desk_began : (confirmed : Confirmed) (id began_count : ℕ) → asked ≡ ask.Begin confirmed → confirmed.run.id ≡ id → next ≡ Some confirmed.run.id → old.job ≡ None
         → option_map (running confirmed.run.id) (first_work confirmed.run.id confirmed.plan) ≡ Some confirmed.run
         → new.newest ≡ entry 0 old.tally.calls began_count 0 (Began id confirmed.plan false) ∷ (entry 0 old.tally.calls count shown (Key key now refusals false) ∷ old.newest)
-        → count ≤ began_count → id ≡ min (old.tally.last + 1) (2 ^ 32 - 1) → new.job ≡ Some confirmed.run
+        → count ≤ began_count → new.job ≡ Some confirmed.run
         → new.tally ≡ record old.tally { job = Some (told confirmed.run); last = id; due = Some id } → new.quit ≡ old.quit → new.dirty ≡ old.dirty
         → IsDesk start opening contents_after faults new
-    desk_began confirmed id began_count asks number idle started more counted id_is job is quit dirty =
+    desk_began confirmed id began_count asks number numbered idle started more counted job is quit dirty =
         desk_of start opening contents_after faults new
         (written_more faults (keyed screen) new _ start opening contents_after contents_after (keyed_written screen (ap (λ a. with_ask a new.screen) asks))
         (adds_began contents_after contents_after faults (keyed screen) new 0 began_count 0 id confirmed.plan confirmed.run more
-        (subst (λ n. option_map (running n) (first_work n confirmed.plan) ≡ Some confirmed.run) number started) job is unclosed (desk.written.told ∙ ap (option_map told) idle) refl refl counted id_is
+        (subst (λ n. option_map (running n) (first_work n confirmed.plan) ≡ Some confirmed.run) number started) job is unclosed (desk.written.told ∙ ap (option_map told) idle) refl refl counted (sym next_is ∙ (numbered ∙ ap Some number))
         (cleared new.screen settled) quit unasked idle dirty))
         settled (λ h. ap (λ (t : Tally). t.closed) is ∙ desk.lost (sym (ap (λ (t : Tally). t.lost) is) ∙ h)) (λ h. absurd (not_asked h quit))
         (λ h. absurd (let shut = ap (λ (t : Tally). t.closed) is in cc)) room
@@ -191,18 +196,18 @@ desk_closed start opening contents faults old new count desk unclosed later more
 }
 
 -- a look, written down
-pub desk_looked : (start : Option Start) (opening contents contents_after : Option CallLog) (faults : ℕ) (old new : Seen) (count shown : ℕ) (refusals : List Refusal) (trouble : Option Trouble) → IsDesk start opening contents faults old
+pub desk_looked : (start : Option Start) (opening contents contents_after : Option CallLog) (faults : ℕ) (old new : Seen) (count shown : ℕ) (refusals : List Refusal) (trouble : Option Trouble) (part : Option Route) → part ≡ part_left old.newest → IsDesk start opening contents faults old
     → old.tally.closed ≡ false → contents_after ≡ contents → faults_in faults old.newest ≤ count → (has_fault refusals ≡ true → HasRisen (faults_in faults old.newest) count)
-    → IfKnown contents (λ log. AreRefused ListFolder log refusals) → ShowsTrouble old.job trouble → LooksAgain (sight contents) old.tally.unseen trouble refusals old.screen new.screen
+    → IfKnown contents (λ log. AreRefused ListFolder log refusals) → ShowsTrouble old.job trouble → LooksAgain (sight contents) old.tally.unseen trouble part refusals old.screen new.screen
     → new.newest ≡ entry 0 old.tally.calls count shown (Look refusals) ∷ old.newest
     → new.tally ≡ record old.tally { unseen = false; due = if can_step old.tally.job then old.tally.due else None } → new.job ≡ old.job → new.tally.job ≡ option_map told new.job
     → new.screen.planned ≡ None → new.quit ≡ old.quit → 2 ≤ new.spare → new.dirty ≡ old.dirty → old.quit ≡ false
     → IsDesk start opening contents_after faults new
-desk_looked start opening contents contents_after faults old new count shown refusals trouble desk unclosed same later fault refused shows leads more is job tells settled quit room dirty unasked =
+desk_looked start opening contents contents_after faults old new count shown refusals trouble part part_is desk unclosed same later fault refused shows leads more is job tells settled quit room dirty unasked =
     desk_of start opening contents_after faults new
     (written_more faults old new _ start opening contents contents_after desk.written
     (adds_look contents contents_after faults old new 0 count shown refusals more is job tells unclosed desk.settled same later fault refused
-    (trouble, subst (λ j. ShowsTrouble j trouble) (sym desk.written.told) (shows_told old.job trouble shows), leads) quit unasked dirty))
+    (trouble, subst (λ j. ShowsTrouble j trouble) (sym desk.written.told) (shows_told old.job trouble shows), subst (λ p. LooksAgain (sight contents) old.tally.unseen trouble p refusals old.screen new.screen) part_is leads) quit unasked dirty))
     settled (λ h. ap (λ (t : Tally). t.closed) is ∙ desk.lost (sym (ap (λ (t : Tally). t.lost) is) ∙ h)) (λ h. absurd (let no = unasked in cc)) (λ h. absurd (let shut = ap (λ (t : Tally). t.closed) is in cc)) room
 
 -- a step makes at most three changing calls
@@ -239,25 +244,26 @@ room_left closed job live spare reserved left is had kept noted = go closed (sub
     go false had = omega (arith, had, kept, noted)
 
 -- the live job's trouble may be answered as it was asked
-pub asked_live : (next : ℕ) (job : Option Running) (answer : Answer) (live : Running) → job ≡ Some live → WellAsked next job (ask.Answer answer) → MayAnswer live answer
+pub asked_live : (next : Option ℕ) (job : Option Running) (answer : Answer) (live : Running) → job ≡ Some live → WellAsked next job (ask.Answer answer) → MayAnswer live answer
 asked_live next job answer live is (other, was, may) = let same : other ≡ live = let both : Some other ≡ Some live = sym was ∙ is in cc in subst (λ j. MayAnswer j answer) same may
 
 -- a key that is unknown leaves the screen as it was
-unknown_stays : (tree : Option View) (job : Option Running) (key : KeyType) (refusals : List Refusal) (before after : Screen) → plain_base key ≡ Unknown → KeyLeads tree job key refusals before after → after ≡ before
-unknown_stays tree job key refusals before after unknown leads = go before.over (subst (λ b. ByBox before.over tree job b refusals before after) unknown leads)
+unknown_stays : (tree : Option View) (job : Option Running) (next : Option ℕ) (key : KeyType) (refusals : List Refusal) (before after : Screen) → plain_base key ≡ Unknown → KeyLeads tree job next key refusals before after → after ≡ before
+unknown_stays tree job next key refusals before after unknown leads = go before.over (subst (λ b. ByBox before.over tree job next b refusals before after) unknown leads)
   where
-    go : (over : Box) → ByBox over tree job Unknown refusals before after → after ≡ before
+    go : (over : Box) → ByBox over tree job next Unknown refusals before after → after ≡ before
     go NoBox h = h.1
     go (DeleteBox path) h = h.1
     go (MaskBox path) h = h.1
     go (TargetBox path) h = h.1
     go (TroubleBox trouble) h = h.1
+    go (PartLeftBox path) h = h.1
 
 -- so it asks for nothing that is to be carried out
-pub unknown_plans_nothing : (tree : Option View) (job : Option Running) (key : KeyType) (refusals : List Refusal) (before after : Screen) (asked : Ask) (planned : Planned) → plain_base key ≡ Unknown → before.planned ≡ None
-    → KeyLeads tree job key refusals before (with_ask asked after) → (with_ask asked after).planned ≡ Some planned → ⊥
-unknown_plans_nothing tree job key refusals before after asked planned unknown settled leads plans =
-    let none = ap (λ (s : Screen). s.planned) (unknown_stays tree job key refusals before (with_ask asked after) unknown leads) ∙ settled in
+pub unknown_plans_nothing : (tree : Option View) (job : Option Running) (next : Option ℕ) (key : KeyType) (refusals : List Refusal) (before after : Screen) (asked : Ask) (planned : Planned) → plain_base key ≡ Unknown → before.planned ≡ None
+    → KeyLeads tree job next key refusals before (with_ask asked after) → (with_ask asked after).planned ≡ Some planned → ⊥
+unknown_plans_nothing tree job next key refusals before after asked planned unknown settled leads plans =
+    let none = ap (λ (s : Screen). s.planned) (unknown_stays tree job next key refusals before (with_ask asked after) unknown leads) ∙ settled in
     cc
 
 -- the end of a job for want of memory, written down in the room that was kept for it

@@ -1,6 +1,7 @@
 -- A session, as its history tells it: each entry follows from those before it, and from the tree as it stands then. Histories
 -- stand newest first here.
-use Rattle.std.specs.Prelude.{◌≡◌, ◌⊎◌, ℕ, ◌+◌, ◌-◌, ◌^◌, ◌≤◌, min, Bool, true, false, ⊤, if◌then◌else◌, List, [], ◌∷◌, IsSome, Option, Some, None}
+use Rattle.std.specs.Prelude.{◌≡◌, ◌⊎◌, ℕ, ◌+◌, ◌≤◌, Bool, true, false, ⊤, if◌then◌else◌, List, [], ◌∷◌, IsSome, Option, Some, None}
+use Rattle.mc_text.specs.Routes.{Route}
 use Rattle.tree_trait.specs.FileSystem.{View}
 use Rattle.mc_text.specs.Routes.{Route}
 use Rattle.tree_trait.specs.Calls.{Stat, ListFolder}
@@ -19,7 +20,7 @@ use Rattle.history_laws.specs.Traces.{Follows, Stand, at_rest, nothing_live}
 use Rattle.mc_ui.specs.Refused.{has_fault}
 use Rattle.mc_ui.specs.Screens.{Screen, Planned, Begins, Answers, Ends, sight, KeyLeads, LookLeads, IsOpening}
 use Rattle.mc_desk.specs.declared.starts.Start.{Start}
-use Rattle.mc_desk.specs.Tallies.{Tally, tally, most_calls, faults_in}
+use Rattle.mc_desk.specs.Tallies.{Tally, tally, most_calls, faults_in, next_id, part_left}
 
 -- no key is worked in a closed session, where something is to be looked at, or after one was lost
 pub record TakesKey (t : Tally) : Type 0 where
@@ -28,21 +29,21 @@ pub record TakesKey (t : Tally) : Type 0 where
   pub unlost : t.lost ≡ false
 
 -- What an event makes of the screen. Directly after the key that confirmed a job, and nowhere else, it is begun as it was
--- planned, while no other is live; its number is one more than the last one's, as far as numbers go. Directly after the key
--- that answers a trouble the live job is ordered so. A step is one that the live job may make.
-abbrev pub EventLeads : Option View → Tally → Event → Screen → Screen → Type 0
-EventLeads tree t (Key key now refusals true) before after = TakesKey t × (after ≡ before)
-EventLeads tree t (Key key now refusals false) before after = TakesKey t × KeyLeads tree t.job key refusals before after
-EventLeads tree t (Look refusals) before after = (t.closed ≡ false) × LookLeads tree t.job t.unseen refusals before after
-EventLeads tree t (Began id plan background) before after =
+-- planned, while no other is live, under the next number. Directly after the key that answers a trouble the live job is ordered
+-- so. A look takes up a job's end, and shows the part that this left. A step is one that the live job may make.
+abbrev pub EventLeads : Option View → Tally → Option Route → Event → Screen → Screen → Type 0
+EventLeads tree t part (Key key now refusals true) before after = TakesKey t × (after ≡ before)
+EventLeads tree t part (Key key now refusals false) before after = TakesKey t × KeyLeads tree t.job (next_id t.last) key refusals before after
+EventLeads tree t part (Look refusals) before after = (t.closed ≡ false) × LookLeads tree t.job t.unseen part refusals before after
+EventLeads tree t part (Began id plan background) before after =
     (before.planned ≡ Some (Begins plan)) × (t.job ≡ None) × IsSome (first_work id plan) × (background ≡ false)
-    × (id ≡ min (t.last + 1) (2 ^ 32 - 1)) × (after ≡ record before { planned = None })
-EventLeads tree t (Order id (Answered answer)) before after =
+    × (next_id t.last ≡ Some id) × (after ≡ record before { planned = None })
+EventLeads tree t part (Order id (Answered answer)) before after =
     (before.planned ≡ Some (Answers answer)) × ((live : Running) × (t.job ≡ Some live) × (id ≡ live.id) × MayAnswer live answer)
     × (after ≡ record before { planned = None })
-EventLeads tree t (Step id did) before after =
+EventLeads tree t part (Step id did) before after =
     (after ≡ before) × ((live : Running) × (t.job ≡ Some live) × (id ≡ live.id) × IsAllowedStep live did)
-EventLeads tree t Closed before after = after ≡ before
+EventLeads tree t part Closed before after = after ≡ before
 
 -- an event tells of a fault of the tree
 abbrev pub TellsFault : Event → Type 0
@@ -96,7 +97,7 @@ pub record Enters (opening : Option CallLog) (faults : ℕ) (e : Entry) (older :
     (screen : Screen) (stand : Stand) (contents : Option CallLog) : Type 0 where
   pub timely : IsTimely e.what before
   pub counts : Counts (faults_in faults older) (calls_in older) e
-  pub leads : EventLeads (sight stood) (tally older) e.what before screen
+  pub leads : EventLeads (sight stood) (tally older) (part_left older) e.what before screen
   pub caused : IfKnown stood (HasCauses e.what)
   pub traced : Traces opening e older was stood stand contents
 

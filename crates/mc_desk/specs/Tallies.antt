@@ -1,12 +1,13 @@
 -- What a history comes to: the live job, what is due, and what was counted. Histories stand newest first here.
-use Rattle.std.specs.Prelude.{ℕ, Bool, true, false, ◌||◌, if◌then◌else◌, List, [], ◌∷◌, ◌++◌, Option, Some, None}
+use Rattle.std.specs.Prelude.{ℕ, ◌+◌, ◌-◌, ◌^◌, nat_lt, Bool, true, false, ◌||◌, if◌then◌else◌, List, [], ◌∷◌, ◌++◌, Option, Some, None}
 use Rattle.std.specs.Option.{option_map}
+use Rattle.mc_text.specs.Routes.{Route}
 use Rattle.key_screen.specs.declared.keys.Key.{Key as KeyType}
 use Rattle.file_copy.specs.declared.report.Did.TheVariants.{Ended}
 use Rattle.copy_move.specs.declared.history.Event.{Event}
 use Rattle.copy_move.specs.declared.history.Event.TheVariants.{Key, Look, Began, Order, Step, Closed}
 use Rattle.copy_move.specs.declared.history.Entry.{Entry}
-use Rattle.copy_move.specs.Jobs.{Running, waits_on}
+use Rattle.copy_move.specs.Jobs.{Running, ends, waits_on}
 use Rattle.copy_move.specs.Told.{live_job, last_id, is_closed, closes, if_closed, after_event, id_after}
 use Rattle.history_laws.specs.Safe.{calls_in}
 
@@ -19,6 +20,26 @@ end_unseen_event event before = before
 abbrev pub end_unseen : List Entry → Bool
 end_unseen [] = false
 end_unseen (e ∷ older) = end_unseen_event e.what (end_unseen older)
+
+-- the part that a job's end names
+abbrev pub named_part : Event → Option Route
+named_part (Step id (Ended ending part)) = part
+named_part event = None
+
+-- a job's end, or a look, which takes up each earlier end
+abbrev pub is_end_or_look : Event → Bool
+is_end_or_look (Step id did) = ends did
+is_end_or_look (Look refusals) = true
+is_end_or_look event = false
+
+-- the part that the last job's end left, if no look has taken this end up
+abbrev pub part_left : List Entry → Option Route
+part_left [] = None
+part_left (e ∷ older) = if is_end_or_look e.what then named_part e.what else part_left older
+
+-- the number of the next job, one more than the last one's, where one is left
+abbrev pub next_id : ℕ → Option ℕ
+next_id last = if nat_lt last (2 ^ 32 - 1) then Some (last + 1) else None
 
 -- a live job that waits for nothing can be stepped
 abbrev pub can_step : Option Running → Bool

@@ -1,9 +1,10 @@
 //! The history as it is written: entries are added in room that was made before, so that nothing is half written down.
 ghost use Rattle.std.specs.Prelude.{◌≡◌, ◌+◌, ◌-◌, ◌^◌, ◌≤◌, ◌<◌, [], ◌∷◌, length, IfOk, OnOk, OnErr, reverse};
 ghost use Rattle.mc_desk.specs.Logs.{begun_by, jobs_begun};
+ghost use Rattle.mc_desk.specs.Tallies.{is_end_or_look as ends_or_looks, named_part as part_named, part_left as last_part};
 
-use copy_move::{Entries, Entry, Event, History};
-use mc_text::NoMemory;
+use copy_move::{Did, Entries, Entry, Event, History, is_end};
+use mc_text::{NoMemory, Path};
 use std::alloc::Global;
 use std::marker::Model;
 
@@ -62,6 +63,13 @@ impl Log {
         let _added = self.entries.push(entry);
     }
 
+    /// The part that the last job's end left, if no look has taken this end up.
+    pub fn part_left(&self, alloc: Global) -> Result<Option<Path>, NoMemory>
+        ensures { IfOk result (λ part. part ≡ last_part self.now.newest) }
+    {
+        part_left(alloc, self.entries.as_slice())
+    }
+
     /// The history. The newest entry comes last there.
     pub fn into_history(self) -> History
         ensures entries { reverse result.entries ≡ self.newest }
@@ -97,5 +105,46 @@ fn begun_by(what: &Event) -> u64
     match what {
         Event::Began { .. } => 1,
         _ => 0,
+    }
+}
+
+/// The part that the last end among these entries left, if no look has taken this end up. The newest entry comes last.
+fn part_left(alloc: Global, entries: &[Entry]) -> Result<Option<Path>, NoMemory>
+    ensures { IfOk result (λ part. part ≡ last_part (reverse entries.now)) }
+{
+    let mut left = entries;
+    while let Some((entry, older)) = left.split_last() {
+        if is_end_or_look(&entry.what) {
+            return named_part(alloc, &entry.what);
+        }
+        left = older;
+    }
+    Ok(None)
+}
+
+/// Whether an event is a job's end, or a look.
+fn is_end_or_look(what: &Event) -> bool
+    ensures { result ≡ ends_or_looks what.now }
+{
+    match what {
+        Event::Look { .. } => true,
+        Event::Step { did, .. } => is_end(did),
+        _ => false,
+    }
+}
+
+/// The part that a job's end names.
+fn named_part(alloc: Global, what: &Event) -> Result<Option<Path>, NoMemory>
+    ensures { IfOk result (λ part. part ≡ part_named what.now) }
+{
+    match what {
+        Event::Step {
+            did: Did::Ended {
+                part: Some(path),
+                ..
+            },
+            ..
+        } => Ok(Some(path.copy(alloc)?)),
+        _ => Ok(None),
     }
 }

@@ -1,11 +1,13 @@
 //! How a run ends: after its session, or before one began.
-ghost use Rattle.std.specs.Prelude.{◌≡◌, ◌≢◌, ◌≤◌, [], true, Option, None, reverse};
+ghost use Rattle.std.specs.Prelude.{◌≡◌, ◌≢◌, ◌≤◌, ◌<◌, ◌++◌, [], true, IfOk, OnOk, Option, None, Some, codes, reverse, string_bytes};
+ghost use Rattle.mc_text.specs.Drawn.{drawn as drawn_text};
 ghost use Rattle.tree_trait.specs.Answers.{IfKnown, HasRisen};
 ghost use Rattle.copy_move.specs.Told.{live_job};
 ghost use Rattle.history_laws.specs.Traces.{IsTracedTo};
 ghost use Rattle.mc_desk.specs.Logs.{jobs_begun};
 ghost use Rattle.mc_desk.specs.Tallies.{faults_in, has_lost};
 ghost use Rattle.mc_desk.specs.Desks.{IsFresh, RanNothing};
+ghost use Rattle.mc_main.specs.Printed.{PrintsCause, named, start_line as line_for};
 ghost use Rattle.mc_main.specs.Headline.{IsStatusOr, IsStatusOf, RanSession, ReadsKeys, TookAll};
 
 use crate::outcome::Outcome;
@@ -85,6 +87,7 @@ pub fn refuse<T, S: Sink, P>(
 ) -> Outcome<T, S, P>
     ensures status { IsStatusOr status result.status }
     ensures screen { status ≢ 4 → result.status ≡ 4 → HasRisen (S.fault_count screen) (S.fault_count result.screen) }
+    ensures line { result.status < 4 → IfKnown (S.given screen) (λ before. S.given result.screen ≡ Some (before ++ line.now)) }
     ensures tree { result.tree ≡ tree }
     ensures spawner { result.spawner ≡ spawner }
     ensures empty { result.history.entries ≡ [] }
@@ -108,6 +111,8 @@ pub fn refuse_start<T, S: Sink, P>(
 ) -> Outcome<T, S, P>
     ensures status { IsStatusOr 2 result.status }
     ensures cause { result.status ≡ 2 → refused.error ≢ StartError.Memory }
+    ensures line { result.status ≡ 2 → IfKnown (S.given refused.screen) (λ before.
+        PrintsCause words.now refused.error before (S.given result.screen)) }
     ensures screen { result.status ≡ 4 → HasRisen (S.fault_count refused.screen) (S.fault_count result.screen) }
     ensures tree { result.tree ≡ refused.tree }
     ensures spawner { result.spawner ≡ refused.spawner }
@@ -135,24 +140,38 @@ fn start_line(
     words: &[Text],
     side: Side,
     error: TreeError,
-) -> Result<String, NoMemory> {
+) -> Result<String, NoMemory>
+    ensures { IfOk result (λ line. string_bytes line ≡ line_for words.now side error) }
+{
     let mut line = String::from_str(alloc, "mc: ")?;
-    if let Some(word) = word_of(words, side) {
-        line.push_str(drawn(alloc, word.0.as_str())?.0.as_str())?;
-        line.push_str(": ")?;
-    }
+    push_named(alloc, &mut line, words, side)?;
     line.push_str(cause_text(error))?;
     line.push('\n')?;
     Ok(line)
 }
 
-/// The word that names the folder of a panel.
-fn word_of(words: &[Text], side: Side) -> Option<&Text> {
-    match (words, side) {
-        ([_, second, ..], Side::Right) => Some(second),
-        ([first, ..], _) => Some(first),
-        ([], _) => None,
+/// Adds the word that names the folder of a panel, and a colon.
+fn push_named(alloc: Global, line: &mut String, words: &[Text], side: Side) -> Result<(), NoMemory>
+    ensures { OnOk result (string_bytes line.new ≡ string_bytes line.old ++ named side words.now) }
+{
+    match words {
+        [] => Ok(()),
+        [word] => push_word(alloc, line, word),
+        [first, second, ..] => match side {
+            Side::Left => push_word(alloc, line, first),
+            Side::Right => push_word(alloc, line, second),
+        },
     }
+}
+
+/// Adds a word as it is drawn, and a colon.
+fn push_word(alloc: Global, line: &mut String, word: &Text) -> Result<(), NoMemory>
+    ensures { OnOk result (string_bytes line.new ≡ string_bytes line.old ++ (drawn_text word.now ++ codes ": ")) }
+{
+    let shown = drawn(alloc, word.0.as_str())?;
+    line.push_str(shown.0.as_str())?;
+    line.push_str(": ")?;
+    Ok(())
 }
 
 /// A run in which no session began.

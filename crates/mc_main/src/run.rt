@@ -1,5 +1,5 @@
 //! One run of the file manager over its devices.
-ghost use Rattle.std.specs.Prelude.{◌≡◌, ◌⊎◌, ◌≤◌, true, Option, None, reverse};
+ghost use Rattle.std.specs.Prelude.{◌≡◌, ◌⊎◌, ◌≤◌, ◌++◌, true, Option, None, Some, reverse};
 ghost use Rattle.tree_trait.specs.Answers.{IfKnown, HasRisen};
 ghost use Rattle.copy_move.specs.Told.{live_job};
 ghost use Rattle.history_laws.specs.Traces.{IsTracedTo};
@@ -7,6 +7,7 @@ ghost use Rattle.mc_desk.specs.Logs.{jobs_begun};
 ghost use Rattle.mc_desk.specs.Tallies.{faults_in, has_lost};
 ghost use Rattle.mc_desk.specs.Desks.{RanNothing};
 ghost use Rattle.mc_main.specs.Headline.{folders_in, IsStatusOr, MayRefuseStart, RefusesStart, IsRun, ReadsKeys, TookAll, IsSafeRun, IsFinishedRun, IsReplayedRun, IsComplete};
+ghost use Rattle.mc_main.specs.Printed.{PrintsStart, usage_line as line_of_usage};
 
 use crate::endings::{refuse, refuse_start, run_desk, without_session};
 use crate::outcome::Outcome;
@@ -101,6 +102,12 @@ pub fn mc_run<N: Tag, T: Tree, K: Source, S: Sink, P: Spawner, C: Clock, G: Gate
     ensures start { result.status ≡ 2 → IfKnown (T.contents tree) (λ log.
         MayRefuseStart log (folders_in words.now) (T.fault_count tree) (T.fault_count result.tree)) }
     ensures refuses_start { IfKnown (T.contents tree) (λ log. RefusesStart log (folders_in words.now) result.status) }
+
+    // What is printed then.
+    ensures usage_line { result.status ≡ 1 → IfKnown (S.given screen) (λ before.
+        S.given result.screen ≡ Some (before ++ line_of_usage)) }
+    ensures start_line { result.status ≡ 2 → IfKnown (S.given screen) (λ before.
+        PrintsStart (T.contents tree) words.now before (S.given result.screen)) }
 
     // Statuses 3 and 4: only where the device's count of faults has risen. There are no others.
     ensures keyboard { result.status ≡ 3 → HasRisen (K.fault_count keys.old) (K.fault_count keys.new) }

@@ -1,5 +1,5 @@
 -- What a key or a look makes of the screen: the two panels, and the box that stands over them.
-use Rattle.std.specs.Prelude.{◌≡◌, ◌≢◌, ◌⊎◌, ℕ, ◌<◌, Bool, true, false, ◌&&◌, ◌==◌, nat_le, is_none, MatchBool, ⊤, if◌then◌else◌, List, [], ◌∷◌, ◌++◌, length, IsSome, Option, Some, None}
+use Rattle.std.specs.Prelude.{◌≡◌, ◌≢◌, ◌⊎◌, ℕ, ◌<◌, Bool, true, false, ◌&&◌, ◌==◌, nat_le, is_none, is_some, MatchBool, ⊤, if◌then◌else◌, List, [], ◌∷◌, ◌++◌, length, IsSome, Option, Some, None}
 use Rattle.std.specs.Option.{option_map, option_map_or}
 use Rattle.mc_text.specs.Routes.{Route, spelled}
 use Rattle.tree_trait.specs.declared.calls.TreeError.{TreeError}
@@ -29,13 +29,14 @@ use Rattle.mc_ui.specs.declared.reread.Reread.{Reread}
 use Rattle.mc_ui.specs.Panels.{Shown, current_path, moved_down, with_names, ListsFolder}
 
 -- what stands over the panels: nothing, or a box that asks whether to delete a file, shows the mask or the target of a copy,
--- or tells of a job's trouble
+-- tells of a job's trouble, or of a part that a job left
 pub data Box : Type 0 where
   NoBox : Box
   DeleteBox : (path : Route) → Box
   MaskBox : (path : Route) → Box
   TargetBox : (path : Route) → Box
   TroubleBox : (trouble : Trouble) → Box
+  PartLeftBox : (path : Route) → Box
 
 -- what a key asked for and is to be carried out: a job is to be begun, its trouble to be answered, or the session to end
 pub data Planned : Type 0 where
@@ -57,6 +58,7 @@ seen_box (dialog.Delete chosen) = DeleteBox chosen.path
 seen_box (dialog.SourceMask chosen) = MaskBox chosen.path
 seen_box (dialog.CopyTo chosen) = TargetBox chosen.path
 seen_box (dialog.Trouble trouble) = TroubleBox trouble
+seen_box (dialog.PartLeft path) = PartLeftBox path
 
 -- what can be seen of a tree, where it tells
 abbrev pub sight : Option CallLog → Option View
@@ -109,14 +111,14 @@ abbrev pub is_enter : Base → Bool
 is_enter Enter = true
 is_enter other = false
 
--- and begins a job, if none is live
-abbrev pub confirms : Base → Option Running → Bool
-confirms base job = is_enter base && is_none job
+-- and begins a job under the next number, if no job is live and a number is left
+abbrev pub confirms : Base → Option Running → Option ℕ → Option ℕ
+confirms base job next = if is_enter base && is_none job then next else None
 
 -- a key while the delete box asks
-abbrev pub in_delete_box : Base → Option Running → Route → Screen → Screen
-in_delete_box base job path before =
-    if confirms base job then record before { over = NoBox; planned = Some (Begins (delete_plan path)) } else shut_box base before
+abbrev pub in_delete_box : Base → Option Running → Option ℕ → Route → Screen → Screen
+in_delete_box base job next path before =
+    if is_some (confirms base job next) then record before { over = NoBox; planned = Some (Begins (delete_plan path)) } else shut_box base before
 
 -- a key while the source mask is shown
 abbrev pub in_mask_box : Base → Route → Screen → Screen
@@ -142,9 +144,9 @@ PlansCopy tree path target [] before after = IsVacant tree target × (after ≡ 
 PlansCopy tree path target (refusal ∷ more) before after = CopyRefused tree target refusal × (more ≡ []) × (after ≡ before)
 
 -- a key while the target is shown
-abbrev pub InTargetBox : Option View → Base → Option Running → Route → List Refusal → Screen → Screen → Type 0
-InTargetBox tree base job path refusals before after =
-    MatchBool (confirms base job) (PlansCopy tree path (target_in before.right.folder path) refusals before after) ((refusals ≡ []) × (after ≡ shut_box base before))
+abbrev pub InTargetBox : Option View → Base → Option Running → Option ℕ → Route → List Refusal → Screen → Screen → Type 0
+InTargetBox tree base job next path refusals before after =
+    MatchBool (is_some (confirms base job next)) (PlansCopy tree path (target_in before.right.folder path) refusals before after) ((refusals ≡ []) × (after ≡ shut_box base before))
 
 -- the letters of a trouble; Enter is the first of them
 abbrev pub letter_of : Base → Option Answer
@@ -166,6 +168,15 @@ answered_box job (Some answer) base before = if can_answer job answer then recor
 abbrev pub in_trouble_box : Option Running → Base → Screen → Screen
 in_trouble_box job base before = answered_box job (letter_of base) base before
 
+-- the keys that close a message
+abbrev pub closes_message : Base → Bool
+closes_message Enter = true
+closes_message Escape = true
+closes_message other = false
+
+abbrev pub in_message_box : Base → Screen → Screen
+in_message_box base before = if closes_message base then record before { over = NoBox } else before
+
 -- a key while no box is open: Down moves the cursor, F5 and F8 open their boxes, F10 asks for the end
 abbrev pub InPanel : Option View → Option Running → Base → List Refusal → Screen → Screen → Type 0
 InPanel tree job Down refusals before after = (refusals ≡ []) × (after ≡ record before { left = moved_down before.left })
@@ -175,20 +186,21 @@ InPanel tree job (F number) refusals before after =
     ((refusals ≡ []) × (after ≡ (if number == 10 then record before { planned = Some Ends } else before))))
 InPanel tree job other refusals before after = (refusals ≡ []) × (after ≡ before)
 
--- what a key without meta makes of the screen, by what is open; the job is the live one
-abbrev pub ByBox : Box → Option View → Option Running → Base → List Refusal → Screen → Screen → Type 0
-ByBox NoBox tree job base refusals before after = InPanel tree job base refusals before after
-ByBox (DeleteBox path) tree job base refusals before after = (refusals ≡ []) × (after ≡ in_delete_box base job path before)
-ByBox (MaskBox path) tree job base refusals before after = (refusals ≡ []) × (after ≡ in_mask_box base path before)
-ByBox (TargetBox path) tree job base refusals before after = InTargetBox tree base job path refusals before after
-ByBox (TroubleBox trouble) tree job base refusals before after = (refusals ≡ []) × (after ≡ in_trouble_box job base before)
+-- what a key without meta makes of the screen, by what is open; the job is the live one, and the number that of the next
+abbrev pub ByBox : Box → Option View → Option Running → Option ℕ → Base → List Refusal → Screen → Screen → Type 0
+ByBox NoBox tree job next base refusals before after = InPanel tree job base refusals before after
+ByBox (DeleteBox path) tree job next base refusals before after = (refusals ≡ []) × (after ≡ in_delete_box base job next path before)
+ByBox (MaskBox path) tree job next base refusals before after = (refusals ≡ []) × (after ≡ in_mask_box base path before)
+ByBox (TargetBox path) tree job next base refusals before after = InTargetBox tree base job next path refusals before after
+ByBox (TroubleBox trouble) tree job next base refusals before after = (refusals ≡ []) × (after ≡ in_trouble_box job base before)
+ByBox (PartLeftBox path) tree job next base refusals before after = (refusals ≡ []) × (after ≡ in_message_box base before)
 
 -- what a key makes of the screen; one with meta is none of those that are known here
 abbrev pub plain_base : Key → Base
 plain_base key = if key.meta then Unknown else key.base
 
-abbrev pub KeyLeads : Option View → Option Running → Key → List Refusal → Screen → Screen → Type 0
-KeyLeads tree job key refusals before after = ByBox before.over tree job (plain_base key) refusals before after
+abbrev pub KeyLeads : Option View → Option Running → Option ℕ → Key → List Refusal → Screen → Screen → Type 0
+KeyLeads tree job next key refusals before after = ByBox before.over tree job next (plain_base key) refusals before after
 
 -- a refusal, if there is one
 abbrev pub listed : Option Refusal → List Refusal
@@ -212,18 +224,25 @@ abbrev pub with_trouble : Option Trouble → Box → Box
 with_trouble None before = before
 with_trouble (Some trouble) before = TroubleBox trouble
 
--- a look reads each panel again, after a job's end that was not taken up, and shows the trouble that there is
-pub record LooksAgain (tree : Option View) (unseen : Bool) (trouble : Option Trouble) (refusals : List Refusal) (before after : Screen) : Type 0 where
+-- a message tells of the part that a job left
+abbrev pub with_part : Option Route → Box → Box
+with_part None before = before
+with_part (Some path) before = PartLeftBox path
+
+-- A look reads each panel again, after a job's end that was not taken up, and shows the trouble that there is, and the part
+-- that this end left.
+pub record LooksAgain (tree : Option View) (unseen : Bool) (trouble : Option Trouble) (part : Option Route) (refusals : List Refusal) (before after : Screen) : Type 0 where
   pub left : Reread
   pub right : Reread
   pub left_is : IsReread tree unseen before.left.folder left
   pub right_is : IsReread tree unseen before.right.folder right
   pub refused : refusals ≡ listed left.refused ++ listed right.refused
-  pub after_is : after ≡ record before { left = with_names left.names before.left; right = with_names right.names before.right; over = with_trouble trouble before.over }
+  pub after_is : after ≡ record before { left = with_names left.names before.left; right = with_names right.names before.right; over = with_part part (with_trouble trouble before.over) }
 
--- What a look makes of the screen: it takes up what the live job did. The trouble of one that waits gets its box.
-abbrev pub LookLeads : Option View → Option Running → Bool → List Refusal → Screen → Screen → Type 0
-LookLeads tree job unseen refusals before after = (trouble : Option Trouble) × ShowsTrouble job trouble × LooksAgain tree unseen trouble refusals before after
+-- What a look makes of the screen: it takes up what the live job did. The trouble of one that waits gets its box; so does the
+-- part that an ended one left.
+abbrev pub LookLeads : Option View → Option Running → Bool → Option Route → List Refusal → Screen → Screen → Type 0
+LookLeads tree job unseen part refusals before after = (trouble : Option Trouble) × ShowsTrouble job trouble × LooksAgain tree unseen trouble part refusals before after
 
 -- the panels show the same folders
 abbrev pub SameFolders : Screen → Screen → Type 0
@@ -238,8 +257,8 @@ pub record IsOpening (tree : Option View) (screen : Screen) : Type 0 where
   pub planned : screen.planned ≡ None
 
 -- A job is begun under the next number, while none is live; the trouble of one that waits is answered as it may be.
-abbrev pub WellAsked : ℕ → Option Running → Ask → Type 0
-WellAsked next job (ask.Begin confirmed) = (confirmed.run.id ≡ next) × (job ≡ None)
+abbrev pub WellAsked : Option ℕ → Option Running → Ask → Type 0
+WellAsked next job (ask.Begin confirmed) = (next ≡ Some confirmed.run.id) × (job ≡ None)
 WellAsked next job (ask.Answer answer) = (live : Running) × (job ≡ Some live) × MayAnswer live answer
 WellAsked next job ask.Nothing = ⊤
 WellAsked next job ask.End = ⊤

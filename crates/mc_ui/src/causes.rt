@@ -1,10 +1,15 @@
 //! The texts of causes, as they are shown and printed.
+ghost use Rattle.std.specs.Prelude.{◌≡◌};
+ghost use Rattle.mc_ui.specs.Causes.{cause_words};
+
 use copy_move::{Cause, PlanError, Refusal};
 use mc_text::NoMemory;
 use tree_trait::TreeError;
 
 /// What is said of a refused call.
-pub fn cause_text(error: TreeError) -> &'static str {
+pub fn cause_text(error: TreeError) -> &'static str
+    ensures { result.now ≡ cause_words error }
+{
     match error {
         TreeError::Missing => "no such file or folder",
         TreeError::NotFolder => "not a folder",
@@ -21,6 +26,9 @@ pub fn cause_text(error: TreeError) -> &'static str {
         TreeError::Memory => "out of memory",
     }
 }
+
+/// What is said where all numbers of jobs were given.
+pub const NO_MORE_NUMBERS: &str = "too many jobs";
 
 /// What is said of a plan that can't be made.
 pub fn plan_text(error: &PlanError) -> &'static str {

@@ -24,4 +24,6 @@ pub enum Dialog {
     CopyTo(Chosen),
     /// Tells of a job's trouble, and takes an answer.
     Trouble(Trouble),
+    /// Tells which part a job's end left, since it could not be removed.
+    PartLeft(Path),
 }

@@ -103,6 +103,11 @@ fn write_dialog(alloc: Global, frame: &mut String, ui: &Ui) -> Result<(), NoMemo
             write_row(alloc, frame, BOX_ROW + 1, folder.0.as_str())
         }
         Dialog::Trouble(trouble) => write_trouble(alloc, frame, trouble),
+        Dialog::PartLeft(path) => {
+            write_row(alloc, frame, BOX_ROW, "part left")?;
+            let path = path.text(alloc)?;
+            write_row(alloc, frame, BOX_ROW + 1, path.0.as_str())
+        }
     }
 }
 

@@ -6,7 +6,7 @@ ghost use Rattle.copy_move.specs.Told.{told};
 ghost use Rattle.copy_move.specs.Traces.{AreRefused};
 ghost use Rattle.mc_ui.specs.Refused.{has_fault};
 ghost use Rattle.mc_ui.specs.declared.asks.Ask.{Ask};
-ghost use Rattle.mc_ui.specs.Screens.{KeyLeads, LooksAgain, NoBox, WellAsked, listed, plain_base, seen_box, sight, with_ask, with_trouble};
+ghost use Rattle.mc_ui.specs.Screens.{KeyLeads, LooksAgain, NoBox, WellAsked, listed, plain_base, seen_box, sight, with_ask, with_part, with_trouble};
 
 mod boxes;
 mod panel_keys;
@@ -19,7 +19,7 @@ use crate::reread::{Reread, list_again};
 use copy_move::{Refusal, Refusals, Run};
 use file_copy::Trouble;
 use key_screen::{Base, Key};
-use mc_text::NoMemory;
+use mc_text::{NoMemory, Path};
 use std::alloc::Global;
 use std::marker::Model;
 use std::mem;
@@ -82,18 +82,18 @@ impl Ui {
         self.news
     }
 
-    /// Works a key. `job` is the live one, and `next` the number of the one that is begun next. What was refused, the
-    /// refusals say.
+    /// Works a key. `job` is the live one, and `next` the number of the one that is begun next, if one is left. What was
+    /// refused, the refusals say.
     pub fn key<T: Tree>(
         &mut self,
         alloc: Global,
         tree: &mut T,
         job: &Option<Run>,
-        next: u32,
+        next: Option<u32>,
         key: Key,
     ) -> Result<KeyAct, NoMemory>
         ensures leads { IfOk result (λ act. KeyLeads (sight (T.contents tree.old)) (option_map told job.now)
-            key act.refusals self.old (with_ask act.ask self.new)) }
+            next key act.refusals self.old (with_ask act.ask self.new)) }
         ensures asked { IfOk result (λ act. WellAsked next job.now act.ask) }
         ensures called { IfKnown (T.contents tree.old) (λ log. IfOk result (λ act. AreRefused Stat log act.refusals)) }
         ensures fault { IfOk result (λ act. has_fault act.refusals ≡ true → HasRisen (T.fault_count tree.old) (T.fault_count tree.new)) }
@@ -112,18 +112,21 @@ impl Ui {
             Dialog::SourceMask(chosen) => Ok(self.key_in_mask(alloc, chosen, base)),
             Dialog::CopyTo(chosen) => self.key_in_target(alloc, tree, chosen, job, next, base),
             Dialog::Trouble(trouble) => Ok(self.key_in_trouble(alloc, trouble, job, base)),
+            Dialog::PartLeft(path) => Ok(self.key_in_message(alloc, path, base)),
         }
     }
 
-    /// Takes up what a job did. After a job's end, which `unseen` says, each panel is read again. A trouble gets its box.
+    /// Takes up what a job did. After a job's end, which `unseen` says, each panel is read again. A trouble gets its box, and
+    /// so does the part that the end left.
     pub fn look<T: Tree>(
         &mut self,
         alloc: Global,
         tree: &mut T,
         unseen: bool,
         trouble: Option<Trouble>,
+        part: Option<Path>,
     ) -> Result<Refusals, NoMemory>
-        ensures leads { IfOk result (λ refusals. LooksAgain (sight (T.contents tree.old)) unseen trouble refusals self.old self.new) }
+        ensures leads { IfOk result (λ refusals. LooksAgain (sight (T.contents tree.old)) unseen trouble part refusals self.old self.new) }
         ensures called { IfKnown (T.contents tree.old) (λ log. IfOk result (AreRefused ListFolder log)) }
         ensures fault { IfOk result (λ refusals. has_fault refusals ≡ true → HasRisen (T.fault_count tree.old) (T.fault_count tree.new)) }
         ensures left { self.new.left.folder ≡ self.old.left.folder }
@@ -149,6 +152,7 @@ impl Ui {
         self.left.take_names(left_names);
         self.right.take_names(right_names);
         self.show(trouble);
+        self.tell_part(part);
         Ok(refusals)
     }
 
@@ -158,6 +162,15 @@ impl Ui {
     {
         if let Some(trouble) = trouble {
             self.dialog = Dialog::Trouble(trouble);
+        }
+    }
+
+    /// Puts the message of a part that was left over all.
+    fn tell_part(&mut self, part: Option<Path>)
+        ensures { self.new ≡ record self.old { over = with_part part self.old.over } }
+    {
+        if let Some(path) = part {
+            self.dialog = Dialog::PartLeft(path);
         }
     }
 }

@@ -32,6 +32,7 @@ room for 1 | silent | /s /t | down f5 enter enter f10
 room for 1 | silent | /s /t | down f5 enter enter s f10
 room for 1 | silent | /s /t | down f5 enter enter b f10
 room for 1 | silent | /s /t | down f5 enter enter r f10 f10
+room for 1 | tree 13 | /s /t | down f5 enter enter b f10 enter f10
 two files | tree 5 | /a | down f8 enter b f8 enter f10
 two files | tree 5 6 | /a | down f8 enter b f8 enter f10
 two files | tree 5 6 12 | /a | down f8 enter b f8 enter r f10";

@@ -1,8 +1,8 @@
 //! Keys and looks: what a session does for its user.
-ghost use Rattle.std.specs.Prelude.{◌≡◌, ◌+◌, ◌-◌, ◌^◌, min, ◌≤◌, ◌∷◌, ◌++◌, [], ℕ, List, true, false, if◌then◌else◌, IsTrue, IfOk, OnOk, OnErr, Ok, Err, Some, None};
+ghost use Rattle.std.specs.Prelude.{◌≡◌, ◌+◌, ◌≤◌, ◌∷◌, ◌++◌, [], ℕ, List, true, false, if◌then◌else◌, IsTrue, IfOk, OnOk, OnErr, Ok, Err, Some, None};
 ghost use Rattle.copy_move.specs.Told.{IsReady};
 ghost use Rattle.mc_ui.specs.Screens.{ShowsTrouble, plain_base};
-ghost use Rattle.mc_desk.specs.Tallies.{can_step, keys_in};
+ghost use Rattle.mc_desk.specs.Tallies.{can_step, keys_in, next_id as number_after};
 ghost use Rattle.mc_desk.specs.Desks.{BlamesScreen, CountsByte, failed_by, awaited, is_over, is_quit, HasTaken, TakesByte, KeepsKeys};
 
 use super::steps::{closed, closing};
@@ -59,8 +59,8 @@ impl<N: Tag, T: Tree, S: Sink, P: Spawner> Session<N, T, S, P> {
         }
     }
 
-    /// Takes up what the job did, and draws. After the job's end the panel is read again. A session that is closed, or whose
-    /// end was asked, stays as it is.
+    /// Takes up what the job did, and draws. After the job's end the panel is read again, and a message tells of the part that
+    /// the end left. A session that is closed, or whose end was asked, stays as it is.
     pub fn look(&mut self, alloc: Global) -> Result<(), DeskError>
         ensures keys { KeepsKeys self.old self.new }
         ensures dirty { self.new.dirty ≡ self.old.dirty }
@@ -78,8 +78,14 @@ impl<N: Tag, T: Tree, S: Sink, P: Spawner> Session<N, T, S, P> {
         if self.log.reserve(3).is_err() {
             return Err(DeskError::Memory);
         }
+        let Ok(part) = self.log.part_left(alloc) else {
+            return Err(DeskError::Memory);
+        };
         let trouble = shown_trouble(&self.job, self.stuck_at.take());
-        let Ok(refusals) = self.ui.look(alloc, &mut self.tree, self.unseen, trouble) else {
+        let Ok(refusals) = self
+            .ui
+            .look(alloc, &mut self.tree, self.unseen, trouble, part)
+        else {
             return Err(DeskError::Memory);
         };
         let drawn = draw(alloc, &mut self.screen, &self.ui);
@@ -140,8 +146,8 @@ impl<N: Tag, T: Tree, S: Sink, P: Spawner> Session<N, T, S, P> {
         ensures room { OnOk result (self.old.spare ≤ self.new.spare + 2) }
         ensures quit { IfOk result (λ reply. is_quit reply ≡ self.new.quit) }
     {
-        let id = next_id(self.last_id);
-        let Ok(act) = self.ui.key(alloc, &mut self.tree, &self.job, id, key) else {
+        let next = next_id(self.last_id);
+        let Ok(act) = self.ui.key(alloc, &mut self.tree, &self.job, next, key) else {
             return self.lose_key(alloc, key, now);
         };
         let KeyAct { ask, refusals } = act;
@@ -165,12 +171,13 @@ impl<N: Tag, T: Tree, S: Sink, P: Spawner> Session<N, T, S, P> {
             }
             Ask::Begin(confirmed) => {
                 let Confirmed { plan, run } = confirmed;
+                let number = run.id();
                 self.log
-                    .note(began(self.calls, self.tree.faults(), id, plan));
+                    .note(began(self.calls, self.tree.faults(), number, plan));
                 self.job = Some(run);
-                self.last_id = id;
-                self.due = Due::Job(id);
-                self.finish(drawn, DeskReply::Wait(id))
+                self.last_id = number;
+                self.due = Due::Job(number);
+                self.finish(drawn, DeskReply::Wait(number))
             }
             Ask::Answer(answer) => {
                 let Some(mut job) = self.job.take() else {
@@ -281,11 +288,11 @@ impl<N: Tag, T: Tree, S: Sink, P: Spawner> Session<N, T, S, P> {
     }
 }
 
-/// The number of the next job. There are 2^32 - 1; the last is given again.
-fn next_id(last: u32) -> u32
-    ensures { result ≡ min (last + 1) (2 ^ 32 - 1) }
+/// The number of the next job: there are 2^32 - 1, and none is given twice.
+fn next_id(last: u32) -> Option<u32>
+    ensures { result ≡ number_after last }
 {
-    last.saturating_add(1)
+    last.checked_add(1)
 }
 
 /// The entry of a key that was worked.

@@ -1,5 +1,5 @@
 //! Keys while a box is open. Its dialog was taken out, and is put back where the box stays.
-ghost use Rattle.std.specs.Prelude.{◌≡◌, ◌≢◌, ◌≤◌, ℕ, [], false, true, None, Some, OnErr, IfOk, if◌then◌else◌, option_map};
+ghost use Rattle.std.specs.Prelude.{◌≡◌, ◌≢◌, ◌≤◌, ◌&&◌, ℕ, [], false, true, Option, None, Some, OnErr, IfOk, if◌then◌else◌, is_none, option_map};
 ghost use Rattle.tree_trait.specs.Calls.{Stat};
 ghost use Rattle.tree_trait.specs.Answers.{IfKnown, HasRisen};
 ghost use Rattle.copy_move.specs.Told.{told};
@@ -7,18 +7,18 @@ ghost use Rattle.copy_move.specs.Traces.{AreRefused};
 ghost use Rattle.mc_ui.specs.Refused.{has_fault};
 ghost use Rattle.key_screen.specs.declared.keys.Base.{Base as BaseType};
 ghost use Rattle.copy_move.specs.Jobs.{passes_over};
-ghost use Rattle.mc_ui.specs.Screens.{DeleteBox, InTargetBox, MaskBox, NoBox, PlansCopy, TargetBox, TroubleBox, WellAsked, answered_box, can_answer as may_answer, confirms as does_confirm, in_delete_box, in_mask_box, in_trouble_box, is_cancel as does_cancel, is_enter as is_enter_key, letter_of as answer_of, seen_box, sight, target_in, with_ask};
+ghost use Rattle.mc_ui.specs.Screens.{DeleteBox, InTargetBox, MaskBox, NoBox, PartLeftBox, PlansCopy, TargetBox, TroubleBox, WellAsked, answered_box, can_answer as may_answer, closes_message as does_close, confirms as number_for, in_delete_box, in_mask_box, in_message_box, in_trouble_box, is_cancel as does_cancel, is_enter as is_enter_key, letter_of as answer_of, seen_box, sight, target_in, with_ask};
 
 use super::Ui;
 use super::panel_keys::{asks, nothing, one_refusal};
 use crate::asks::{Ask, KeyAct};
-use crate::causes::refusal_text;
+use crate::causes::{NO_MORE_NUMBERS, refusal_text};
 use crate::copying::{CopyPlan, begin_deletion, plan_copy};
 use crate::dialog::{Chosen, Dialog};
 use copy_move::{Answer, Run};
 use file_copy::Trouble;
 use key_screen::Base;
-use mc_text::NoMemory;
+use mc_text::{NoMemory, Path};
 use std::alloc::Global;
 use tree_trait::Tree;
 
@@ -29,12 +29,12 @@ impl Ui {
         alloc: Global,
         chosen: Chosen,
         job: &Option<Run>,
-        next: u32,
+        next: Option<u32>,
         base: Base,
     ) -> Result<KeyAct, NoMemory>
         requires clear { self.old.over ≡ NoBox }
         ensures leads { IfOk result (λ act. with_ask act.ask self.new
-            ≡ in_delete_box base (option_map told job.now) chosen.path (record self.old { over = DeleteBox chosen.path })) }
+            ≡ in_delete_box base (option_map told job.now) next chosen.path (record self.old { over = DeleteBox chosen.path })) }
         ensures refusals { IfOk result (λ act. act.refusals ≡ []) }
         ensures asked { IfOk result (λ act. WellAsked next job.now act.ask) }
         ensures left { self.new.left ≡ self.old.left }
@@ -43,8 +43,8 @@ impl Ui {
         ensures lost { OnErr result (self.new ≡ record self.old { over = DeleteBox chosen.path }) }
     {
         let _news = &self.news;
-        if confirms(base, job) {
-            return match begin_deletion(alloc, &chosen, next) {
+        if let Some(number) = confirms(base, job, next) {
+            return match begin_deletion(alloc, &chosen, number) {
                 Ok(confirmed) => Ok(asks(alloc, Ask::Begin(confirmed))),
                 Err(error) => {
                     self.dialog = Dialog::Delete(chosen);
@@ -52,6 +52,7 @@ impl Ui {
                 }
             };
         }
+        self.news = news_without_number(base, job);
         self.dialog = unless_shut(base, Dialog::Delete(chosen));
         Ok(nothing(alloc))
     }
@@ -78,11 +79,11 @@ impl Ui {
         tree: &mut T,
         chosen: Chosen,
         job: &Option<Run>,
-        next: u32,
+        next: Option<u32>,
         base: Base,
     ) -> Result<KeyAct, NoMemory>
         requires clear { self.old.over ≡ NoBox }
-        ensures leads { IfOk result (λ act. InTargetBox (sight (T.contents tree.old)) base (option_map told job.now) chosen.path
+        ensures leads { IfOk result (λ act. InTargetBox (sight (T.contents tree.old)) base (option_map told job.now) next chosen.path
             act.refusals (record self.old { over = TargetBox chosen.path }) (with_ask act.ask self.new)) }
         ensures asked { IfOk result (λ act. WellAsked next job.now act.ask) }
         ensures called { IfKnown (T.contents tree.old) (λ log. IfOk result (λ act. AreRefused Stat log act.refusals)) }
@@ -95,9 +96,10 @@ impl Ui {
         ensures later { T.fault_count tree.old ≤ T.fault_count tree.new }
     {
         let _news = &self.news;
-        if confirms(base, job) {
-            return self.accept_target(alloc, tree, chosen, next);
+        if let Some(number) = confirms(base, job, next) {
+            return self.accept_target(alloc, tree, chosen, number);
         }
+        self.news = news_without_number(base, job);
         self.dialog = unless_shut(base, Dialog::CopyTo(chosen));
         Ok(nothing(alloc))
     }
@@ -108,12 +110,12 @@ impl Ui {
         alloc: Global,
         tree: &mut T,
         chosen: Chosen,
-        next: u32,
+        number: u32,
     ) -> Result<KeyAct, NoMemory>
         requires clear { self.old.over ≡ NoBox }
         ensures leads { IfOk result (λ act. PlansCopy (sight (T.contents tree.old)) chosen.path (target_in self.old.right.folder chosen.path)
             act.refusals (record self.old { over = TargetBox chosen.path }) (with_ask act.ask self.new)) }
-        ensures numbered { IfOk result (λ act. WellAsked next None act.ask) }
+        ensures numbered { IfOk result (λ act. WellAsked (Some number) None act.ask) }
         ensures called { IfKnown (T.contents tree.old) (λ log. IfOk result (λ act. AreRefused Stat log act.refusals)) }
         ensures fault { IfOk result (λ act. has_fault act.refusals ≡ true → HasRisen (T.fault_count tree.old) (T.fault_count tree.new)) }
         ensures left { self.new.left ≡ self.old.left }
@@ -124,7 +126,7 @@ impl Ui {
         ensures later { T.fault_count tree.old ≤ T.fault_count tree.new }
     {
         let _news = &self.news;
-        let planned = plan_copy(alloc, tree, &chosen, self.right.folder(), next);
+        let planned = plan_copy(alloc, tree, &chosen, self.right.folder(), number);
         match planned {
             Ok(CopyPlan::Begins(confirmed)) => Ok(asks(alloc, Ask::Begin(confirmed))),
             Ok(CopyPlan::Refuses(refusal)) => {
@@ -156,7 +158,7 @@ impl Ui {
         ensures leads { with_ask result.ask self.new
             ≡ in_trouble_box (option_map told job.now) base (record self.old { over = TroubleBox trouble }) }
         ensures refusals { result.refusals ≡ [] }
-        ensures asked { (next : ℕ) → WellAsked next job.now result.ask }
+        ensures asked { (next : Option ℕ) → WellAsked next job.now result.ask }
         ensures left { self.new.left ≡ self.old.left }
         ensures right { self.new.right ≡ self.old.right }
         ensures settled { self.new.planned ≡ None }
@@ -183,7 +185,7 @@ impl Ui {
         ensures leads { (base : BaseType) → with_ask result.ask self.new
             ≡ answered_box (option_map told job.now) (Some answer) base (record self.old { over = TroubleBox trouble }) }
         ensures refusals { result.refusals ≡ [] }
-        ensures asked { (next : ℕ) → WellAsked next job.now result.ask }
+        ensures asked { (next : Option ℕ) → WellAsked next job.now result.ask }
         ensures left { self.new.left ≡ self.old.left }
         ensures right { self.new.right ≡ self.old.right }
         ensures settled { self.new.planned ≡ None }
@@ -193,6 +195,19 @@ impl Ui {
             return asks(alloc, Ask::Answer(answer));
         }
         self.dialog = Dialog::Trouble(trouble);
+        nothing(alloc)
+    }
+
+    /// A key while a message tells of a part that was left.
+    pub(super) fn key_in_message(&mut self, alloc: Global, path: Path, base: Base) -> KeyAct
+        requires clear { self.old.over ≡ NoBox }
+        ensures leads { self.new ≡ in_message_box base (record self.old { over = PartLeftBox path }) }
+        ensures nothing { result ≡ record { ask = Ask.Nothing; refusals = [] } }
+    {
+        let _news = &self.news;
+        if !closes_message(base) {
+            self.dialog = Dialog::PartLeft(path);
+        }
         nothing(alloc)
     }
 }
@@ -225,11 +240,34 @@ fn is_enter(base: Base) -> bool
     matches!(base, Base::Enter)
 }
 
-/// Whether a key begins the job of its box: Enter, where none is live.
-fn confirms(base: Base, job: &Option<Run>) -> bool
-    ensures { result ≡ does_confirm base (option_map told job.now) }
+/// Whether a key asks for the job of its box: Enter, where none is live.
+fn asks_for_job(base: Base, job: &Option<Run>) -> bool
+    ensures { result ≡ (is_enter_key base && is_none (option_map told job.now)) }
 {
     is_enter(base) && job.is_none()
+}
+
+/// The number under which a key begins the job of its box.
+fn confirms(base: Base, job: &Option<Run>, next: Option<u32>) -> Option<u32>
+    ensures { result ≡ number_for base (option_map told job.now) next }
+{
+    if asks_for_job(base, job) { next } else { None }
+}
+
+/// What is said where a key begins no job: that no number is left, if it asks for one.
+fn news_without_number(base: Base, job: &Option<Run>) -> Option<&'static str> {
+    if asks_for_job(base, job) {
+        Some(NO_MORE_NUMBERS)
+    } else {
+        None
+    }
+}
+
+/// Whether a key closes a message.
+fn closes_message(base: Base) -> bool
+    ensures { result ≡ does_close base }
+{
+    matches!(base, Base::Enter | Base::Escape)
 }
 
 /// The answer of a letter. Enter is the first of them.

@@ -1,5 +1,5 @@
 //! Keys while no box is open.
-ghost use Rattle.std.specs.Prelude.{◌≡◌, ◌↔◌, ◌∷◌, ◌≤◌, ℕ, [], true, None, OnErr, IfOk, option_map};
+ghost use Rattle.std.specs.Prelude.{◌≡◌, ◌↔◌, ◌∷◌, ◌≤◌, ℕ, [], true, Option, None, OnErr, IfOk, option_map};
 ghost use Rattle.tree_trait.specs.Calls.{Stat};
 ghost use Rattle.tree_trait.specs.Answers.{IfKnown, HasRisen};
 ghost use Rattle.copy_move.specs.Told.{told};
@@ -37,7 +37,7 @@ impl Ui {
         requires clear { self.old.over ≡ NoBox }
         ensures leads { IfOk result (λ act. InPanel (sight (T.contents tree.old)) (option_map told job.now)
             base act.refusals self.old (with_ask act.ask self.new)) }
-        ensures asked { IfOk result (λ act. (next : ℕ) → WellAsked next job.now act.ask) }
+        ensures asked { IfOk result (λ act. (next : Option ℕ) → WellAsked next job.now act.ask) }
         ensures called { IfKnown (T.contents tree.old) (λ log. IfOk result (λ act. AreRefused Stat log act.refusals)) }
         ensures fault { IfOk result (λ act. has_fault act.refusals ≡ true → HasRisen (T.fault_count tree.old) (T.fault_count tree.new)) }
         ensures left { self.new.left.folder ≡ self.old.left.folder }

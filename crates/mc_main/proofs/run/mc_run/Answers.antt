@@ -4,6 +4,7 @@ use Rattle.history_laws.specs.Traces.{IsTracedTo}
 use Rattle.mc_desk.specs.declared.starts.Start.{Start}
 use Rattle.mc_desk.specs.Tallies.{faults_in}
 use Rattle.mc_main.specs.Headline.{MayRefuseStart, folders_in}
+use Rattle.mc_main.proofs.Printing.{cause_in, prints_start}
 use Rattle.mc_main.proofs.Taking.{reads_none}
 use Rattle.mc_main.proofs.Runs.{none_counted, finished_to, replayed_to, run_in, safe_to, traced_none, refused_start}
 use Rattle.mc_main.proofs.run.mc_run.Goals as goal
@@ -105,3 +106,9 @@ pub returns-in-Err-clause-commands : goal.returns-in-Err-clause-commands
 returns-in-Err-clause-commands g c =
     let same = c.refuse_start.ensures.spawner ∙ c.in-Err.ensures.same_spawner in
     record { ran = ap g.P.Spawner.runs same; failed = ap g.P.Spawner.fault_count same }
+
+pub returns-in-Err-clause-start_line : goal.returns-in-Err-clause-start_line
+returns-in-Err-clause-start_line g c two before known =
+    prints_start (g.T.Tree.contents c.args.tree) c.args.words.now c.in-Err.refused.error before (g.S.Sink.given c.refuse_start.result.screen) (c.refuse_start.ensures.cause two)
+    (λ log is. cause_in log (folders_in c.args.words.now) c.in-Ok.start c.in-Err.refused.error c.in-Ok.ensures.read (c.in-Err.ensures.cause log is))
+    (c.refuse_start.ensures.line two before (ap g.S.Sink.given c.in-Err.ensures.same_screen ∙ known))

@@ -3,7 +3,7 @@ use Rattle.std.proofs.Common.{rules, ◌≡◌, ◌≤◌, ◌∷◌, false, Non
 use Rattle.std.specs.Option.{option_map}
 use Rattle.copy_move.specs.declared.history.Event.TheVariants.{Look}
 use Rattle.copy_move.specs.Told.{told}
-use Rattle.mc_desk.specs.Tallies.{Tally}
+use Rattle.mc_desk.specs.Tallies.{Tally, part_left}
 use Rattle.mc_desk.specs.Desks.{Blames, awaited}
 use Rattle.mc_desk.proofs.Adding.{entry}
 use Rattle.mc_desk.proofs.Answering.{steps_told}
@@ -22,10 +22,10 @@ invariant_of-self-in-Ok-drawn g c =
     let later = c.look.ensures.later in
     let room : 2 ≤ c.note.new.self.spare = search rules in
     record {
-      desk = desk_looked g.N.Tag.start g.N.Tag.opening (g.T.Tree.contents inside.tree) (g.T.Tree.contents c.look.new.tree) g.N.Tag.tree_faults _ _ count c.after_draw-self-inside.result c.in-Ok.refusals c.shown_trouble-trouble.result
-          c.self.invariant.desk unclosed c.look.ensures.same (omega (arith, counted, had, later)) (λ h. let risen = c.in-Ok.ensures.fault h in omega (arith, counted, had, risen)) c.in-Ok.ensures.called
-          c.shown_trouble-trouble.ensures c.in-Ok.ensures.leads
-          (c.note.ensures.added ∙ ap (λ es. entry 0 inside.calls count c.after_draw-self-inside.result (Look c.in-Ok.refusals) ∷ es) c.reserve.ensures.same)
+      desk = desk_looked g.N.Tag.start g.N.Tag.opening (g.T.Tree.contents inside.tree) (g.T.Tree.contents c.look.new.tree) g.N.Tag.tree_faults _ _ count c.after_draw-self-inside.result c.in-Ok-look.refusals c.shown_trouble-trouble.result c.in-Ok.part (c.in-Ok.ensures ∙ ap part_left c.reserve.ensures.same)
+          c.self.invariant.desk unclosed c.look.ensures.same (omega (arith, counted, had, later)) (λ h. let risen = c.in-Ok-look.ensures.fault h in omega (arith, counted, had, risen)) c.in-Ok-look.ensures.called
+          c.shown_trouble-trouble.ensures c.in-Ok-look.ensures.leads
+          (c.note.ensures.added ∙ ap (λ es. entry 0 inside.calls count c.after_draw-self-inside.result (Look c.in-Ok-look.refusals) ∷ es) c.reserve.ensures.same)
           (ap (λ d. let t : Tally = record { job = option_map told inside.job; last = inside.last_id; unseen = false; closed = inside.closed; due = d; lost = inside.lost; calls = inside.calls } in t)
           (c.after_look-self-inside.ensures ∙ ap (λ b. if b then awaited inside.due else None) (c.can_step.ensures ∙ sym (steps_told inside.job))))
           refl refl c.look.ensures.settled refl room refl unasked;
@@ -46,10 +46,10 @@ invariant_of-self-in-Err g c =
     let later = c.look.ensures.later in
     let room : 2 ≤ c.note.new.self.spare = search rules in
     record {
-      desk = desk_looked g.N.Tag.start g.N.Tag.opening (g.T.Tree.contents inside.tree) (g.T.Tree.contents c.look.new.tree) g.N.Tag.tree_faults _ _ count c.after_draw-self-inside.result c.in-Ok.refusals c.shown_trouble-trouble.result
-          c.self.invariant.desk unclosed c.look.ensures.same (omega (arith, counted, had, later)) (λ h. let risen = c.in-Ok.ensures.fault h in omega (arith, counted, had, risen)) c.in-Ok.ensures.called
-          c.shown_trouble-trouble.ensures c.in-Ok.ensures.leads
-          (c.note.ensures.added ∙ ap (λ es. entry 0 inside.calls count c.after_draw-self-inside.result (Look c.in-Ok.refusals) ∷ es) c.reserve.ensures.same)
+      desk = desk_looked g.N.Tag.start g.N.Tag.opening (g.T.Tree.contents inside.tree) (g.T.Tree.contents c.look.new.tree) g.N.Tag.tree_faults _ _ count c.after_draw-self-inside.result c.in-Ok-look.refusals c.shown_trouble-trouble.result c.in-Ok.part (c.in-Ok.ensures ∙ ap part_left c.reserve.ensures.same)
+          c.self.invariant.desk unclosed c.look.ensures.same (omega (arith, counted, had, later)) (λ h. let risen = c.in-Ok-look.ensures.fault h in omega (arith, counted, had, risen)) c.in-Ok-look.ensures.called
+          c.shown_trouble-trouble.ensures c.in-Ok-look.ensures.leads
+          (c.note.ensures.added ∙ ap (λ es. entry 0 inside.calls count c.after_draw-self-inside.result (Look c.in-Ok-look.refusals) ∷ es) c.reserve.ensures.same)
           (ap (λ d. let t : Tally = record { job = option_map told inside.job; last = inside.last_id; unseen = false; closed = inside.closed; due = d; lost = inside.lost; calls = inside.calls } in t)
           (c.after_look-self-inside.ensures ∙ ap (λ b. if b then awaited inside.due else None) (c.can_step.ensures ∙ sym (steps_told inside.job))))
           refl refl c.look.ensures.settled refl room refl unasked;
