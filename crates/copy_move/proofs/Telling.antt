@@ -1,10 +1,9 @@
--- The live job of a trace is, as its history tells it, the live job of the history.
-use Rattle.std.proofs.Common.{◌≡◌, ℕ, Bool, true, false, List, [], ◌∷◌, refl, sym, ap, ◌∙◌, ◌⊎◌, inl, inr, Option, Some, None}
+-- What a history tells of a job follows each thing that the job does.
+use Rattle.std.proofs.Common.{◌≡◌, ℕ, Bool, true, false, [], ◌∷◌, refl, sym, ap, ◌∙◌, ◌⊎◌, inl, inr, Option, Some, None}
 use Rattle.std.specs.Prelude.{if◌then◌else◌, is_some, ◌&&◌}
 use Rattle.std.specs.Option.{option_map}
 use Rattle.mc_text.specs.Routes.{Route, parent_of}
 use Rattle.tree_trait.specs.declared.calls.TreeError.{TreeError}
-use Rattle.tree_trait.specs.Change.{CallLog}
 use Rattle.std.proofs.lemmas.Bool.{false≢true}
 use Rattle.file_copy.specs.declared.report.Cause.TheVariants.{Memory}
 use Rattle.file_copy.specs.declared.report.Trouble.{Trouble}
@@ -26,11 +25,6 @@ use Rattle.copy_move.specs.declared.history.Job.{Job}
 use Rattle.copy_move.specs.declared.history.Job.TheVariants as plan
 use Rattle.copy_move.specs.declared.history.Answer.{Answer}
 use Rattle.copy_move.specs.declared.history.Answer.TheVariants.{Retry, Skip, SkipAll, Abort}
-use Rattle.copy_move.specs.declared.history.Event.{Event}
-use Rattle.copy_move.specs.declared.history.Event.TheVariants.{Key, Look, Order, Step, Closed}
-use Rattle.copy_move.specs.declared.history.Event.TheVariants as event
-use Rattle.copy_move.specs.declared.history.JobOrder.TheVariants.{Answered}
-use Rattle.copy_move.specs.declared.history.Entry.{Entry}
 use Rattle.copy_move.specs.declared.work.Work.{Work}
 use Rattle.copy_move.specs.declared.work.Work.TheVariants.{Copy, Delete}
 use Rattle.copy_move.specs.declared.run.Course.{Course}
@@ -40,9 +34,7 @@ use Rattle.copy_move.specs.declared.deletion.Stage.TheVariants as deletion
 use Rattle.copy_move.specs.Deletions.{Deleting, cause_of, trouble_at}
 use Rattle.copy_move.specs.Deletions as deletions
 use Rattle.copy_move.specs.Jobs.{Running, JobTells, TellsOn, WorkTells, WorkWinds, answered, answered_on, at_barrier, copies, course_after, deletes, ends, first_work, is_fresh, skipped, taken_anew}
-use Rattle.copy_move.specs.Told.{after_event, after_step, course_told, if_closed, is_closed, live_job, running, stage_told, synced, told, work_told}
-use Rattle.copy_move.specs.Settling.{Settles, left_dirty}
-use Rattle.copy_move.specs.Traces.{EntryLeads, EventLeads, IsTraced}
+use Rattle.copy_move.specs.Told.{after_step, course_told, if_closed, running, stage_told, synced, told, work_told}
 
 -- a job, by its parts
 abbrev job_of : ℕ → Work → Course → Running
@@ -257,21 +249,6 @@ began_told id (plan.Copy []) = refl
 began_told id (plan.Copy (pair ∷ [])) = began_if id (is_some (parent_of pair.source) && is_some (parent_of pair.target)) (copies id pair.source pair.target) refl
 began_told id (plan.Copy (pair ∷ more ∷ pairs)) = refl
 
-event_told : (was : Option Running) (what : Event) (after : Option Running) (log now : CallLog) → EventLeads was what after log now → option_map told after ≡ after_event what (option_map told was)
-event_told None (Step id did) after log now h = absurd h
-event_told (Some job) (Step id did) after log now (inl (new, tells, calls, is)) = ap (option_map told) is ∙ step_told job new did tells
-event_told (Some job) (Step id did) after log now (inr (is, none, same)) = ap (option_map told) none ∙ sym (ap (λ d. after_step d (told job)) is)
-event_told None (Key key time refusals lost) after log now h = ap (option_map told) h.0
-event_told (Some job) (Key key time refusals lost) after log now h = ap (option_map told) h.0
-event_told None (Look refusals) after log now h = ap (option_map told) h.0
-event_told (Some job) (Look refusals) after log now h = ap (option_map told) h.0
-event_told None (event.Began id plan background) after log now h = ap (option_map told) h.0 ∙ began_told id plan
-event_told (Some job) (event.Began id plan background) after log now h = ap (option_map told) h.0 ∙ began_told id plan
-event_told None (Order id (Answered answer)) after log now h = ap (option_map told) h.0
-event_told (Some job) (Order id (Answered answer)) after log now h = ap (option_map told) h.0 ∙ ap Some (answered_told answer job)
-event_told None Closed after log now h = ap (option_map told) h.0
-event_told (Some job) Closed after log now h = ap (option_map told) h.0
-
 -- the sync of a folder that an ended job left comes before the first change, and leaves the work as it is
 synced_copy : (c : Copying) (stage : Stage) (folder : FolderState) → copying.is_fresh stage folder ≡ true → synced (work_told (Copy (record c { stage = stage; folder = folder }))) ≡ work_told (Copy (record c { stage = stage; folder = folder }))
 synced_copy c at.Begin Synced h = refl
@@ -303,27 +280,7 @@ pub sync_told : (job : Running) (folder : Route) (did : Did) (after : Option Run
 sync_told job folder did after fresh (inl h) = rw (h.0, h.1) (ap (λ w. Some (job_of job.id w job.course)) (sym (fresh_synced job.work fresh)))
 sync_told job folder did after fresh (inr h) = rw (h.1, h.2) (ap (λ course. Some (job_of job.id (work_told job.work) course)) (sym (fresh_unsettled job.work (trouble_at h.0 folder true) fresh refl)))
 
-settles_told : (left : List Route) (was : Option Running) (what : Event) (after : Option Running) (log now : CallLog) → Settles left was what after log now
-    → option_map told after ≡ after_event what (option_map told was)
-settles_told left was what after log now s = rw (s.what_is, s.was_is) (elim s.synced [
-  | inl h ↦ sync_told s.job s.folder s.did after s.fresh (inl (h.0, h.1))
-  | inr h ↦ sync_told s.job s.folder s.did after s.fresh (inr (h.0, h.1, h.2))
-])
-
-entry_told : (left : List Route) (was : Option Running) (what : Event) (after : Option Running) (log now : CallLog) → EntryLeads left was what after log now
-    → option_map told after ≡ after_event what (option_map told was)
-entry_told left was what after log now (inl h) = event_told was what after log now h
-entry_told left was what after log now (inr s) = settles_told left was what after log now s
-
 pub closed_told : (closed : Bool) (job : Option Running) → option_map told (if_closed closed job) ≡ if_closed closed (option_map told job)
 closed_told true None = refl
 closed_told true (Some job) = refl
 closed_told false job = refl
-
--- the live job of a trace is the one of the history
-pub traced_told : (opening now : CallLog) (newest : List Entry) (job : Option Running) → IsTraced opening newest job now → option_map told job ≡ live_job newest
-traced_told opening now [] job h = ap (option_map told) h.0
-traced_told opening now (e ∷ older) job (was, before, traced, follows) =
-    ap (option_map told) follows.job_is
-    ∙ (closed_told (is_closed (e ∷ older)) follows.after
-    ∙ ap (if_closed (is_closed (e ∷ older))) (entry_told (left_dirty older) was e.what follows.after before now follows.leads ∙ ap (after_event e.what) (traced_told opening before older was traced)))

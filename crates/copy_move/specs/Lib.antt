@@ -1,10 +1,7 @@
-pub mod Crashes
 pub mod DeletionSteps
 pub mod Deletions
 pub mod Jobs
-pub mod PlainCrashes
 pub mod Ranks
-pub mod Replay
 pub mod Settling
 pub mod Steps
 pub mod Told

@@ -4,7 +4,6 @@
 mod deletion;
 mod dirty;
 mod history;
-mod laws;
 mod run;
 mod starting;
 mod work;
@@ -16,6 +15,5 @@ pub use history::{
     Answer, AnswerError, Entries, Entry, Event, History, Job, JobOrder, Pair, Pairs, PlanError,
     Refusal, Refusals, is_end, stuck_at,
 };
-pub use laws::{what_a_crash_leaves_of_deletions, what_a_crash_leaves_of_plain_sessions};
 pub use run::{Course, Run};
 pub use work::Work;

@@ -22,6 +22,7 @@ pub fn left_in<T: Tree>(alloc: Global, image: &mut T, scene: Scene) -> Result<St
         Scene::Deletion => left_of_deletion(alloc, image),
         Scene::Copy => left_of_copy(alloc, image),
         Scene::LeftFolder => left_of_deletion(alloc, image),
+        Scene::LeftTarget => left_of_copy(alloc, image),
     }
 }
 

@@ -1,6 +1,6 @@
-//! Walks through every moment of three sessions, of which one deletes a file, one copies a file, and one deletes two files of
-//! which the first is left unsynced, and through the crash images of each: what is left then? The expected lines stand in
-//! `stdout`.
+//! Walks through every moment of four sessions, of which one deletes a file, one copies a file, one deletes two files of which
+//! the first is left unsynced, and one copies a file whose target is left so, and deletes the source; and through the crash
+//! images of each: what is left then? The expected lines stand in `stdout`.
 #![tactic(auto)]
 
 mod images;
@@ -16,6 +16,7 @@ fn main(rt: HostRuntime) -> Result<()> {
     let deletion = scene_lines(alloc, Scene::Deletion)?;
     let copy = scene_lines(alloc, Scene::Copy)?;
     let left = scene_lines(alloc, Scene::LeftFolder)?;
+    let left_target = scene_lines(alloc, Scene::LeftTarget)?;
     for line in deletion.iter() {
         println!(rt; "{line}")?;
     }
@@ -23,6 +24,9 @@ fn main(rt: HostRuntime) -> Result<()> {
         println!(rt; "{line}")?;
     }
     for line in left.iter() {
+        println!(rt; "{line}")?;
+    }
+    for line in left_target.iter() {
         println!(rt; "{line}")?;
     }
     Ok(())

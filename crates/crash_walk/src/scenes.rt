@@ -1,4 +1,4 @@
-//! The three sessions: the trees that they begin with, and their keys.
+//! The four sessions: the trees that they begin with, and their keys.
 ghost use Rattle.std.specs.Prelude.{◌≡◌, []};
 
 use crate::images::walk;
@@ -17,6 +17,9 @@ pub enum Scene {
     Copy,
     /// Two files are deleted. The sync after the first is refused, and so is that of its last steps; the second job makes it.
     LeftFolder,
+    /// A file is copied. The sync after it came to its name is refused, and so is that of the last steps. The second job, which
+    /// deletes the source, makes it before that.
+    LeftTarget,
 }
 
 impl Scene {
@@ -26,6 +29,7 @@ impl Scene {
             Scene::Deletion => "/a/x is deleted",
             Scene::Copy => "/s/e is copied into /t",
             Scene::LeftFolder => "/a/x is deleted and /a not synced, then /a/y is deleted",
+            Scene::LeftTarget => "/s/e is copied and /t not synced, then /s/e is deleted",
         }
     }
 
@@ -35,6 +39,7 @@ impl Scene {
             Scene::Deletion => false,
             Scene::Copy => true,
             Scene::LeftFolder => false,
+            Scene::LeftTarget => true,
         }
     }
 }
@@ -70,6 +75,13 @@ const DELETING_BOTH: &[u8] = b"\x1b[B\x1b[19~\rb\x1b[19~\r\x1b[21~";
 /// The calls that are the first sync, after two listings, a look and the removal, and the one of the last steps.
 const REFUSED_SYNCS: &[u64] = &[5, 6];
 
+/// Down, F5, Enter, Enter, b in the box of the refused sync, F8, Enter, F10.
+const COPYING_AND_DELETING: &[u8] = b"\x1b[B\x1b[15~\r\rb\x1b[19~\r\x1b[21~";
+
+/// The calls that are the sync after the renaming, and the one of the last steps. Before them come two listings, two looks of
+/// the keys, five of the copy, and the part made, filled from what is read, synced and renamed.
+const REFUSED_TARGET_SYNCS: &[u64] = &[15, 16];
+
 /// The lines of a session: its title, and what is left at each moment.
 pub fn scene_lines(alloc: Global, scene: Scene) -> Result<Vec<String>> {
     let tree = played(alloc, scene)?;
@@ -82,6 +94,7 @@ fn played(alloc: Global, scene: Scene) -> Result<MemTree> {
         Scene::Deletion => deletion(alloc),
         Scene::Copy => copy(alloc),
         Scene::LeftFolder => left_folder(alloc),
+        Scene::LeftTarget => left_target(alloc),
     }
 }
 
@@ -99,6 +112,12 @@ fn left_folder(alloc: Global) -> Result<MemTree> {
     let mut tree = two_files(alloc)?;
     tree.fail_calls(alloc, REFUSED_SYNCS)?;
     after_keys(alloc, tree, "/a", "/a", DELETING_BOTH)
+}
+
+fn left_target(alloc: Global) -> Result<MemTree> {
+    let mut tree = file_and_folder(alloc)?;
+    tree.fail_calls(alloc, REFUSED_TARGET_SYNCS)?;
+    after_keys(alloc, tree, "/s", "/t", COPYING_AND_DELETING)
 }
 
 /// The folder `/a` with two files.

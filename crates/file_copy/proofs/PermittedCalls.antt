@@ -1,17 +1,16 @@
 -- What calls change that no check refuses.
-use Rattle.std.proofs.Common.{◌≡◌, ℕ, Bool, true, false, not, List, [], ◌∷◌, refl, sym, ◌∙◌, ap, Option, Some, None, Result, Ok, Err, cond, ℤ}
+use Rattle.std.proofs.Common.{◌≡◌, ℕ, Bool, true, false, not, List, [], ◌∷◌, refl, sym, ◌∙◌, ap, Option, Some, None, Result, Ok, Err, cond}
 use Rattle.std.specs.Prelude.{is_some, is_none, option_and_then}
-use Rattle.std.proofs.lemmas.Bool.{true≢false, false_from_ne_true}
-use Rattle.mc_text.specs.Routes.{Route, same_path}
+use Rattle.std.proofs.lemmas.Bool.{true≢false}
+use Rattle.mc_text.specs.Routes.{Route}
 use Rattle.tree_trait.specs.declared.file_system.FileSystem.{FileSystem}
 use Rattle.tree_trait.specs.declared.calls.TreeError.{TreeError}
 use Rattle.tree_trait.specs.declared.calls.TreeError.TheVariants.{Missing, NotFolder, Denied, Exists}
-use Rattle.tree_trait.specs.Calls.{Stat, MakeFile, RemoveFile, Rename, SyncFolder}
+use Rattle.tree_trait.specs.Calls.{Stat, MakeFile, SyncFolder}
 use Rattle.tree_trait.specs.FileSystem.{lookup, find, node}
 use Rattle.tree_trait.specs.Refusals.{is_folder, lacks, step, and_then, reached, walk, last_step, Place, first_of, folder_of, missing, exists, no_folder, denied, refusal_of}
-use Rattle.tree_trait.specs.Change.{Moves, Removes, change_of, found}
+use Rattle.tree_trait.specs.Change.{found}
 use Rattle.tree_trait.proofs.Walking.{passed_walk, check_passes, last_place, reached-find, walk-find, some_there}
-use Rattle.tree_trait.proofs.Visible.{same_path-true}
 
 none_there : (o : Option ℕ) → is_some o ≡ false → o ≡ None
 none_there None h = refl
@@ -37,17 +36,6 @@ sync_finds s path h =
     let t = some_there w.0.there (check_passes (is_none w.0.there) Missing _ w.2).0 in
     let at : find s path ≡ Some t.0 = walk-find s path w.0 w.1 ∙ t.1 in
     rw at refl
-
-pub removal_is : (s : FileSystem) (name : List ℕ) (up : Route) (h i : ℕ) (time : ℤ) → find s up ≡ Some h → lookup s.names h name ≡ Some i
-    → change_of s (RemoveFile (name ∷ up)) time ≡ Removes h name i
-removal_is s name up h i time folder leads = rw (folder, leads) refl
-
-other_path : (p name : List ℕ) (up : Route) → (p ≡ name → ⊥) → same_path (p ∷ up) (name ∷ up) ≡ false
-other_path p name up apart = false_from_ne_true _ (λ h. let e : (p ∷ up) ≡ name ∷ up = same_path-true (p ∷ up) (name ∷ up) h in apart cc)
-
-pub renaming_is : (s : FileSystem) (p name : List ℕ) (up : Route) (h i : ℕ) (time : ℤ) → (p ≡ name → ⊥) → find s up ≡ Some h → lookup s.names h p ≡ Some i → lookup s.names h name ≡ None
-    → change_of s (Rename (p ∷ up) (name ∷ up)) time ≡ Moves h p h name i None
-renaming_is s p name up h i time apart folder leads none = rw (other_path p name up apart, folder, leads, none) refl
 
 -- a walk that misses something leads nowhere
 not_refused : (b : Bool) (e : TreeError) (rest : Result ℕ TreeError) → (e ≡ Missing → ⊥) → cond b (Err e) rest ≡ Err Missing → rest ≡ Err Missing

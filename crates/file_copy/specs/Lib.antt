@@ -1,10 +1,9 @@
 pub mod CallRuns
 pub mod Chunks
-pub mod Copying
+pub mod Copied
 pub mod CopyCalls
-pub mod CopyCrashes
-pub mod CopyShows
 pub mod CopySteps
+pub mod Copying
 pub mod LastSteps
 pub mod Looking
 pub mod PartNames

@@ -5,7 +5,6 @@
 mod chunk;
 mod copy;
 mod item;
-mod laws;
 mod looks;
 mod part_name;
 mod place;
@@ -16,7 +15,6 @@ mod winding;
 mod work;
 
 pub use copy::{FileCopy, LastStepped, Stepped};
-pub use laws::{what_a_copy_shows, what_a_crash_leaves_of_a_copy, what_a_finished_copy_leaves};
 pub use part_name::PartTest;
 pub use report::{Cause, Did, Ending, Trouble};
 pub use stage::{FolderState, Next, Said, Stage};

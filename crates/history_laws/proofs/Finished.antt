@@ -9,10 +9,10 @@ use Rattle.tree_trait.specs.Change.{CallLog, current}
 use Rattle.tree_trait.specs.CrashImages.{Among, all_settled}
 use Rattle.tree_trait.proofs.Visible.{same_path-self}
 use Rattle.file_copy.specs.declared.report.Ending.{Ending}
-use Rattle.file_copy.specs.declared.report.Ending.TheVariants.{Finished, Aborted, Killed, NoMemory}
+use Rattle.file_copy.specs.declared.report.Ending.TheVariants.{Finished, Aborted}
 use Rattle.file_copy.specs.declared.report.Did.{Did}
 use Rattle.file_copy.specs.declared.report.Did.TheVariants.{Began, Chunk, Placed, Removed, Skipped, Cleaned, Barrier, Troubled, Ended}
-use Rattle.file_copy.specs.Copying.{Copying, Tells, folder_of}
+use Rattle.file_copy.specs.Copying.{Copying}
 use Rattle.file_copy.specs.Copying as copying
 use Rattle.copy_move.specs.declared.deletion.Stage.{Stage}
 use Rattle.copy_move.specs.declared.deletion.Stage.TheVariants.{Remove, Sync, Finish, PassedOver}
@@ -40,43 +40,9 @@ use Rattle.history_laws.specs.Traces.{EventLeads, IsTraced, Stand, SyncLeads, Wo
 use Rattle.history_laws.proofs.Histories.{IsReached, only_job, traced_reached}
 use Rattle.history_laws.proofs.Owing.{in_filter, owed_law}
 use Rattle.history_laws.proofs.Reports.{with_one}
-use Rattle.history_laws.proofs.Sources.{tells_same}
+use Rattle.history_laws.proofs.Sources.{folder_same, tells_same, work_paths}
 
--- the folder of a job stays the same, and work that begins a change is dirty then
-copy_target : (c new : Copying) (did : Did) → Tells c did new → new.target ≡ c.target
-copy_target c new (Began part) t = ap (λ (x : Copying). x.target) t.1.1
-copy_target c new (Chunk count) (part, said, done, stage, least, most, fits, new_is) = ap (λ (x : Copying). x.target) new_is
-copy_target c new (Placed path) (part, said, stage, path_is, new_is) = ap (λ (x : Copying). x.target) new_is
-copy_target c new (Cleaned part) (follows, stage, new_is) = ap (λ (x : Copying). x.target) new_is
-copy_target c new Barrier (stage, dirty, new_is) = ap (λ (x : Copying). x.target) new_is
-copy_target c new (Troubled trouble) (barrier, new_is) = ap (λ (x : Copying). x.target) new_is
-copy_target c new (Ended Finished part) (stage, synced, part_is, new_is) = ap (λ (x : Copying). x.target) new_is
-copy_target c new (Ended Aborted part) t = absurd t
-copy_target c new (Ended Killed part) t = absurd t
-copy_target c new (Ended NoMemory part) t = absurd t
-copy_target c new (Removed path) t = absurd t
-copy_target c new (Skipped path why) t = absurd t
-
-delete_path : (d new : Deleting) (did : Did) → deletions.Tells d did new → new.path ≡ d.path
-delete_path d new (Removed path) (stage, path_is, new_is) = ap (λ (x : Deleting). x.path) new_is
-delete_path d new Barrier (stage, new_is) = ap (λ (x : Deleting). x.path) new_is
-delete_path d new (Troubled trouble) (at, new_is) = ap (λ (x : Deleting). x.path) new_is
-delete_path d new (Ended Finished part) (is_done, part_is, new_is) = ap (λ (x : Deleting). x.path) new_is
-delete_path d new (Ended Aborted part) t = absurd t
-delete_path d new (Ended Killed part) t = absurd t
-delete_path d new (Ended NoMemory part) t = absurd t
-delete_path d new (Began part) t = absurd t
-delete_path d new (Chunk count) t = absurd t
-delete_path d new (Placed path) t = absurd t
-delete_path d new (Skipped path why) t = absurd t
-delete_path d new (Cleaned part) t = absurd t
-
-same_folder : (old new : Work) (did : Did) → WorkTells old did new → changed_folder new ≡ changed_folder old
-same_folder (Copy c) (Copy new) did t = ap folder_of (copy_target c new did t)
-same_folder (Copy c) (Delete new) did t = absurd t
-same_folder (Delete d) (Copy new) did t = absurd t
-same_folder (Delete d) (Delete new) did t = ap folder_of (delete_path d new did t)
-
+-- work that begins a change is dirty then
 dirty_then : (old new : Work) (did : Did) → WorkTells old did new → begins_change did ≡ true → is_dirty new ≡ true
 dirty_then (Copy c) (Copy new) (Began part) t h = ap (λ (x : Copying). copying.is_dirty x.folder) t.1.1
 dirty_then (Copy c) (Copy new) (Removed path) t h = absurd t
@@ -151,7 +117,7 @@ module _ (job new : Running) (did : Did) (dirty dirty_after : List Route) (log n
   tidy_on : (course : Course) → job.course ≡ course → TellsOn course job did new → LeavesDirty course job.work did new.work dirty dirty_after (Some log) (Some now) → IsTidy before dirty job
       → IsTidy (before || begins_change did) dirty_after new
   tidy_on GoesOn is (work, tells, new_is) leaves old changed going clean among =
-      let folder = ap (λ (x : Running). changed_folder x.work) new_is ∙ same_folder job.work work did tells in
+      let folder = ap (λ (x : Running). changed_folder x.work) new_is ∙ folder_same work job.work (work_paths job.work work did tells) in
       let first : begins_change did ≡ true → ⊥ = λ h. both_ways _ clean (ap (λ (x : Running). is_dirty x.work) new_is ∙ dirty_then job.work work did tells h) in
       tidy_by (is_dirty job.work) refl leaves folder
       (λ not_dirty. elim (changed_by before (begins_change did) changed) [ inl b ↦ old b (subst IsGoing (sym is) tt) not_dirty | inr h ↦ absurd (first h) ]) clean among

@@ -44,7 +44,7 @@ use Rattle.history_laws.proofs.JobSteps.{gives_up}
 use Rattle.history_laws.proofs.Knowing.{Said, IsKept, anywhere}
 use Rattle.history_laws.proofs.Pending.{pending_settled, within_settled}
 use Rattle.history_laws.proofs.Reports.{HasLive, JobsKnow, first_knows, knows_after, live_after, with_one}
-use Rattle.history_laws.proofs.Sources.{IsSame, answer_same, replayed_same, source_in, tells_same}
+use Rattle.history_laws.proofs.Sources.{IsSame, answer_same, replayed_same, paths_in, tells_same}
 use Rattle.history_laws.proofs.Stepped.{AreMids, Comes, doubt_by, more, part_after, said_after}
 
 -- what holds after these entries
@@ -253,8 +253,8 @@ module _ (opening : CallLog) (older : List Entry) (calls : ℕ) (was : Stand) (b
         (λ m k. knows_after (said_after now did job.work told) dirty_after m (current now) new did k) (live_then new (settled_same syncs.synced)))
       where
         settled_same : Rattle.copy_move.specs.Steps.SyncsFolder job syncs.folder did new was.dirty dirty_after (Some before) (Some now) → IsSame job new
-        settled_same (inl (did_is, new_is, routes, called)) = (ap (λ (x : Running). x.id) new_is, ap (λ (x : Running). source_in x.work) new_is)
-        settled_same (inr (e, did_is, new_is, routes, called)) = (ap (λ (x : Running). x.id) new_is, ap (λ (x : Running). source_in x.work) new_is)
+        settled_same (inl (did_is, new_is, routes, called)) = (ap (λ (x : Running). x.id) new_is, ap (λ (x : Running). paths_in x.work) new_is)
+        settled_same (inr (e, did_is, new_is, routes, called)) = (ap (λ (x : Running). x.id) new_is, ap (λ (x : Running). paths_in x.work) new_is)
     stepped dirty_after jobs after (inr (gives, after_is)) is =
         subst (λ js. Quiet (Step id did) (let st : Stand = record { jobs = js; dirty = dirty_after } in st) now) (sym (jobs_then after jobs is ∙ ap (λ o. Rattle.history_laws.specs.Traces.before_others o []) after_is))
         (entered dirty_after [] _ (gives_up told was.dirty dirty_after r.marks before now r.kept job.work job.course did job_knows gives.did_is gives.same gives.none) (λ m k. k)

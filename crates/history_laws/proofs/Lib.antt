@@ -3,6 +3,7 @@ pub mod Changing
 pub mod CopySteps
 pub mod Deleted
 pub mod DeletionSteps
+pub mod Done
 pub mod Example
 pub mod Filling
 pub mod Finished

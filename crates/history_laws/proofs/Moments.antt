@@ -127,10 +127,19 @@ live_part [] told dirty marks s live path knows is part = absurd (let e : (let o
 live_part (job ∷ []) told dirty marks s live path knows (w, is, source) part = subst (λ l. IsLivePart l path) (sym is) ((let l : LiveJob = record { id = job.id; work = w; part = told.part } in l), inl refl, part)
 live_part (job ∷ other ∷ jobs) told dirty marks s live path knows is part = absurd knows
 
+-- a session adds calls to the log
+pub same_base : (opening : CallLog) (tree : IsTree (current opening)) (settled : all_settled opening.changes ≡ true) (newest : List Entry) (stand : Stand) (now : CallLog) → IsTraced opening newest stand now
+    → now.opening ≡ opening.opening
+same_base opening tree settled [] stand now traced = ap (λ (l : CallLog). l.opening) traced.1
+same_base opening tree settled (e ∷ older) stand now (was, before, traced, f) =
+    let n = enters opening older e.calls was before (traced_reached opening tree settled older was before traced) e.what f.after now f.leads f.counts in
+    ap (λ (l : CallLog). l.opening) n.now_is ∙ same_base opening tree settled older was before traced
+
 pub replay_law : ReplayLaw
 replay_law opening now newest stand tree settled traced =
     let r = traced_reached opening tree settled newest stand now traced in
     record {
+      base = same_base opening tree settled newest stand now traced;
       tree = r.kept.known.guarded.tree;
       shows = λ path other. r.kept.known.shows path (λ part. other (live_part stand.jobs (told_of opening now newest r.part) stand.dirty r.marks (current now) (live_jobs newest) path r.knows r.live part));
     }

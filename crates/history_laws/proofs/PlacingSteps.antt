@@ -26,7 +26,7 @@ use Rattle.file_copy.specs.declared.report.Did.TheVariants.{Placed}
 use Rattle.file_copy.specs.declared.stage.Said.{Said as SaidOf}
 use Rattle.file_copy.specs.CallRuns.{AllDone, StopsAt, RunStops}
 use Rattle.file_copy.specs.CopyCalls.{part_mode, placing}
-use Rattle.file_copy.specs.CopyCrashes.{copied}
+use Rattle.file_copy.specs.Copied.{copied}
 use Rattle.file_copy.specs.Copying.{Copying, folder_of}
 use Rattle.file_copy.proofs.CopyAnswers.{IsDoneCall, done_call, some_log}
 use Rattle.file_copy.proofs.FilledParts.{Holds, holds_copy}

@@ -16,7 +16,7 @@ use Rattle.history_laws.specs.LiveJobs.{LiveJob, after_report}
 use Rattle.history_laws.specs.Traces.{before_others, unless_ended, with_job}
 use Rattle.history_laws.proofs.Knowing.{Said}
 use Rattle.history_laws.proofs.JobKnows.{HasName, KnowsAfter, WorkKnows}
-use Rattle.history_laws.proofs.Sources.{source_in}
+use Rattle.history_laws.proofs.Sources.{paths_in}
 use Rattle.history_laws.proofs.Stepped.{part_after}
 
 -- what is known of the live jobs: of none no part stands
@@ -28,7 +28,7 @@ JobsKnow told dirty marks s (job ∷ other ∷ jobs) = ⊥
 -- the history tells of these live jobs
 abbrev pub HasLive : List LiveJob → List Running → Option Route → Type 0
 HasLive live [] part = live ≡ []
-HasLive live (job ∷ []) part = (w : Work) × (live ≡ (let l : LiveJob = record { id = job.id; work = w; part = part } in l) ∷ []) × (source_in w ≡ source_in job.work)
+HasLive live (job ∷ []) part = (w : Work) × (live ≡ (let l : LiveJob = record { id = job.id; work = w; part = part } in l) ∷ []) × (paths_in w ≡ paths_in job.work)
 HasLive live (job ∷ other ∷ jobs) part = ⊥
 
 same_id : (id : ℕ) → (id == id) ≡ true
@@ -50,7 +50,7 @@ module _ (told : Said) (dirty : List Route) (marks : Marks) (s : FileSystem) (ne
   knows_after Barrier k = k
   knows_after (Troubled trouble) k = k
 
-module _ (id : ℕ) (w : Work) (part : Option Route) (new : Running) (same : new.id ≡ id) (source : source_in w ≡ source_in new.work) where
+module _ (id : ℕ) (w : Work) (part : Option Route) (new : Running) (same : new.id ≡ id) (source : paths_in w ≡ paths_in new.work) where
   abbrev one : List LiveJob
   one = (let l : LiveJob = record { id = id; work = w; part = part } in l) ∷ []
 

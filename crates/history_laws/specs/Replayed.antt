@@ -6,7 +6,7 @@ use Rattle.tree_trait.specs.FileSystem.{View, put, value_at, visible_tree}
 use Rattle.tree_trait.specs.Change.{CallLog, current}
 use Rattle.file_copy.specs.declared.report.Did.{Did}
 use Rattle.file_copy.specs.declared.report.Did.TheVariants.{Began, Chunk, Placed, Removed, Skipped, Cleaned, Barrier, Troubled, Ended}
-use Rattle.file_copy.specs.CopyCrashes.{copied}
+use Rattle.file_copy.specs.Copied.{copied}
 use Rattle.copy_move.specs.declared.history.Event.{Event}
 use Rattle.copy_move.specs.declared.history.Event.TheVariants.{Key, Look, Order, Step, Closed}
 use Rattle.copy_move.specs.declared.history.Event.TheVariants as event

@@ -46,8 +46,10 @@ SessionLaw = (opening now : CallLog) (newest standing coming : List Entry) (stan
     → IsMoment newest standing coming calls → IsCrashImage now (length opening.changes + calls) image
     → IsSafe opening now standing (front opening calls now) image ⊎ IsSafe opening now coming (front opening calls now) image
 
--- What can be seen at its end is what the history makes of the opening, but for the parts of live jobs.
+-- The log goes on from the opening, and what can be seen at its end is what the history makes of the opening, but for the parts
+-- of live jobs.
 pub record Replays (opening : CallLog) (newest : List Entry) (now : CallLog) : Type 0 where
+  pub base : now.opening ≡ opening.opening
   pub tree : IsTree (current now)
   pub shows : (path : Route) → (IsLivePart (live_jobs newest) path → ⊥) → visible_tree (current now) path ≡ replayed_tree opening now newest path
 

@@ -1,6 +1,6 @@
 -- What is on the disk stays on the disk until an entry names it again; so what a finished job did stays done. Histories stand
 -- newest first here.
-use Rattle.std.specs.Prelude.{◌≡◌, ◌⊎◌, ℕ, ◌+◌, Bool, true, false, List, [], ◌∷◌, length, Option}
+use Rattle.std.specs.Prelude.{◌≡◌, ◌⊎◌, ℕ, ◌+◌, Bool, true, false, List, [], ◌∷◌, length, Option, Some}
 use Rattle.std.specs.Option.{option_map_or}
 use Rattle.mc_text.specs.Routes.{Route, same_path}
 use Rattle.tree_trait.specs.declared.file_system.FileSystem.{FileSystem}
@@ -16,10 +16,11 @@ use Rattle.copy_move.specs.declared.history.Event.{Event}
 use Rattle.copy_move.specs.declared.history.Event.TheVariants.{Key, Look, Order, Step, Closed}
 use Rattle.copy_move.specs.declared.history.Event.TheVariants as event
 use Rattle.copy_move.specs.declared.history.Entry.{Entry}
+use Rattle.copy_move.specs.declared.work.Work.{Work}
 use Rattle.copy_move.specs.Jobs.{JobTells, Running}
 use Rattle.copy_move.specs.Settling.{changed_folder}
 use Rattle.history_laws.specs.Doubt.{is_unsettled}
-use Rattle.history_laws.specs.LiveJobs.{IsLivePart, live_jobs}
+use Rattle.history_laws.specs.LiveJobs.{IsLivePart, live_jobs, work_of}
 use Rattle.history_laws.specs.Owed.{has_changed}
 use Rattle.history_laws.specs.Replayed.{front, named_parts, replayed_tree}
 use Rattle.history_laws.specs.Safe.{IsMoment, calls_in}
@@ -68,3 +69,27 @@ FinishedStaysLaw = (opening now : CallLog) (newest older standing coming : List 
     → was.jobs ≡ job ∷ [] → JobTells job (Ended Finished part) new → has_changed job.id older ≡ true → folder_of path ≡ changed_folder job.work → (Among (named_parts older) path → ⊥)
     → IsMoment newest standing coming calls → IsUnnamedSince older path standing → IsUnnamedSince older path coming → IsCrashImage now (length opening.changes + calls) image
     → value_at image path ≡ (replayed_tree opening now older path).value
+
+-- This entry, after the older ones, is the report of a job that it is finished, which has changed something in this folder.
+pub record HasFinished (e : Entry) (older : List Entry) (folder : Route) : Type 0 where
+  pub id : ℕ
+  pub part : Option Route
+  pub work : Work
+  pub ended : e.what ≡ Step id (Ended Finished part)
+  pub changed : has_changed id older ≡ true
+  pub its : work_of id (live_jobs older) ≡ Some work
+  pub within : folder ≡ changed_folder work
+
+-- The same in the words of the history alone: once a job that has changed something has reported that it is finished, each
+-- path of its folder holds after a crash at any later moment, inside a call too, what the history said then, until an entry
+-- names it; but for paths that were named as parts, and a part that its end names.
+abbrev pub StaysDone : CallLog → CallLog → List Entry → Type 0
+StaysDone opening now newest =
+    (e : Entry) (older standing coming : List Entry) (calls : ℕ) (path : Route) (image : FileSystem)
+    → HasFinished e older (folder_of path) → (Among (named_parts older) path → ⊥) → names_path e.what path ≡ false
+    → IsMoment newest standing coming calls → IsUnnamedSince (e ∷ older) path standing → IsUnnamedSince (e ∷ older) path coming
+    → IsCrashImage now (length opening.changes + calls) image → value_at image path ≡ (replayed_tree opening now older path).value
+
+abbrev pub DoneLaw : Type 0
+DoneLaw = (opening now : CallLog) (newest : List Entry) (stand : Stand)
+    → IsTree (current opening) → all_settled opening.changes ≡ true → IsTraced opening newest stand now → StaysDone opening now newest

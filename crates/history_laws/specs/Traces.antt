@@ -112,3 +112,13 @@ abbrev pub IsTraced : CallLog → List Entry → Stand → CallLog → Type 0
 IsTraced opening [] stand now = (stand ≡ nothing_live) × (now ≡ opening)
 IsTraced opening (e ∷ older) stand now =
     (was : Stand) × (before : CallLog) × IsTraced opening older was before × Follows opening e older was before stand now
+
+-- a session in which no job is live
+abbrev pub at_rest : List Route → Stand
+at_rest dirty = record { jobs = []; dirty = dirty }
+
+-- The same of a tree that tells what it holds, at the end of a session: it goes on telling, and no job is live. One that tells
+-- nothing at the opening never does.
+abbrev pub IsTracedTo : Option CallLog → Option CallLog → List Entry → Type 0
+IsTracedTo None contents newest = contents ≡ None
+IsTracedTo (Some opening) contents newest = (now : CallLog) × (dirty : List Route) × (contents ≡ Some now) × IsTraced opening newest (at_rest dirty) now

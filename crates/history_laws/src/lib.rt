@@ -4,7 +4,7 @@
 
 ghost use Rattle.history_laws.specs.Owed.{FinishedLaw, FirstChangeLaw, OwedLaw, StepLaw};
 ghost use Rattle.history_laws.specs.Safe.{ReplayLaw, SessionLaw};
-ghost use Rattle.history_laws.specs.Staying.{FinishedStaysLaw, StaysLaw};
+ghost use Rattle.history_laws.specs.Staying.{DoneLaw, FinishedStaysLaw, StaysLaw};
 
 /// At each moment of a session, inside a call too, each path holds after a crash what the history says, or what it held
 /// before its last change, as long as that isn't on the disk; parts may be missing or hold anything.
@@ -40,6 +40,11 @@ pub fn what_stays_on_the_disk()
 /// What a job that is finished did in its folder stays done: no crash at a later moment brings back what a path held before.
 pub fn what_a_finished_job_did_stays()
     ensures { FinishedStaysLaw }
+{}
+
+/// The same in the words of the history alone, once the job has reported that it is finished.
+pub fn what_was_finished_stays()
+    ensures { DoneLaw }
 {}
 
 /// The machine's own step is one of which such a history tells.

@@ -1,13 +1,15 @@
 -- The entries of a desk, one kind at a time: each may follow.
-use Rattle.std.proofs.Common.{◌≡◌, ◌⊎◌, ℕ, ◌+◌, ◌-◌, ◌^◌, ◌≤◌, min, Bool, true, false, ◌||◌, List, [], ◌∷◌, length, refl, sym, ◌∙◌, ap, subst, inl, inr, IsSome, Option, Some, None, Ok, Err, arith}
-use Rattle.std.specs.Prelude.{if◌then◌else◌, option_and_then}
-use Rattle.std.specs.Option.{option_map}
+use Rattle.std.proofs.Common.{◌≡◌, ◌⊎◌, ℕ, ◌+◌, ◌-◌, ◌≤◌, Bool, true, false, ◌||◌, List, [], ◌∷◌, length, refl, sym, ◌∙◌, ap, subst, inl, inr, IsSome, Option, Some, None, Ok, Err, arith}
+use Rattle.std.specs.Prelude.{if◌then◌else◌, map, option_and_then}
+use Rattle.std.specs.Option.{option_map, option_map_or}
+use Rattle.std.proofs.lemmas.Bool.{eq-eqb}
 use Rattle.key_screen.specs.declared.keys.Key.{Key as KeyType}
 use Rattle.mc_text.specs.Routes.{Route}
 use Rattle.tree_trait.specs.declared.calls.TreeError.{TreeError}
 use Rattle.tree_trait.specs.Calls.{Stat, ListFolder, SyncFolder}
 use Rattle.tree_trait.specs.Change.{CallLog}
-use Rattle.tree_trait.specs.Answers.{IfKnown, HasRisen, Performs}
+use Rattle.tree_trait.specs.Answers.{IfKnown, HasRisen}
+use Rattle.file_copy.specs.CallRuns.{HasMore}
 use Rattle.file_copy.specs.declared.report.Did.{Did}
 use Rattle.file_copy.specs.declared.report.Did.TheVariants.{Began as BeganPart, Chunk, Placed, Removed, Skipped, Cleaned, Barrier, Troubled, Ended}
 use Rattle.file_copy.specs.declared.report.Trouble.{Trouble}
@@ -21,22 +23,23 @@ use Rattle.copy_move.specs.declared.history.Job.{Job}
 use Rattle.copy_move.specs.declared.history.Refusal.{Refusal}
 use Rattle.copy_move.specs.Jobs.{Running, MayAnswer, answered, closed_job, ends, first_work, part_of, waits_on}
 use Rattle.copy_move.specs.Told.{after_step, if_closed, running, told}
+use Rattle.copy_move.specs.declared.work.Work.{Work}
 use Rattle.copy_move.specs.declared.run.Course.TheVariants.{Unsettled}
 use Rattle.copy_move.specs.Deletions.{cause_of, trouble_at}
-use Rattle.copy_move.specs.Settling.{FolderSettles, IsOwed, left_dirty}
-use Rattle.copy_move.specs.Steps.{SettlingStep, StepsOn, SyncsFolder}
+use Rattle.copy_move.specs.Steps.{OwnStep, RunStep, SettlingStep, SyncsFolder}
 use Rattle.copy_move.specs.Traces.{AreRefused, IsUnclaimed}
-use Rattle.copy_move.specs.Traces as traces
-use Rattle.copy_move.proofs.StillTelling.{performs_tells, step_tells}
+use Rattle.copy_move.proofs.StillTelling.{StillTells, performs_tells, step_tells}
 use Rattle.copy_move.proofs.Telling.{answered_told, began_told, closed_told, fresh_told, step_told, sync_told}
+use Rattle.history_laws.specs.Traces.{EventLeads, IsJob, Stand, StepLeads, before_others, begun, ordered, with_job}
+use Rattle.history_laws.proofs.Owing.{step_law}
+use Rattle.history_laws.proofs.Reports.{with_one}
 use Rattle.mc_ui.specs.Screens.{Begins, Answers, Ends, KeyLeads, LookLeads, Screen, sight}
 use Rattle.mc_ui.specs.Refused.{has_fault}
 use Rattle.mc_desk.specs.Tallies.{Tally, faults_in, can_step, end_unseen_event, next_id, part_left}
-use Rattle.mc_desk.specs.Desks.{Seen, noted, with_end}
+use Rattle.mc_desk.specs.Desks.{Seen, noted, stand_of, stand_with, with_end}
 use Rattle.mc_desk.specs.Sessions.{MayEnd}
 use Rattle.mc_desk.proofs.Answering.{may_answer_told, part_told, waits_told}
 use Rattle.mc_desk.proofs.Keeping.{Adds, Leads}
-use Rattle.mc_desk.proofs.Owing.{fresh_left}
 
 abbrev pub entry : ℕ → ℕ → ℕ → ℕ → Event → Entry
 entry seat calls faults shown what = record { seat = seat; calls = calls; faults = faults; shown = shown; what = what }
@@ -86,18 +89,50 @@ module _ (contents contents_after : Option CallLog) (same : contents_after ≡ c
   still_unknown none = same ∙ none
 
   -- an entry that makes no changing call
-  leads_on : (old new : Seen) (e : Entry) (after : Option Running) → e.calls ≡ old.tally.calls → ((log : CallLog) → contents ≡ Some log → traces.EventLeads old.job e.what after log log)
+  leads_on : (old new : Seen) (e : Entry) (after : Option Running) → e.calls ≡ old.tally.calls → ((log : CallLog) → contents ≡ Some log → EventLeads (stand_of old) e.what (stand_with after new.dirty) log log)
       → new.job ≡ if_closed (Rattle.copy_move.specs.Told.closes e.what || old.tally.closed) after → Leads contents contents_after old new e
-  leads_on old new e after calls leads job log known = (log, after, same ∙ known, inl (leads log known), job, (let l : length log.changes ≡ length log.changes = refl in omega (arith, calls)))
+  leads_on old new e after calls leads job log known = (log, after, same ∙ known, leads log known, job, (let l : length log.changes ≡ length log.changes = refl in omega (arith, calls)))
+
+  -- nor changes where the session stands
+  leads_still : (old new : Seen) (e : Entry) → e.calls ≡ old.tally.calls → new.dirty ≡ old.dirty → ((log : CallLog) → stand_with old.job new.dirty ≡ stand_of old → EventLeads (stand_of old) e.what (stand_with old.job new.dirty) log log)
+      → new.job ≡ if_closed (Rattle.copy_move.specs.Told.closes e.what || old.tally.closed) old.job → Leads contents contents_after old new e
+  leads_still old new e calls dirty leads job = leads_on old new e old.job calls (λ log known. leads log (ap (stand_with old.job) dirty)) job
+
+-- a job that was begun is the one that is live
+begins : (id : ℕ) (plan : Job) (run : Running) (old new : Seen) → option_map (running id) (first_work id plan) ≡ Some run → new.dirty ≡ old.dirty
+    → stand_with (Some run) new.dirty ≡ record (stand_of old) { jobs = begun id plan }
+begins id plan run old new started dirty =
+    ap (stand_with (Some run)) dirty ∙ ap (λ jobs. let s : Stand = record { jobs = jobs; dirty = old.dirty } in s) (sym (one (first_work id plan) started))
+  where
+    one : (work : Option Work) → option_map (running id) work ≡ Some run → option_map_or (λ w. running id w ∷ []) work [] ≡ run ∷ []
+    one None is = absurd cc
+    one (Some work) is = let same : running id work ≡ run = cc in ap (λ j. j ∷ []) same
+
+-- the live job is the one that was ordered
+answers : (answer : Answer) (live : Running) (old new : Seen) → old.job ≡ Some live → new.dirty ≡ old.dirty
+    → stand_with (Some (answered answer live)) new.dirty ≡ record (stand_of old) { jobs = map (ordered live.id (Answered answer)) (before_others old.job []) }
+answers answer live old new is dirty =
+    ap (stand_with (Some (answered answer live))) dirty
+    ∙ (ap (λ b. let s : Stand = record { jobs = (if b then answered answer live else live) ∷ []; dirty = old.dirty } in s) (sym (eq-eqb live.id live.id refl))
+    ∙ ap (λ j. let s : Stand = record { jobs = map (ordered live.id (Answered answer)) (before_others j []); dirty = old.dirty } in s) (sym is))
+
+-- the live job is the one that made the step
+steps : (old new : Seen) (live : Running) (did : Did) (after : Option Running) (log now : CallLog) → old.job ≡ Some live → StepLeads live did after old.dirty new.dirty log now
+    → EventLeads (stand_of old) (Step live.id did) (stand_with after new.dirty) log now
+steps old new live did after log now is leads = (
+  live,
+  subst (λ j. IsJob live.id (before_others j []) live) (sym is) (inl (refl, refl)),
+  (after, leads, sym (with_one live after) ∙ ap (λ j. with_job live.id after (before_others j [])) (sym is)),
+)
 
 module _ (contents contents_after : Option CallLog) (faults : ℕ) (old new : Seen) (seat count shown : ℕ) where
   -- a key that was worked
   pub adds_key : (key : KeyType) (now : ℕ) (refusals : List Refusal) → new.newest ≡ entry seat old.tally.calls count shown (Key key now refusals false) ∷ old.newest → new.tally ≡ old.tally → new.job ≡ old.job
       → new.tally.job ≡ option_map told new.job → old.tally.closed ≡ false → old.tally.due ≡ None → old.tally.lost ≡ false → old.screen.planned ≡ None → contents_after ≡ contents
       → faults_in faults old.newest ≤ count → (has_fault refusals ≡ true → HasRisen (faults_in faults old.newest) count) → IfKnown contents (λ log. AreRefused Stat log refusals)
-      → KeyLeads (sight contents) old.tally.job (next_id old.tally.last) key refusals old.screen (noted new) → old.quit ≡ false
+      → KeyLeads (sight contents) old.tally.job (next_id old.tally.last) key refusals old.screen (noted new) → old.quit ≡ false → new.dirty ≡ old.dirty
       → Adds contents contents_after faults old new (entry seat old.tally.calls count shown (Key key now refusals false))
-  adds_key key now refusals more tally job tells unclosed looked unlost settled same later fault refused leads unasked = record {
+  adds_key key now refusals more tally job tells unclosed looked unlost settled same later fault refused leads unasked dirty = record {
     more = more;
     tally = tally ∙ open_tally old.tally unclosed;
     told = tells;
@@ -107,7 +142,8 @@ module _ (contents contents_after : Option CallLog) (faults : ℕ) (old new : Se
       record { unclosed = unclosed; looked = looked; unlost = unlost },
       subst (λ s. KeyLeads (sight contents) old.tally.job (next_id old.tally.last) key refusals s (noted new)) (sym (unasked_screen old unasked)) leads,
     );
-    traced = leads_on contents contents_after same old new (entry seat old.tally.calls count shown (Key key now refusals false)) old.job refl (λ log known. (refl, refl, refused log known)) (job ∙ open_job old.tally.closed old.job unclosed);
+    caused = refused;
+    traced = leads_still contents contents_after same old new (entry seat old.tally.calls count shown (Key key now refusals false)) refl dirty (λ log stays. (stays, refl)) (job ∙ open_job old.tally.closed old.job unclosed);
     unknown = still_unknown contents contents_after same;
   }
 
@@ -115,16 +151,17 @@ module _ (contents contents_after : Option CallLog) (faults : ℕ) (old new : Se
   pub adds_lost : (key : KeyType) (now : ℕ) → new.newest ≡ entry seat old.tally.calls count shown (Key key now [] true) ∷ old.newest
       → new.tally ≡ record old.tally { lost = true } → new.job ≡ old.job → new.tally.job ≡ option_map told new.job
       → old.tally.closed ≡ false → old.tally.due ≡ None → old.tally.lost ≡ false → old.screen.planned ≡ None → contents_after ≡ contents
-      → faults_in faults old.newest ≤ count → new.screen ≡ old.screen → new.quit ≡ old.quit → old.quit ≡ false
+      → faults_in faults old.newest ≤ count → new.screen ≡ old.screen → new.quit ≡ old.quit → old.quit ≡ false → new.dirty ≡ old.dirty
       → Adds contents contents_after faults old new (entry seat old.tally.calls count shown (Key key now [] true))
-  adds_lost key now more tally job tells unclosed looked unlost settled same later screen quit unasked = record {
+  adds_lost key now more tally job tells unclosed looked unlost settled same later screen quit unasked dirty = record {
     more = more;
     tally = tally ∙ ap (λ b. let r : Tally = record old.tally { job = if_closed b old.tally.job; lost = true } in r) (sym unclosed);
     told = tells;
     timely = unplanned old unasked settled;
     counts = record { later = later; fault = λ h. absurd cc; calls = omega arith; most = omega arith };
     leads = (record { unclosed = unclosed; looked = looked; unlost = unlost }, same_noted old new screen quit);
-    traced = leads_on contents contents_after same old new (entry seat old.tally.calls count shown (Key key now [] true)) old.job refl (λ log known. (refl, refl, tt)) (job ∙ open_job old.tally.closed old.job unclosed);
+    caused = λ log known. tt;
+    traced = leads_still contents contents_after same old new (entry seat old.tally.calls count shown (Key key now [] true)) refl dirty (λ log stays. (stays, refl)) (job ∙ open_job old.tally.closed old.job unclosed);
     unknown = still_unknown contents contents_after same;
   }
 
@@ -133,9 +170,9 @@ module _ (contents contents_after : Option CallLog) (faults : ℕ) (old new : Se
       → new.tally ≡ record old.tally { unseen = false; due = if can_step old.tally.job then old.tally.due else None } → new.job ≡ old.job → new.tally.job ≡ option_map told new.job
       → old.tally.closed ≡ false → old.screen.planned ≡ None → contents_after ≡ contents
       → faults_in faults old.newest ≤ count → (has_fault refusals ≡ true → HasRisen (faults_in faults old.newest) count) → IfKnown contents (λ log. AreRefused ListFolder log refusals)
-      → LookLeads (sight contents) old.tally.job old.tally.unseen (part_left old.newest) refusals old.screen new.screen → new.quit ≡ old.quit → old.quit ≡ false
+      → LookLeads (sight contents) old.tally.job old.tally.unseen (part_left old.newest) refusals old.screen new.screen → new.quit ≡ old.quit → old.quit ≡ false → new.dirty ≡ old.dirty
       → Adds contents contents_after faults old new (entry seat old.tally.calls count shown (Look refusals))
-  adds_look refusals more tally job tells unclosed settled same later fault refused leads quit unasked = record {
+  adds_look refusals more tally job tells unclosed settled same later fault refused leads quit unasked dirty = record {
     more = more;
     tally = tally
         ∙ ap (λ b. let r : Tally = record old.tally { job = if_closed b old.tally.job; unseen = false; due = if can_step old.tally.job then old.tally.due else None } in r) (sym unclosed);
@@ -147,7 +184,8 @@ module _ (contents contents_after : Option CallLog) (faults : ℕ) (old new : Se
       subst (λ s. LookLeads (sight contents) old.tally.job old.tally.unseen (part_left old.newest) refusals s (noted new)) (sym (unasked_screen old unasked))
           (subst (λ s. LookLeads (sight contents) old.tally.job old.tally.unseen (part_left old.newest) refusals old.screen s) (sym (unasked_screen new (quit ∙ unasked))) leads),
     );
-    traced = leads_on contents contents_after same old new (entry seat old.tally.calls count shown (Look refusals)) old.job refl (λ log known. (refl, refl, refused log known)) (job ∙ open_job old.tally.closed old.job unclosed);
+    caused = refused;
+    traced = leads_still contents contents_after same old new (entry seat old.tally.calls count shown (Look refusals)) refl dirty (λ log stays. (stays, refl)) (job ∙ open_job old.tally.closed old.job unclosed);
     unknown = still_unknown contents contents_after same;
   }
 
@@ -155,12 +193,12 @@ module _ (contents contents_after : Option CallLog) (faults : ℕ) (old new : Se
   pub adds_began : (id : ℕ) (plan : Job) (run : Running) → new.newest ≡ entry seat old.tally.calls count shown (Began id plan false) ∷ old.newest
       → option_map (running id) (first_work id plan) ≡ Some run → new.job ≡ Some run → new.tally ≡ record old.tally { job = Some (told run); last = id; due = Some id }
       → old.tally.closed ≡ false → old.tally.job ≡ None → old.screen.planned ≡ Some (Begins plan) → contents_after ≡ contents → faults_in faults old.newest ≤ count
-      → next_id old.tally.last ≡ Some id → new.screen ≡ record old.screen { planned = None } → new.quit ≡ old.quit → old.quit ≡ false
+      → next_id old.tally.last ≡ Some id → new.screen ≡ record old.screen { planned = None } → new.quit ≡ old.quit → old.quit ≡ false → old.job ≡ None → new.dirty ≡ old.dirty
       → Adds contents contents_after faults old new (entry seat old.tally.calls count shown (Began id plan false))
-  adds_began id plan run more started job tally unclosed idle planned same later id_is screen quit unasked = record {
+  adds_began id plan run more started job tally unclosed idle planned same later id_is screen quit unasked none dirty = record {
     more = more;
     tally = tally
-        ∙ (ap (λ j. let r : Tally = record old.tally { job = j; last = id; due = Some id } in r) begun
+        ∙ (ap (λ j. let r : Tally = record old.tally { job = j; last = id; due = Some id } in r) told_then
         ∙ ap (λ b. let r : Tally = record old.tally { job = if_closed b (option_map (running id) (first_work id plan)); last = id; due = Some id } in r) (sym unclosed));
     told = ap (λ (t : Tally). t.job) tally ∙ sym (ap (option_map told) job);
     timely = tt;
@@ -173,12 +211,14 @@ module _ (contents contents_after : Option CallLog) (faults : ℕ) (old new : Se
       id_is,
       carried_out old new screen quit unasked,
     );
-    traced = leads_on contents contents_after same old new (entry seat old.tally.calls count shown (Began id plan false)) (Some run) refl (λ log known. (sym started, refl)) (job ∙ open_job old.tally.closed (Some run) unclosed);
+    caused = λ log known. tt;
+    traced = leads_on contents contents_after same old new (entry seat old.tally.calls count shown (Began id plan false)) (Some run) refl
+        (λ log known. (ap (λ j. before_others j []) none, begins id plan run old new started dirty, refl)) (job ∙ open_job old.tally.closed (Some run) unclosed);
     unknown = still_unknown contents contents_after same;
   }
     where
-      begun : Some (told run) ≡ option_map (running id) (first_work id plan)
-      begun = sym (ap (option_map told) started) ∙ began_told id plan
+      told_then : Some (told run) ≡ option_map (running id) (first_work id plan)
+      told_then = sym (ap (option_map told) started) ∙ began_told id plan
 
       some_work : (work : Option Rattle.copy_move.specs.declared.work.Work.Work) → option_map (running id) work ≡ Some run → IsSome work
       some_work None h = absurd cc
@@ -189,9 +229,9 @@ module _ (contents contents_after : Option CallLog) (faults : ℕ) (old new : Se
       → old.job ≡ Some live → MayAnswer live answer → old.tally.job ≡ option_map told old.job → new.job ≡ Some (answered answer live)
       → new.tally ≡ record old.tally { job = Some (told (answered answer live)); due = Some live.id }
       → old.tally.closed ≡ false → old.screen.planned ≡ Some (Answers answer) → contents_after ≡ contents → faults_in faults old.newest ≤ count
-      → new.screen ≡ record old.screen { planned = None } → new.quit ≡ old.quit → old.quit ≡ false
+      → new.screen ≡ record old.screen { planned = None } → new.quit ≡ old.quit → old.quit ≡ false → new.dirty ≡ old.dirty
       → Adds contents contents_after faults old new (entry seat old.tally.calls count shown (Order live.id (Answered answer)))
-  adds_order answer live more is may tells job tally unclosed planned same later screen quit unasked = record {
+  adds_order answer live more is may tells job tally unclosed planned same later screen quit unasked dirty = record {
     more = more;
     tally = tally
         ∙ (ap (λ j. let r : Tally = record old.tally { job = j; due = Some live.id } in r) (ap Some (answered_told answer live) ∙ sym (ap (option_map (answered answer)) told_is))
@@ -205,8 +245,9 @@ module _ (contents contents_after : Option CallLog) (faults : ℕ) (old new : Se
       (told live, told_is, refl, may_answer_told live answer may),
       carried_out old new screen quit unasked,
     );
+    caused = λ log known. tt;
     traced = leads_on contents contents_after same old new (entry seat old.tally.calls count shown (Order live.id (Answered answer))) (Some (answered answer live)) refl
-        (λ log known. (sym (ap (option_map (answered answer)) is), refl)) (job ∙ open_job old.tally.closed (Some (answered answer live)) unclosed);
+        (λ log known. (answers answer live old new is dirty, refl)) (job ∙ open_job old.tally.closed (Some (answered answer live)) unclosed);
     unknown = still_unknown contents contents_after same;
   }
     where
@@ -216,16 +257,17 @@ module _ (contents contents_after : Option CallLog) (faults : ℕ) (old new : Se
   -- the end of keys
   pub adds_closed : new.newest ≡ entry seat old.tally.calls count shown Closed ∷ old.newest
       → new.tally ≡ record old.tally { job = option_map closed_job old.tally.job; closed = true; due = None } → new.job ≡ option_map closed_job old.job → new.tally.job ≡ option_map told new.job
-      → old.screen.planned ≡ None → contents_after ≡ contents → faults_in faults old.newest ≤ count → new.screen ≡ old.screen → new.quit ≡ old.quit
+      → old.screen.planned ≡ None → contents_after ≡ contents → faults_in faults old.newest ≤ count → new.screen ≡ old.screen → new.quit ≡ old.quit → new.dirty ≡ old.dirty
       → Adds contents contents_after faults old new (entry seat old.tally.calls count shown Closed)
-  adds_closed more tally job tells settled same later screen quit = record {
+  adds_closed more tally job tells settled same later screen quit dirty = record {
     more = more;
     tally = tally;
     told = tells;
     timely = may_end old settled;
     counts = record { later = later; fault = λ h. absurd h; calls = omega arith; most = omega arith };
     leads = same_noted old new screen quit;
-    traced = leads_on contents contents_after same old new (entry seat old.tally.calls count shown Closed) old.job refl (λ log known. (refl, refl)) job;
+    caused = λ log known. tt;
+    traced = leads_still contents contents_after same old new (entry seat old.tally.calls count shown Closed) refl dirty (λ log stays. (stays, refl)) job;
     unknown = still_unknown contents contents_after same;
   }
 
@@ -245,55 +287,65 @@ module _ (contents contents_after : Option CallLog) (faults : ℕ) (old new : Se
   stepped_tally t job job' unseen unseen' calls p q =
       ap (λ j. let r : Tally = record t { job = j; unseen = unseen; calls = calls } in r) p ∙ ap (λ u. let r : Tally = record t { job = job'; unseen = u; calls = calls } in r) q
 
-  -- a step of the job
+  -- what a step says of the tree, once that goes on telling
+  step_traced : (live stepped : Running) (did : Did) (made calls before after : ℕ) → old.job ≡ Some live → RunStep IsUnclaimed live stepped did made old.dirty new.dirty contents contents_after before after
+      → calls ≡ old.tally.calls + made → new.job ≡ if_closed old.tally.closed (if ends did then None else Some stepped) → (counted : IfKnown contents (λ log. IfKnown contents_after (HasMore log made)))
+      → ((log : CallLog) → contents ≡ Some log → StillTells contents_after) → Leads contents contents_after old new (entry seat calls count shown (Step live.id did))
+  step_traced live stepped did made calls before after is run calls_is job counted tells log known =
+      let here = tells log known in
+      let more = counted log known here.0 here.1 in (
+        here.0,
+        (if ends did then None else Some stepped),
+        here.1,
+        steps old new live did (if ends did then None else Some stepped) log here.0 is
+            (step_law live stepped did made old.dirty new.dirty log here.0 before after
+            (subst (λ x. RunStep IsUnclaimed live stepped did made old.dirty new.dirty x (Some here.0) before after) known
+            (subst (λ x. RunStep IsUnclaimed live stepped did made old.dirty new.dirty contents x before after) here.1 run))),
+        job,
+        omega (arith, more, calls_is),
+      )
+
+  -- a step of the job's own
   pub adds_step : (live stepped : Running) (did : Did) (made calls before after : ℕ) → old.job ≡ Some live → old.tally.job ≡ option_map told old.job
-      → StepsOn IsUnclaimed live stepped did made contents contents_after before after → calls ≡ old.tally.calls + made
+      → OwnStep IsUnclaimed live stepped did made old.dirty new.dirty contents contents_after before after → calls ≡ old.tally.calls + made
       → new.newest ≡ entry seat calls count shown (Step live.id did) ∷ old.newest
       → new.job ≡ if_closed old.tally.closed (if ends did then None else Some stepped)
       → new.tally ≡ record old.tally { job = option_map told new.job; unseen = ends did || old.tally.unseen; calls = calls }
       → old.screen.planned ≡ None → faults_in faults old.newest ≤ before → after ≡ count → new.screen ≡ old.screen → new.quit ≡ old.quit
       → Adds contents contents_after faults old new (entry seat calls count shown (Step live.id did))
-  adds_step live stepped did made calls before after is tells steps calls_is more job tally settled had now screen quit = record {
-    more = more;
-    tally = tally ∙ stepped_tally old.tally _ _ _ _ calls
-        (ap (option_map told) job ∙ (closed_told old.tally.closed (if ends did then None else Some stepped)
-        ∙ ap (if_closed old.tally.closed) (step_told live stepped did steps.tells ∙ sym (ap (λ j. option_and_then (after_step did) j) told_is)))) (unseen_step live.id did old.tally.unseen);
-    told = ap (λ (t : Tally). t.job) tally;
-    timely = may_end old settled;
-    counts = record {
-      later = let l = steps.later in omega (arith, l, had, now);
-      fault = λ h. let risen = steps.fault h in omega (arith, risen, had, now);
-      calls = omega (arith, calls_is);
-      most = let few = steps.few in omega (arith, calls_is, few);
-    };
-    leads = (same_noted old new screen quit, (told live, told_is, refl, inl (live, stepped, refl, steps.tells)));
-    traced = λ log known.
-        let called = steps.called log known in
-        let known_after = step_tells IsUnclaimed live did stepped log contents_after called in
-        let counted = steps.counted log known known_after.0 known_after.1 in (
-          known_after.0,
-          (if ends did then None else Some stepped),
-          known_after.1,
-          inl (subst (λ j. traces.EventLeads j (Step live.id did) (if ends did then None else Some stepped) log known_after.0) (sym is)
-              (inl (stepped, steps.tells, subst (λ o. Rattle.copy_move.specs.Jobs.JobCalls IsUnclaimed live did stepped log o) known_after.1 called, refl))),
-          job,
-          omega (arith, counted, calls_is),
-        );
-    unknown = steps.unknown;
-  }
+  adds_step live stepped did made calls before after is tells o calls_is more job tally settled had now screen quit =
+      let s = o.own in
+      record {
+        more = more;
+        tally = tally ∙ stepped_tally old.tally _ _ _ _ calls
+            (ap (option_map told) job ∙ (closed_told old.tally.closed (if ends did then None else Some stepped)
+            ∙ ap (if_closed old.tally.closed) (step_told live stepped did s.tells ∙ sym (ap (λ j. option_and_then (after_step did) j) told_is)))) (unseen_step live.id did old.tally.unseen);
+        told = ap (λ (t : Tally). t.job) tally;
+        timely = may_end old settled;
+        counts = record {
+          later = let l = s.later in omega (arith, l, had, now);
+          fault = λ h. let risen = s.fault h in omega (arith, risen, had, now);
+          calls = omega (arith, calls_is);
+          most = let few = s.few in omega (arith, calls_is, few);
+        };
+        leads = (same_noted old new screen quit, (told live, told_is, refl, inl (live, stepped, refl, s.tells)));
+        caused = λ log known. tt;
+        traced = step_traced live stepped did made calls before after is (inl o) calls_is job s.counted (λ log known. step_tells IsUnclaimed live did stepped log contents_after (s.called log known));
+        unknown = s.unknown;
+      }
     where
       told_is : old.tally.job ≡ Some (told live)
       told_is = tells ∙ ap (option_map told) is
 
   -- the sync of a folder that an ended job left
-  pub adds_settled : (live stepped : Running) (did : Did) (made calls before after : ℕ) (dirty_after : List Route) → old.job ≡ Some live → old.tally.job ≡ option_map told old.job
-      → SettlingStep live stepped did made old.dirty dirty_after contents contents_after before after → IsOwed (left_dirty old.newest) (Some live) old.dirty → calls ≡ old.tally.calls + made
+  pub adds_settled : (live stepped : Running) (did : Did) (made calls before after : ℕ) → old.job ≡ Some live → old.tally.job ≡ option_map told old.job
+      → SettlingStep live stepped did made old.dirty new.dirty contents contents_after before after → calls ≡ old.tally.calls + made
       → new.newest ≡ entry seat calls count shown (Step live.id did) ∷ old.newest
       → new.job ≡ if_closed old.tally.closed (if ends did then None else Some stepped)
       → new.tally ≡ record old.tally { job = option_map told new.job; unseen = ends did || old.tally.unseen; calls = calls }
       → old.screen.planned ≡ None → faults_in faults old.newest ≤ before → after ≡ count → new.screen ≡ old.screen → new.quit ≡ old.quit
       → Adds contents contents_after faults old new (entry seat calls count shown (Step live.id did))
-  adds_settled live stepped did made calls before after dirty_after is tells s owed calls_is more job tally settled had now screen quit = record {
+  adds_settled live stepped did made calls before after is tells s calls_is more job tally settled had now screen quit = record {
     more = more;
     tally = tally ∙ stepped_tally old.tally _ _ _ _ calls
         (ap (option_map told) (job ∙ ap (if_closed old.tally.closed) goes_on) ∙ (closed_told old.tally.closed (Some stepped)
@@ -307,27 +359,8 @@ module _ (contents contents_after : Option CallLog) (faults : ℕ) (old new : Se
       most = let few = s.few in omega (arith, calls_is, few);
     };
     leads = (same_noted old new screen quit, (told live, told_is, refl, inr (inr (s.goes, fresh_told live.work ∙ s.fresh, reports s.synced))));
-    traced = λ log known.
-        let here = tells_on log known s.synced in
-        let counted = s.counted log known here.0 here.1 in (
-          here.0,
-          Some stepped,
-          here.1,
-          inr (record {
-            job = live;
-            was_is = is;
-            goes = s.goes;
-            fresh = s.fresh;
-            folder = s.folder;
-            owed = fresh_left (left_dirty old.newest) live old.dirty s.folder s.goes s.fresh owed s.owed;
-            number = live.id;
-            did = did;
-            what_is = refl;
-            synced = here.2;
-          }),
-          job ∙ ap (if_closed old.tally.closed) goes_on,
-          omega (arith, counted, calls_is),
-        );
+    caused = λ log known. tt;
+    traced = step_traced live stepped did made calls before after is (inr s) calls_is job s.counted (λ log known. tells_on log known s.synced);
     unknown = s.unknown;
   }
     where
@@ -335,7 +368,7 @@ module _ (contents contents_after : Option CallLog) (faults : ℕ) (old new : Se
       told_is = tells ∙ ap (option_map told) is
 
       Syncs : Type 0
-      Syncs = SyncsFolder live s.folder did stepped old.dirty dirty_after contents contents_after
+      Syncs = SyncsFolder live s.folder did stepped old.dirty new.dirty contents contents_after
 
       not_ended : Syncs → ends did ≡ false
       not_ended (inl h) = ap ends h.0
@@ -355,31 +388,26 @@ module _ (contents contents_after : Option CallLog) (faults : ℕ) (old new : Se
       reports (inl h) = inl h.0
       reports (inr h) = inr (trouble_at h.0 s.folder true, h.1, refl)
 
-      tells_on : (log : CallLog) → contents ≡ Some log → Syncs → (now : CallLog) × (contents_after ≡ Some now) × FolderSettles live s.folder did (Some stepped) log now
-      tells_on log known (inl h) =
-          let performs = h.3 log known in
-          let here = performs_tells log (SyncFolder s.folder) (Ok tt) contents_after performs in
-          (here.0, here.1, inl (h.0, ap Some h.1, subst (Performs {A = Unit {0}} log (SyncFolder s.folder) (Ok tt)) here.1 performs))
-      tells_on log known (inr h) =
-          let performs = h.4 log known in
-          let here = performs_tells log (SyncFolder s.folder) (Err h.0) contents_after performs in
-          (here.0, here.1, inr (h.0, h.1, ap Some h.2, subst (Performs {A = Unit {0}} log (SyncFolder s.folder) (Err h.0)) here.1 performs))
+      tells_on : (log : CallLog) → contents ≡ Some log → Syncs → StillTells contents_after
+      tells_on log known (inl h) = performs_tells log (SyncFolder s.folder) (Ok tt) contents_after (h.3 log known)
+      tells_on log known (inr h) = performs_tells log (SyncFolder s.folder) (Err h.0) contents_after (h.4 log known)
 
   -- the end of a job for want of memory
   pub adds_given_up : (live : Running) (part : Option Route) → old.job ≡ Some live → old.tally.job ≡ option_map told old.job → waits_on live.course ≡ false → part ≡ part_of live.work
       → new.newest ≡ entry seat old.tally.calls count shown (Step live.id (Ended NoMemory part)) ∷ old.newest
       → new.job ≡ None → new.tally ≡ record old.tally { job = None; unseen = true }
-      → old.screen.planned ≡ None → contents_after ≡ contents → faults_in faults old.newest ≤ count → new.screen ≡ old.screen → new.quit ≡ old.quit
+      → old.screen.planned ≡ None → contents_after ≡ contents → faults_in faults old.newest ≤ count → new.screen ≡ old.screen → new.quit ≡ old.quit → new.dirty ≡ old.dirty
       → Adds contents contents_after faults old new (entry seat old.tally.calls count shown (Step live.id (Ended NoMemory part)))
-  adds_given_up live part is tells ready part_is more job tally settled same later screen quit = record {
+  adds_given_up live part is tells ready part_is more job tally settled same later screen quit dirty = record {
     more = more;
     tally = tally ∙ stepped_tally old.tally _ _ _ _ old.tally.calls (none_left old.tally.closed ∙ ap (if_closed old.tally.closed) (sym (ap (λ j. option_and_then (after_step (Ended NoMemory part)) j) told_is))) refl;
     told = ap (λ (t : Tally). t.job) tally ∙ sym (ap (option_map told) job);
     timely = may_end old settled;
     counts = record { later = later; fault = λ h. absurd h; calls = omega arith; most = omega arith };
     leads = (same_noted old new screen quit, (told live, told_is, refl, inr (inl (waits_told live ∙ ready, ap (Ended NoMemory) (part_is ∙ sym (part_told live))))));
+    caused = λ log known. tt;
     traced = leads_on contents contents_after same old new (entry seat old.tally.calls count shown (Step live.id (Ended NoMemory part))) None refl
-        (λ log known. subst (λ j. traces.EventLeads j (Step live.id (Ended NoMemory part)) None log log) (sym is) (inr (ap (Ended NoMemory) part_is, refl, refl))) (job ∙ none_left old.tally.closed);
+        (λ log known. steps old new live (Ended NoMemory part) None log log is (inr (record { did_is = ap (Ended NoMemory) part_is; same = dirty; none = refl }, refl))) (job ∙ none_left old.tally.closed);
     unknown = still_unknown contents contents_after same;
   }
     where

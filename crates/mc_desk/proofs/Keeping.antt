@@ -1,26 +1,25 @@
 -- One entry more is a session still.
-use Rattle.std.proofs.Common.{◌≡◌, ℕ, ◌+◌, ◌≤◌, Bool, false, ◌||◌, List, [], ◌∷◌, length, refl, sym, ◌∙◌, ap, subst, Option, Some, None, arith}
+use Rattle.std.proofs.Common.{◌≡◌, ℕ, ◌+◌, ◌≤◌, Bool, true, false, ◌||◌, List, [], ◌∷◌, length, refl, sym, ◌∙◌, ap, subst, Option, Some, None, arith}
 use Rattle.std.specs.Option.{option_map}
 use Rattle.mc_text.specs.Routes.{Route}
 use Rattle.tree_trait.specs.Change.{CallLog}
 use Rattle.tree_trait.specs.Answers.{IfKnown}
-use Rattle.tree_trait.specs.CrashImages.{Among}
 use Rattle.copy_move.specs.declared.history.Entry.{Entry}
 use Rattle.copy_move.specs.declared.history.Event.{Event}
 use Rattle.copy_move.specs.declared.history.Event.TheVariants.{Key, Look, Began, Order, Step, Closed}
 use Rattle.copy_move.specs.Jobs.{Running}
 use Rattle.copy_move.specs.Told.{told, closes, if_closed, is_closed}
-use Rattle.copy_move.specs.Settling.{left_dirty}
-use Rattle.copy_move.specs.Crashes.{calls_in}
-use Rattle.copy_move.specs.Traces.{IsTraced, IsTracedTo}
-use Rattle.copy_move.specs.Traces as traces
+use Rattle.history_laws.specs.Safe.{calls_in}
+use Rattle.history_laws.specs.Traces.{IsTraced, IsTracedTo, Stand, at_rest}
+use Rattle.history_laws.specs.Traces as traces
+use Rattle.history_laws.proofs.Moments.{traced_count}
 use Rattle.mc_ui.specs.Screens.{Screen, sight}
 use Rattle.mc_desk.specs.declared.starts.Start.{Start}
 use Rattle.mc_desk.specs.Logs.{Logged}
 use Rattle.mc_desk.specs.Tallies.{Tally, tally, after_entry, most_calls, faults_in, part_left}
-use Rattle.mc_desk.specs.Sessions.{IsSession, Traces, BeginsIn, EventLeads, IsTimely, Counts, folders_of}
+use Rattle.mc_desk.specs.Sessions.{IsSession, Traces, BeginsIn, EventLeads, HasCauses, IsTimely, Counts, folders_of}
 use Rattle.mc_desk.specs.Starts.{IsOpened}
-use Rattle.mc_desk.specs.Desks.{Seen, IsWritten, IsDesk, noted}
+use Rattle.mc_desk.specs.Desks.{Seen, IsWritten, IsDesk, noted, stand_of, stand_with}
 
 -- a desk on which nothing happened yet
 abbrev pub fresh : Tally
@@ -32,8 +31,8 @@ pub kept_opening : (start : Option Start) (opening contents : Option CallLog) (f
     (record { newest = log.newest; spare = log.spare; screen = screen; job = None; dirty = dirty; tally = fresh; taken = taken; pending = pending; quit = false; failed = failed })
 kept_opening start opening contents faults folders screen log dirty taken pending failed named same opened none = record {
   written = record {
-    session = subst (λ es. IsSession start opening faults es screen None contents) (sym opened.empty)
-        (subst (λ o. IsSession start o faults [] screen None contents) same (opened.opening, opened_in, refl, refl));
+    session = subst (λ es. IsSession start opening faults es screen (stand_with None dirty) contents) (sym opened.empty)
+        (subst (λ o. IsSession start o faults [] screen (stand_with None dirty) contents) same (opened.opening, opened_in, ap (stand_with None) none, refl));
     tally = ap tally (sym opened.empty);
     told = refl;
     calls = omega arith;
@@ -43,7 +42,6 @@ kept_opening start opening contents faults folders screen log dirty taken pendin
   lost = λ lost. absurd cc;
   shut = λ closed. absurd cc;
   room = let h = opened.room in omega (arith, h);
-  owed = λ folder among. absurd (subst (λ d. Among d folder) none among);
 }
   where
     opened_in : BeginsIn start (folders_of screen)
@@ -51,10 +49,10 @@ kept_opening start opening contents faults folders screen log dirty taken pendin
         named known is ∙ (ap (λ l. let s : Start = record { left = l; right = folders.right } in s) (sym opened.left_is)
         ∙ ap (λ l. let s : Start = record { left = screen.left.folder; right = l } in s) (sym opened.right_is))
 
--- what an entry says of the tree and of the live job, where the tree tells
+-- what an entry says of the tree, of the live job and of the dirty folders, where the tree tells
 abbrev pub Leads : Option CallLog → Option CallLog → Seen → Seen → Entry → Type 0
 Leads contents contents_after old new e =
-    IfKnown contents (λ log. (now : CallLog) × (after : Option Running) × (contents_after ≡ Some now) × traces.EntryLeads (left_dirty old.newest) old.job e.what after log now
+    IfKnown contents (λ log. (now : CallLog) × (after : Option Running) × (contents_after ≡ Some now) × traces.EventLeads (stand_of old) e.what (stand_with after new.dirty) log now
     × (new.job ≡ if_closed (closes e.what || old.tally.closed) after) × (length now.changes + old.tally.calls ≡ length log.changes + e.calls))
 
 -- an entry that may follow: what it makes of the desk, of the screen and of the tree
@@ -65,52 +63,56 @@ pub record Adds (contents contents_after : Option CallLog) (faults : ℕ) (old n
   pub timely : IsTimely e.what (noted old)
   pub counts : Counts (faults_in faults old.newest) old.tally.calls e
   pub leads : EventLeads (sight contents) old.tally (part_left old.newest) e.what (noted old) (noted new)
+  pub caused : IfKnown contents (HasCauses e.what)
   pub traced : Leads contents contents_after old new e
   pub unknown : contents ≡ None → contents_after ≡ None
 
 -- a tree that told nothing at the opening never does
-still_none : (start : Option Start) (faults : ℕ) (newest : List Entry) (screen : Screen) (job : Option Running) (contents : Option CallLog) → IsSession start None faults newest screen job contents → contents ≡ None
-still_none start faults [] screen job contents h = h.3
-still_none start faults (e ∷ older) screen job contents (before, was, stood, session, enters) = enters.traced
+still_none : (start : Option Start) (faults : ℕ) (newest : List Entry) (screen : Screen) (stand : Stand) (contents : Option CallLog) → IsSession start None faults newest screen stand contents → contents ≡ None
+still_none start faults [] screen stand contents h = h.3
+still_none start faults (e ∷ older) screen stand contents (before, was, stood, session, enters) = enters.traced
 
 -- a session is a trace of its tree's calls
-pub session_traced : (start : Option Start) (opening : CallLog) (faults : ℕ) (newest : List Entry) (screen : Screen) (job : Option Running) (contents : Option CallLog) → IsSession start (Some opening) faults newest screen job contents
-    → (now : CallLog) × (contents ≡ Some now) × IsTraced opening newest job now
-session_traced start opening faults [] screen job contents (opens, named, none, same) = (opening, same, (none, refl))
-session_traced start opening faults (e ∷ older) screen job contents (before, was, stood, session, enters) =
+pub session_traced : (start : Option Start) (opening : CallLog) (faults : ℕ) (newest : List Entry) (screen : Screen) (stand : Stand) (contents : Option CallLog) → IsSession start (Some opening) faults newest screen stand contents
+    → (now : CallLog) × (contents ≡ Some now) × IsTraced opening newest stand now
+session_traced start opening faults [] screen stand contents (opens, named, none, same) = (opening, same, (none, refl))
+session_traced start opening faults (e ∷ older) screen stand contents (before, was, stood, session, enters) =
     let had = session_traced start opening faults older before was stood session in
     let t = enters.traced in
     let log_is : had.0 ≡ t.0 = let both : Some had.0 ≡ Some t.0 = sym had.1 ∙ t.2 in cc in
     (t.1, t.3, (was, t.0, subst (λ l. IsTraced opening older was l) log_is had.2, t.4))
 
-pub session_traced_to : (start : Option Start) (opening : Option CallLog) (faults : ℕ) (newest : List Entry) (screen : Screen) (job : Option Running) (contents : Option CallLog) → IsSession start opening faults newest screen job contents
-    → IsTracedTo opening contents newest job
-session_traced_to start None faults newest screen job contents h = still_none start faults newest screen job contents h
-session_traced_to start (Some opening) faults newest screen job contents h = session_traced start opening faults newest screen job contents h
+pub session_traced_to : (start : Option Start) (opening : Option CallLog) (faults : ℕ) (newest : List Entry) (screen : Screen) (dirty : List Route) (contents : Option CallLog)
+    → IsSession start opening faults newest screen (at_rest dirty) contents → IsTracedTo opening contents newest
+session_traced_to start None faults newest screen dirty contents h = still_none start faults newest screen (at_rest dirty) contents h
+session_traced_to start (Some opening) faults newest screen dirty contents h =
+    let t = session_traced start opening faults newest screen (at_rest dirty) contents h in (t.0, dirty, t.1, t.2)
 
-traced_length : (opening now : CallLog) (newest : List Entry) (job : Option Running) → IsTraced opening newest job now → length now.changes ≡ length opening.changes + calls_in newest
-traced_length opening now [] job h = let same = ap (λ (l : CallLog). length l.changes) h.1 in omega (arith, same)
-traced_length opening now (e ∷ older) job h = h.3.counts
+-- the close of a session sends its job another way, and leaves the dirty folders as they are
+closed_stand : (closed : Bool) (job : Option Running) (dirty : List Route) → stand_with (if_closed closed job) dirty ≡ traces.if_closed closed (stand_with job dirty)
+closed_stand true None dirty = refl
+closed_stand true (Some job) dirty = refl
+closed_stand false job dirty = refl
 
 module _ (faults : ℕ) (old new : Seen) (e : Entry) where
   traced_more : (start : Option Start) (opening contents contents_after : Option CallLog) → IsWritten start opening contents faults old → Adds contents contents_after faults old new e
-      → Traces opening e old.newest old.job contents new.job contents_after
-  traced_more start None contents contents_after written adds = adds.unknown (still_none start faults old.newest (noted old) old.job contents written.session)
+      → Traces opening e old.newest (stand_of old) contents (stand_of new) contents_after
+  traced_more start None contents contents_after written adds = adds.unknown (still_none start faults old.newest (noted old) (stand_of old) contents written.session)
   traced_more start (Some opening) contents contents_after written adds =
-      let had = session_traced start opening faults old.newest (noted old) old.job contents written.session in
+      let had = session_traced start opening faults old.newest (noted old) (stand_of old) contents written.session in
       let t = adds.traced had.0 had.1 in
       let closed : old.tally.closed ≡ is_closed old.newest = ap (λ (t : Tally). t.closed) written.tally in
       let calls : old.tally.calls ≡ calls_in old.newest = ap (λ (t : Tally). t.calls) written.tally in
       let counted = t.5 in
-      let long = traced_length opening had.0 old.newest old.job had.2 in (
+      let long = traced_count opening had.0 old.newest (stand_of old) had.2 in (
         had.0,
         t.0,
         had.1,
         t.2,
         record {
-          after = t.1;
+          after = stand_with t.1 new.dirty;
           leads = t.3;
-          job_is = t.4 ∙ ap (λ b. if_closed (closes e.what || b) t.1) closed;
+          stand_is = ap (λ job. stand_with job new.dirty) (t.4 ∙ ap (λ b. if_closed (closes e.what || b) t.1) closed) ∙ closed_stand (closes e.what || is_closed old.newest) t.1 new.dirty;
           counts = omega (arith, counted, calls, long);
         },
       )
@@ -125,15 +127,16 @@ module _ (faults : ℕ) (old new : Seen) (e : Entry) where
 
   pub written_more : (start : Option Start) (opening contents contents_after : Option CallLog) → IsWritten start opening contents faults old → Adds contents contents_after faults old new e → IsWritten start opening contents_after faults new
   written_more start opening contents contents_after written adds = record {
-    session = subst (λ es. IsSession start opening faults es (noted new) new.job contents_after) (sym adds.more) (
+    session = subst (λ es. IsSession start opening faults es (noted new) (stand_of new) contents_after) (sym adds.more) (
       noted old,
-      old.job,
+      stand_of old,
       contents,
       written.session,
       record {
         timely = adds.timely;
         counts = subst (λ n. Counts (faults_in faults old.newest) n e) (ap (λ (t : Tally). t.calls) written.tally) adds.counts;
         leads = subst (λ t. EventLeads (sight contents) t (part_left old.newest) e.what (noted old) (noted new)) written.tally adds.leads;
+        caused = adds.caused;
         traced = traced_more start opening contents contents_after written adds;
       },
     );

@@ -6,17 +6,72 @@ use Rattle.tree_trait.specs.declared.calls.TreeError.{TreeError}
 use Rattle.tree_trait.specs.Change.{CallLog}
 use Rattle.file_copy.specs.declared.report.Did.{Did}
 use Rattle.file_copy.specs.declared.report.Did.TheVariants.{Began, Chunk, Placed, Removed, Skipped, Cleaned, Barrier, Troubled, Ended}
+use Rattle.file_copy.specs.declared.report.Ending.{Ending}
+use Rattle.file_copy.specs.declared.report.Ending.TheVariants.{Finished, Aborted, Killed, NoMemory}
+use Rattle.file_copy.specs.Copying as copying
 use Rattle.copy_move.specs.declared.history.Event.TheVariants.{Step}
 use Rattle.copy_move.specs.declared.history.Entry.{Entry}
+use Rattle.copy_move.specs.declared.deletion.Stage.{Stage as DeletionStage}
+use Rattle.copy_move.specs.declared.deletion.Stage.TheVariants.{Remove, Sync, Finish, PassedOver}
+use Rattle.copy_move.specs.declared.work.Work.{Work}
+use Rattle.copy_move.specs.declared.work.Work.TheVariants.{Copy, Delete}
 use Rattle.copy_move.specs.declared.run.Course.{Course}
 use Rattle.copy_move.specs.declared.run.Course.TheVariants.{GoesOn, InTrouble, Unsettled, Skips, Ends}
-use Rattle.copy_move.specs.Jobs.{Running, TellsOn}
+use Rattle.copy_move.specs.Deletions as deletions
+use Rattle.copy_move.specs.Jobs.{Running, TellsOn, WorkTells}
 use Rattle.copy_move.specs.Settling.{after_try, changed_folder, is_dirty, with_change, without}
 use Rattle.copy_move.specs.Steps.{LeavesDirty, RunStep}
 use Rattle.copy_move.proofs.FolderSteps.{skipped_dirty}
 use Rattle.mc_desk.specs.Desks.{HasSynced, MovesDirty}
 use Rattle.mc_desk.proofs.Adding.{entry}
-use Rattle.mc_desk.proofs.Owing.{clean_before}
+
+-- a job that is finished has synced its folder
+copy_finishes : (c new : copying.Copying) (ending : Ending) (part : Option Route) → copying.Tells c (Ended ending part) new → (ending ≡ Finished) × (copying.is_dirty c.folder ≡ false)
+copy_finishes c new Finished part t = (refl, ap copying.is_dirty t.1)
+copy_finishes c new Aborted part t = absurd t
+copy_finishes c new Killed part t = absurd t
+copy_finishes c new NoMemory part t = absurd t
+
+done_clean : (stage : DeletionStage) → deletions.is_done stage ≡ true → deletions.is_dirty stage ≡ false
+done_clean Remove h = absurd (false≢true h)
+done_clean Sync h = absurd (false≢true h)
+done_clean Finish h = refl
+done_clean PassedOver h = refl
+
+deletion_finishes : (d new : deletions.Deleting) (ending : Ending) (part : Option Route) → deletions.Tells d (Ended ending part) new → (ending ≡ Finished) × (deletions.is_dirty d.stage ≡ false)
+deletion_finishes d new Finished part t = (refl, done_clean d.stage t.0)
+deletion_finishes d new Aborted part t = absurd t
+deletion_finishes d new Killed part t = absurd t
+deletion_finishes d new NoMemory part t = absurd t
+
+-- a dirty folder is clean only after the report of its sync
+copy_synced : (c new : copying.Copying) (did : Did) → copying.Tells c did new → copying.is_dirty c.folder ≡ true → copying.is_dirty new.folder ≡ false → did ≡ Barrier
+copy_synced c new Barrier t was now = refl
+copy_synced c new (Began part) t was now = absurd (true≢false (sym (ap (λ (n : copying.Copying). copying.is_dirty n.folder) t.1.1) ∙ now))
+copy_synced c new (Chunk count) (part, said, done, at, some, few, within, is) was now = absurd (true≢false (sym was ∙ (sym (ap (λ (n : copying.Copying). copying.is_dirty n.folder) is) ∙ now)))
+copy_synced c new (Placed path) (part, said, at, target, is) was now = absurd (true≢false (sym was ∙ (sym (ap (λ (n : copying.Copying). copying.is_dirty n.folder) is) ∙ now)))
+copy_synced c new (Cleaned part) (follows, at, is) was now = absurd (true≢false (sym was ∙ (sym (ap (λ (n : copying.Copying). copying.is_dirty n.folder) is) ∙ now)))
+copy_synced c new (Troubled trouble) t was now = absurd (true≢false (sym was ∙ (sym (ap (λ (n : copying.Copying). copying.is_dirty n.folder) t.1) ∙ now)))
+copy_synced c new (Ended ending part) t was now = absurd (true≢false (sym was ∙ (copy_finishes c new ending part t).1))
+copy_synced c new (Removed path) t was now = absurd t
+copy_synced c new (Skipped path cause) t was now = absurd t
+
+deletion_synced : (d new : deletions.Deleting) (did : Did) → deletions.Tells d did new → deletions.is_dirty d.stage ≡ true → deletions.is_dirty new.stage ≡ false → did ≡ Barrier
+deletion_synced d new Barrier t was now = refl
+deletion_synced d new (Removed path) t was now = absurd (true≢false (sym was ∙ ap deletions.is_dirty t.0))
+deletion_synced d new (Troubled trouble) t was now = absurd (true≢false (sym was ∙ (sym (ap (λ (n : deletions.Deleting). deletions.is_dirty n.stage) t.1) ∙ now)))
+deletion_synced d new (Ended ending part) t was now = absurd (true≢false (sym was ∙ (deletion_finishes d new ending part t).1))
+deletion_synced d new (Began part) t was now = absurd t
+deletion_synced d new (Chunk count) t was now = absurd t
+deletion_synced d new (Placed path) t was now = absurd t
+deletion_synced d new (Skipped path cause) t was now = absurd t
+deletion_synced d new (Cleaned part) t was now = absurd t
+
+clean_before : (old new : Work) (did : Did) → WorkTells old did new → is_dirty old ≡ true → is_dirty new ≡ false → did ≡ Barrier
+clean_before (Copy c) (Copy new) did t was now = copy_synced c new did t was now
+clean_before (Copy c) (Delete new) did t was now = absurd t
+clean_before (Delete d) (Copy new) did t was now = absurd t
+clean_before (Delete d) (Delete new) did t was now = deletion_synced d new did t was now
 
 module _ (job : Option Running) (newest older : List Entry) (dirty dirty_after : List Route) (seat calls count shown number : ℕ) (did : Did) (more : newest ≡ entry seat calls count shown (Step number did) ∷ older) where
   abbrev Moves : Type 0

@@ -22,7 +22,6 @@ use Rattle.copy_move.specs.declared.run.Course.{Course}
 use Rattle.copy_move.specs.declared.run.Course.TheVariants.{GoesOn, InTrouble, Unsettled, Skips, Ends}
 use Rattle.copy_move.specs.Jobs.{Running, MayAnswer, answered, closed_course, closed_job, ends, first_work, part_of, waits_on}
 use Rattle.copy_move.specs.Told.{after_event, if_closed, is_closed, live_job, running, told}
-use Rattle.copy_move.specs.Settling.{IsOwed, IsOwner, left_by_end, left_dirty}
 use Rattle.copy_move.specs.Steps.{RunStep}
 use Rattle.copy_move.specs.Traces.{AreRefused, IsUnclaimed}
 use Rattle.mc_ui.specs.declared.asks.Ask.{Ask}
@@ -33,11 +32,9 @@ use Rattle.mc_ui.specs.Refused.{has_fault}
 use Rattle.mc_desk.specs.Tallies.{Tally, faults_in, can_step, next_id, part_left}
 use Rattle.mc_desk.specs.declared.starts.Start.{Start}
 use Rattle.mc_desk.specs.Desks.{Seen, kept_room, IsWritten, IsDesk, noted}
-use Rattle.copy_move.proofs.Gone.{IsOrdered}
 use Rattle.mc_desk.proofs.Adding.{adds_began, adds_closed, adds_given_up, adds_key, adds_look, adds_lost, adds_order, adds_settled, adds_step, entry, unasked_screen}
 use Rattle.mc_desk.proofs.Answering.{shows_told}
 use Rattle.mc_desk.proofs.Keeping.{written_more}
-use Rattle.mc_desk.proofs.Owing.{answered_owner, closed_owner, given_up_owed, own_owed, owed_on, settling_owed, told_ordered}
 
 -- two entries are room enough
 room_two : (closed : Bool) (job : Option Running) → kept_room closed job ≤ 2
@@ -48,18 +45,9 @@ room_two false (Some job) = omega arith
 
 -- a written desk on which nothing waits is whole
 desk_of : (start : Option Start) (opening contents : Option CallLog) (faults : ℕ) (desk : Seen) → IsWritten start opening contents faults desk → desk.screen.planned ≡ None → (desk.tally.lost ≡ true → desk.tally.closed ≡ true)
-    → (desk.quit ≡ true → desk.tally.due ≡ None) → (desk.tally.closed ≡ true → desk.tally.due ≡ None) → 2 ≤ desk.spare → IsOwed (left_dirty desk.newest) desk.job desk.dirty → IsDesk start opening contents faults desk
-desk_of start opening contents faults desk written settled lost asked shut room owed =
-    record { written = written; settled = settled; asked = asked; lost = lost; shut = shut; room = let two = room_two desk.tally.closed desk.job in omega (arith, two, room); owed = owed }
-
--- the live job that the history of a desk tells of
-live_told : (start : Option Start) (opening contents : Option CallLog) (faults : ℕ) (old : Seen) (live : Running) → IsDesk start opening contents faults old → old.job ≡ Some live → live_job old.newest ≡ Some (told live)
-live_told start opening contents faults old live desk is = sym (ap (λ (t : Tally). t.job) desk.written.tally) ∙ (desk.written.told ∙ ap (option_map told) is)
-
--- where no job ended, the folders are owed as they were
-owed_still : (old new : Seen) → left_dirty new.newest ≡ left_dirty old.newest → new.dirty ≡ old.dirty → ((folder : Route) → IsOwner old.job folder → IsOwner new.job folder) → IsOwed (left_dirty old.newest) old.job old.dirty
-    → IsOwed (left_dirty new.newest) new.job new.dirty
-owed_still old new left dirty owner owed = owed_on (left_dirty old.newest) (left_dirty new.newest) old.job new.job old.dirty new.dirty left dirty owner owed
+    → (desk.quit ≡ true → desk.tally.due ≡ None) → (desk.tally.closed ≡ true → desk.tally.due ≡ None) → 2 ≤ desk.spare → IsDesk start opening contents faults desk
+desk_of start opening contents faults desk written settled lost asked shut room =
+    record { written = written; settled = settled; asked = asked; lost = lost; shut = shut; room = let two = room_two desk.tally.closed desk.job in omega (arith, two, room) }
 
 closed_waits : (course : Course) → waits_on (closed_course course) ≡ false
 closed_waits GoesOn = refl
@@ -108,14 +96,13 @@ module _ (start : Option Start) (opening contents contents_after : Option CallLo
     written =
         written_more faults mid new _ start opening contents_after contents_after
         (written_more faults old mid _ start opening contents contents_after desk.written
-        (adds_lost contents contents_after faults old mid 0 count shown key now refl refl refl desk.written.told unclosed looked (unlost start opening contents faults old desk unclosed) desk.settled same later refl refl unasked))
-        (adds_closed contents_after contents_after faults mid new 0 count 0 more is job tells desk.settled refl (omega arith) screen quit);
+        (adds_lost contents contents_after faults old mid 0 count shown key now refl refl refl desk.written.told unclosed looked (unlost start opening contents faults old desk unclosed) desk.settled same later refl refl unasked refl))
+        (adds_closed contents_after contents_after faults mid new 0 count 0 more is job tells desk.settled refl (omega arith) screen quit dirty);
     settled = ap (λ (s : Screen). s.planned) screen ∙ desk.settled;
     asked = λ h. ap (λ (t : Tally). t.due) is;
     lost = λ h. ap (λ (t : Tally). t.closed) is;
     shut = λ h. ap (λ (t : Tally). t.due) is;
     room = let closed = ap (λ (t : Tally). t.closed) is in rw closed (let one = last_room new.job in omega (arith, one, room));
-    owed = owed_still old new (ap left_dirty more) dirty (λ folder own. subst (λ j. IsOwner j folder) (sym job) (closed_owner true old.job folder own)) desk.owed;
   }
     where
       mid : Seen
@@ -136,10 +123,9 @@ module _ (start : Option Start) (opening contents contents_after : Option CallLo
         desk_of start opening contents_after faults new
         (written_more faults old new _ start opening contents contents_after desk.written
         (adds_key contents contents_after faults old new 0 count shown key now refusals more is job tells unclosed looked (unlost start opening contents faults old desk unclosed) desk.settled same later fault refused
-        (key_leads (noted new) asks) unasked))
+        (key_leads (noted new) asks) unasked dirty))
         settled (λ h. ap (λ (t : Tally). t.closed) is ∙ desk.lost (sym (ap (λ (t : Tally). t.lost) is) ∙ h)) (λ h. ap (λ (t : Tally). t.due) is ∙ looked)
         (λ h. ap (λ (t : Tally). t.due) is ∙ desk.shut (sym (ap (λ (t : Tally). t.closed) is) ∙ h)) room
-        (owed_still old new (ap left_dirty more) dirty (λ folder own. subst (λ j. IsOwner j folder) (sym job) own) desk.owed)
 
     not_asked : new.quit ≡ true → new.quit ≡ old.quit → ⊥
     not_asked h quit = let no = unasked in cc
@@ -152,7 +138,7 @@ module _ (start : Option Start) (opening contents contents_after : Option CallLo
     keyed_written screen asks =
         written_more faults old (keyed screen) _ start opening contents contents_after desk.written
         (adds_key contents contents_after faults old (keyed screen) 0 count shown key now refusals refl refl refl desk.written.told unclosed looked (unlost start opening contents faults old desk unclosed) desk.settled same later fault
-        refused (key_leads (noted (keyed screen)) (asks ∙ sym (unasked_screen (keyed screen) unasked))) unasked)
+        refused (key_leads (noted (keyed screen)) (asks ∙ sym (unasked_screen (keyed screen) unasked))) unasked refl)
 
     -- a key that confirmed a job, and the job that it begins
     pub desk_began : (confirmed : Confirmed) (id began_count : ℕ) → asked ≡ ask.Begin confirmed → confirmed.run.id ≡ id → next ≡ Some confirmed.run.id → old.job ≡ None
@@ -166,10 +152,9 @@ module _ (start : Option Start) (opening contents contents_after : Option CallLo
         (written_more faults (keyed screen) new _ start opening contents_after contents_after (keyed_written screen (ap (λ a. with_ask a new.screen) asks))
         (adds_began contents_after contents_after faults (keyed screen) new 0 began_count 0 id confirmed.plan confirmed.run more
         (subst (λ n. option_map (running n) (first_work n confirmed.plan) ≡ Some confirmed.run) number started) job is unclosed (desk.written.told ∙ ap (option_map told) idle) refl refl counted (sym next_is ∙ (numbered ∙ ap Some number))
-        (cleared new.screen settled) quit unasked))
+        (cleared new.screen settled) quit unasked idle dirty))
         settled (λ h. ap (λ (t : Tally). t.closed) is ∙ desk.lost (sym (ap (λ (t : Tally). t.lost) is) ∙ h)) (λ h. absurd (not_asked h quit))
         (λ h. absurd (let shut = ap (λ (t : Tally). t.closed) is in cc)) room
-        (owed_still old new (ap left_dirty more) dirty (λ folder own. absurd (subst (λ j. IsOwner j folder) idle own)) desk.owed)
       where
         screen : Screen
         screen = record new.screen { planned = Some (Begins confirmed.plan) }
@@ -183,11 +168,9 @@ module _ (start : Option Start) (opening contents contents_after : Option CallLo
     desk_ordered answer live order_count asks was may more counted job is quit dirty =
         desk_of start opening contents_after faults new
         (written_more faults (keyed screen) new _ start opening contents_after contents_after (keyed_written screen (ap (λ a. with_ask a new.screen) asks))
-        (adds_order contents_after contents_after faults (keyed screen) new 0 order_count 0 answer live more was may desk.written.told job is unclosed refl refl counted (cleared new.screen settled) quit unasked))
+        (adds_order contents_after contents_after faults (keyed screen) new 0 order_count 0 answer live more was may desk.written.told job is unclosed refl refl counted (cleared new.screen settled) quit unasked dirty))
         settled (λ h. ap (λ (t : Tally). t.closed) is ∙ desk.lost (sym (ap (λ (t : Tally). t.lost) is) ∙ h)) (λ h. absurd (not_asked h quit))
         (λ h. absurd (let shut = ap (λ (t : Tally). t.closed) is in cc)) room
-        (owed_still old new (ap left_dirty more) dirty
-        (λ folder own. subst (λ j. IsOwner j folder) (sym job) (answered_owner answer live.id live.work live.course folder (subst (λ j. IsOwner j folder) was own))) desk.owed)
       where
         screen : Screen
         screen = record new.screen { planned = Some (Answers answer) }
@@ -203,14 +186,13 @@ pub desk_closed : (start : Option Start) (opening contents : Option CallLog) (fa
     → new.screen ≡ old.screen → new.quit ≡ old.quit → old.spare ≤ new.spare + 1 → new.dirty ≡ old.dirty → IsDesk start opening contents faults new
 desk_closed start opening contents faults old new count desk unclosed later more is job tells screen quit left dirty = record {
   written = written_more faults old new _ start opening contents contents desk.written
-      (adds_closed contents contents faults old new 0 count 0 more is job tells desk.settled refl later screen quit);
+      (adds_closed contents contents faults old new 0 count 0 more is job tells desk.settled refl later screen quit dirty);
   settled = ap (λ (s : Screen). s.planned) screen ∙ desk.settled;
   asked = λ h. ap (λ (t : Tally). t.due) is;
   lost = λ h. ap (λ (t : Tally). t.closed) is;
   shut = λ h. ap (λ (t : Tally). t.due) is;
   room = subst (λ b. kept_room b new.job ≤ new.spare) (sym (ap (λ (t : Tally). t.closed) is)) (subst (λ j. kept_room true j ≤ new.spare) (sym job)
       (closed_room old.job old.spare new.spare (subst (λ b. kept_room b old.job ≤ old.spare) unclosed desk.room) left));
-  owed = owed_still old new (ap left_dirty more) dirty (λ folder own. subst (λ j. IsOwner j folder) (sym job) (closed_owner true old.job folder own)) desk.owed;
 }
 
 -- a look, written down
@@ -225,24 +207,14 @@ desk_looked start opening contents contents_after faults old new count shown ref
     desk_of start opening contents_after faults new
     (written_more faults old new _ start opening contents contents_after desk.written
     (adds_look contents contents_after faults old new 0 count shown refusals more is job tells unclosed desk.settled same later fault refused
-    (trouble, subst (λ j. ShowsTrouble j trouble) (sym desk.written.told) (shows_told old.job trouble shows), subst (λ p. LooksAgain (sight contents) old.tally.unseen trouble p refusals old.screen new.screen) part_is leads) quit unasked))
+    (trouble, subst (λ j. ShowsTrouble j trouble) (sym desk.written.told) (shows_told old.job trouble shows), subst (λ p. LooksAgain (sight contents) old.tally.unseen trouble p refusals old.screen new.screen) part_is leads) quit unasked dirty))
     settled (λ h. ap (λ (t : Tally). t.closed) is ∙ desk.lost (sym (ap (λ (t : Tally). t.lost) is) ∙ h)) (λ h. absurd (let no = unasked in cc)) (λ h. absurd (let shut = ap (λ (t : Tally). t.closed) is in cc)) room
-    (owed_still old new (ap left_dirty more) dirty (λ folder own. subst (λ j. IsOwner j folder) (sym job) own) desk.owed)
 
 -- a step makes at most three changing calls
 few_made : (live stepped : Running) (did : Did) (made : ℕ) (dirty dirty_after : List Route) (contents contents_after : Option CallLog) (before after : ℕ)
     → RunStep IsUnclaimed live stepped did made dirty dirty_after contents contents_after before after → made ≤ 3
 few_made live stepped did made dirty dirty_after contents contents_after before after (inl o) = o.own.few
 few_made live stepped did made dirty dirty_after contents contents_after before after (inr s) = let few = s.few in omega (arith, few)
-
--- what it makes of the dirty folders
-step_owed : (left : List Route) (live stepped : Running) (did : Did) (made number : ℕ) (dirty dirty_after : List Route) (contents contents_after : Option CallLog) (before after : ℕ) → IsOrdered live.course
-    → IsOwed left (Some live) dirty → RunStep IsUnclaimed live stepped did made dirty dirty_after contents contents_after before after
-    → IsOwed (left_by_end (Step number did) (Some (told live)) left) (if ends did then None else Some stepped) dirty_after
-step_owed left live stepped did made number dirty dirty_after contents contents_after before after ordered owed (inl o) =
-    own_owed left live dirty owed stepped did number dirty_after IsUnclaimed made contents contents_after before after ordered o
-step_owed left live stepped did made number dirty dirty_after contents contents_after before after ordered owed (inr s) =
-    settling_owed left live dirty owed stepped did made number dirty_after contents contents_after before after s (if ends did then None else Some stepped)
 
 -- a step of the job, written down
 pub desk_stepped : (start : Option Start) (opening contents contents_after : Option CallLog) (faults : ℕ) (old new : Seen) (seat count made calls before after : ℕ) (live stepped : Running) (did : Did)
@@ -257,19 +229,12 @@ desk_stepped start opening contents contents_after faults old new seat count mad
     let few = desk.written.calls in let three = few_made live stepped did made old.dirty new.dirty contents contents_after before after steps in omega (arith, calls_is, three, fits, few) in
     desk_of start opening contents_after faults new
     (written_more faults old new _ start opening contents contents_after desk.written (elim steps [
-      | inl o ↦ adds_step contents contents_after faults old new seat count 0 live stepped did made calls before after is desk.written.told o.own all more job tally desk.settled had now screen quit
-      | inr s ↦ adds_settled contents contents_after faults old new seat count 0 live stepped did made calls before after new.dirty is desk.written.told s owed all more job tally desk.settled had now screen quit
+      | inl o ↦ adds_step contents contents_after faults old new seat count 0 live stepped did made calls before after is desk.written.told o all more job tally desk.settled had now screen quit
+      | inr s ↦ adds_settled contents contents_after faults old new seat count 0 live stepped did made calls before after is desk.written.told s all more job tally desk.settled had now screen quit
     ]))
     (ap (λ (s : Screen). s.planned) screen ∙ desk.settled) (λ h. ap (λ (t : Tally). t.closed) tally ∙ desk.lost (sym (ap (λ (t : Tally). t.lost) tally) ∙ h))
     (λ h. ap (λ (t : Tally). t.due) tally ∙ desk.asked (sym quit ∙ h))
     (λ h. ap (λ (t : Tally). t.due) tally ∙ desk.shut (sym (ap (λ (t : Tally). t.closed) tally) ∙ h)) room
-    (owed_on (left_by_end (Step live.id did) (Some (told live)) (left_dirty old.newest)) (left_dirty new.newest) (if ends did then None else Some stepped) new.job new.dirty new.dirty
-    (ap left_dirty more ∙ ap (λ j. left_by_end (Step live.id did) j (left_dirty old.newest)) (live_told start opening contents faults old live desk is)) refl
-    (λ folder own. subst (λ j. IsOwner j folder) (sym job) (closed_owner old.tally.closed (if ends did then None else Some stepped) folder own))
-    (step_owed (left_dirty old.newest) live stepped did made live.id old.dirty new.dirty contents contents_after before after (told_ordered old.newest live (live_told start opening contents faults old live desk is)) owed steps))
-  where
-    owed : IsOwed (left_dirty old.newest) (Some live) old.dirty
-    owed = subst (λ j. IsOwed (left_dirty old.newest) j old.dirty) is desk.owed
 
 pub room_left : (closed : Bool) (job : Option Running) (live : Running) (spare reserved left : ℕ) → job ≡ Some live → kept_room closed job ≤ spare → spare ≤ reserved → reserved ≤ left + 1 → kept_room closed None ≤ left
 room_left closed job live spare reserved left is had kept noted = go closed (subst (λ j. kept_room closed j ≤ spare) is had)
@@ -309,14 +274,10 @@ pub desk_gave_up : (start : Option Start) (opening contents : Option CallLog) (f
     → IsDesk start opening contents faults new
 desk_gave_up start opening contents faults old new seat count live part desk is ready part_is later more job tally screen quit room dirty = record {
   written = written_more faults old new _ start opening contents contents desk.written
-      (adds_given_up contents contents faults old new seat count 0 live part is desk.written.told ready part_is more job tally desk.settled refl later screen quit);
+      (adds_given_up contents contents faults old new seat count 0 live part is desk.written.told ready part_is more job tally desk.settled refl later screen quit dirty);
   settled = ap (λ (s : Screen). s.planned) screen ∙ desk.settled;
   asked = λ h. ap (λ (t : Tally). t.due) tally ∙ desk.asked (sym quit ∙ h);
   lost = λ h. ap (λ (t : Tally). t.closed) tally ∙ desk.lost (sym (ap (λ (t : Tally). t.lost) tally) ∙ h);
   shut = λ h. ap (λ (t : Tally). t.due) tally ∙ desk.shut (sym (ap (λ (t : Tally). t.closed) tally) ∙ h);
   room = subst (λ j. kept_room new.tally.closed j ≤ new.spare) (sym job) (subst (λ b. kept_room b None ≤ new.spare) (sym (ap (λ (t : Tally). t.closed) tally)) room);
-  owed = owed_on (left_by_end (Step live.id (Ended NoMemory part)) (Some (told live)) (left_dirty old.newest)) (left_dirty new.newest) None new.job old.dirty new.dirty
-      (ap left_dirty more ∙ ap (λ j. left_by_end (Step live.id (Ended NoMemory part)) j (left_dirty old.newest)) (live_told start opening contents faults old live desk is)) dirty
-      (λ folder own. absurd own)
-      (given_up_owed live.id part (left_dirty old.newest) live old.dirty (subst (λ j. IsOwed (left_dirty old.newest) j old.dirty) is desk.owed));
 }

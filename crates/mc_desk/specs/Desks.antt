@@ -14,7 +14,8 @@ use Rattle.copy_move.specs.declared.history.Event.TheVariants.{Step}
 use Rattle.copy_move.specs.declared.history.Entry.{Entry}
 use Rattle.copy_move.specs.Jobs.{Running}
 use Rattle.copy_move.specs.Told.{told}
-use Rattle.copy_move.specs.Settling.{IsOwed, changed_folder, left_dirty, without}
+use Rattle.copy_move.specs.Settling.{changed_folder, without}
+use Rattle.history_laws.specs.Traces.{Stand, before_others}
 use Rattle.mc_ui.specs.Screens.{Screen, Ends}
 use Rattle.mc_desk.specs.declared.session.Due.{Due}
 use Rattle.mc_desk.specs.declared.session.Due.TheVariants.{Nothing, First, Job}
@@ -61,17 +62,24 @@ with_end false screen = screen
 abbrev pub noted : Seen → Screen
 noted desk = with_end desk.quit desk.screen
 
+-- where a session stands with this live job, or none, and these dirty folders
+abbrev pub stand_with : Option Running → List Route → Stand
+stand_with job dirty = record { jobs = before_others job []; dirty = dirty }
+
+abbrev pub stand_of : Seen → Stand
+stand_of desk = stand_with desk.job desk.dirty
+
 -- What is written down is a session in the folders in which it began, over the tree, which was opened with the one contents, and
--- so many faults, and has the other now; and the rest of the desk is what the history says.
+-- so many faults, and has the other now; it has come to the live job and the dirty folders; and the rest of the desk is what the
+-- history says.
 pub record IsWritten (start : Option Start) (opening contents : Option CallLog) (faults : ℕ) (desk : Seen) : Type 0 where
-  pub session : IsSession start opening faults desk.newest (noted desk) desk.job contents
+  pub session : IsSession start opening faults desk.newest (noted desk) (stand_of desk) contents
   pub tally : desk.tally ≡ tally desk.newest
   pub told : desk.tally.job ≡ option_map told desk.job
   pub calls : desk.tally.calls ≤ 3 * length desk.newest
 
 -- What holds of a desk between two calls: besides, nothing that was asked for waits to be carried out but the end, a desk that
--- lost a key is closed, where the end was asked for or the desk is closed nothing is to be looked at, the room is there, and the
--- dirty folders are those of ended jobs and of the live one.
+-- lost a key is closed, where the end was asked for or the desk is closed nothing is to be looked at, and the room is there.
 pub record IsDesk (start : Option Start) (opening contents : Option CallLog) (faults : ℕ) (desk : Seen) : Type 0 where
   pub written : IsWritten start opening contents faults desk
   pub settled : desk.screen.planned ≡ None
@@ -79,7 +87,6 @@ pub record IsDesk (start : Option Start) (opening contents : Option CallLog) (fa
   pub lost : desk.tally.lost ≡ true → desk.tally.closed ≡ true
   pub shut : desk.tally.closed ≡ true → desk.tally.due ≡ None
   pub room : kept_room desk.tally.closed desk.job ≤ desk.spare
-  pub owed : IsOwed (left_dirty desk.newest) desk.job desk.dirty
 
 -- whether a draw has failed by now: earlier, or this one
 abbrev pub failed_by : Bool → Result ℕ SinkError → Bool

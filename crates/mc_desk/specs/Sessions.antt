@@ -1,8 +1,9 @@
 -- A session, as its history tells it: each entry follows from those before it, and from the tree as it stands then. Histories
 -- stand newest first here.
 use Rattle.std.specs.Prelude.{◌≡◌, ◌⊎◌, ℕ, ◌+◌, ◌≤◌, Bool, true, false, ⊤, if◌then◌else◌, List, [], ◌∷◌, IsSome, Option, Some, None}
-use Rattle.mc_text.specs.Routes.{Route}
 use Rattle.tree_trait.specs.FileSystem.{View}
+use Rattle.mc_text.specs.Routes.{Route}
+use Rattle.tree_trait.specs.Calls.{Stat, ListFolder}
 use Rattle.tree_trait.specs.Change.{CallLog}
 use Rattle.tree_trait.specs.Answers.{HasRisen, IfKnown}
 use Rattle.file_copy.specs.CopySteps.{IsFault}
@@ -12,8 +13,9 @@ use Rattle.copy_move.specs.declared.history.JobOrder.TheVariants.{Answered}
 use Rattle.copy_move.specs.declared.history.Entry.{Entry}
 use Rattle.copy_move.specs.Jobs.{Running, MayAnswer, first_work}
 use Rattle.copy_move.specs.Told.{IsAllowedStep}
-use Rattle.copy_move.specs.Traces.{Follows}
-use Rattle.copy_move.specs.Crashes.{calls_in}
+use Rattle.copy_move.specs.Traces.{AreRefused}
+use Rattle.history_laws.specs.Safe.{calls_in}
+use Rattle.history_laws.specs.Traces.{Follows, Stand, at_rest, nothing_live}
 use Rattle.mc_ui.specs.Refused.{has_fault}
 use Rattle.mc_ui.specs.Screens.{Screen, Planned, Begins, Answers, Ends, sight, KeyLeads, LookLeads, IsOpening}
 use Rattle.mc_desk.specs.declared.starts.Start.{Start}
@@ -73,20 +75,30 @@ pub record Counts (failed made : ℕ) (e : Entry) : Type 0 where
   pub calls : made ≤ e.calls
   pub most : e.calls ≤ made + most_calls e.what
 
--- What an entry says of the tree, where it tells what it holds: it goes on telling, and the entry leads from the log and the
--- live job so far to these. A tree that told nothing never does.
-abbrev pub Traces : Option CallLog → Entry → List Entry → Option Running → Option CallLog → Option Running → Option CallLog → Type 0
-Traces None e older was before job contents = contents ≡ None
-Traces (Some opening) e older was before job contents =
-    (log : CallLog) × (now : CallLog) × (before ≡ Some log) × (contents ≡ Some now) × Follows opening e older was log job now
+-- A key looks at a thing, a look lists folders, and what they were refused has its cause in the tree.
+abbrev pub HasCauses : Event → CallLog → Type 0
+HasCauses (Key key now refusals lost) log = AreRefused Stat log refusals
+HasCauses (Look refusals) log = AreRefused ListFolder log refusals
+HasCauses (Began id plan background) log = ⊤
+HasCauses (Order id order) log = ⊤
+HasCauses (Step id did) log = ⊤
+HasCauses Closed log = ⊤
 
--- An entry after older ones: from the screen, the live job and the tree that these came to, to others.
-pub record Enters (opening : Option CallLog) (faults : ℕ) (e : Entry) (older : List Entry) (before : Screen) (was : Option Running) (stood : Option CallLog)
-    (screen : Screen) (job : Option Running) (contents : Option CallLog) : Type 0 where
+-- What an entry says of the tree, where it tells what it holds: it goes on telling, and the entry leads from the log and from
+-- where the session stood to these. A tree that told nothing never does.
+abbrev pub Traces : Option CallLog → Entry → List Entry → Stand → Option CallLog → Stand → Option CallLog → Type 0
+Traces None e older was before stand contents = contents ≡ None
+Traces (Some opening) e older was before stand contents =
+    (log : CallLog) × (now : CallLog) × (before ≡ Some log) × (contents ≡ Some now) × Follows opening e older was log stand now
+
+-- An entry after older ones: from the screen, the live jobs with the dirty folders, and the tree that these came to, to others.
+pub record Enters (opening : Option CallLog) (faults : ℕ) (e : Entry) (older : List Entry) (before : Screen) (was : Stand) (stood : Option CallLog)
+    (screen : Screen) (stand : Stand) (contents : Option CallLog) : Type 0 where
   pub timely : IsTimely e.what before
   pub counts : Counts (faults_in faults older) (calls_in older) e
   pub leads : EventLeads (sight stood) (tally older) (part_left older) e.what before screen
-  pub traced : Traces opening e older was stood job contents
+  pub caused : IfKnown stood (HasCauses e.what)
+  pub traced : Traces opening e older was stood stand contents
 
 -- the folders of the two panels
 abbrev pub folders_of : Screen → Start
@@ -97,15 +109,15 @@ abbrev pub BeginsIn : Option Start → Start → Type 0
 BeginsIn start folders = IfKnown start (λ named. named ≡ folders)
 
 -- These entries are a session that began in these folders, over a tree that had these contents then, and had failed so often;
--- it has come to this screen, this live job and these contents.
-abbrev pub IsSession : Option Start → Option CallLog → ℕ → List Entry → Screen → Option Running → Option CallLog → Type 0
-IsSession start opening faults [] screen job contents = IsOpening (sight opening) screen × BeginsIn start (folders_of screen) × (job ≡ None) × (contents ≡ opening)
-IsSession start opening faults (e ∷ older) screen job contents =
-    (before : Screen) × (was : Option Running) × (stood : Option CallLog) × IsSession start opening faults older before was stood
-    × Enters opening faults e older before was stood screen job contents
+-- it has come to this screen, these live jobs and dirty folders, and these contents.
+abbrev pub IsSession : Option Start → Option CallLog → ℕ → List Entry → Screen → Stand → Option CallLog → Type 0
+IsSession start opening faults [] screen stand contents = IsOpening (sight opening) screen × BeginsIn start (folders_of screen) × (stand ≡ nothing_live) × (contents ≡ opening)
+IsSession start opening faults (e ∷ older) screen stand contents =
+    (before : Screen) × (was : Stand) × (stood : Option CallLog) × IsSession start opening faults older before was stood
+    × Enters opening faults e older before was stood screen stand contents
 
 -- These entries are a session in these folders, no job is live at its end, and nothing that was asked for was left undone.
 -- Whether the end was asked for, its screen has noted.
 abbrev pub EndsSession : Option Start → Option CallLog → ℕ → List Entry → Option CallLog → Bool → Type 0
 EndsSession start opening faults newest contents asked =
-    (screen : Screen) × (screen.planned ≡ (if asked then Some Ends else None)) × IsSession start opening faults newest screen None contents
+    (screen : Screen) × (dirty : List Route) × (screen.planned ≡ (if asked then Some Ends else None)) × IsSession start opening faults newest screen (at_rest dirty) contents

@@ -9,7 +9,7 @@ use Rattle.copy_move.specs.declared.history.Event.TheVariants.{Key, Look, Began,
 use Rattle.copy_move.specs.declared.history.Entry.{Entry}
 use Rattle.copy_move.specs.Jobs.{Running, ends, waits_on}
 use Rattle.copy_move.specs.Told.{live_job, last_id, is_closed, closes, if_closed, after_event, id_after}
-use Rattle.copy_move.specs.Crashes.{calls_in}
+use Rattle.history_laws.specs.Safe.{calls_in}
 
 -- a job has ended, and no look has taken it up
 abbrev pub end_unseen_event : Event → Bool → Bool

@@ -6,8 +6,7 @@ ghost use Rattle.tree_trait.specs.Change.{current};
 ghost use Rattle.tree_trait.specs.Answers.{IfKnown, HasRisen};
 ghost use Rattle.copy_move.specs.Ranks.{rank_with};
 ghost use Rattle.copy_move.specs.Told.{live_job, IsReady};
-ghost use Rattle.copy_move.specs.Replay.{IsReplayed};
-ghost use Rattle.copy_move.specs.Traces.{IsTracedTo};
+ghost use Rattle.history_laws.specs.Traces.{IsTracedTo};
 ghost use Rattle.mc_desk.specs.Logs.{jobs_begun};
 ghost use Rattle.mc_desk.specs.Sessions.{BeginsIn, EndsSession};
 ghost use Rattle.mc_desk.specs.Starts.{IsStartCause, is_start_fault};
@@ -150,8 +149,7 @@ impl<N: Tag, T: Tree, S: Sink, P: Spawner> Desk<N, T, S, P> {
     pub fn end(self, alloc: Global) -> Ended<T, S, P>
         // The history is a session over the tree, and no job is live at its end.
         ensures session { EndsSession N.start N.opening N.tree_faults (reverse result.history.entries) (T.contents result.tree) result.quit }
-        ensures traced { IsTracedTo N.opening (T.contents result.tree) (reverse result.history.entries) None }
-        ensures replayed { IsReplayed N.opening (T.contents result.tree) (reverse result.history.entries) }
+        ensures traced { IsTracedTo N.opening (T.contents result.tree) (reverse result.history.entries) }
         ensures idle { live_job (reverse result.history.entries) ≡ None }
         ensures counted { result.history.started ≡ jobs_begun result.history.entries }
 

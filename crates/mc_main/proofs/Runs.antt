@@ -1,46 +1,47 @@
 -- What a run promises, from what its session does, or where none began.
-use Rattle.std.proofs.Common.{◌≡◌, ◌⊎◌, ◌≤◌, ℕ, Bool, true, List, [], refl, sym, ◌∙◌, subst, inl, inr, Option, Some, None, IsSome}
+use Rattle.std.proofs.Common.{◌≡◌, ◌⊎◌, ◌≤◌, ℕ, Bool, true, List, [], refl, sym, subst, inl, inr, Option, Some, None, IsSome}
+use Rattle.mc_text.specs.Routes.{Route}
 use Rattle.tree_trait.specs.Calls.{ListFolder}
 use Rattle.tree_trait.specs.Refusals.{refusal_of}
 use Rattle.tree_trait.specs.Change.{CallLog, current}
 use Rattle.tree_trait.specs.Answers.{IfKnown, HasRisen}
 use Rattle.copy_move.specs.declared.history.Entry.{Entry}
-use Rattle.copy_move.specs.Traces.{IsTraced, IsTracedTo}
-use Rattle.copy_move.specs.Replay.{IsReplayed}
-use Rattle.copy_move.proofs.Crashed.{deletions_law}
-use Rattle.copy_move.proofs.PlainMoments.{plain_law}
-use Rattle.copy_move.proofs.ReplayedTo.{replayed_to}
+use Rattle.history_laws.specs.Traces.{IsTraced, IsTracedTo, at_rest}
+use Rattle.history_laws.proofs.Done.{done_law}
+use Rattle.history_laws.proofs.Moments.{replay_law, session_law}
 use Rattle.mc_desk.specs.declared.starts.Start.{Start}
 use Rattle.mc_desk.specs.Sessions.{EndsSession}
 use Rattle.mc_desk.specs.Tallies.{faults_in}
 use Rattle.mc_main.specs.declared.session.SessionEnd.{SessionEnd}
 use Rattle.mc_main.specs.declared.session.SessionEnd.TheVariants.{Quit, KeysEnded}
-use Rattle.mc_main.specs.Headline.{IsPlainlySafeRun, IsSafeRun, IsStatusOf, IsStatusOr, MayRefuseStart, IsComplete, RanSession, TookAll}
+use Rattle.mc_main.specs.Headline.{IsFinishedRun, IsReplayedRun, IsSafeRun, IsStatusOf, IsStatusOr, MayRefuseStart, IsComplete, RanSession, TookAll}
 
 -- the trace of a tree that tells
-told_trace : (o contents : Option CallLog) (newest : List Entry) (opening now : CallLog) → o ≡ Some opening → contents ≡ Some now → IsTracedTo o contents newest None → IsTraced opening newest None now
+told_trace : (o contents : Option CallLog) (newest : List Entry) (opening now : CallLog) → o ≡ Some opening → contents ≡ Some now → IsTracedTo o contents newest → (dirty : List Route) × IsTraced opening newest (at_rest dirty) now
 told_trace o contents newest opening now o_is is traced =
-    let t = subst (λ x. IsTracedTo x contents newest None) o_is traced in
-    let same : t.0 ≡ now = let a = t.1 in let b = is in cc in
-    subst (λ l. IsTraced opening newest None l) same t.2
+    let t = subst (λ x. IsTracedTo x contents newest) o_is traced in
+    let same : t.0 ≡ now = let a = t.2 in let b = is in cc in
+    (t.1, subst (λ l. IsTraced opening newest (at_rest t.1) l) same t.3)
 
--- a run that only deletes is safe at each moment
-pub safe_to : (o contents : Option CallLog) (newest : List Entry) → IsTracedTo o contents newest None → IfKnown o (λ opening. IfKnown contents (λ now. IsSafeRun opening now newest))
-safe_to o contents newest traced opening o_is now is tree settled only standing calls image moment left =
-    deletions_law opening now newest standing None calls image tree settled only (told_trace o contents newest opening now o_is is traced) moment left
+-- a run is safe at each moment
+pub safe_to : (o contents : Option CallLog) (newest : List Entry) → IsTracedTo o contents newest → IfKnown o (λ opening. IfKnown contents (λ now. IsSafeRun opening now newest))
+safe_to o contents newest traced opening o_is now is tree settled standing coming calls image moment left =
+    let t = told_trace o contents newest opening now o_is is traced in session_law opening now newest standing coming (at_rest t.0) calls image tree settled t.1 moment left
 
--- and one that is plain
-pub plainly_safe_to : (o contents : Option CallLog) (newest : List Entry) → IsTracedTo o contents newest None → IfKnown o (λ opening. IfKnown contents (λ now. IsPlainlySafeRun opening now newest))
-plainly_safe_to o contents newest traced opening o_is now is tree settled plain standing calls image moment left =
-    plain_law opening now newest standing None calls image tree settled plain (told_trace o contents newest opening now o_is is traced) moment left
+-- what a finished job did stays done
+pub finished_to : (o contents : Option CallLog) (newest : List Entry) → IsTracedTo o contents newest → IfKnown o (λ opening. IfKnown contents (λ now. IsFinishedRun opening now newest))
+finished_to o contents newest traced opening o_is now is tree settled =
+    let t = told_trace o contents newest opening now o_is is traced in done_law opening now newest (at_rest t.0) tree settled t.1
+
+-- and the tree shows what the history makes of the opening
+pub replayed_to : (o contents : Option CallLog) (newest : List Entry) → IsTracedTo o contents newest → IfKnown o (λ opening. IfKnown contents (λ now. IsReplayedRun opening now newest))
+replayed_to o contents newest traced opening o_is now is tree settled =
+    let t = told_trace o contents newest opening now o_is is traced in replay_law opening now newest (at_rest t.0) tree settled t.1
 
 -- where nothing was written down, the tree is as it was
-pub traced_none : (o contents : Option CallLog) (newest : List Entry) → newest ≡ [] → contents ≡ o → IsTracedTo o contents newest None
+pub traced_none : (o contents : Option CallLog) (newest : List Entry) → newest ≡ [] → contents ≡ o → IsTracedTo o contents newest
 traced_none None contents newest empty same = same
-traced_none (Some opening) contents newest empty same = (opening, same, subst (λ es. IsTraced opening es None opening) (sym empty) (refl, refl))
-
-pub replayed_none : (o contents : Option CallLog) (newest : List Entry) → newest ≡ [] → contents ≡ o → IsReplayed o contents newest
-replayed_none o contents newest empty same = replayed_to o contents newest None (traced_none o contents newest empty same)
+traced_none (Some opening) contents newest empty same = (opening, [], same, subst (λ es. IsTraced opening es (at_rest []) opening) (sym empty) (refl, refl))
 
 -- folders that can be listed are refused only where a device failed
 pub refused_start : (log : CallLog) (o : Option Start) (status faults faults_after : ℕ) (keys screen : Type 0) → (status ≡ 2 → MayRefuseStart log o faults faults_after) → IsStatusOr 2 status → (status ≡ 4 → screen)

@@ -3,7 +3,6 @@ use Rattle.std.specs.Prelude.{◌≡◌, ◌≢◌, ◌⊎◌, ℕ, ◌+◌, ◌
 use Rattle.std.specs.Option.{option_map}
 use Rattle.mc_text.specs.Routes.{Route, path_fault, route_of}
 use Rattle.tree_trait.specs.declared.file_system.FileSystem.{FileSystem}
-use Rattle.tree_trait.specs.FileSystem.{visible_tree}
 use Rattle.tree_trait.specs.Calls.{ListFolder}
 use Rattle.tree_trait.specs.Refusals.{refusal_of}
 use Rattle.tree_trait.specs.Shape.{IsTree}
@@ -13,9 +12,9 @@ use Rattle.tree_trait.specs.Answers.{HasRisen, IfKnown}
 use Rattle.tree_trait.specs.declared.devices.SourceFault.{SourceFault}
 use Rattle.key_screen.specs.DecodedKeys.{decoded_keys}
 use Rattle.copy_move.specs.declared.history.Entry.{Entry}
-use Rattle.copy_move.specs.Crashes.{calls_in, IsMoment, IsSafe}
-use Rattle.copy_move.specs.PlainCrashes.{IsPlainlySafe}
-use Rattle.copy_move.specs.Replay.{IsPlain, OnlyDeletes}
+use Rattle.history_laws.specs.Replayed.{front}
+use Rattle.history_laws.specs.Safe.{IsMoment, IsSafe, Replays}
+use Rattle.history_laws.specs.Staying.{StaysDone}
 use Rattle.mc_desk.specs.Tallies.{keys_in}
 use Rattle.mc_desk.specs.declared.starts.Start.{Start}
 use Rattle.mc_desk.specs.Sessions.{EndsSession}
@@ -113,19 +112,21 @@ IsCut end = (end ≡ Some ScreenFailed) ⊎ (end ≡ Some NoMemory)
 abbrev pub LeavesOthers : Option (List ℕ) → ℕ → Option SessionEnd → Option (List ℕ) → Type 0
 LeavesOthers stream taken end left = (left ≡ left_of stream taken) ⊎ ((left ≡ left_of stream (taken + 1)) × IsCut end)
 
--- What a crash leaves, at each moment of a run that only deletes on a tree on which nothing was pending, is safe.
+-- What a crash leaves, at each moment of a run, is safe, where the tree had the shape of one at the opening, with nothing
+-- pending: as of the entries that stand, or with the one that is under way.
 abbrev pub IsSafeRun : CallLog → CallLog → List Entry → Type 0
 IsSafeRun opening now newest =
-    IsTree (current opening) → all_settled opening.changes ≡ true → OnlyDeletes newest → (standing : List Entry) (calls : ℕ) (image : FileSystem)
-    → IsMoment newest (calls_in newest) standing calls → IsCrashImage now (length opening.changes + calls) image
-    → IsSafe (visible_tree (current opening)) standing now (length opening.changes + calls) image
+    IsTree (current opening) → all_settled opening.changes ≡ true → (standing coming : List Entry) (calls : ℕ) (image : FileSystem)
+    → IsMoment newest standing coming calls → IsCrashImage now (length opening.changes + calls) image
+    → IsSafe opening now standing (front opening calls now) image ⊎ IsSafe opening now coming (front opening calls now) image
 
--- The same of a run in which each job was begun when those before it were finished, copies too.
-abbrev pub IsPlainlySafeRun : CallLog → CallLog → List Entry → Type 0
-IsPlainlySafeRun opening now newest =
-    IsTree (current opening) → all_settled opening.changes ≡ true → IsPlain newest → (standing : List Entry) (calls : ℕ) (image : FileSystem)
-    → IsMoment newest (calls_in newest) standing calls → IsCrashImage now (length opening.changes + calls) image
-    → IsPlainlySafe (visible_tree (current opening)) standing image
+-- what a finished job did stays done
+abbrev pub IsFinishedRun : CallLog → CallLog → List Entry → Type 0
+IsFinishedRun opening now newest = IsTree (current opening) → all_settled opening.changes ≡ true → StaysDone opening now newest
+
+-- what can be seen at the end is what the history makes of the opening
+abbrev pub IsReplayedRun : CallLog → CallLog → List Entry → Type 0
+IsReplayedRun opening now newest = IsTree (current opening) → all_settled opening.changes ≡ true → Replays opening newest now
 
 -- Where the words name folders that can be listed, and no device failed, the status is 0, or 5 for want of memory.
 abbrev pub IsComplete : CallLog → Option Start → ℕ → Type 0 → Type 0

@@ -3,8 +3,7 @@ ghost use Rattle.std.specs.Prelude.{◌≡◌, ◌≢◌, ◌≤◌, ◌<◌, �
 ghost use Rattle.mc_text.specs.Drawn.{drawn as drawn_text};
 ghost use Rattle.tree_trait.specs.Answers.{IfKnown, HasRisen};
 ghost use Rattle.copy_move.specs.Told.{live_job};
-ghost use Rattle.copy_move.specs.Replay.{IsReplayed};
-ghost use Rattle.copy_move.specs.Traces.{IsTracedTo};
+ghost use Rattle.history_laws.specs.Traces.{IsTracedTo};
 ghost use Rattle.mc_desk.specs.Logs.{jobs_begun};
 ghost use Rattle.mc_desk.specs.Tallies.{faults_in, has_lost};
 ghost use Rattle.mc_desk.specs.Desks.{IsFresh, RanNothing};
@@ -30,8 +29,7 @@ pub fn run_desk<N: Tag, T: Tree, K: Source, S: Sink, P: Spawner, C: Clock>(
     requires stream { K.left keys.old ≡ N.stream }
     ensures session { RanSession N.start N.opening N.tree_faults result.status (reverse result.history.entries) (T.contents result.tree)
         (TookAll N.stream (K.left keys.new)) }
-    ensures traced { IsTracedTo N.opening (T.contents result.tree) (reverse result.history.entries) None }
-    ensures replayed { IsReplayed N.opening (T.contents result.tree) (reverse result.history.entries) }
+    ensures traced { IsTracedTo N.opening (T.contents result.tree) (reverse result.history.entries) }
     ensures idle { live_job (reverse result.history.entries) ≡ None }
     ensures counted { result.history.started ≡ jobs_begun result.history.entries }
     ensures keys { IfKnown N.stream (λ bytes. ReadsKeys bytes (K.left keys.new) result.status (reverse result.history.entries)) }

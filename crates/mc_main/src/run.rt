@@ -2,12 +2,11 @@
 ghost use Rattle.std.specs.Prelude.{◌≡◌, ◌⊎◌, ◌≤◌, ◌++◌, true, Option, None, Some, reverse};
 ghost use Rattle.tree_trait.specs.Answers.{IfKnown, HasRisen};
 ghost use Rattle.copy_move.specs.Told.{live_job};
-ghost use Rattle.copy_move.specs.Replay.{IsReplayed};
-ghost use Rattle.copy_move.specs.Traces.{IsTracedTo};
+ghost use Rattle.history_laws.specs.Traces.{IsTracedTo};
 ghost use Rattle.mc_desk.specs.Logs.{jobs_begun};
 ghost use Rattle.mc_desk.specs.Tallies.{faults_in, has_lost};
 ghost use Rattle.mc_desk.specs.Desks.{RanNothing};
-ghost use Rattle.mc_main.specs.Headline.{folders_in, IsStatusOr, MayRefuseStart, RefusesStart, IsRun, ReadsKeys, TookAll, IsSafeRun, IsPlainlySafeRun, IsComplete};
+ghost use Rattle.mc_main.specs.Headline.{folders_in, IsStatusOr, MayRefuseStart, RefusesStart, IsRun, ReadsKeys, TookAll, IsSafeRun, IsFinishedRun, IsReplayedRun, IsComplete};
 ghost use Rattle.mc_main.specs.Printed.{PrintsStart, usage_line as line_of_usage};
 
 use crate::endings::{refuse, refuse_start, run_desk, without_session};
@@ -60,25 +59,27 @@ pub fn mc_run<N: Tag, T: Tree, K: Source, S: Sink, P: Spawner, C: Clock, G: Gate
     requires sink { N.sink_faults ≡ S.fault_count screen }
     requires spawner { P.fault_count spawner ≡ N.spawner_faults }
 
-    // Where the run only deletes, a crash at any moment, inside a call too, leaves each file whole or gone; but for the file
-    // that is being deleted, and those whose removal was not brought onto the disk before their job ended, all is as the
-    // history tells; and a file whose deletion was finished is gone.
+    // At each moment, inside a call too, each path holds after a crash what the history says, or what it held before its last
+    // change as long as that isn't on the disk: a copied source is unchanged, a target is as it was or has the source's bytes
+    // and mode, a file that is deleted is whole or gone. Parts that an entry named may be missing or hold anything, until they
+    // are gone or replaced and that is on the disk.
     ensures safe { IfKnown (T.contents tree) (λ opening. IfKnown (T.contents result.tree) (λ now.
         IsSafeRun opening now (reverse result.history.entries))) }
 
-    // Where each job was begun when those before it were finished, copies too, a crash at any moment leaves each path as it
-    // was when the last job was begun, but for that job's own parts, and for the one path that it works on, which may be as
-    // the finished job makes it: a target has the source's bytes and mode, a deleted file is gone.
-    ensures plainly_safe { IfKnown (T.contents tree) (λ opening. IfKnown (T.contents result.tree) (λ now.
-        IsPlainlySafeRun opening now (reverse result.history.entries))) }
+    // What a finished job did stays done, at each later moment, until an entry names the path again.
+    ensures finished { IfKnown (T.contents tree) (λ opening. IfKnown (T.contents result.tree) (λ now.
+        IsFinishedRun opening now (reverse result.history.entries))) }
+
+    // The tree shows at the end what the history makes of the opening.
+    ensures replayed { IfKnown (T.contents tree) (λ opening. IfKnown (T.contents result.tree) (λ now.
+        IsReplayedRun opening now (reverse result.history.entries))) }
 
     // The history is a session: a job is begun directly after the key that confirmed it, as it was planned; its trouble is
     // answered directly after the key that answers it; no key is taken where a step or a look is due; F10 without a box asks
     // for the end, and then only steps and the closing follow. At status 0 the end was asked for, or all bytes were taken.
-    // Each entry of a step is a piece of the job's work with the calls that belong to it, and the tree is what the history
-    // makes of the opening. A tree that tells what it holds is handed back telling it.
-    ensures traced { IsTracedTo (T.contents tree) (T.contents result.tree) (reverse result.history.entries) None }
-    ensures replayed { IsReplayed (T.contents tree) (T.contents result.tree) (reverse result.history.entries) }
+    // Each entry of a step is a piece of the job's work with the calls that belong to it, or the sync of a folder that an ended
+    // job left. A tree that tells what it holds is handed back telling it.
+    ensures traced { IsTracedTo (T.contents tree) (T.contents result.tree) (reverse result.history.entries) }
     ensures session { IsRun (folders_in words.now) (T.contents tree) (T.fault_count tree) result.status
         (reverse result.history.entries) (T.contents result.tree) (TookAll (K.left keys.old) (K.left keys.new)) }
     ensures idle { live_job (reverse result.history.entries) ≡ None }

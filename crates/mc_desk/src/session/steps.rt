@@ -4,8 +4,7 @@ ghost use Rattle.std.specs.Option.{option_map};
 ghost use Rattle.copy_move.specs.Jobs.{closed_job};
 ghost use Rattle.copy_move.specs.Ranks.{rank_with};
 ghost use Rattle.copy_move.specs.Told.{if_closed, live_job, IsReady};
-ghost use Rattle.copy_move.specs.Replay.{IsReplayed};
-ghost use Rattle.copy_move.specs.Traces.{IsTracedTo};
+ghost use Rattle.history_laws.specs.Traces.{IsTracedTo};
 ghost use Rattle.mc_desk.specs.Sessions.{EndsSession};
 ghost use Rattle.mc_desk.specs.Tallies.{can_step, faults_in, keys_in, has_lost};
 ghost use Rattle.mc_desk.specs.Desks.{Blames, KeepsKeys, MovesDirty, RanNothing, idle_reply};
@@ -105,8 +104,7 @@ impl<N: Tag, T: Tree, S: Sink, P: Spawner> Session<N, T, S, P> {
     /// Ends the session: it is closed, and its job stepped to the end.
     pub fn end(self, alloc: Global) -> Ended<T, S, P>
         ensures session { EndsSession N.start N.opening N.tree_faults (reverse result.history.entries) (T.contents result.tree) result.quit }
-        ensures traced { IsTracedTo N.opening (T.contents result.tree) (reverse result.history.entries) None }
-        ensures replayed { IsReplayed N.opening (T.contents result.tree) (reverse result.history.entries) }
+        ensures traced { IsTracedTo N.opening (T.contents result.tree) (reverse result.history.entries) }
         ensures idle { live_job (reverse result.history.entries) ≡ None }
         ensures counted { result.history.started ≡ jobs_begun result.history.entries }
         ensures keys { keys_in (reverse result.history.entries) ≡ keys_in self.newest }

@@ -1,16 +1,22 @@
--- A run is safe at each moment, its keys are those of the bytes that were taken, and it is complete.
+-- A run is safe at each moment, what it finished stays done, the tree is what it tells, its keys are those of the bytes that were taken, and it is complete.
 use Rattle.std.proofs.Common.{rules, reverse, inl, refl, ◌≡◌, ◌≤◌, ◌∙◌, sym, subst, ap, IsSome, Option, Some, None, arith}
-use Rattle.copy_move.specs.Traces.{IsTracedTo}
+use Rattle.history_laws.specs.Traces.{IsTracedTo}
 use Rattle.mc_desk.specs.declared.starts.Start.{Start}
 use Rattle.mc_desk.specs.Tallies.{faults_in}
 use Rattle.mc_main.specs.Headline.{MayRefuseStart, folders_in}
 use Rattle.mc_main.proofs.Printing.{cause_in, prints_start}
 use Rattle.mc_main.proofs.Taking.{reads_none}
-use Rattle.mc_main.proofs.Runs.{none_counted, safe_to, plainly_safe_to, run_in, traced_none, refused_start}
+use Rattle.mc_main.proofs.Runs.{none_counted, finished_to, replayed_to, run_in, safe_to, traced_none, refused_start}
 use Rattle.mc_main.proofs.run.mc_run.Goals as goal
 
 pub returns-in-Err-Usage-clause-safe : goal.returns-in-Err-Usage-clause-safe
 returns-in-Err-Usage-clause-safe g c = safe_to _ _ _ (traced_none _ _ (reverse c.refuse.result.history.entries) (ap reverse c.refuse.ensures.empty) (ap g.T.Tree.contents c.refuse.ensures.tree))
+
+pub returns-in-Err-Usage-clause-finished : goal.returns-in-Err-Usage-clause-finished
+returns-in-Err-Usage-clause-finished g c = finished_to _ _ _ (traced_none _ _ (reverse c.refuse.result.history.entries) (ap reverse c.refuse.ensures.empty) (ap g.T.Tree.contents c.refuse.ensures.tree))
+
+pub returns-in-Err-Usage-clause-replayed : goal.returns-in-Err-Usage-clause-replayed
+returns-in-Err-Usage-clause-replayed g c = replayed_to _ _ _ (traced_none _ _ (reverse c.refuse.result.history.entries) (ap reverse c.refuse.ensures.empty) (ap g.T.Tree.contents c.refuse.ensures.tree))
 
 pub returns-in-Err-Usage-clause-keys : goal.returns-in-Err-Usage-clause-keys
 returns-in-Err-Usage-clause-keys g c = reads_none (g.K.Source.left c.args.keys.now) (reverse c.refuse.result.history.entries) c.refuse.result.status (ap reverse c.refuse.ensures.empty)
@@ -18,15 +24,35 @@ returns-in-Err-Usage-clause-keys g c = reads_none (g.K.Source.left c.args.keys.n
 pub returns-in-Err-Memory-clause-safe : goal.returns-in-Err-Memory-clause-safe
 returns-in-Err-Memory-clause-safe g c = safe_to _ _ _ (traced_none _ _ (reverse c.without_session.result.history.entries) (ap reverse c.without_session.ensures.empty) (ap g.T.Tree.contents c.without_session.ensures.tree))
 
+pub returns-in-Err-Memory-clause-finished : goal.returns-in-Err-Memory-clause-finished
+returns-in-Err-Memory-clause-finished g c = finished_to _ _ _ (traced_none _ _ (reverse c.without_session.result.history.entries) (ap reverse c.without_session.ensures.empty) (ap g.T.Tree.contents c.without_session.ensures.tree))
+
+pub returns-in-Err-Memory-clause-replayed : goal.returns-in-Err-Memory-clause-replayed
+returns-in-Err-Memory-clause-replayed g c = replayed_to _ _ _ (traced_none _ _ (reverse c.without_session.result.history.entries) (ap reverse c.without_session.ensures.empty) (ap g.T.Tree.contents c.without_session.ensures.tree))
+
 pub returns-in-Err-Memory-clause-keys : goal.returns-in-Err-Memory-clause-keys
 returns-in-Err-Memory-clause-keys g c = reads_none (g.K.Source.left c.args.keys.now) (reverse c.without_session.result.history.entries) c.without_session.result.status (ap reverse c.without_session.ensures.empty)
 
 pub returns-in-Ok-begin-clause-safe : goal.returns-in-Ok-begin-clause-safe
 returns-in-Ok-begin-clause-safe g c =
-    safe_to _ _ _ (subst (λ o. IsTracedTo o (g.T.Tree.contents c.run_desk.result.tree) (reverse c.run_desk.result.history.entries) None) (sym c.requires.opening) c.run_desk.ensures.traced)
+    safe_to _ _ _ (subst (λ o. IsTracedTo o (g.T.Tree.contents c.run_desk.result.tree) (reverse c.run_desk.result.history.entries)) (sym c.requires.opening) c.run_desk.ensures.traced)
+
+pub returns-in-Ok-begin-clause-finished : goal.returns-in-Ok-begin-clause-finished
+returns-in-Ok-begin-clause-finished g c =
+    finished_to _ _ _ (subst (λ o. IsTracedTo o (g.T.Tree.contents c.run_desk.result.tree) (reverse c.run_desk.result.history.entries)) (sym c.requires.opening) c.run_desk.ensures.traced)
+
+pub returns-in-Ok-begin-clause-replayed : goal.returns-in-Ok-begin-clause-replayed
+returns-in-Ok-begin-clause-replayed g c =
+    replayed_to _ _ _ (subst (λ o. IsTracedTo o (g.T.Tree.contents c.run_desk.result.tree) (reverse c.run_desk.result.history.entries)) (sym c.requires.opening) c.run_desk.ensures.traced)
 
 pub returns-in-Err-clause-safe : goal.returns-in-Err-clause-safe
 returns-in-Err-clause-safe g c = safe_to _ _ _ (traced_none _ _ (reverse c.refuse_start.result.history.entries) (ap reverse c.refuse_start.ensures.empty) (ap g.T.Tree.contents c.refuse_start.ensures.tree ∙ c.in-Err.ensures.same))
+
+pub returns-in-Err-clause-finished : goal.returns-in-Err-clause-finished
+returns-in-Err-clause-finished g c = finished_to _ _ _ (traced_none _ _ (reverse c.refuse_start.result.history.entries) (ap reverse c.refuse_start.ensures.empty) (ap g.T.Tree.contents c.refuse_start.ensures.tree ∙ c.in-Err.ensures.same))
+
+pub returns-in-Err-clause-replayed : goal.returns-in-Err-clause-replayed
+returns-in-Err-clause-replayed g c = replayed_to _ _ _ (traced_none _ _ (reverse c.refuse_start.result.history.entries) (ap reverse c.refuse_start.ensures.empty) (ap g.T.Tree.contents c.refuse_start.ensures.tree ∙ c.in-Err.ensures.same))
 
 pub returns-in-Err-clause-keys : goal.returns-in-Err-clause-keys
 returns-in-Err-clause-keys g c = reads_none (g.K.Source.left c.args.keys.now) (reverse c.refuse_start.result.history.entries) c.refuse_start.result.status (ap reverse c.refuse_start.ensures.empty)
@@ -35,19 +61,6 @@ pub returns-in-Err-clause-complete : goal.returns-in-Err-clause-complete
 returns-in-Err-clause-complete g c log known =
     let start : c.refuse_start.result.status ≡ 2 → MayRefuseStart log (folders_in c.args.words.now) (g.T.Tree.fault_count c.args.tree) (g.T.Tree.fault_count c.refuse_start.result.tree) = λ two. search rules in
     refused_start log _ c.refuse_start.result.status _ _ _ _ start c.refuse_start.ensures.status (λ four. search rules)
-
-pub returns-in-Err-Usage-clause-plainly_safe : goal.returns-in-Err-Usage-clause-plainly_safe
-returns-in-Err-Usage-clause-plainly_safe g c = plainly_safe_to _ _ _ (traced_none _ _ (reverse c.refuse.result.history.entries) (ap reverse c.refuse.ensures.empty) (ap g.T.Tree.contents c.refuse.ensures.tree))
-
-pub returns-in-Err-Memory-clause-plainly_safe : goal.returns-in-Err-Memory-clause-plainly_safe
-returns-in-Err-Memory-clause-plainly_safe g c = plainly_safe_to _ _ _ (traced_none _ _ (reverse c.without_session.result.history.entries) (ap reverse c.without_session.ensures.empty) (ap g.T.Tree.contents c.without_session.ensures.tree))
-
-pub returns-in-Ok-begin-clause-plainly_safe : goal.returns-in-Ok-begin-clause-plainly_safe
-returns-in-Ok-begin-clause-plainly_safe g c =
-    plainly_safe_to _ _ _ (subst (λ o. IsTracedTo o (g.T.Tree.contents c.run_desk.result.tree) (reverse c.run_desk.result.history.entries) None) (sym c.requires.opening) c.run_desk.ensures.traced)
-
-pub returns-in-Err-clause-plainly_safe : goal.returns-in-Err-clause-plainly_safe
-returns-in-Err-clause-plainly_safe g c = plainly_safe_to _ _ _ (traced_none _ _ (reverse c.refuse_start.result.history.entries) (ap reverse c.refuse_start.ensures.empty) (ap g.T.Tree.contents c.refuse_start.ensures.tree ∙ c.in-Err.ensures.same))
 
 pub begin-requires-clause-start : goal.begin-requires-clause-start
 begin-requires-clause-start g c known is = let both : Some known ≡ Some c.in-Ok.start = sym is ∙ (c.requires.start ∙ c.in-Ok.ensures.read) in cc
