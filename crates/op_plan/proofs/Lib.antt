@@ -7,3 +7,4 @@ pub mod SplitLemmas
 pub mod NamingLemmas
 pub mod ChildLemmas
 pub mod PlanLemmas
+pub mod AskingLemmas

@@ -34,6 +34,7 @@ pub fn pairs_into(
     ensures answer { Plans (pairs_into folder.now sources.now names.now) result }
     ensures apart { IfOk result ArePairsApart }
     ensures sources { IfOk result (λ pairs. sources_in pairs ≡ sources.now) }
+    ensures placed { IfOk result (λ pairs. targets_from pairs ≡ map (λ name. name ∷ folder.now) names.now) }
     ensures no_fault { IfErr result (λ e. is_fault e ≡ false) }
     ensures carried { IfErr result CarriesPlanCause }
 {

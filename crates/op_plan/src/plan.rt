@@ -1,5 +1,5 @@
 //! A plan is made of a request: the first check that stands refuses it.
-ghost use Rattle.std.specs.Prelude.{◌≡◌, ◌≢◌, ◌≤◌, ◌==◌, false, All, Ok, IfOk, IfErr, Some};
+ghost use Rattle.std.specs.Prelude.{◌≡◌, ◌≢◌, ◌≤◌, ◌==◌, false, All, Ok, IfOk, IfErr, Some, [], ◌∷◌};
 ghost use Rattle.tree_trait.specs.Change.{current};
 ghost use Rattle.tree_trait.specs.Answers.{IfKnown};
 ghost use Rattle.op_plan.specs.Answering.{Plans, and_then, is_fault, HasPlanCause, CarriesPlanCause};
@@ -10,8 +10,7 @@ ghost use Rattle.tree_trait.specs.Calls.{Stat};
 ghost use Rattle.tree_trait.specs.Refusals.{refusal_of};
 ghost use Rattle.op_plan.specs.Planning.{plan_of, pairs_of, sources_of, folder_for, placed_there, placed_masked, place_of, nothing_there, is_link_text, link_of};
 ghost use Rattle.op_plan.specs.Soundness.{AreApart, ArePairsApart, IsSound, HasMode};
-ghost use Rattle.op_plan.specs.Asking.{IsJobFor};
-ghost use Rattle.op_plan.specs.Naming.{pattern_in, chosen};
+ghost use Rattle.op_plan.specs.Asking.{ArePlaced, ArePairsFor, IsJobFor};
 ghost use Rattle.op_plan.specs.Destinations.{last_part};
 ghost use Rattle.op_plan.specs.Checks.{sources_in};
 ghost use Rattle.mc_text.specs.Routes.{last_of};
@@ -20,7 +19,7 @@ use crate::apart::{pairs_into, target_in};
 use crate::destination::{folder_at, folder_there, split_last};
 use crate::error::PlanError;
 use crate::job::{Job, Pairs};
-use crate::mask::Mask;
+use crate::mask::{Mask, MaskPiece};
 use crate::naming::{choose, name_in, names_for, read_pattern};
 use crate::request::Request;
 use crate::sources::{look_at_all, refuse_nested};
@@ -142,6 +141,7 @@ fn plan_folder<T: Tree>(
 }
 
 /// The sources that the mask leaves in, each with its target.
+#[tactic(auto, using(crate::proofs::AskingLemmas::masked_pairs, crate::proofs::AskingLemmas::kept_pairs))]
 fn plan_pairs<T: Tree>(
     alloc: Global,
     tree: &mut T,
@@ -155,7 +155,7 @@ fn plan_pairs<T: Tree>(
     ensures same { T.contents tree.new ≡ T.contents tree.old }
     ensures cause { HasPlanCause (T.fault_count tree.old) (T.fault_count tree.new) result }
     ensures apart { IfOk result ArePairsApart }
-    ensures sources { IfOk result (λ pairs. sources_in pairs ≡ chosen (pattern_in mask.now) sources) }
+    ensures asked { IfOk result (ArePairsFor sources mask.now to.now) }
 {
     let pattern = read_pattern(alloc, mask)?;
     let sources = plan_sources(alloc, tree, choose(&pattern, sources))?;
@@ -194,6 +194,7 @@ fn folder_for<T: Tree>(
 }
 
 /// The sources, each with the target of its own name in a folder.
+#[tactic(auto, using(crate::proofs::AskingLemmas::placed_pairs))]
 fn plan_into(
     alloc: Global,
     pattern: &Option<ShellPattern>,
@@ -204,6 +205,7 @@ fn plan_into(
     ensures answer { Plans (placed_there pattern.now sources.now folder.now) result }
     ensures apart { IfOk result ArePairsApart }
     ensures sources { IfOk result (λ pairs. sources_in pairs ≡ sources.now) }
+    ensures placed { IfOk result (ArePlaced pattern.now (MaskPiece.Star ∷ [])) }
     ensures no_fault { IfErr result (λ e. is_fault e ≡ false) }
     ensures carried { IfErr result CarriesPlanCause }
 {
@@ -213,6 +215,7 @@ fn plan_into(
 }
 
 /// The sources, each with the target that the mask makes of its name, in the folder that the front leads to.
+#[tactic(auto, using(crate::proofs::AskingLemmas::placed_pairs))]
 fn plan_masked<T: Tree>(
     alloc: Global,
     tree: &mut T,
@@ -228,6 +231,7 @@ fn plan_masked<T: Tree>(
     ensures cause { HasPlanCause (T.fault_count tree.old) (T.fault_count tree.new) result }
     ensures apart { IfOk result ArePairsApart }
     ensures sources { IfOk result (λ pairs. sources_in pairs ≡ sources.now) }
+    ensures placed { IfOk result (ArePlaced pattern.now mask.now) }
 {
     let names = names_for(alloc, pattern, mask, sources)?;
     let folder = folder_at(alloc, tree, from, front)?;

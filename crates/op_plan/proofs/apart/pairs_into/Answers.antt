@@ -39,3 +39,11 @@ returns-clause-sources c =
     let size : length targets ≡ length c.args.sources.now =
     ap length made ∙ (length-map c.args.names.now (λ (name : List ℕ). name ∷ c.args.folder.now) ∙ c.requires.named) in
     ap sources_in c.in_ok-pairs.ensures ∙ sources-paired c.args.sources.now targets size
+
+pub returns-clause-placed : goal.returns-clause-placed
+returns-clause-placed c =
+    let targets = c.as_slice.result.now in
+    let made = c.as_slice.ensures ∙ c.in_ok-targets.ensures.joined in
+    let size : length targets ≡ length c.args.sources.now =
+    ap length made ∙ (length-map c.args.names.now (λ (name : List ℕ). name ∷ c.args.folder.now) ∙ c.requires.named) in
+    ap targets_from c.in_ok-pairs.ensures ∙ (targets-paired c.args.sources.now targets size ∙ made)
