@@ -1,3 +1,4 @@
+pub mod LineCounts
 pub mod Places
 pub mod PointedText
 pub mod UndoHistory

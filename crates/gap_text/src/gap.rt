@@ -1,9 +1,11 @@
 //! A text with a point, kept in one block with a gap at the point.
 ghost use Rattle.std.specs.Prelude.{◌≡◌, ◌+◌, ◌^◌, ◌<◌, ◌≤◌, ◌++◌, length, take, drop, slice_index, slice_range, vec_len};
 ghost use Rattle.std.specs.Prelude.{IfOk, OnOk, OnErr};
+ghost use Rattle.memchr.specs.Find.{IsFirst, IsLast, Passes, is_byte};
 ghost use Rattle.gap_text.specs.Places.{first_place, IsLeastPlace};
 ghost use Rattle.gap_text.specs.PointedText.{opened, moved_to, inserted, deleted};
 
+use crate::bytes::{byte_in_halves, last_byte_in_halves};
 use crate::places::place_in_halves;
 use mc_text::{Bytes, NoMemory};
 use std::alloc::Global;
@@ -12,13 +14,13 @@ use std::marker::Model;
 /// Bytes, and the point at which they are changed. The gap lies at the point: `room` holds the bytes before it, then
 /// the gap from `gap_start` to `gap_end`, whose bytes mean nothing, then the bytes after it.
 #[derive(Drop)]
-pub struct GapText {
+pub struct GapBuffer {
     room: Vec<u8>,
     gap_start: usize,
     gap_end: usize,
 }
 
-impl Model for GapText {
+impl Model for GapBuffer {
     ghost use Rattle.std.specs.Prelude.{◌++◌, ◌≤◌, take, drop, length};
     ghost use Rattle.gap_text.specs.PointedText.{PointedText};
 
@@ -32,14 +34,14 @@ impl Model for GapText {
     ghost invariant = { λ t. (t.gap_start ≤ t.gap_end) × (t.gap_end ≤ length t.room.items) };
 }
 
-impl GapText {
+impl GapBuffer {
     ghost use Rattle.std.specs.Prelude.{[]};
 
     /// A text with no bytes. It takes no memory.
-    pub fn new(alloc: Global) -> GapText
+    pub fn new(alloc: Global) -> GapBuffer
         ensures { result ≡ opened [] }
     {
-        GapText {
+        GapBuffer {
             room: Vec::new(alloc),
             gap_start: 0,
             gap_end: 0,
@@ -47,10 +49,10 @@ impl GapText {
     }
 
     /// A copy of these bytes, with the point before the first. Takes time linear in the bytes.
-    pub fn from_bytes(alloc: Global, bytes: &[u8]) -> Result<GapText, NoMemory>
+    pub fn from_bytes(alloc: Global, bytes: &[u8]) -> Result<GapBuffer, NoMemory>
         ensures { IfOk result (λ text. text ≡ opened bytes.now) }
     {
-        Ok(GapText {
+        Ok(GapBuffer {
             room: Vec::from_slice(alloc, bytes)?,
             gap_start: 0,
             gap_end: 0,
@@ -99,13 +101,25 @@ impl GapText {
     }
 
     /// Puts bytes before the point, which then stands after them. Takes time linear in the bytes. Where the gap is too
-    /// short for them, the block grows to at least twice its size, so many insertions at one place take time linear in
-    /// the text and all their bytes.
+    /// short for them, the block grows by at least a quarter, so many insertions at one place take time linear in the
+    /// text and all their bytes.
     pub fn insert(&mut self, bytes: &[u8]) -> Result<(), NoMemory>
         ensures done { OnOk result (self.new ≡ inserted self.old bytes.now) }
         ensures refused { OnErr result (self.new ≡ self.old) }
     {
-        self.gap_end = with_gap_of(&mut self.room, self.gap_start, self.gap_end, bytes.len())?;
+        let _point = self.point();
+        self.replace(0, bytes)
+    }
+
+    /// The next `count` bytes after the point give way to new ones, and the point stands after these. Their room is
+    /// taken first, so the block grows only where the new ones don't fit into it and the gap.
+    pub fn replace(&mut self, count: usize, bytes: &[u8]) -> Result<(), NoMemory>
+        requires { self.old.point + count ≤ length self.old.bytes }
+        ensures done { OnOk result (self.new ≡ inserted (deleted self.old count) bytes.now) }
+        ensures refused { OnErr result (self.new ≡ self.old) }
+    {
+        let end = self.gap_end + count;
+        self.gap_end = with_gap_of(&mut self.room, self.gap_start, end, bytes.len())?;
         write_at(&mut self.room, self.gap_start, bytes);
         self.gap_start += bytes.len();
         Ok(())
@@ -130,6 +144,22 @@ impl GapText {
             return None;
         }
         place_in_halves(self.front(), self.back(), from, bytes)
+    }
+
+    /// The first place at or after `from` where a byte stands. Takes time linear in what it passes.
+    pub fn byte_from(&self, from: usize, byte: u8) -> Option<usize>
+        requires { from ≤ length self.now.bytes }
+        ensures { IsFirst (Passes (is_byte byte) self.now.bytes) from (length self.now.bytes) result }
+    {
+        byte_in_halves(self.front(), self.back(), from, byte)
+    }
+
+    /// The last place before `to` where a byte stands. Takes time linear in what it passes.
+    pub fn byte_before(&self, to: usize, byte: u8) -> Option<usize>
+        requires { to ≤ length self.now.bytes }
+        ensures { IsLast (Passes (is_byte byte) self.now.bytes) 0 to result }
+    {
+        last_byte_in_halves(self.front(), self.back(), to, byte)
     }
 
     /// All bytes as one list. Takes time linear in them.
@@ -180,13 +210,15 @@ impl GapText {
         self.gap_end = end;
     }
 
-    fn front(&self) -> &[u8]
+    /// The bytes before the point.
+    pub fn front(&self) -> &[u8]
         ensures { result.now ≡ take self.now.point self.now.bytes }
     {
         &self.room[..self.gap_start]
     }
 
-    fn back(&self) -> &[u8]
+    /// The bytes after the point.
+    pub fn back(&self) -> &[u8]
         ensures { result.now ≡ drop self.now.point self.now.bytes }
     {
         &self.room[self.gap_end..]
@@ -222,7 +254,7 @@ fn with_gap_of(
         return Ok(end);
     }
     let len = room.len();
-    let grown = (2 * len).max(len + count);
+    let grown = len + count.max(len / 4);
     room.resize(grown, 0)?;
     let new_end = grown - (len - end);
     room.copy_within(end..len, new_end);

@@ -1,12 +1,17 @@
 -- Places in the rest of a text, and the run that is built place by place.
-use Rattle.std.proofs.Common.{◌≡◌, ℕ, ◌+◌, ◌-◌, ◌<◌, ◌≤◌, List, [], ◌∷◌, ◌++◌, length, drop, get_or, refl, sym, ap, ◌∙◌, arith, length-drop, slice_range, append_assoc, append-nil, Some, None}
+use Rattle.std.proofs.Common.{◌≡◌, ℕ, ◌+◌, ◌-◌, ◌<◌, ◌≤◌, List, [], ◌∷◌, ◌++◌, length, drop, get_or, refl, sym, ap, ◌∙◌, arith, length-drop, length-append, length-take-le, slice_range, append_assoc, append-nil, Some, None}
 use Rattle.std.proofs.lemmas.List.{get_or-drop}
 use Rattle.memchr.specs.Find.{OccursAt, FindsNeedle, matches, match_len}
 use Rattle.memchr.proofs.lemmas.MatchLemmas.{matches-none, matches-first}
 use Rattle.std.proofs.Common.{Err}
-use Rattle.std.proofs.lemmas.Bool.{cond-false, ne_eqb}
-use Rattle.mc_edit.specs.declared.error.EditError.TheVariants.{NotFound}
-use Rattle.mc_edit.specs.Edits.{EditedText}
+use Rattle.std.proofs.Common.{false}
+use Rattle.std.proofs.lemmas.Bool.{cond-false, ne_eqb, false_from_ne_true}
+use Rattle.std.specs.Str.{bytes_eq}
+use Rattle.std.proofs.lemmas.Slice.Eq.{bytes_eq-Decides}
+use Rattle.mc_edit.specs.declared.error.EditError.TheVariants.{NotFound, TooLarge}
+use Rattle.mc_edit.specs.Edits.{EditedText, spliced, largest_text}
+use Rattle.mc_edit.proofs.SpliceLemmas.{length-spliced}
+use Rattle.mc_edit.proofs.ChangeLemmas.{settled-large}
 use Rattle.mc_edit.specs.Commands.{places_replaced, all_replaced}
 use Rattle.mc_edit.specs.Replacing.{replaced_run, last_end}
 
@@ -79,6 +84,25 @@ module _ (text what : List ℕ) (some : 0 < length what) (from : ℕ) where
   pub end-over : FindsNeedle text what from None → from ≡ last_end what from (matches text what from)
   end-over nowhere = ap (λ places. last_end what from places) (sym (matches-over nowhere))
 
+-- the size of a run, place by place
+module _ (text what : List ℕ) (some : 0 < length what) (from : ℕ) (new : List ℕ) where
+  pub size-next : (at : ℕ) → from ≤ at → at ≤ length text → FindsNeedle text what from (Some at)
+      → (at - from) + length new + length (replaced_run text what new (at + length what) (matches text what (at + length what)))
+      ≡ length (replaced_run text what new from (matches text what from))
+  size-next at low within finds =
+      let part = slice_range text from at in
+      let left = replaced_run text what new (at + length what) (matches text what (at + length what)) in
+      omega (
+        arith,
+        ap length (run-next text what some from new [] at finds),
+        length-append (part ++ new) left,
+        length-append part new,
+        length-take-le (at - from) (drop from text) (omega (arith, length-drop from text)),
+      )
+
+  pub size-over : FindsNeedle text what from None → length (replaced_run text what new from (matches text what from)) ≡ 0
+  size-over nowhere = sym (ap length (run-over text what some from new [] nowhere))
+
 last_end-low : (what : List ℕ) (from : ℕ) (places : List ℕ) → (low : ℕ) → low ≤ from → ((place : ℕ) → low ≤ place + length what) → low ≤ last_end what from places
 last_end-low what from [] low below each = below
 last_end-low what from (place ∷ places) low below each = last_end-low what (place + length what) places low (each place) each
@@ -99,3 +123,34 @@ module _ (what new rest : List ℕ) (some : 0 < length what) (e : EditedText) (i
   pub all_replaced-none : (end : ℕ) → end ≡ last_end what 0 (matches rest what 0) → end ≡ 0 → all_replaced what new e ≡ Err NotFound
   all_replaced-none end is_end zero_end =
       shown ∙ ap (λ places. places_replaced places what new e) (none-ends what (matches rest what 0) some (sym is_end ∙ zero_end))
+
+  -- a text that becomes too large is refused with its size
+  large_places : (size : ℕ) → (places : List ℕ) → (last_end what 0 places ≡ 0 → ⊥) → last_end what 0 places ≤ length rest
+      → e.text.point ≤ length e.text.bytes → length e.text.bytes ≤ largest_text → largest_text < size
+      → size ≡ length (replaced_run rest what new 0 places) + (length e.text.bytes - last_end what 0 places)
+      → places_replaced places what new e ≡ Err (TooLarge size)
+  large_places size [] found within point_in small large is_size = absurd (found refl)
+  large_places size (place ∷ places) found within point_in small large is_size =
+      let bytes = e.text.bytes in
+      let point = e.text.point in
+      let end = point + last_end what 0 (place ∷ places) in
+      let run = replaced_run (drop point bytes) what new 0 (place ∷ places) in
+      let same_run : length (replaced_run rest what new 0 (place ∷ places)) ≡ length run =
+      ap (λ l. length (replaced_run l what new 0 (place ∷ places))) is_rest in
+      let inside : end ≤ length bytes = omega (arith, within, point_in, ap length is_rest, length-drop point bytes) in
+      let long : length (spliced bytes point end run) ≡ size =
+      omega (arith, length-spliced bytes point end (omega arith) inside run, is_size, same_run, inside) in
+      let differs : bytes_eq (spliced bytes point end run) bytes ≡ false =
+      false_from_ne_true _
+      (λ same. omega (arith, ap length ((bytes_eq-Decides (spliced bytes point end run) bytes).0 same), long, small, large)) in
+      settled-large (record { bytes = spliced bytes point end run; point = point + length run }) e differs (omega (arith, long, large))
+      ∙ ap (λ (n : ℕ). Err (TooLarge n)) long
+
+  pub all_replaced-large : (end run size : ℕ) → end ≡ last_end what 0 (matches rest what 0) → (end ≡ 0 → ⊥) → end ≤ length rest
+      → e.text.point ≤ length e.text.bytes → length e.text.bytes ≤ largest_text → largest_text < size
+      → run ≡ length (replaced_run rest what new 0 (matches rest what 0)) → size ≡ run + (length e.text.bytes - end)
+      → all_replaced what new e ≡ Err (TooLarge size)
+  all_replaced-large end run size is_end found within point_in small large is_run is_size =
+      shown
+      ∙ large_places size (matches rest what 0) (λ none. found (is_end ∙ none)) (omega (arith, is_end, within)) point_in small large
+      (omega (arith, is_size, is_run, is_end))

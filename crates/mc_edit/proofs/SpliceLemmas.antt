@@ -5,7 +5,7 @@ use Rattle.std.proofs.lemmas.Bool.{false_from_ne_true, false≢true}
 use Rattle.std.proofs.lemmas.List.{take_at, drop_at, append_cancel_left, append_cancel_right}
 use Rattle.std.proofs.lemmas.Slice.Eq.{bytes_eq-Decides}
 use Rattle.std.specs.Str.{bytes_eq}
-use Rattle.gap_text.specs.PointedText.{PointedText, moved_to, inserted, deleted}
+use Rattle.gap_text.specs.PointedText.{moved_to, inserted, deleted}
 use Rattle.mc_edit.specs.Edits.{spliced}
 
 -- two tests that say the same
@@ -60,23 +60,14 @@ module _ (bytes : List ℕ) (from to : ℕ) (ordered : from ≤ to) (within : to
         (λ stays. between.1 (append_cancel_right new (slice_range bytes from to) (drop to bytes)
         (append_cancel_left (take from bytes) (new ++ drop to bytes) (slice_range bytes from to ++ drop to bytes) (whole.0 stays ∙ sym three_parts))))
 
-    -- a move, an insertion and a deletion splice
-    pub deleted-inserted : (text : PointedText) → text.bytes ≡ bytes
-        → (deleted (inserted (moved_to text from) new) (to - from)).bytes ≡ spliced bytes from to new
-    deleted-inserted text same =
-        let wide = take from bytes ++ (new ++ drop from bytes) in
-        let count = to - from in
-        let place : from + count ≡ to = omega arith in
-        let head_length : length (take from bytes ++ new) ≡ from + length new =
-        length-append (take from bytes) new ∙ ap (λ n. n + length new) front_length in
-        let regrouped : wide ≡ (take from bytes ++ new) ++ drop from bytes = sym (append_assoc (take from bytes) new (drop from bytes)) in
-        let front : take (from + length new) wide ≡ take from bytes ++ new =
-        ap (take (from + length new)) regrouped ∙ take_at (take from bytes ++ new) (drop from bytes) (from + length new) head_length in
-        let behind : drop (from + length new) wide ≡ drop from bytes =
-        ap (drop (from + length new)) regrouped ∙ drop_at (take from bytes ++ new) (drop from bytes) (from + length new) head_length in
-        let back : drop (from + length new + count) wide ≡ drop to bytes =
-        sym (drop-drop count (from + length new) wide) ∙ ap (drop count) behind ∙ drop-drop count from bytes ∙ ap (λ n. drop n bytes) place in
-        ap (λ l. (deleted (inserted (moved_to (record { bytes = l; point = text.point }) from) new) count).bytes) same
-        ∙ ap (λ l. l ++ drop (from + length new + count) wide) front
-        ∙ ap (λ l. (take from bytes ++ new) ++ l) back
-        ∙ append_assoc (take from bytes) new (drop to bytes)
+    -- a move, a deletion and an insertion splice
+    pub replaced-spliced : (point : ℕ)
+        → (inserted (deleted (moved_to (record { bytes = bytes; point = point }) from) (to - from)) new).bytes ≡ spliced bytes from to new
+    replaced-spliced point =
+        let place : from + (to - from) ≡ to = omega arith in
+        let rest = drop (from + (to - from)) bytes in
+        let front : take from (take from bytes ++ rest) ≡ take from bytes = take_at (take from bytes) rest from front_length in
+        let back : drop from (take from bytes ++ rest) ≡ rest = drop_at (take from bytes) rest from front_length in
+        ap (λ l. l ++ (new ++ drop from (take from bytes ++ rest))) front
+        ∙ ap (λ l. take from bytes ++ (new ++ l)) back
+        ∙ ap (λ n. take from bytes ++ (new ++ drop n bytes)) place

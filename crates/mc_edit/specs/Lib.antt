@@ -1,6 +1,7 @@
 pub mod Brackets
 pub mod Changes
 pub mod Columns
+pub mod CommandLists
 pub mod Commands
 pub mod Edits
 pub mod Lines

@@ -17,8 +17,7 @@ pub fn put(text: &mut GapText, from: usize, to: usize, new: &[u8]) -> Result<(),
     ensures same { OnErr result (text.new.bytes ≡ text.old.bytes) }
 {
     text.move_to(from);
-    text.insert(new)?;
-    text.delete(to - from);
+    text.replace(to - from, new)?;
     Ok(())
 }
 

@@ -2,6 +2,7 @@
 mod blocks;
 mod finding;
 mod moving;
+mod playing;
 mod typing;
 mod viewing;
 

@@ -1,5 +1,5 @@
 //! The lines of a text.
-ghost use Rattle.std.specs.Prelude.{◌≡◌, ◌-◌, ◌≤◌, ◌<◌, length};
+ghost use Rattle.std.specs.Prelude.{◌≡◌, ◌+◌, ◌-◌, ◌≤◌, length, drop};
 ghost use Rattle.mc_edit.specs.Lines.{line_start, line_end, line_past, start_of_line};
 
 use gap_text::GapText;
@@ -11,14 +11,10 @@ pub fn line_start(text: &GapText, at: usize) -> usize
     ensures value { result ≡ line_start text.now.bytes at }
     ensures bound { result ≤ at }
 {
-    let mut start = at;
-    while start > 0 {
-        if text.byte_at(start - 1) == b'\n' {
-            break;
-        }
-        start -= 1;
+    match text.byte_before(at, b'\n') {
+        Some(newline) => newline + 1,
+        None => 0,
     }
-    start
 }
 
 /// The first newline at or behind the place, or the text's end. Takes time linear in what it passes.
@@ -28,12 +24,10 @@ pub fn line_end(text: &GapText, at: usize) -> usize
     ensures low { at ≤ result }
     ensures high { result ≤ length text.now.bytes }
 {
-    for end in at..text.len() {
-        if text.byte_at(end) == b'\n' {
-            return end;
-        }
+    match text.byte_from(at, b'\n') {
+        Some(newline) => newline,
+        None => text.len(),
     }
-    text.len()
 }
 
 /// Where the next line begins, or the text's end.
@@ -47,13 +41,27 @@ pub fn line_past(text: &GapText, at: usize) -> usize
     if end == text.len() { end } else { end + 1 }
 }
 
-/// Where a line begins, or the last one. Lines count from 1, and 0 counts as 1. Takes time linear in the text before it.
-pub fn start_of_line(text: &GapText, line: u64) -> usize
-    ensures value { result ≡ start_of_line (line - 1) text.now.bytes }
+/// Where a line begins, or the last one. Lines count from 1, and 0 counts as 1. Takes the time of a look at the newlines
+/// that are counted (`GapText::line_mark`), and then of a block.
+pub fn start_of_line(text: &mut GapText, line: u64) -> usize
+    ensures value { result ≡ start_of_line (line - 1) text.old.bytes }
+    ensures high { result ≤ length text.old.bytes }
+    ensures same { text.new ≡ text.old }
+{
+    let lines = line.saturating_sub(1);
+    let mark = text.line_mark(lines as usize);
+    let start = line_start(text, mark.place);
+    lines_behind(text, start, lines - mark.lines as u64)
+}
+
+/// Where a line begins that so many others stand before, behind the start of one, or the last line.
+fn lines_behind(text: &GapText, from: usize, lines: u64) -> usize
+    requires { from ≤ length text.now.bytes }
+    ensures value { result ≡ from + start_of_line lines (drop from text.now.bytes) }
     ensures high { result ≤ length text.now.bytes }
 {
-    let mut start = 0;
-    for _ in 1..line {
+    let mut start = from;
+    for _ in 0..lines {
         let end = line_end(text, start);
         if end == text.len() {
             break;

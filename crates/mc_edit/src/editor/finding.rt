@@ -5,11 +5,11 @@ ghost use Rattle.gap_text.specs.Places.{first_place};
 ghost use Rattle.mc_edit.specs.Brackets.{partner_of};
 ghost use Rattle.mc_edit.specs.Commands.{found, all_replaced};
 
-use super::{Editor, Splice};
+use super::{Editor, LARGEST_TEXT, Splice};
 use crate::brackets::partner_of;
 use crate::error::EditError;
 use crate::lines::slice_of;
-use crate::replacing::replaced_run;
+use crate::replacing::{replaced_run, run_size};
 use gap_text::GapText;
 use mc_text::Bytes;
 use std::alloc::Global;
@@ -45,7 +45,8 @@ impl Editor {
         Ok(())
     }
 
-    /// Each place from the point on gives way, and the point stands behind the last of them.
+    /// Each place from the point on gives way, and the point stands behind the last of them. The size is measured
+    /// before any of it is built.
     pub(super) fn replace_all(
         &mut self,
         alloc: Global,
@@ -62,18 +63,28 @@ impl Editor {
             return Err(EditError::NotFound);
         }
         let point = self.point;
-        let rest = self.text.range(alloc, point, self.text.len())?;
-        let run = replaced_run(alloc, slice_of(&rest), what, slice_of(new))?;
+        self.text.move_to(point);
+        let rest = self.text.back();
+        let Some(run) = run_size(rest, what, slice_of(new)) else {
+            return Err(EditError::Memory);
+        };
         if run.end == 0 {
             return Err(EditError::NotFound);
         }
-        let after = point + slice_of(&run.bytes).len();
+        let Some(size) = run.bytes.checked_add(self.text.len() - run.end) else {
+            return Err(EditError::Memory);
+        };
+        if size > LARGEST_TEXT {
+            return Err(EditError::TooLarge(size as u64));
+        }
+        let bytes = replaced_run(alloc, rest, what, slice_of(new), run.bytes)?;
+        let after = point + slice_of(&bytes).len();
         self.splice(
             alloc,
             Splice {
                 from: point,
                 to: point + run.end,
-                new: run.bytes,
+                new: bytes,
                 point: after,
             },
         )

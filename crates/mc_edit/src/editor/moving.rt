@@ -104,6 +104,6 @@ impl Editor {
     pub(super) fn go_line(&mut self, line: u64)
         ensures { moved self.old (start_of_line (line - 1) self.old.text.bytes) ≡ Ok self.new }
     {
-        self.point = start_of_line(&self.text, line);
+        self.point = start_of_line(&mut self.text, line);
     }
 }

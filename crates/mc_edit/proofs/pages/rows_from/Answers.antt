@@ -1,6 +1,5 @@
 -- Each line gives its row.
 use Rattle.std.proofs.Common.{◌≡◌, ◌+◌, ◌-◌, ◌≤◌, ◌++◌, ℕ, List, suc, ap, sym, ◌∙◌, arith, length}
-use Rattle.mc_edit.specs.Lines.{line_end}
 use Rattle.mc_edit.specs.Pages.{rows_from}
 use Rattle.mc_edit.proofs.PageLemmas.{rows_from-further}
 use Rattle.mc_edit.proofs.pages.rows_from.Goals as goal

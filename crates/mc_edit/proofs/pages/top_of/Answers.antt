@@ -1,6 +1,5 @@
 -- A line that isn't the first leads to the one above it.
-use Rattle.std.proofs.Common.{◌≡◌, ◌+◌, ◌-◌, ◌≤◌, suc, ap, sym, ◌∙◌, arith, length}
-use Rattle.mc_edit.specs.Pages.{top_of, lines_above}
+use Rattle.std.proofs.Common.{◌≡◌, ◌+◌, ◌-◌, ◌≤◌, suc, ◌∙◌, arith, length}
 use Rattle.mc_edit.proofs.PageLemmas.{top_of-further, lines_above-further}
 use Rattle.mc_edit.proofs.pages.top_of.Goals as goal
 

@@ -2,7 +2,7 @@
 use Rattle.std.proofs.Common.{◌≡◌, ◌+◌, ◌++◌, ◌<◌, ℕ, List, length, slice_range, ap, ◌∙◌, arith}
 use Rattle.memchr.specs.Find.{matches}
 use Rattle.mc_edit.specs.Replacing.{replaced_run}
-use Rattle.mc_edit.proofs.ReplacingLemmas.{run-next, run-over, end-next, end-over}
+use Rattle.mc_edit.proofs.ReplacingLemmas.{run-next, run-over}
 use Rattle.mc_edit.proofs.replacing.build.Goals as goal
 
 pub loop-place-preserved : goal.loop-place-preserved
@@ -20,16 +20,10 @@ loop-place-preserved c =
     rw c.requires.width (
       c.in-Some.ensures.within,
       ap (λ (l : List ℕ). l ++ left) grown ∙ run-next text what some from new so_far at c.in-Some.ensures.place ∙ c.loop-place.invariant.1,
-      end-next text what some from at c.in-Some.ensures.place ∙ c.loop-place.invariant.2,
     )
 
-pub returns-clause-bytes : goal.returns-clause-bytes
-returns-clause-bytes c =
+pub returns : goal.returns
+returns c =
     let some : 0 < length c.args.finder.now = omega (arith, c.requires.width, c.requires.some) in
     run-over c.args.text.now c.args.finder.now some c.loop-place.end c.args.new.now c.loop-place.bytes.items c.in_default.ensures.place
     ∙ c.loop-place.invariant.1
-
-pub returns-clause-end : goal.returns-clause-end
-returns-clause-end c =
-    let some : 0 < length c.args.finder.now = omega (arith, c.requires.width, c.requires.some) in
-    end-over c.args.text.now c.args.finder.now some c.loop-place.end c.in_default.ensures.place ∙ c.loop-place.invariant.2
