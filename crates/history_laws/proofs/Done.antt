@@ -1,11 +1,14 @@
 -- What a finished job did stays done, in the words of the history: its entry tells of the job that was live then.
-use Rattle.std.proofs.Common.{◌≡◌, ℕ, true, false, List, [], ◌∷◌, ◌++◌, length, refl, sym, ◌∙◌, ap, subst, inl, inr, Option, Some, None, arith, append-nil, append_assoc}
-use Rattle.std.specs.Prelude.{if◌then◌else◌}
-use Rattle.std.proofs.lemmas.Bool.{eq-eqb}
+use Rattle.std.proofs.Common.{◌≡◌, ℕ, ◌+◌, Bool, true, false, List, [], ◌∷◌, ◌++◌, length, refl, sym, ◌∙◌, ap, subst, inl, inr, Option, Some, None, arith, append-nil, append_assoc}
+use Rattle.std.specs.Prelude.{if◌then◌else◌, is_some}
+use Rattle.std.specs.Option.{option_map}
+use Rattle.std.proofs.lemmas.Bool.{both_ways, eq-eqb, false≢true, true≢false}
 use Rattle.mc_text.specs.Routes.{Route}
+use Rattle.tree_trait.specs.declared.file_system.FileSystem.{FileSystem}
+use Rattle.tree_trait.specs.FileSystem.{Spot, Value, find, node, value, value_at}
 use Rattle.tree_trait.specs.Shape.{IsTree}
 use Rattle.tree_trait.specs.Change.{Change, CallLog, current}
-use Rattle.tree_trait.specs.CrashImages.{all_settled}
+use Rattle.tree_trait.specs.CrashImages.{Among, IsCrashImage, all_settled}
 use Rattle.file_copy.specs.declared.report.Ending.TheVariants.{Finished}
 use Rattle.file_copy.specs.declared.report.Did.TheVariants.{Ended}
 use Rattle.file_copy.specs.Copying.{folder_of}
@@ -15,17 +18,20 @@ use Rattle.copy_move.specs.declared.work.Work.{Work}
 use Rattle.copy_move.specs.Jobs.{JobTells, Running}
 use Rattle.copy_move.specs.Settling.{changed_folder}
 use Rattle.copy_move.specs.Steps.{SyncsFolder}
-use Rattle.history_laws.specs.LiveJobs.{LiveJob, live_jobs, work_of}
+use Rattle.history_laws.specs.Doubt.{is_unsettled}
+use Rattle.history_laws.specs.LiveJobs.{IsLivePart, LiveJob, after_event, after_report, live_jobs, work_of}
 use Rattle.history_laws.specs.Owed.{has_changed}
-use Rattle.history_laws.specs.Safe.{IsMoment, calls_in}
+use Rattle.history_laws.specs.Replayed.{front, named_after, named_parts, replayed_tree}
+use Rattle.history_laws.specs.Safe.{IsMoment, IsPart, IsSafe, calls_in}
 use Rattle.history_laws.specs.Staying.{DoneLaw, HasFinished, IsUnnamedSince, names_path}
 use Rattle.history_laws.specs.Traces.{EventLeads, IsTraced, Stand}
-use Rattle.history_laws.proofs.Fronts.{told_of}
+use Rattle.history_laws.proofs.Fronts.{replayed_more, told_of}
 use Rattle.history_laws.proofs.Histories.{enters, only_job, traced_reached}
-use Rattle.history_laws.proofs.Lasting.{finished_stays_law}
-use Rattle.history_laws.proofs.Moments.{front_is, log_of, traced_count}
+use Rattle.history_laws.proofs.Lasting.{finished_stays_law, replayed_since}
+use Rattle.history_laws.proofs.Moments.{IsShown, front_is, log_of, replay_law, session_law, shown_moment, traced_count}
 use Rattle.history_laws.proofs.Reports.{HasLive}
 use Rattle.history_laws.proofs.Sources.{folder_same}
+use Rattle.history_laws.proofs.Staying.{event_part, stays_law}
 use Rattle.history_laws.proofs.Stepped.{more}
 
 -- what is unnamed since an entry is unnamed since those before it, where the entry doesn't name it
@@ -49,6 +55,12 @@ module _ (opening : CallLog) (tree : IsTree (current opening)) (settled : all_se
     pub traced : IsTraced opening older was before
     pub leads : EventLeads was e.what after before now
     pub end_is : end ≡ more before rest
+    -- and where it ended
+    pub stand : Stand
+    pub later : List Change
+    pub whole : IsTraced opening (e ∷ older) stand now
+    pub later_is : end ≡ more now later
+    pub calls : length now.changes ≡ length opening.changes + e.calls
 
   found_at : (x : Entry) (g : List Entry) (stand : Stand) (now : CallLog) (rest : List Change) → IsTraced opening (x ∷ g) stand now → end ≡ more now rest → e ∷ older ≡ x ∷ g → IsFound
   found_at x g stand now rest (was, before, traced, f) end_is same =
@@ -64,6 +76,11 @@ module _ (opening : CallLog) (tree : IsTree (current opening)) (settled : all_se
         traced = subst (λ xs. IsTraced opening xs was before) (sym others) traced;
         leads = subst (λ (y : Entry). EventLeads was y.what f.after before now) (sym first) f.leads;
         end_is = end_is ∙ (ap (λ (l : CallLog). more l rest) n.now_is ∙ ap (log_of before) (append_assoc before.changes n.made rest));
+        stand = stand;
+        later = rest;
+        whole = subst (λ xs. IsTraced opening xs stand now) (sym same) (was, before, traced, f);
+        later_is = end_is;
+        calls = f.counts ∙ ap (λ (y : Entry). length opening.changes + y.calls) (sym first);
       }
 
   found_since : (path : Route) (g : List Entry) (stand : Stand) (now : CallLog) (rest : List Change) → IsTraced opening g stand now → end ≡ more now rest → IsUnnamedSince (e ∷ older) path g → IsFound
@@ -129,11 +146,114 @@ module _ (opening : CallLog) (tree : IsTree (current opening)) (settled : all_se
           none (inr refused) = absurd (let is = refused.1 in let no : ⊥ = cc in no)
       by (job, its, (after, inr (gives, after_is), jobs_is)) = absurd (let is = gives.did_is in let no : ⊥ = cc in no)
 
+  -- where the job has ended none is live
+  none_live : (folder : Route) (h : HasFinished e older folder) (f : IsFound) → live_jobs (e ∷ older) ≡ []
+  none_live folder h f =
+      let i = ender folder h f in
+      let r = traced_reached opening tree settled older f.was f.before f.traced in
+      ap (λ w. after_event w (live_jobs older)) h.ended ∙ gone (live_jobs older) i.job r.part i.id_is (subst (λ js. HasLive (live_jobs older) js r.part) i.jobs_is r.live)
+    where
+      gone : (live : List LiveJob) (job : Running) (part : Option Route) → job.id ≡ h.id → HasLive live (job ∷ []) part → after_report h.id (Ended Finished h.part) live ≡ []
+      gone live job part id_is (w, is, paths) =
+          ap (after_report h.id (Ended Finished h.part)) is ∙ ap (λ b. (let xs : List LiveJob = if b then [] else (let l : LiveJob = record { id = job.id; work = w; part = part } in l) ∷ [] in xs)) (eq-eqb job.id h.id id_is)
+
+-- a path that no entry names is the part of a live job only if it was one
+live_since : (older g : List Entry) (path : Route) → IsUnnamedSince older path g → IsLivePart (live_jobs g) path → IsLivePart (live_jobs older) path
+live_since older [] path same live = subst (λ x. IsLivePart (live_jobs x) path) (sym same) live
+live_since older (e ∷ g) path (inl same) live = subst (λ x. IsLivePart (live_jobs x) path) (sym same) live
+live_since older (e ∷ g) path (inr (unnamed, since)) live = live_since older g path since (event_part path e.what (live_jobs g) unnamed live)
+
+none_of : (o : Option ℕ) → is_some o ≡ false → o ≡ None
+none_of None h = refl
+none_of (Some i) h = absurd (true≢false h)
+
+-- where nothing can be seen nothing stands
+none_stands : (s : FileSystem) (path : Route) (v : Option Value) → value_at s path ≡ v → v ≡ None → is_some (find s path) ≡ true → ⊥
+none_stands s path v is none stands = by (find s path) stands (is ∙ none)
+  where
+    by : (o : Option ℕ) → is_some o ≡ true → option_map (λ i. value (node s i)) o ≡ None → ⊥
+    by (Some i) some h = absurd (let f : ⊥ = cc in f)
+    by None some h = false≢true some
+
+module _ (opening now : CallLog) (newest : List Entry) (stand : Stand) (tree : IsTree (current opening)) (settled : all_settled opening.changes ≡ true) (traced : IsTraced opening newest stand now)
+    (e : Entry) (older standing coming : List Entry) (calls : ℕ) (path : Route) (image : FileSystem) (h : HasFinished e older (folder_of path)) (bare : names_path e.what path ≡ false)
+    (moment : IsMoment newest standing coming calls) (since : IsUnnamedSince (e ∷ older) path standing) (later : IsUnnamedSince (e ∷ older) path coming) (left : IsCrashImage now (length opening.changes + calls) image) where
+  abbrev Holds : Type 0
+  Holds = value_at image path ≡ (replayed_tree opening now older path).value
+
+  found : IsFound opening tree settled now e older
+  found = found_moment opening tree settled now e older path newest standing coming stand calls now [] traced (ap (log_of now) (sym (append-nil now.changes))) moment since
+
+  -- a path that was never named as a part
+  of_unnamed : (Among (named_parts older) path → ⊥) → Holds
+  of_unnamed unnamed =
+      let f = found in
+      let by = ender opening tree settled now e older (folder_of path) h f in
+      let n = traced_count opening f.before older f.was f.traced in
+      finished_stays_law opening now newest older standing coming f.was stand by.job by.new h.part calls path image tree settled traced
+      (subst (λ (l : CallLog). IsTraced opening older f.was l) (sym (front_is opening now (calls_in older) f.before f.rest f.end_is (omega (arith, n)))) f.traced)
+      by.jobs_is by.tells (subst (λ i. has_changed i older ≡ true) (sym by.id_is) h.changed) by.within unnamed moment (since_before e older standing path bare since) (since_before e older coming path bare later) left
+
+  -- a path at which nothing stood when the job had ended, and of which nothing waited
+  abbrev at_end : CallLog
+  at_end = front opening e.calls now
+
+  no_live : IsLivePart (live_jobs (e ∷ older)) path → ⊥
+  no_live live = let l = subst (λ jobs. IsLivePart jobs path) (none_live opening tree settled now e older (folder_of path) h found) live in l.1
+
+  told_same : (replayed_tree opening now (e ∷ older) path) ≡ replayed_tree opening now older path
+  told_same = replayed_since opening now older (e ∷ older) path (inr (bare, since_self older))
+    where
+      since_self : (xs : List Entry) → IsUnnamedSince xs path xs
+      since_self [] = refl
+      since_self (x ∷ xs) = inl refl
+
+  -- the history says that nothing stands there
+  told_none : is_some (find (current at_end) path) ≡ false → (replayed_tree opening now (e ∷ older) path).value ≡ None
+  told_none none =
+      let f = found in
+      let c = f.calls in
+      let r = traced_reached opening tree settled (e ∷ older) f.stand f.now f.whole in
+      let at : at_end ≡ f.now = front_is opening now e.calls f.now f.later f.later_is (omega (arith, c)) in
+      let shown = (replay_law opening f.now (e ∷ older) f.stand tree settled f.whole).shows path no_live in
+      let same : replayed_tree opening now (e ∷ older) path ≡ replayed_tree opening f.now (e ∷ older) path =
+      ap (λ (l : CallLog). replayed_tree opening l (e ∷ older) path) f.later_is ∙ ap (λ v. v path) (replayed_more opening f.now f.later (e ∷ older) r.within) in
+      ap (λ (s : Spot). s.value) (same ∙ sym shown) ∙ ap (λ (o : Option ℕ). option_map (λ i. value (node (current f.now) i)) o) (none_of _ (subst (λ (l : CallLog). is_some (find (current l) path) ≡ false) at none))
+
+  of_gone : is_some (find (current at_end) path) ≡ false → is_unsettled at_end path ≡ false → Holds
+  of_gone none sure_then =
+      elim (session_law opening now newest standing coming stand calls image tree settled traced moment left) [ inl safe ↦ by standing since safe | inr safe ↦ by coming later safe ]
+    where
+      sure : is_unsettled (front opening calls now) path ≡ false
+      sure = stays_law opening now newest (e ∷ older) standing coming stand calls path tree settled traced moment since later sure_then no_live
+
+      gone_by : (g : List Entry) → IsUnnamedSince (e ∷ older) path g → IsShown opening now (front opening calls now) g → is_some (find (current (front opening calls now)) path) ≡ true → ⊥
+      gone_by g unnamed_since shown =
+          none_stands (current (front opening calls now)) path _
+          (ap (λ (s : Spot). s.value) (shown path (λ live. no_live (live_since (e ∷ older) g path unnamed_since live)) ∙ replayed_since opening now (e ∷ older) g path unnamed_since))
+          (told_none none)
+
+      gone : is_some (find (current (front opening calls now)) path) ≡ true → ⊥
+      gone = elim (shown_moment opening now newest standing coming stand calls tree settled traced moment) [ inl shown ↦ gone_by standing since shown | inr shown ↦ gone_by coming later shown ]
+
+      no_part : (g : List Entry) → IsPart g (front opening calls now) path → ⊥
+      no_part g part = elim part.stays [ inl stands ↦ gone stands | inr waits ↦ both_ways _ sure waits ]
+
+      by : (g : List Entry) → IsUnnamedSince (e ∷ older) path g → IsSafe opening now g (front opening calls now) image → Holds
+      by g unnamed_since safe = elim (safe path (no_part g)) [
+        | inl told ↦ told ∙ ap (λ (s : Spot). s.value) (replayed_since opening now (e ∷ older) g path unnamed_since ∙ told_same)
+        | inr doubt ↦ absurd (both_ways _ sure doubt.0)
+      ]
+
+  still_named : Among (named_parts older) path → Among (named_parts (e ∷ older)) path
+  still_named named = subst (λ w. Among (named_after w (named_parts older)) path) (sym h.ended) named
+
+  by_part : (IsPart (e ∷ older) at_end path → ⊥) → (stands waits : Bool) → is_some (find (current at_end) path) ≡ stands → is_unsettled at_end path ≡ waits → Holds
+  by_part no_part true waits stands_is waits_is = of_unnamed (λ named. no_part (record { named = still_named named; stays = inl stands_is }))
+  by_part no_part false true stands_is waits_is = of_unnamed (λ named. no_part (record { named = still_named named; stays = inr waits_is }))
+  by_part no_part false false stands_is waits_is = of_gone stands_is waits_is
+
 pub done_law : DoneLaw
-done_law opening now newest stand tree settled traced e older standing coming calls path image h unnamed bare moment since later left =
-    let f = found_moment opening tree settled now e older path newest standing coming stand calls now [] traced (ap (log_of now) (sym (append-nil now.changes))) moment since in
-    let by = ender opening tree settled now e older (folder_of path) h f in
-    let n = traced_count opening f.before older f.was f.traced in
-    finished_stays_law opening now newest older standing coming f.was stand by.job by.new h.part calls path image tree settled traced
-    (subst (λ (l : CallLog). IsTraced opening older f.was l) (sym (front_is opening now (calls_in older) f.before f.rest f.end_is (omega (arith, n)))) f.traced)
-    by.jobs_is by.tells (subst (λ i. has_changed i older ≡ true) (sym by.id_is) h.changed) by.within unnamed moment (since_before e older standing path bare since) (since_before e older coming path bare later) left
+done_law opening now newest stand tree settled traced e older standing coming calls path image h no_part bare moment since later left =
+    by_part opening now newest stand tree settled traced e older standing coming calls path image h bare moment since later left no_part (is_some (find (current (front opening e.calls now)) path)) (is_unsettled (front opening e.calls now) path)
+    refl refl

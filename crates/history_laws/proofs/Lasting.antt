@@ -55,7 +55,7 @@ event_unnamed log (Key key time refusals lost) jobs v path unnamed = refl
 event_unnamed log (Look refusals) jobs v path unnamed = refl
 event_unnamed log Closed jobs v path unnamed = refl
 
-replayed_since : (opening end : CallLog) (older g : List Entry) (path : Route) → IsUnnamedSince older path g → replayed_tree opening end g path ≡ replayed_tree opening end older path
+pub replayed_since : (opening end : CallLog) (older g : List Entry) (path : Route) → IsUnnamedSince older path g → replayed_tree opening end g path ≡ replayed_tree opening end older path
 replayed_since opening end older [] path same = ap (λ x. replayed_tree opening end x path) (sym same)
 replayed_since opening end older (e ∷ g) path (inl same) = ap (λ x. replayed_tree opening end x path) (sym same)
 replayed_since opening end older (e ∷ g) path (inr (unnamed, since)) =

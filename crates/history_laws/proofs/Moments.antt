@@ -4,6 +4,7 @@ use Rattle.std.proofs.Math.Seq.{take-append_seam}
 use Rattle.std.proofs.lemmas.List.{take-append-le}
 use Rattle.mc_text.specs.Routes.{Route}
 use Rattle.tree_trait.specs.declared.file_system.FileSystem.{FileSystem}
+use Rattle.tree_trait.specs.FileSystem.{visible_tree}
 use Rattle.tree_trait.specs.Shape.{IsTree}
 use Rattle.tree_trait.specs.Change.{Change, CallLog, current}
 use Rattle.tree_trait.specs.CrashImages.{all_settled}
@@ -12,7 +13,7 @@ use Rattle.crash_law.specs.Possible.{IsImage}
 use Rattle.copy_move.specs.declared.history.Entry.{Entry}
 use Rattle.copy_move.specs.Jobs.{Running}
 use Rattle.history_laws.specs.LiveJobs.{LiveJob, IsLivePart, live_jobs}
-use Rattle.history_laws.specs.Replayed.{front}
+use Rattle.history_laws.specs.Replayed.{front, replayed_tree}
 use Rattle.history_laws.specs.Safe.{IsMoment, IsSafe, ReplayLaw, SessionLaw, calls_in}
 use Rattle.history_laws.specs.Traces.{Follows, IsTraced, Stand}
 use Rattle.history_laws.proofs.Fronts.{told_more, told_of, within_more}
@@ -29,6 +30,12 @@ safe_told : (opening end : CallLog) (g : List Entry) (part : Option Route) (dirt
     → IsSafe opening end g log image
 safe_told opening end g part dirty marks log image kept left path apart =
     safe_path (told_of opening end g part) dirty marks log kept image left path (λ named stays. apart (record { named = named; stays = stays }))
+
+-- the part that is known is that of a live job
+pub live_part : (jobs : List Running) (told : Said) (dirty : List Route) (marks : Marks) (s : FileSystem) (live : List LiveJob) (path : Route) → JobsKnow told dirty marks s jobs → HasLive live jobs told.part → told.part ≡ Some path → IsLivePart live path
+live_part [] told dirty marks s live path knows is part = absurd (let e : (let o : Option Route = None in o) ≡ Some path = sym knows ∙ part in cc)
+live_part (job ∷ []) told dirty marks s live path knows (w, is, source) part = subst (λ l. IsLivePart l path) (sym is) ((let l : LiveJob = record { id = job.id; work = w; part = told.part } in l), inl refl, part)
+live_part (job ∷ other ∷ jobs) told dirty marks s live path knows is part = absurd knows
 
 -- so many calls were made
 pub traced_count : (opening now : CallLog) (newest : List Entry) (stand : Stand) → IsTraced opening newest stand now → length now.changes ≡ length opening.changes + calls_in newest
@@ -48,55 +55,61 @@ front_cut opening end calls now rest end_is few =
     ap (λ (l : CallLog). log_of l (take (length opening.changes + calls) l.changes)) end_is
     ∙ ap (log_of now) (take-append-le (length opening.changes + calls) now.changes rest few)
 
-module _ (opening : CallLog) (tree : IsTree (current opening)) (settled : all_settled opening.changes ≡ true) (end : CallLog) (calls : ℕ) (image : FileSystem) (standing coming : List Entry) where
+-- what is known when the tree has this log, as of these entries, of which no other part stands than that of a live job
+abbrev pub KnownGives : CallLog → CallLog → CallLog → (List Entry → Type 0) → Type 0
+KnownGives opening end log Is =
+    (g : List Entry) (part : Option Route) (dirty : List Route) (marks : Marks) → ((q : Route) → part ≡ Some q → IsLivePart (live_jobs g) q) → IsKept (told_of opening end g part) dirty marks log → Is g
+
+-- What is known gives this, as of some entries: so it holds at each moment, as of those that stand or with the one under way.
+module _ (opening : CallLog) (tree : IsTree (current opening)) (settled : all_settled opening.changes ≡ true) (end : CallLog) (calls : ℕ) (Is : List Entry → Type 0) (gives : KnownGives opening end (front opening calls end) Is)
+    (standing coming : List Entry) where
   abbrev log : CallLog
   log = front opening calls end
 
-  abbrev Safe : Type 0
-  Safe = IsSafe opening end standing log image ⊎ IsSafe opening end coming log image
+  part_of : (g : List Entry) (stand : Stand) (now : CallLog) (r : IsReached opening g stand now) → (q : Route) → r.part ≡ Some q → IsLivePart (live_jobs g) q
+  part_of g stand now r q is = live_part stand.jobs (told_of opening now g r.part) stand.dirty r.marks (current now) (live_jobs g) q r.knows r.live is
 
   -- after these entries, whose calls were made
-  safe_here : (g : List Entry) (stand : Stand) (now : CallLog) (rest : List Change) → IsReached opening g stand now → end ≡ more now rest → log ≡ now → IsImage log image → IsSafe opening end g log image
-  safe_here g stand now rest r end_is log_is left =
-      safe_told opening end g r.part stand.dirty r.marks log image
+  known_here : (g : List Entry) (stand : Stand) (now : CallLog) (rest : List Change) → IsReached opening g stand now → end ≡ more now rest → log ≡ now → Is g
+  known_here g stand now rest r end_is log_is =
+      gives g r.part stand.dirty r.marks (part_of g stand now r)
       (subst (λ (l : CallLog). IsKept (told_of opening end g r.part) stand.dirty r.marks l) (sym log_is)
-      (subst (λ t. IsKept t stand.dirty r.marks now) (sym (ap (λ (l : CallLog). told_of opening l g r.part) end_is ∙ told_more opening now rest g r.part r.within)) r.kept)) left
+      (subst (λ t. IsKept t stand.dirty r.marks now) (sym (ap (λ (l : CallLog). told_of opening l g r.part) end_is ∙ told_more opening now rest g r.part r.within)) r.kept))
 
   -- within an entry
   within_entry : (e : Entry) (older : List Entry) (was : Stand) (before : CallLog) (stand : Stand) (now : CallLog) (rest : List Change) (r : IsReached opening older was before)
       → (n : IsEntered opening older e.calls e.what (told_of opening before older r.part) before stand now) → IsReached opening (e ∷ older) stand now → end ≡ more now rest
-      → length before.changes ≤ length opening.changes + calls → length opening.changes + calls ≤ length now.changes → IsImage log image
-      → IsSafe opening end older log image ⊎ IsSafe opening end (e ∷ older) log image
-  within_entry e older was before stand now rest r n later end_is least most left =
+      → length before.changes ≤ length opening.changes + calls → length opening.changes + calls ≤ length now.changes → Is older ⊎ Is (e ∷ older)
+  within_entry e older was before stand now rest r n later end_is least most =
       elim (mid_at (told_of opening before older r.part) n.made before (length opening.changes + calls) n.mids least (subst (λ (l : CallLog). length opening.changes + calls ≤ length l.changes) n.now_is most)) [
-        | inl whole ↦ inr (safe_here (e ∷ older) stand now rest later end_is (front_cut opening end calls now rest end_is most ∙ (ap (λ (l : CallLog). cut l (length opening.changes + calls)) n.now_is ∙ (whole ∙ sym n.now_is))) left)
-        | inr mid ↦ inl (safe_told opening end older r.part mid.0 mid.1 log image
+        | inl whole ↦ inr (known_here (e ∷ older) stand now rest later end_is (front_cut opening end calls now rest end_is most ∙ (ap (λ (l : CallLog). cut l (length opening.changes + calls)) n.now_is ∙ (whole ∙ sym n.now_is))))
+        | inr mid ↦ inl (gives older r.part mid.0 mid.1 (part_of older was before r)
             (subst (λ (l : CallLog). IsKept (told_of opening end older r.part) mid.0 mid.1 l) (sym (front_cut opening end calls now rest end_is most ∙ ap (λ (l : CallLog). cut l (length opening.changes + calls)) n.now_is))
             (subst (λ t. IsKept t mid.0 mid.1 (cut (more before n.made) (length opening.changes + calls)))
-            (sym (ap (λ (l : CallLog). told_of opening l older r.part) (end_before n.made n.now_is) ∙ told_more opening before (n.made ++ rest) older r.part r.within)) mid.2)) left)
+            (sym (ap (λ (l : CallLog). told_of opening l older r.part) (end_before n.made n.now_is) ∙ told_more opening before (n.made ++ rest) older r.part r.within)) mid.2)))
       ]
     where
       end_before : (made : List Change) → now ≡ more before made → end ≡ more before (made ++ rest)
       end_before made is = end_is ∙ (ap (λ (l : CallLog). more l rest) is ∙ ap (log_of before) (append_assoc before.changes made rest))
 
-  safe_moment : (newest : List Entry) (stand : Stand) (now : CallLog) (rest : List Change) → IsTraced opening newest stand now → end ≡ more now rest → IsMoment newest standing coming calls → IsImage log image → Safe
-  safe_moment [] stand now rest traced end_is (standing_is, coming_is, calls_is) left =
+  pub known_moment : (newest : List Entry) (stand : Stand) (now : CallLog) (rest : List Change) → IsTraced opening newest stand now → end ≡ more now rest → IsMoment newest standing coming calls → Is standing ⊎ Is coming
+  known_moment [] stand now rest traced end_is (standing_is, coming_is, calls_is) =
       let r = traced_reached opening tree settled [] stand now traced in
       let count : length opening.changes + calls ≡ length now.changes = (let n = traced_count opening now [] stand traced in omega (arith, n, calls_is)) in
-      inl (subst (λ g. IsSafe opening end g log image) (sym standing_is) (safe_here [] stand now rest r end_is (front_is opening end calls now rest end_is count) left))
-  safe_moment (e ∷ older) stand now rest traced end_is (inl (standing_is, coming_is, calls_is)) left =
+      inl (subst Is (sym standing_is) (known_here [] stand now rest r end_is (front_is opening end calls now rest end_is count)))
+  known_moment (e ∷ older) stand now rest traced end_is (inl (standing_is, coming_is, calls_is)) =
       let r = traced_reached opening tree settled (e ∷ older) stand now traced in
       let count : length opening.changes + calls ≡ length now.changes = (let n = traced_count opening now (e ∷ older) stand traced in omega (arith, n, calls_is)) in
-      inl (subst (λ g. IsSafe opening end g log image) (sym standing_is) (safe_here (e ∷ older) stand now rest r end_is (front_is opening end calls now rest end_is count) left))
-  safe_moment (e ∷ older) stand now rest (was, before, traced, f) end_is (inr (inl (standing_is, coming_is, least, most))) left =
+      inl (subst Is (sym standing_is) (known_here (e ∷ older) stand now rest r end_is (front_is opening end calls now rest end_is count)))
+  known_moment (e ∷ older) stand now rest (was, before, traced, f) end_is (inr (inl (standing_is, coming_is, least, most))) =
       let r = traced_reached opening tree settled older was before traced in
       let n = enters opening older e.calls was before r e.what f.after now f.leads f.counts in
       let whole = traced_reached opening tree settled (e ∷ older) stand now (was, before, traced, f) in
       let b = traced_count opening before older was traced in
       let c = f.counts in
-      elim (within_entry e older was before f.after now rest r n (open_reached e older was before traced stand now f n) end_is (omega (arith, b, least)) (omega (arith, c, most)) left) [
-        | inl safe ↦ inl (subst (λ g. IsSafe opening end g log image) (sym standing_is) safe)
-        | inr safe ↦ inr (subst (λ g. IsSafe opening end g log image) (sym coming_is) safe)
+      elim (within_entry e older was before f.after now rest r n (open_reached e older was before traced stand now f n) end_is (omega (arith, b, least)) (omega (arith, c, most))) [
+        | inl stands ↦ inl (subst Is (sym standing_is) stands)
+        | inr comes ↦ inr (subst Is (sym coming_is) comes)
       ]
     where
       open_reached : (e : Entry) (older : List Entry) (was : Stand) (before : CallLog) (traced : IsTraced opening older was before) (stand : Stand) (now : CallLog) (f : Follows opening e older was before stand now)
@@ -112,20 +125,28 @@ module _ (opening : CallLog) (tree : IsTree (current opening)) (settled : all_se
           subst (λ (l : CallLog). Rattle.history_laws.proofs.Fronts.AreWithin opening older l) (sym n.now_is) (within_more opening before n.made older (traced_reached opening tree settled older was before traced).within),
         );
       }
-  safe_moment (e ∷ older) stand now rest (was, before, traced, f) end_is (inr (inr earlier)) left =
+  known_moment (e ∷ older) stand now rest (was, before, traced, f) end_is (inr (inr earlier)) =
       let r = traced_reached opening tree settled older was before traced in
       let n = enters opening older e.calls was before r e.what f.after now f.leads f.counts in
-      safe_moment older was before (n.made ++ rest) traced (end_is ∙ (ap (λ (l : CallLog). more l rest) n.now_is ∙ ap (log_of before) (append_assoc before.changes n.made rest))) earlier left
+      known_moment older was before (n.made ++ rest) traced (end_is ∙ (ap (λ (l : CallLog). more l rest) n.now_is ∙ ap (log_of before) (append_assoc before.changes n.made rest))) earlier
 
 pub session_law : SessionLaw
 session_law opening now newest standing coming stand calls image tree settled traced moment left =
-    safe_moment opening tree settled now calls image standing coming newest stand now [] traced
-    (ap (log_of now) (sym (Rattle.std.proofs.Common.append-nil now.changes))) moment left
+    known_moment opening tree settled now calls (λ g. IsSafe opening now g (front opening calls now) image)
+    (λ g part dirty marks live kept. safe_told opening now g part dirty marks (front opening calls now) image kept left)
+    standing coming newest stand now [] traced (ap (log_of now) (sym (Rattle.std.proofs.Common.append-nil now.changes))) moment
 
-pub live_part : (jobs : List Running) (told : Said) (dirty : List Route) (marks : Marks) (s : FileSystem) (live : List LiveJob) (path : Route) → JobsKnow told dirty marks s jobs → HasLive live jobs told.part → told.part ≡ Some path → IsLivePart live path
-live_part [] told dirty marks s live path knows is part = absurd (let e : (let o : Option Route = None in o) ≡ Some path = sym knows ∙ part in cc)
-live_part (job ∷ []) told dirty marks s live path knows (w, is, source) part = subst (λ l. IsLivePart l path) (sym is) ((let l : LiveJob = record { id = job.id; work = w; part = told.part } in l), inl refl, part)
-live_part (job ∷ other ∷ jobs) told dirty marks s live path knows is part = absurd knows
+-- what can be seen in this log is what the history makes of the opening, but for the parts of live jobs
+abbrev pub IsShown : CallLog → CallLog → CallLog → List Entry → Type 0
+IsShown opening end log g = (path : Route) → (IsLivePart (live_jobs g) path → ⊥) → visible_tree (current log) path ≡ replayed_tree opening end g path
+
+-- at each moment, inside a call too
+pub shown_moment : (opening now : CallLog) (newest standing coming : List Entry) (stand : Stand) (calls : ℕ) → IsTree (current opening) → all_settled opening.changes ≡ true → IsTraced opening newest stand now
+    → IsMoment newest standing coming calls → IsShown opening now (front opening calls now) standing ⊎ IsShown opening now (front opening calls now) coming
+shown_moment opening now newest standing coming stand calls tree settled traced moment =
+    known_moment opening tree settled now calls (IsShown opening now (front opening calls now))
+    (λ g part dirty marks live kept path other. kept.known.shows path (λ is. other (live path is)))
+    standing coming newest stand now [] traced (ap (log_of now) (sym (Rattle.std.proofs.Common.append-nil now.changes))) moment
 
 -- a session adds calls to the log
 pub same_base : (opening : CallLog) (tree : IsTree (current opening)) (settled : all_settled opening.changes ≡ true) (newest : List Entry) (stand : Stand) (now : CallLog) → IsTraced opening newest stand now

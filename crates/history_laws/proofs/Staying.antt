@@ -217,7 +217,7 @@ module _ (path : Route) where
   begun_part id jobs (Some work) (found, inl same, is) = let e : (let o : Option Route = None in o) ≡ Some path = ap (λ (l : LiveJob). l.part) (sym same) ∙ is in absurd (let f : ⊥ = cc in f)
   begun_part id jobs (Some work) (found, inr among, is) = (found, among, is)
 
-  event_part : (what : Event) (jobs : List LiveJob) → names_path what path ≡ false → IsLivePart (after_event what jobs) path → IsLivePart jobs path
+  pub event_part : (what : Event) (jobs : List LiveJob) → names_path what path ≡ false → IsLivePart (after_event what jobs) path → IsLivePart jobs path
   event_part (Step id did) jobs unnamed h = report_part id did jobs unnamed h
   event_part (event.Began id plan background) jobs unnamed h = begun_part id jobs (first_work id plan) h
   event_part (Order id order) jobs unnamed h = h

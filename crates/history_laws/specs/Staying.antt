@@ -23,7 +23,7 @@ use Rattle.history_laws.specs.Doubt.{is_unsettled}
 use Rattle.history_laws.specs.LiveJobs.{IsLivePart, live_jobs, work_of}
 use Rattle.history_laws.specs.Owed.{has_changed}
 use Rattle.history_laws.specs.Replayed.{front, named_parts, replayed_tree}
-use Rattle.history_laws.specs.Safe.{IsMoment, calls_in}
+use Rattle.history_laws.specs.Safe.{IsMoment, IsPart, calls_in}
 use Rattle.history_laws.specs.Traces.{IsTraced, Stand}
 
 -- a report names this path: as a part that was made, is gone, or is left, or as what was placed or removed
@@ -82,11 +82,12 @@ pub record HasFinished (e : Entry) (older : List Entry) (folder : Route) : Type 
 
 -- The same in the words of the history alone: once a job that has changed something has reported that it is finished, each
 -- path of its folder holds after a crash at any later moment, inside a call too, what the history said then, until an entry
--- names it; but for paths that were named as parts, and a part that its end names.
+-- names it; but for a part that still stood there then or whose last change wasn't on the disk, and a part that its end names.
+-- So a finished copy leaves none of the parts that it made.
 abbrev pub StaysDone : CallLog → CallLog → List Entry → Type 0
 StaysDone opening now newest =
     (e : Entry) (older standing coming : List Entry) (calls : ℕ) (path : Route) (image : FileSystem)
-    → HasFinished e older (folder_of path) → (Among (named_parts older) path → ⊥) → names_path e.what path ≡ false
+    → HasFinished e older (folder_of path) → (IsPart (e ∷ older) (front opening e.calls now) path → ⊥) → names_path e.what path ≡ false
     → IsMoment newest standing coming calls → IsUnnamedSince (e ∷ older) path standing → IsUnnamedSince (e ∷ older) path coming
     → IsCrashImage now (length opening.changes + calls) image → value_at image path ≡ (replayed_tree opening now older path).value
 

@@ -6,8 +6,10 @@ use Rattle.tree_trait.specs.Refusals.{refusal_of}
 use Rattle.tree_trait.specs.Change.{CallLog, current}
 use Rattle.tree_trait.specs.Answers.{IfKnown, HasRisen}
 use Rattle.copy_move.specs.declared.history.Entry.{Entry}
+use Rattle.history_laws.specs.LiveJobs.{IsLivePart, live_jobs}
 use Rattle.history_laws.specs.Traces.{IsTraced, IsTracedTo, at_rest}
 use Rattle.history_laws.proofs.Done.{done_law}
+use Rattle.history_laws.proofs.Histories.{traced_reached}
 use Rattle.history_laws.proofs.Moments.{replay_law, session_law}
 use Rattle.mc_desk.specs.declared.starts.Start.{Start}
 use Rattle.mc_desk.specs.Sessions.{EndsSession}
@@ -36,7 +38,11 @@ finished_to o contents newest traced opening o_is now is tree settled =
 -- and the tree shows what the history makes of the opening
 pub replayed_to : (o contents : Option CallLog) (newest : List Entry) → IsTracedTo o contents newest → IfKnown o (λ opening. IfKnown contents (λ now. IsReplayedRun opening now newest))
 replayed_to o contents newest traced opening o_is now is tree settled =
-    let t = told_trace o contents newest opening now o_is is traced in replay_law opening now newest (at_rest t.0) tree settled t.1
+    let t = told_trace o contents newest opening now o_is is traced in
+    let r = replay_law opening now newest (at_rest t.0) tree settled t.1 in
+    let reached = traced_reached opening tree settled newest (at_rest t.0) now t.1 in
+    let rest : live_jobs newest ≡ [] = reached.live in
+    record { base = r.base; tree = r.tree; shows = λ path. r.shows path (λ live. let part = subst (λ jobs. IsLivePart jobs path) rest live in part.1) }
 
 -- where nothing was written down, the tree is as it was
 pub traced_none : (o contents : Option CallLog) (newest : List Entry) → newest ≡ [] → contents ≡ o → IsTracedTo o contents newest

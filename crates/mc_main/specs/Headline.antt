@@ -3,6 +3,7 @@ use Rattle.std.specs.Prelude.{◌≡◌, ◌≢◌, ◌⊎◌, ℕ, ◌+◌, ◌
 use Rattle.std.specs.Option.{option_map}
 use Rattle.mc_text.specs.Routes.{Route, path_fault, route_of}
 use Rattle.tree_trait.specs.declared.file_system.FileSystem.{FileSystem}
+use Rattle.tree_trait.specs.FileSystem.{visible_tree}
 use Rattle.tree_trait.specs.Calls.{ListFolder}
 use Rattle.tree_trait.specs.Refusals.{refusal_of}
 use Rattle.tree_trait.specs.Shape.{IsTree}
@@ -12,8 +13,8 @@ use Rattle.tree_trait.specs.Answers.{HasRisen, IfKnown}
 use Rattle.tree_trait.specs.declared.devices.SourceFault.{SourceFault}
 use Rattle.key_screen.specs.DecodedKeys.{decoded_keys}
 use Rattle.copy_move.specs.declared.history.Entry.{Entry}
-use Rattle.history_laws.specs.Replayed.{front}
-use Rattle.history_laws.specs.Safe.{IsMoment, IsSafe, Replays}
+use Rattle.history_laws.specs.Replayed.{front, replayed_tree}
+use Rattle.history_laws.specs.Safe.{IsMoment, IsSafe}
 use Rattle.history_laws.specs.Staying.{StaysDone}
 use Rattle.mc_desk.specs.Tallies.{keys_in}
 use Rattle.mc_desk.specs.declared.starts.Start.{Start}
@@ -124,9 +125,15 @@ IsSafeRun opening now newest =
 abbrev pub IsFinishedRun : CallLog → CallLog → List Entry → Type 0
 IsFinishedRun opening now newest = IsTree (current opening) → all_settled opening.changes ≡ true → StaysDone opening now newest
 
--- what can be seen at the end is what the history makes of the opening
+-- The log goes on from the opening, and what can be seen at its end is at each path what the history makes of the opening.
+pub record ShowsAll (opening : CallLog) (newest : List Entry) (now : CallLog) : Type 0 where
+  pub base : now.opening ≡ opening.opening
+  pub tree : IsTree (current now)
+  pub shows : (path : Route) → visible_tree (current now) path ≡ replayed_tree opening now newest path
+
+-- so it is at the end of a run, where no job is live
 abbrev pub IsReplayedRun : CallLog → CallLog → List Entry → Type 0
-IsReplayedRun opening now newest = IsTree (current opening) → all_settled opening.changes ≡ true → Replays opening newest now
+IsReplayedRun opening now newest = IsTree (current opening) → all_settled opening.changes ≡ true → ShowsAll opening newest now
 
 -- Where the words name folders that can be listed, and no device failed, the status is 0, or 5 for want of memory.
 abbrev pub IsComplete : CallLog → Option Start → ℕ → Type 0 → Type 0

@@ -1,5 +1,5 @@
 -- A run is safe at each moment, what it finished stays done, the tree is what it tells, its keys are those of the bytes that were taken, and it is complete.
-use Rattle.std.proofs.Common.{rules, reverse, inl, refl, ◌≡◌, ◌≤◌, ◌∙◌, sym, subst, ap, IsSome, Option, Some, None, arith}
+use Rattle.std.proofs.Common.{rules, reverse, inl, refl, ◌≡◌, ◌≤◌, ◌∙◌, sym, subst, ap, IsSome, Option, Some, arith}
 use Rattle.history_laws.specs.Traces.{IsTracedTo}
 use Rattle.mc_desk.specs.declared.starts.Start.{Start}
 use Rattle.mc_desk.specs.Tallies.{faults_in}
