@@ -90,7 +90,7 @@ module _ (opening : CallLog) (tree : IsTree (current opening)) (settled : all_se
       let n = enters opening g x.calls was before (traced_reached opening tree settled g was before traced) x.what f.after now f.leads f.counts in
       found_since path g was before (n.made ++ rest) traced (end_is ∙ (ap (λ (l : CallLog). more l rest) n.now_is ∙ ap (log_of before) (append_assoc before.changes n.made rest))) since
 
-  found_moment : (path : Route) (newest standing coming : List Entry) (stand : Stand) (calls : ℕ) (now : CallLog) (rest : List Change) → IsTraced opening newest stand now → end ≡ more now rest → IsMoment newest standing coming calls
+  pub found_moment : (path : Route) (newest standing coming : List Entry) (stand : Stand) (calls : ℕ) (now : CallLog) (rest : List Change) → IsTraced opening newest stand now → end ≡ more now rest → IsMoment newest standing coming calls
       → IsUnnamedSince (e ∷ older) path standing → IsFound
   found_moment path [] standing coming stand calls now rest traced end_is (standing_is, coming_is, calls_is) since =
       found_since path [] stand now rest traced end_is (subst (IsUnnamedSince (e ∷ older) path) standing_is since)
@@ -114,7 +114,7 @@ module _ (opening : CallLog) (tree : IsTree (current opening)) (settled : all_se
     pub within : folder ≡ changed_folder job.work
 
   -- the work that the history tells of is that of the live job
-  same_work : (job : Running) (live : List LiveJob) (part : Option Route) (work : Work) → HasLive live (job ∷ []) part → work_of job.id live ≡ Some work → changed_folder work ≡ changed_folder job.work
+  pub same_work : (job : Running) (live : List LiveJob) (part : Option Route) (work : Work) → HasLive live (job ∷ []) part → work_of job.id live ≡ Some work → changed_folder work ≡ changed_folder job.work
   same_work job live part work (w, is, paths) its =
       let first : Some w ≡ Some work =
       sym (ap (λ b. if b then Some w else None) (eq-eqb job.id job.id refl)) ∙ (sym (ap (work_of job.id) is) ∙ its) in

@@ -2,7 +2,7 @@
 use Rattle.std.proofs.Common.{◌≡◌, ◌⊎◌, ℕ, Bool, true, false, not, List, [], ◌∷◌, refl, sym, ◌∙◌, ap, subst, inl, inr, Option, Some, None}
 use Rattle.std.specs.Prelude.{◌==◌, ◌||◌, ◌&&◌, if◌then◌else◌, map}
 use Rattle.std.specs.Option.{option_map_or}
-use Rattle.std.proofs.lemmas.Bool.{false≢true, both_ways, eq-eqb, and_parts, false_from_ne_true}
+use Rattle.std.proofs.lemmas.Bool.{true≢false, false≢true, both_ways, eq-eqb, and_parts, false_from_ne_true}
 use Rattle.mc_text.specs.Routes.{Route, same_path}
 use Rattle.tree_trait.specs.Shape.{IsTree}
 use Rattle.tree_trait.specs.Change.{CallLog, current}
@@ -41,6 +41,7 @@ use Rattle.history_laws.proofs.Histories.{IsReached, only_job, traced_reached}
 use Rattle.history_laws.proofs.Owing.{in_filter, owed_law}
 use Rattle.history_laws.proofs.Reports.{with_one}
 use Rattle.history_laws.proofs.Sources.{folder_same, tells_same, work_paths}
+use Rattle.history_laws.proofs.Unchanged.{first_clean, step_clean}
 
 -- work that begins a change is dirty then
 dirty_then : (old new : Work) (did : Did) → WorkTells old did new → begins_change did ≡ true → is_dirty new ≡ true
@@ -74,6 +75,10 @@ not_listed up (first ∷ routes) among = by (same_path first up) refl among (not
     by true is among rest = rest (rw is at among)
     by false is among rest = elim (rw is at among) [ inl same ↦ both_ways _ is (subst (λ q. same_path q up ≡ true) same (same_path-self up)) | inr later ↦ rest later ]
 
+neither : (a b : Bool) → (a || b) ≡ false → (a ≡ false) × (b ≡ false)
+neither true b h = absurd (true≢false h)
+neither false b h = (refl, h)
+
 -- a job that is to end early is aborted
 abbrev IsGoing : Course → Type 0
 IsGoing (Ends ending) = ⊥
@@ -89,16 +94,6 @@ IsTidy changed dirty job = changed ≡ true → IsGoing job.course → is_dirty 
 changed_by : (before begins : Bool) → (before || begins) ≡ true → (before ≡ true) ⊎ (begins ≡ true)
 changed_by true begins h = inl refl
 changed_by false begins h = inr h
-
-skip_dirty : (stage : Stage) → deletions.is_dirty (deletions.skipped stage) ≡ deletions.is_dirty stage
-skip_dirty Remove = refl
-skip_dirty Sync = refl
-skip_dirty Finish = refl
-skip_dirty PassedOver = refl
-
-skipped_dirty : (work : Work) → is_dirty (skipped work) ≡ is_dirty work
-skipped_dirty (Copy c) = refl
-skipped_dirty (Delete d) = skip_dirty d.stage
 
 skipped_folder : (work : Work) → changed_folder (skipped work) ≡ changed_folder work
 skipped_folder (Copy c) = refl
@@ -141,8 +136,9 @@ module _ (job new : Running) (did : Did) (dirty dirty_after : List Route) (log n
 pub record IsTidyJob (g : List Entry) (dirty : List Route) (job : Running) : Type 0 where
   pub tidy : IsTidy (has_changed job.id g) dirty job
   pub aborted : (ending : Ending) → job.course ≡ Ends ending → ending ≡ Aborted
+  pub clean : has_changed job.id g ≡ false → is_dirty job.work ≡ false
 
-abbrev AreTidy : List Entry → List Route → List Running → Type 0
+abbrev pub AreTidy : List Entry → List Route → List Running → Type 0
 AreTidy g dirty [] = Unit {0}
 AreTidy g dirty (job ∷ jobs) = IsTidyJob g dirty job
 
@@ -175,6 +171,7 @@ kept_tidy : (g : List Entry) (dirty : List Route) (job new : Running) → new.id
 kept_tidy g dirty job new id_is dirty_is folder_is on aborted old = record {
   tidy = λ changed going clean among. old.tidy (ap (λ n. has_changed n g) (sym id_is) ∙ changed) (on going) (sym dirty_is ∙ clean) (subst (λ q. Among dirty q) folder_is among);
   aborted = aborted;
+  clean = λ unchanged. dirty_is ∙ old.clean (ap (λ n. has_changed n g) (sym id_is) ∙ unchanged);
 }
 
 anew_dirty : (work : Work) → (is_dirty (taken_anew work) ≡ is_dirty work) × (changed_folder (taken_anew work) ≡ changed_folder work)
@@ -224,30 +221,40 @@ module _ (opening : CallLog) (tree : IsTree (current opening)) (settled : all_se
       by (job ∷ jobs) t = close_tidy g stand.dirty job job.course refl t
 
   -- an event that says nothing of steps
-  same_tidy : (e : Entry) (older : List Entry) (dirty : List Route) (jobs : List Running) → ((id : ℕ) → has_changed id (e ∷ older) ≡ true → has_changed id older ≡ true) → AreTidy older dirty jobs → AreTidy (e ∷ older) dirty jobs
-  same_tidy e older dirty [] less t = tt
-  same_tidy e older dirty (job ∷ jobs) less t = record { tidy = λ changed going clean among. t.tidy (less job.id changed) going clean among; aborted = t.aborted }
+  same_tidy : (e : Entry) (older : List Entry) (dirty : List Route) (jobs : List Running) → ((id : ℕ) → has_changed id (e ∷ older) ≡ has_changed id older) → AreTidy older dirty jobs → AreTidy (e ∷ older) dirty jobs
+  same_tidy e older dirty [] same t = tt
+  same_tidy e older dirty (job ∷ jobs) same t = record {
+    tidy = λ changed going clean among. t.tidy (sym (same job.id) ∙ changed) going clean among;
+    aborted = t.aborted;
+    clean = λ unchanged. t.clean (sym (same job.id) ∙ unchanged);
+  }
 
-  begun_tidy : (g : List Entry) (dirty : List Route) (id : ℕ) (o : Option Work) → has_changed id g ≡ false → AreTidy g dirty (option_map_or (λ w. running id w ∷ []) o [])
-  begun_tidy g dirty id None unchanged = tt
-  begun_tidy g dirty id (Some w) unchanged = record { tidy = λ changed going clean among. both_ways _ unchanged changed; aborted = λ ending e. no_end GoesOn ending tt e }
+  begun_tidy : (g : List Entry) (dirty : List Route) (id : ℕ) (o : Option Work) → ((w : Work) → o ≡ Some w → is_dirty w ≡ false) → has_changed id g ≡ false → AreTidy g dirty (option_map_or (λ w. running id w ∷ []) o [])
+  begun_tidy g dirty id None clean unchanged = tt
+  begun_tidy g dirty id (Some w) clean unchanged = record {
+    tidy = λ changed going not_dirty among. both_ways _ unchanged changed;
+    aborted = λ ending e. no_end GoesOn ending tt e;
+    clean = λ none. clean w refl;
+  }
 
   changed_same : (number id : ℕ) (before begins : Bool) → number ≡ id → (before || ((number == id) && begins)) ≡ (before || begins)
   changed_same number id before begins same = ap (λ b. before || (b && begins)) (eq-eqb number id same)
 
   -- after a step of a job
-  step_tidy : (e : Entry) (older : List Entry) (id : ℕ) (did : Did) (job new : Running) (dirty dirty_after : List Route) (before now : CallLog) → e.what ≡ Step id did → job.id ≡ id → IsTidyJob older dirty job
+  step_tidy : (e : Entry) (older : List Entry) (id : ℕ) (did : Did) (job new : Running) (dirty dirty_after : List Route) (before now : CallLog) → e.what ≡ Step id did → job.id ≡ id → ends did ≡ false → IsTidyJob older dirty job
       → WorkLeads job did new dirty dirty_after before now ⊎ SyncLeads job did new dirty dirty_after before now → IsTidyJob (e ∷ older) dirty_after new
-  step_tidy e older id did job new dirty dirty_after before now what_is id_is t (inl works) =
+  step_tidy e older id did job new dirty dirty_after before now what_is id_is on t (inl works) =
       let same = tells_same job new did works.tells in
+      let changed_is : (has_changed job.id older || begins_change did) ≡ has_changed new.id (e ∷ older) =
+      sym (changed_same id new.id (has_changed job.id older) (begins_change did) (sym id_is ∙ sym same.0))
+      ∙ (ap (λ n. has_changed n older || ((id == new.id) && begins_change did)) (sym same.0) ∙ sym (ap (λ w. changed_after new.id w (has_changed new.id older)) what_is)) in
       record {
         tidy = λ changed going clean among.
-            tidy_works job new did dirty dirty_after before now (has_changed job.id older) works t.tidy
-            (sym (changed_same id new.id (has_changed job.id older) (begins_change did) (sym id_is ∙ sym same.0))
-            ∙ (ap (λ n. has_changed n older || ((id == new.id) && begins_change did)) (sym same.0) ∙ (sym (ap (λ w. changed_after new.id w (has_changed new.id older)) what_is) ∙ changed))) going clean among;
+            tidy_works job new did dirty dirty_after before now (has_changed job.id older) works t.tidy (changed_is ∙ changed) going clean among;
         aborted = tells_aborted job new did job.course refl works.tells t.aborted;
+        clean = λ unchanged. let n = neither _ _ (changed_is ∙ unchanged) in step_clean job new did works.tells on n.1 (t.clean n.0);
       }
-  step_tidy e older id did job new dirty dirty_after before now what_is id_is t (inr syncs) = by syncs.synced
+  step_tidy e older id did job new dirty dirty_after before now what_is id_is on t (inr syncs) = by syncs.synced
     where
       unchanged : (n : ℕ) → begins_change did ≡ false → has_changed n (e ∷ older) ≡ true → has_changed n older ≡ true
       unchanged n none changed = elim (changed_by (has_changed n older) ((id == n) && begins_change did) (sym (ap (λ w. changed_after n w (has_changed n older)) what_is) ∙ changed)) [
@@ -255,20 +262,25 @@ module _ (opening : CallLog) (tree : IsTree (current opening)) (settled : all_se
         | inr h ↦ absurd (both_ways _ none (and_parts (id == n) (begins_change did) h).1)
       ]
 
+      clean : has_changed job.id (e ∷ older) ≡ false → is_dirty job.work ≡ false
+      clean none = t.clean (neither (has_changed job.id older) _ (sym (ap (λ w. changed_after job.id w (has_changed job.id older)) what_is) ∙ none)).0
+
       by : SyncsFolder job syncs.folder did new dirty dirty_after (Some before) (Some now) → IsTidyJob (e ∷ older) dirty_after new
       by (inl (did_is, new_is, routes, called)) = subst (λ (x : Running). IsTidyJob (e ∷ older) dirty_after x) (sym new_is) (record {
         tidy = λ changed going clean among. t.tidy (unchanged job.id (ap begins_change did_is) changed) going clean
             (in_filter (λ kept. not (same_path kept syncs.folder)) (changed_folder job.work) dirty (subst (λ xs. Among xs (changed_folder job.work)) routes among));
         aborted = t.aborted;
+        clean = clean;
       })
       by (inr (error, did_is, new_is, routes, called)) = subst (λ (x : Running). IsTidyJob (e ∷ older) dirty_after x) (sym new_is) (record {
         tidy = λ changed going clean among. t.tidy (unchanged job.id (ap begins_change did_is) changed) (subst IsGoing (sym syncs.goes) tt) clean (subst (λ xs. Among xs (changed_folder job.work)) routes among);
         aborted = λ ending x. no_end (Unsettled (deletions.cause_of error)) ending tt x;
+        clean = clean;
       })
 
-  after_tidy : (g : List Entry) (dirty : List Route) (new : Running) (b : Bool) → IsTidyJob g dirty new → AreTidy g dirty (before_others (if◌then◌else◌ b None (Some new)) [])
+  after_tidy : (g : List Entry) (dirty : List Route) (new : Running) (b : Bool) → (b ≡ false → IsTidyJob g dirty new) → AreTidy g dirty (before_others (if◌then◌else◌ b None (Some new)) [])
   after_tidy g dirty new true t = tt
-  after_tidy g dirty new false t = t
+  after_tidy g dirty new false t = t refl
 
   pub traced_tidy : (newest : List Entry) (stand : Stand) (now : CallLog) → IsTraced opening newest stand now → AreTidy newest stand.dirty stand.jobs
   traced_tidy [] stand now (stand_is, now_is) = subst (λ (x : Stand). AreTidy [] x.dirty x.jobs) (sym stand_is) tt
@@ -284,21 +296,21 @@ module _ (opening : CallLog) (tree : IsTree (current opening)) (settled : all_se
           let jobs_then : a.jobs ≡ before_others new [] = jobs_is ∙ (ap (with_job id new) one.0 ∙ (ap (λ n. with_job n new (job ∷ [])) (sym one.1) ∙ with_one job new)) in
           subst (λ js. AreTidy (e ∷ older) a.dirty js) (sym jobs_then) (elim leads [
             | inl stepped ↦ subst (λ o. AreTidy (e ∷ older) a.dirty (before_others o [])) (sym stepped.2)
-                (after_tidy (e ∷ older) a.dirty stepped.0 (ends did) (step_tidy e older id did job stepped.0 was.dirty a.dirty before now is one.1 tidy stepped.1))
+                (after_tidy (e ∷ older) a.dirty stepped.0 (ends did) (λ on. step_tidy e older id did job stepped.0 was.dirty a.dirty before now is one.1 on tidy stepped.1))
             | inr gives ↦ subst (λ o. AreTidy (e ∷ older) a.dirty (before_others o [])) (sym gives.1) tt
           ])
       by (event.Began id plan background) is (none, after_is, now_is) t r =
           subst (λ (x : Stand). AreTidy (e ∷ older) x.dirty x.jobs) (sym after_is)
-          (begun_tidy (e ∷ older) was.dirty id (first_work id plan) (ap (λ w. changed_after id w (has_changed id older)) is ∙ ap (λ b. if◌then◌else◌ b false (has_changed id older)) (eq-eqb id id refl)))
+          (begun_tidy (e ∷ older) was.dirty id (first_work id plan) (first_clean id plan) (ap (λ w. changed_after id w (has_changed id older)) is ∙ ap (λ b. if◌then◌else◌ b false (has_changed id older)) (eq-eqb id id refl)))
       by (Order id order) is (after_is, now_is) t r =
           subst (λ (x : Stand). AreTidy (e ∷ older) x.dirty x.jobs) (sym after_is)
-          (order_tidy (e ∷ older) was.dirty id order was.jobs (same_tidy e older was.dirty was.jobs (λ n h. sym (ap (λ w. changed_after n w (has_changed n older)) is) ∙ h) t))
+          (order_tidy (e ∷ older) was.dirty id order was.jobs (same_tidy e older was.dirty was.jobs (λ n. ap (λ w. changed_after n w (has_changed n older)) is) t))
       by (Key key time refusals lost) is (after_is, now_is) t r =
-          subst (λ (x : Stand). AreTidy (e ∷ older) x.dirty x.jobs) (sym after_is) (same_tidy e older was.dirty was.jobs (λ n h. sym (ap (λ w. changed_after n w (has_changed n older)) is) ∙ h) t)
+          subst (λ (x : Stand). AreTidy (e ∷ older) x.dirty x.jobs) (sym after_is) (same_tidy e older was.dirty was.jobs (λ n. ap (λ w. changed_after n w (has_changed n older)) is) t)
       by (Look refusals) is (after_is, now_is) t r =
-          subst (λ (x : Stand). AreTidy (e ∷ older) x.dirty x.jobs) (sym after_is) (same_tidy e older was.dirty was.jobs (λ n h. sym (ap (λ w. changed_after n w (has_changed n older)) is) ∙ h) t)
+          subst (λ (x : Stand). AreTidy (e ∷ older) x.dirty x.jobs) (sym after_is) (same_tidy e older was.dirty was.jobs (λ n. ap (λ w. changed_after n w (has_changed n older)) is) t)
       by Closed is (after_is, now_is) t r =
-          subst (λ (x : Stand). AreTidy (e ∷ older) x.dirty x.jobs) (sym after_is) (same_tidy e older was.dirty was.jobs (λ n h. sym (ap (λ w. changed_after n w (has_changed n older)) is) ∙ h) t)
+          subst (λ (x : Stand). AreTidy (e ∷ older) x.dirty x.jobs) (sym after_is) (same_tidy e older was.dirty was.jobs (λ n. ap (λ w. changed_after n w (has_changed n older)) is) t)
 
 -- a job that may report that it is finished owes no sync
 done_deletion : (stage : Stage) → deletions.is_done stage ≡ true → deletions.is_dirty stage ≡ false

@@ -1,3 +1,4 @@
+pub mod Calmed
 pub mod Calming
 pub mod Changing
 pub mod CopySteps
@@ -28,3 +29,4 @@ pub mod Resting
 pub mod Sources
 pub mod Staying
 pub mod Stepped
+pub mod Unchanged

@@ -112,7 +112,7 @@ unnamed_sure (Troubled trouble) part before path sure unnamed other = sure
 unnamed_sure (Ended ending left) part before path sure unnamed other = sure
 
 -- from one log to another no change of this path waits, before each call and at the end
-record IsStill (path : Route) (before now : CallLog) : Type 0 where
+pub record IsStill (path : Route) (before now : CallLog) : Type 0 where
   pub made : List Change
   pub now_is : now ≡ more before made
   pub said : Said
@@ -164,7 +164,7 @@ module _ (opening : CallLog) (older : List Entry) (was : Stand) (before : CallLo
     after = subst (λ (l : CallLog). is_unsettled l path ≡ false) (sym same) sure;
   }
 
-  event_still : (what : Event) (after : Stand) (now : CallLog) → EventLeads was what after before now → names_path what path ≡ false → IsStill path before now
+  pub event_still : (what : Event) (after : Stand) (now : CallLog) → EventLeads was what after before now → names_path what path ≡ false → IsStill path before now
   event_still (Step id did) after now (job, is_job, (new, leads, jobs_is)) unnamed =
       step_still after.dirty now did job new (only_job id was.jobs job told was.dirty r.marks (current before) is_job r.knows).0 unnamed leads
   event_still (event.Began id plan background) after now (none, after_is, now_is) unnamed = none_still now now_is

@@ -1,3 +1,4 @@
+pub mod Calmed
 pub mod Doubt
 pub mod LiveJobs
 pub mod Owed

@@ -2,6 +2,7 @@
 //! nothing: their contracts are laws of the definitions in `specs/`.
 #![tactic(auto)]
 
+ghost use Rattle.history_laws.specs.Calmed.{CalmLaw};
 ghost use Rattle.history_laws.specs.Owed.{FinishedLaw, FirstChangeLaw, OwedLaw, StepLaw};
 ghost use Rattle.history_laws.specs.Safe.{ReplayLaw, SessionLaw};
 ghost use Rattle.history_laws.specs.Staying.{DoneLaw, FinishedStaysLaw, StaysLaw};
@@ -25,6 +26,12 @@ pub fn where_doubt_lies()
 /// Once a job has made its first change, each change that isn't on the disk yet is in its own folder, or on another mount.
 pub fn what_a_first_change_leaves_in_doubt()
     ensures { FirstChangeLaw }
+{}
+
+/// The same in the words of the history alone: where a report of a job's first change stands, nothing on its mount is in doubt
+/// but what that report names.
+pub fn what_a_first_change_calms()
+    ensures { CalmLaw }
 {}
 
 /// A job that may report that it is finished, and has changed something, has left nothing in its folder that isn't on the disk.

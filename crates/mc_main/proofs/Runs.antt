@@ -8,6 +8,7 @@ use Rattle.tree_trait.specs.Answers.{IfKnown, HasRisen}
 use Rattle.copy_move.specs.declared.history.Entry.{Entry}
 use Rattle.history_laws.specs.LiveJobs.{IsLivePart, live_jobs}
 use Rattle.history_laws.specs.Traces.{IsTraced, IsTracedTo, at_rest}
+use Rattle.history_laws.proofs.Calmed.{calm_law}
 use Rattle.history_laws.proofs.Done.{done_law}
 use Rattle.history_laws.proofs.Histories.{traced_reached}
 use Rattle.history_laws.proofs.Moments.{replay_law, session_law}
@@ -16,7 +17,7 @@ use Rattle.mc_desk.specs.Sessions.{EndsSession}
 use Rattle.mc_desk.specs.Tallies.{faults_in}
 use Rattle.mc_main.specs.declared.session.SessionEnd.{SessionEnd}
 use Rattle.mc_main.specs.declared.session.SessionEnd.TheVariants.{Quit, KeysEnded}
-use Rattle.mc_main.specs.Headline.{IsFinishedRun, IsReplayedRun, IsSafeRun, IsStatusOf, IsStatusOr, MayRefuseStart, IsComplete, RanSession, TookAll}
+use Rattle.mc_main.specs.Headline.{IsCalmedRun, IsFinishedRun, IsReplayedRun, IsSafeRun, IsStatusOf, IsStatusOr, MayRefuseStart, IsComplete, RanSession, TookAll}
 
 -- the trace of a tree that tells
 told_trace : (o contents : Option CallLog) (newest : List Entry) (opening now : CallLog) → o ≡ Some opening → contents ≡ Some now → IsTracedTo o contents newest → (dirty : List Route) × IsTraced opening newest (at_rest dirty) now
@@ -34,6 +35,11 @@ safe_to o contents newest traced opening o_is now is tree settled standing comin
 pub finished_to : (o contents : Option CallLog) (newest : List Entry) → IsTracedTo o contents newest → IfKnown o (λ opening. IfKnown contents (λ now. IsFinishedRun opening now newest))
 finished_to o contents newest traced opening o_is now is tree settled =
     let t = told_trace o contents newest opening now o_is is traced in done_law opening now newest (at_rest t.0) tree settled t.1
+
+-- a first change comes where nothing is in doubt
+pub calmed_to : (o contents : Option CallLog) (newest : List Entry) → IsTracedTo o contents newest → IfKnown o (λ opening. IfKnown contents (λ now. IsCalmedRun opening now newest))
+calmed_to o contents newest traced opening o_is now is tree settled =
+    let t = told_trace o contents newest opening now o_is is traced in calm_law opening now newest (at_rest t.0) tree settled t.1
 
 -- and the tree shows what the history makes of the opening
 pub replayed_to : (o contents : Option CallLog) (newest : List Entry) → IsTracedTo o contents newest → IfKnown o (λ opening. IfKnown contents (λ now. IsReplayedRun opening now newest))

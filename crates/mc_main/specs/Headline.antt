@@ -13,6 +13,7 @@ use Rattle.tree_trait.specs.Answers.{HasRisen, IfKnown}
 use Rattle.tree_trait.specs.declared.devices.SourceFault.{SourceFault}
 use Rattle.key_screen.specs.DecodedKeys.{decoded_keys}
 use Rattle.copy_move.specs.declared.history.Entry.{Entry}
+use Rattle.history_laws.specs.Calmed.{CalmsOthers}
 use Rattle.history_laws.specs.Replayed.{front, replayed_tree}
 use Rattle.history_laws.specs.Safe.{IsMoment, IsSafe}
 use Rattle.history_laws.specs.Staying.{StaysDone}
@@ -124,6 +125,10 @@ IsSafeRun opening now newest =
 -- what a finished job did stays done
 abbrev pub IsFinishedRun : CallLog → CallLog → List Entry → Type 0
 IsFinishedRun opening now newest = IsTree (current opening) → all_settled opening.changes ≡ true → StaysDone opening now newest
+
+-- once a job has made its first change, nothing is in doubt on its mount but what that change names
+abbrev pub IsCalmedRun : CallLog → CallLog → List Entry → Type 0
+IsCalmedRun opening now newest = IsTree (current opening) → all_settled opening.changes ≡ true → CalmsOthers opening now newest
 
 -- The log goes on from the opening, and what can be seen at its end is at each path what the history makes of the opening.
 pub record ShowsAll (opening : CallLog) (newest : List Entry) (now : CallLog) : Type 0 where

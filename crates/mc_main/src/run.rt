@@ -6,7 +6,7 @@ ghost use Rattle.history_laws.specs.Traces.{IsTracedTo};
 ghost use Rattle.mc_desk.specs.Logs.{jobs_begun};
 ghost use Rattle.mc_desk.specs.Tallies.{faults_in, has_lost};
 ghost use Rattle.mc_desk.specs.Desks.{RanNothing};
-ghost use Rattle.mc_main.specs.Headline.{folders_in, IsStatusOr, MayRefuseStart, RefusesStart, IsRun, ReadsKeys, TookAll, IsSafeRun, IsFinishedRun, IsReplayedRun, IsComplete};
+ghost use Rattle.mc_main.specs.Headline.{folders_in, IsStatusOr, MayRefuseStart, RefusesStart, IsRun, ReadsKeys, TookAll, IsSafeRun, IsFinishedRun, IsCalmedRun, IsReplayedRun, IsComplete};
 ghost use Rattle.mc_main.specs.Printed.{PrintsStart, usage_line as line_of_usage};
 
 use crate::endings::{refuse, refuse_start, run_desk, without_session};
@@ -69,6 +69,10 @@ pub fn mc_run<N: Tag, T: Tree, K: Source, S: Sink, P: Spawner, C: Clock, G: Gate
     // What a finished job did stays done, at each later moment, until an entry names the path again.
     ensures finished { IfKnown (T.contents tree) (λ opening. IfKnown (T.contents result.tree) (λ now.
         IsFinishedRun opening now (reverse result.history.entries))) }
+
+    // Once a job has made its first change, nothing is in doubt on its mount but what that change names.
+    ensures calmed { IfKnown (T.contents tree) (λ opening. IfKnown (T.contents result.tree) (λ now.
+        IsCalmedRun opening now (reverse result.history.entries))) }
 
     // The tree shows at the end what the history makes of the opening.
     ensures replayed { IfKnown (T.contents tree) (λ opening. IfKnown (T.contents result.tree) (λ now.

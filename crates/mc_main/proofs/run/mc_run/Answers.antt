@@ -6,7 +6,7 @@ use Rattle.mc_desk.specs.Tallies.{faults_in}
 use Rattle.mc_main.specs.Headline.{MayRefuseStart, folders_in}
 use Rattle.mc_main.proofs.Printing.{cause_in, prints_start}
 use Rattle.mc_main.proofs.Taking.{reads_none}
-use Rattle.mc_main.proofs.Runs.{none_counted, finished_to, replayed_to, run_in, safe_to, traced_none, refused_start}
+use Rattle.mc_main.proofs.Runs.{none_counted, calmed_to, finished_to, replayed_to, run_in, safe_to, traced_none, refused_start}
 use Rattle.mc_main.proofs.run.mc_run.Goals as goal
 
 pub returns-in-Err-Usage-clause-safe : goal.returns-in-Err-Usage-clause-safe
@@ -14,6 +14,9 @@ returns-in-Err-Usage-clause-safe g c = safe_to _ _ _ (traced_none _ _ (reverse c
 
 pub returns-in-Err-Usage-clause-finished : goal.returns-in-Err-Usage-clause-finished
 returns-in-Err-Usage-clause-finished g c = finished_to _ _ _ (traced_none _ _ (reverse c.refuse.result.history.entries) (ap reverse c.refuse.ensures.empty) (ap g.T.Tree.contents c.refuse.ensures.tree))
+
+pub returns-in-Err-Usage-clause-calmed : goal.returns-in-Err-Usage-clause-calmed
+returns-in-Err-Usage-clause-calmed g c = calmed_to _ _ _ (traced_none _ _ (reverse c.refuse.result.history.entries) (ap reverse c.refuse.ensures.empty) (ap g.T.Tree.contents c.refuse.ensures.tree))
 
 pub returns-in-Err-Usage-clause-replayed : goal.returns-in-Err-Usage-clause-replayed
 returns-in-Err-Usage-clause-replayed g c = replayed_to _ _ _ (traced_none _ _ (reverse c.refuse.result.history.entries) (ap reverse c.refuse.ensures.empty) (ap g.T.Tree.contents c.refuse.ensures.tree))
@@ -26,6 +29,9 @@ returns-in-Err-Memory-clause-safe g c = safe_to _ _ _ (traced_none _ _ (reverse 
 
 pub returns-in-Err-Memory-clause-finished : goal.returns-in-Err-Memory-clause-finished
 returns-in-Err-Memory-clause-finished g c = finished_to _ _ _ (traced_none _ _ (reverse c.without_session.result.history.entries) (ap reverse c.without_session.ensures.empty) (ap g.T.Tree.contents c.without_session.ensures.tree))
+
+pub returns-in-Err-Memory-clause-calmed : goal.returns-in-Err-Memory-clause-calmed
+returns-in-Err-Memory-clause-calmed g c = calmed_to _ _ _ (traced_none _ _ (reverse c.without_session.result.history.entries) (ap reverse c.without_session.ensures.empty) (ap g.T.Tree.contents c.without_session.ensures.tree))
 
 pub returns-in-Err-Memory-clause-replayed : goal.returns-in-Err-Memory-clause-replayed
 returns-in-Err-Memory-clause-replayed g c = replayed_to _ _ _ (traced_none _ _ (reverse c.without_session.result.history.entries) (ap reverse c.without_session.ensures.empty) (ap g.T.Tree.contents c.without_session.ensures.tree))
@@ -41,6 +47,10 @@ pub returns-in-Ok-begin-clause-finished : goal.returns-in-Ok-begin-clause-finish
 returns-in-Ok-begin-clause-finished g c =
     finished_to _ _ _ (subst (λ o. IsTracedTo o (g.T.Tree.contents c.run_desk.result.tree) (reverse c.run_desk.result.history.entries)) (sym c.requires.opening) c.run_desk.ensures.traced)
 
+pub returns-in-Ok-begin-clause-calmed : goal.returns-in-Ok-begin-clause-calmed
+returns-in-Ok-begin-clause-calmed g c =
+    calmed_to _ _ _ (subst (λ o. IsTracedTo o (g.T.Tree.contents c.run_desk.result.tree) (reverse c.run_desk.result.history.entries)) (sym c.requires.opening) c.run_desk.ensures.traced)
+
 pub returns-in-Ok-begin-clause-replayed : goal.returns-in-Ok-begin-clause-replayed
 returns-in-Ok-begin-clause-replayed g c =
     replayed_to _ _ _ (subst (λ o. IsTracedTo o (g.T.Tree.contents c.run_desk.result.tree) (reverse c.run_desk.result.history.entries)) (sym c.requires.opening) c.run_desk.ensures.traced)
@@ -50,6 +60,9 @@ returns-in-Err-clause-safe g c = safe_to _ _ _ (traced_none _ _ (reverse c.refus
 
 pub returns-in-Err-clause-finished : goal.returns-in-Err-clause-finished
 returns-in-Err-clause-finished g c = finished_to _ _ _ (traced_none _ _ (reverse c.refuse_start.result.history.entries) (ap reverse c.refuse_start.ensures.empty) (ap g.T.Tree.contents c.refuse_start.ensures.tree ∙ c.in-Err.ensures.same))
+
+pub returns-in-Err-clause-calmed : goal.returns-in-Err-clause-calmed
+returns-in-Err-clause-calmed g c = calmed_to _ _ _ (traced_none _ _ (reverse c.refuse_start.result.history.entries) (ap reverse c.refuse_start.ensures.empty) (ap g.T.Tree.contents c.refuse_start.ensures.tree ∙ c.in-Err.ensures.same))
 
 pub returns-in-Err-clause-replayed : goal.returns-in-Err-clause-replayed
 returns-in-Err-clause-replayed g c = replayed_to _ _ _ (traced_none _ _ (reverse c.refuse_start.result.history.entries) (ap reverse c.refuse_start.ensures.empty) (ap g.T.Tree.contents c.refuse_start.ensures.tree ∙ c.in-Err.ensures.same))

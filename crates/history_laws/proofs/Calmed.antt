@@ -1,0 +1,159 @@
+-- A job's first change comes where nothing on its mount waits for a sync, so only what it names waits there then.
+use Rattle.std.proofs.Common.{◌≡◌, ◌⊎◌, Bool, true, false, not, List, [], ◌∷◌, refl, sym, ◌∙◌, ap, subst, inl, inr, Option, Some, None, arith, append-nil}
+use Rattle.std.proofs.lemmas.Bool.{both_ways, false≢true}
+use Rattle.mc_text.specs.Routes.{Route}
+use Rattle.tree_trait.specs.declared.file_system.FileSystem.{FileSystem}
+use Rattle.tree_trait.specs.Shape.{IsTree}
+use Rattle.tree_trait.specs.Change.{CallLog, current}
+use Rattle.tree_trait.specs.CrashImages.{all_settled}
+use Rattle.crash_law.specs.Guarded.{Marks}
+use Rattle.file_copy.specs.declared.report.Did.{Did}
+use Rattle.file_copy.specs.declared.report.Did.TheVariants.{Began, Chunk, Placed, Removed, Skipped, Cleaned, Barrier, Troubled, Ended}
+use Rattle.file_copy.specs.declared.report.Ending.{Ending}
+use Rattle.file_copy.specs.Copying.{Copying, folder_of}
+use Rattle.file_copy.specs.Copying as copying
+use Rattle.copy_move.specs.declared.history.Event.TheVariants.{Step}
+use Rattle.copy_move.specs.declared.history.Entry.{Entry}
+use Rattle.copy_move.specs.declared.run.Course.{Course}
+use Rattle.copy_move.specs.declared.run.Course.TheVariants.{GoesOn, InTrouble, Unsettled, Skips, Ends}
+use Rattle.copy_move.specs.declared.work.Work.{Work}
+use Rattle.copy_move.specs.declared.work.Work.TheVariants.{Copy, Delete}
+use Rattle.copy_move.specs.Deletions as deletions
+use Rattle.copy_move.specs.Jobs.{Running, TellsOn, WorkTells, WorkWinds, is_fresh}
+use Rattle.copy_move.specs.Settling.{changed_folder, is_dirty}
+use Rattle.copy_move.specs.Steps.{SyncsFolder}
+use Rattle.history_laws.specs.Calmed.{CalmLaw, HasBegun}
+use Rattle.history_laws.specs.Doubt.{is_unsettled}
+use Rattle.history_laws.specs.LiveJobs.{live_jobs, work_of}
+use Rattle.history_laws.specs.Owed.{IsApart, begins_change, has_changed}
+use Rattle.history_laws.specs.Replayed.{front}
+use Rattle.history_laws.specs.Safe.{calls_in}
+use Rattle.history_laws.specs.Staying.{names_path}
+use Rattle.history_laws.specs.Traces.{EventLeads, IsTraced, Stand, StepLeads, WorkLeads}
+use Rattle.history_laws.proofs.Done.{IsFound, found_moment, same_work}
+use Rattle.history_laws.proofs.Finished.{AreTidy, IsTidyJob, traced_tidy}
+use Rattle.history_laws.proofs.Fronts.{told_of}
+use Rattle.history_laws.proofs.Histories.{only_job, traced_reached}
+use Rattle.history_laws.proofs.JobKnows.{StageKnows, WorkKnows}
+use Rattle.history_laws.proofs.Knowing.{Said}
+use Rattle.history_laws.proofs.Moments.{front_is, log_of, traced_count}
+use Rattle.history_laws.proofs.Owing.{owed_law}
+use Rattle.history_laws.proofs.Reports.{HasLive, JobsKnow}
+use Rattle.history_laws.proofs.Staying.{event_still}
+
+-- a change begins only in work that goes on
+winds_none : (ending : Ending) (old new : Work) (did : Did) → WorkWinds ending old did new → begins_change did ≡ true → ⊥
+winds_none ending (Copy c) (Copy new) (Began part) t h = t
+winds_none ending (Copy c) (Copy new) (Removed path) t h = t
+winds_none ending (Delete d) (Delete new) (Began part) t h = t
+winds_none ending (Delete d) (Delete new) (Removed path) t h = t
+winds_none ending (Copy c) (Delete new) did t h = t
+winds_none ending (Delete d) (Copy new) did t h = t
+winds_none ending old new (Chunk count) t h = false≢true h
+winds_none ending old new (Placed path) t h = false≢true h
+winds_none ending old new (Skipped path why) t h = false≢true h
+winds_none ending old new (Cleaned part) t h = false≢true h
+winds_none ending old new Barrier t h = false≢true h
+winds_none ending old new (Troubled trouble) t h = false≢true h
+winds_none ending old new (Ended how part) t h = false≢true h
+
+goes_then : (job new : Running) (did : Did) (course : Course) → job.course ≡ course → TellsOn course job did new → begins_change did ≡ true → (job.course ≡ GoesOn) × ((work : Work) × WorkTells job.work did work)
+goes_then job new did GoesOn is (work, tells, new_is) h = (is, (work, tells))
+goes_then job new did (InTrouble why) is t h = absurd t
+goes_then job new did (Unsettled why) is t h = absurd t
+goes_then job new did (Skips why) is (inl (did_is, new_is)) h = absurd (false≢true (sym (ap begins_change did_is) ∙ h))
+goes_then job new did (Skips why) is (inr (did_is, new_is)) h = absurd (false≢true (sym (ap begins_change did_is) ∙ h))
+goes_then job new did (Ends ending) is (work, winds, new_is) h = absurd (winds_none ending job.work work did winds h)
+
+-- work that begins a change with a clean folder has changed nothing yet, and no part of it stands
+module _ (told : Said) (dirty : List Route) (marks : Marks) (s : FileSystem) (course : Course) where
+  abbrev IsStart : Work → Type 0
+  IsStart work = (is_fresh work ≡ true) × (told.part ≡ None)
+
+  fresh_then : (old new : Work) (did : Did) → WorkTells old did new → begins_change did ≡ true → is_dirty old ≡ false → WorkKnows told dirty marks s course old → IsStart old
+  fresh_then (Copy c) (Copy new) (Began part) t h clean (name, listed, stage) =
+      (ap (λ x. copying.is_fresh x c.folder) t.0 ∙ ap not clean, let k = subst (λ x. StageKnows told marks s course c x) t.0 stage in k.0)
+  fresh_then (Copy c) (Copy new) (Removed path) t h clean k = absurd t
+  fresh_then (Copy c) (Copy new) (Chunk count) t h clean k = absurd (false≢true h)
+  fresh_then (Copy c) (Copy new) (Placed path) t h clean k = absurd (false≢true h)
+  fresh_then (Copy c) (Copy new) (Skipped path why) t h clean k = absurd (false≢true h)
+  fresh_then (Copy c) (Copy new) (Cleaned part) t h clean k = absurd (false≢true h)
+  fresh_then (Copy c) (Copy new) Barrier t h clean k = absurd (false≢true h)
+  fresh_then (Copy c) (Copy new) (Troubled trouble) t h clean k = absurd (false≢true h)
+  fresh_then (Copy c) (Copy new) (Ended ending part) t h clean k = absurd (false≢true h)
+  fresh_then (Copy c) (Delete new) did t h clean k = absurd t
+  fresh_then (Delete d) (Copy new) did t h clean k = absurd t
+  fresh_then (Delete d) (Delete new) (Removed path) t h clean (name, none) = (ap deletions.is_fresh t.0, none)
+  fresh_then (Delete d) (Delete new) (Began part) t h clean k = absurd t
+  fresh_then (Delete d) (Delete new) (Chunk count) t h clean k = absurd (false≢true h)
+  fresh_then (Delete d) (Delete new) (Placed path) t h clean k = absurd (false≢true h)
+  fresh_then (Delete d) (Delete new) (Skipped path why) t h clean k = absurd (false≢true h)
+  fresh_then (Delete d) (Delete new) (Cleaned part) t h clean k = absurd (false≢true h)
+  fresh_then (Delete d) (Delete new) Barrier t h clean k = absurd (false≢true h)
+  fresh_then (Delete d) (Delete new) (Troubled trouble) t h clean k = absurd (false≢true h)
+  fresh_then (Delete d) (Delete new) (Ended ending part) t h clean k = absurd (false≢true h)
+
+no_route : (part : Option Route) (path : Route) → part ≡ None → part ≡ Some path → ⊥
+no_route part path none some = let f : ⊥ = cc in f
+
+module _ (opening : CallLog) (tree : IsTree (current opening)) (settled : all_settled opening.changes ≡ true) (end : CallLog) (e : Entry) (older : List Entry) (folder path : Route) (h : HasBegun e older folder)
+    (f : IsFound opening tree settled end e older) (waits : is_unsettled f.now path ≡ true) where
+  abbrev Calm : Type 0
+  Calm = (names_path e.what path ≡ true) ⊎ IsApart f.before folder (folder_of path)
+
+  of_works : (job new : Running) → f.was.jobs ≡ job ∷ [] → job.id ≡ h.id → WorkLeads job h.did new f.was.dirty f.after.dirty f.before f.now → Calm
+  of_works job new jobs_is id_is works = by (names_path e.what path) (is_unsettled f.before path) refl refl
+    where
+      r : Rattle.history_laws.proofs.Histories.IsReached opening older f.was f.before
+      r = traced_reached opening tree settled older f.was f.before f.traced
+
+      tidy : IsTidyJob older f.was.dirty job
+      tidy = subst (λ js. AreTidy older f.was.dirty js) jobs_is (traced_tidy opening tree settled older f.was f.before f.traced)
+
+      goes : (job.course ≡ GoesOn) × ((work : Work) × WorkTells job.work h.did work)
+      goes = goes_then job new h.did job.course refl works.tells h.begins
+
+      start : (is_fresh job.work ≡ true) × (r.part ≡ None)
+      start = fresh_then (told_of opening f.before older r.part) f.was.dirty r.marks (current f.before) job.course job.work goes.1.0 h.did goes.1.1 h.begins (tidy.clean (ap (λ n. has_changed n older) id_is ∙ h.unchanged))
+          (subst (λ js. JobsKnow (told_of opening f.before older r.part) f.was.dirty r.marks (current f.before) js) jobs_is r.knows)
+
+      folder_is : folder ≡ changed_folder job.work
+      folder_is = h.within ∙ same_work opening tree settled end e older job (live_jobs older) r.part h.work (subst (λ js. HasLive (live_jobs older) js r.part) jobs_is r.live)
+          (subst (λ n. work_of n (live_jobs older) ≡ Some h.work) (sym id_is) h.its)
+
+      by : (named waited : Bool) → names_path e.what path ≡ named → is_unsettled f.before path ≡ waited → Calm
+      by true waited named_is waited_is = inl named_is
+      by false true named_is waited_is =
+          inr (subst (λ q. IsApart f.before q (folder_of path)) (sym folder_is) (works.settled goes.0 start.0 (folder_of path) (owed_law opening f.before older f.was path tree settled f.traced waited_is)))
+      by false false named_is waited_is =
+          let still = event_still opening older f.was f.before r path waited_is (no_route r.part path start.1) e.what f.after f.now f.leads named_is in
+          absurd (both_ways _ still.after waits)
+
+  calm : Calm
+  calm = by (subst (λ w. EventLeads f.was w f.after f.before f.now) h.reports f.leads)
+    where
+      no_sync : (job new : Running) (synced : Route) → SyncsFolder job synced h.did new f.was.dirty f.after.dirty (Some f.before) (Some f.now) → ⊥
+      no_sync job new synced (inl did) = false≢true (sym (ap begins_change did.0) ∙ h.begins)
+      no_sync job new synced (inr did) = false≢true (sym (ap begins_change did.1) ∙ h.begins)
+
+      one_of : (job : Running) → Rattle.history_laws.specs.Traces.IsJob h.id f.was.jobs job → (f.was.jobs ≡ job ∷ []) × (job.id ≡ h.id)
+      one_of job its =
+          let r = traced_reached opening tree settled older f.was f.before f.traced in
+          only_job h.id f.was.jobs job (told_of opening f.before older r.part) f.was.dirty r.marks (current f.before) its r.knows
+
+      by : EventLeads f.was (Step h.id h.did) f.after f.before f.now → Calm
+      by (job, its, (after, inl (new, inl works, after_is), jobs_is)) = let one = one_of job its in of_works job new one.0 one.1 works
+      by (job, its, (after, inl (new, inr syncs, after_is), jobs_is)) = absurd (no_sync job new syncs.folder syncs.synced)
+      by (job, its, (after, inr (gives, after_is), jobs_is)) = absurd (false≢true (sym (ap begins_change gives.did_is) ∙ h.begins))
+
+pub calm_law : CalmLaw
+calm_law opening now newest stand tree settled traced e older folder path h moment waits =
+    let f = found_moment opening tree settled now e older path newest (e ∷ older) (e ∷ older) stand e.calls now [] traced (ap (log_of now) (sym (append-nil now.changes))) moment (inl refl) in
+    let n = traced_count opening f.before older f.was f.traced in
+    let c = f.calls in
+    let at_end : front opening e.calls now ≡ f.now = front_is opening now e.calls f.now f.later f.later_is (omega (arith, c)) in
+    let at_start : front opening (calls_in older) now ≡ f.before = front_is opening now (calls_in older) f.before f.rest f.end_is (omega (arith, n)) in
+    elim (calm opening tree settled now e older folder path h f (subst (λ (l : CallLog). is_unsettled l path ≡ true) at_end waits)) [
+      | inl named ↦ inl named
+      | inr apart ↦ inr (subst (λ (l : CallLog). IsApart l folder (folder_of path)) (sym at_start) apart)
+    ]

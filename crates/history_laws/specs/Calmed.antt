@@ -1,0 +1,43 @@
+-- Once a job has made its first change, nothing is in doubt on its mount but what that change names; in the words of the
+-- history alone. Histories stand newest first here.
+use Rattle.std.specs.Prelude.{◌≡◌, ◌⊎◌, ℕ, true, false, List, ◌∷◌, Some}
+use Rattle.mc_text.specs.Routes.{Route}
+use Rattle.tree_trait.specs.Shape.{IsTree}
+use Rattle.tree_trait.specs.Change.{CallLog, current}
+use Rattle.tree_trait.specs.CrashImages.{all_settled}
+use Rattle.file_copy.specs.declared.report.Did.{Did}
+use Rattle.file_copy.specs.Copying.{folder_of}
+use Rattle.copy_move.specs.declared.history.Event.TheVariants.{Step}
+use Rattle.copy_move.specs.declared.history.Entry.{Entry}
+use Rattle.copy_move.specs.declared.work.Work.{Work}
+use Rattle.copy_move.specs.Settling.{changed_folder}
+use Rattle.history_laws.specs.Doubt.{is_unsettled}
+use Rattle.history_laws.specs.LiveJobs.{live_jobs, work_of}
+use Rattle.history_laws.specs.Owed.{IsApart, begins_change, has_changed}
+use Rattle.history_laws.specs.Replayed.{front}
+use Rattle.history_laws.specs.Safe.{IsMoment, calls_in}
+use Rattle.history_laws.specs.Staying.{names_path}
+use Rattle.history_laws.specs.Traces.{IsTraced, Stand}
+
+-- This entry, after the older ones, is the report of the first change of a job that changes names in this folder.
+pub record HasBegun (e : Entry) (older : List Entry) (folder : Route) : Type 0 where
+  pub id : ℕ
+  pub did : Did
+  pub work : Work
+  pub reports : e.what ≡ Step id did
+  pub begins : begins_change did ≡ true
+  pub unchanged : has_changed id older ≡ false
+  pub its : work_of id (live_jobs older) ≡ Some work
+  pub within : folder ≡ changed_folder work
+
+-- When such an entry has come to stand, a path of which a change isn't on the disk yet is one that this entry names, or its
+-- folder lies on another mount, or was removed.
+abbrev pub CalmsOthers : CallLog → CallLog → List Entry → Type 0
+CalmsOthers opening now newest =
+    (e : Entry) (older : List Entry) (folder path : Route)
+    → HasBegun e older folder → IsMoment newest (e ∷ older) (e ∷ older) e.calls → is_unsettled (front opening e.calls now) path ≡ true
+    → (names_path e.what path ≡ true) ⊎ IsApart (front opening (calls_in older) now) folder (folder_of path)
+
+abbrev pub CalmLaw : Type 0
+CalmLaw = (opening now : CallLog) (newest : List Entry) (stand : Stand)
+    → IsTree (current opening) → all_settled opening.changes ≡ true → IsTraced opening newest stand now → CalmsOthers opening now newest
