@@ -1,0 +1,64 @@
+//! Keys by their names.
+use anyhow::Result;
+use key_screen::{Base, Key};
+use std::alloc::Global;
+
+/// The keys of these words.
+pub fn keys_of(alloc: Global, words: &str) -> Result<Vec<Key>> {
+    let mut keys = Vec::new(alloc);
+    for word in words.split(' ') {
+        keys.push(key_of(word))?;
+    }
+    Ok(keys)
+}
+
+fn key_of(word: &str) -> Key {
+    match word.strip_prefix("M-") {
+        Some(rest) => Key {
+            meta: true,
+            base: base_of(rest),
+        },
+        None => Key {
+            meta: false,
+            base: base_of(word),
+        },
+    }
+}
+
+fn base_of(word: &str) -> Base {
+    match word {
+        "enter" => Base::Enter,
+        "escape" => Base::Escape,
+        "F9" => Base::F(9),
+        "F10" => Base::F(10),
+        "C-a" => Base::Ctrl(b'a'),
+        "C-e" => Base::Ctrl(b'e'),
+        "C-k" => Base::Ctrl(b'k'),
+        "C-u" => Base::Ctrl(b'u'),
+        _ => editing(word),
+    }
+}
+
+/// A key that moves the cursor or deletes, or else a character.
+fn editing(word: &str) -> Base {
+    match word {
+        "up" => Base::Up,
+        "down" => Base::Down,
+        "left" => Base::Left,
+        "right" => Base::Right,
+        "home" => Base::Home,
+        "end" => Base::End,
+        "pgup" => Base::PgUp,
+        "pgdn" => Base::PgDn,
+        "delete" => Base::Delete,
+        "backspace" => Base::Backspace,
+        _ => first_character(word),
+    }
+}
+
+fn first_character(word: &str) -> Base {
+    match word.chars().next() {
+        Some(code) => Base::Char(code),
+        None => Base::Unknown,
+    }
+}
