@@ -307,6 +307,27 @@ def check_part_left(program, base, check):
     check("a part that stays is told", status == 0 and same and os.path.exists(part) and all(row in rows for row in told))
 
 
+def check_failed_build(starter, base, check):
+    """Where the build fails the starter says why, and starts no program that an earlier build left."""
+    root = os.path.join(base, "repository")
+    program = os.path.join(root, "crates", "mc", "out", "mc")
+    tools = os.path.join(base, "tools")
+    for folder in (os.path.dirname(program), os.path.join(root, ".ci"), tools):
+        os.makedirs(folder)
+    shutil.copy(starter, os.path.join(root, "mc"))
+    shutil.copy(os.path.join(os.path.dirname(starter), ".ci", "build"), os.path.join(root, ".ci", "build"))
+    for path, text in [(program, "echo an old program"), (os.path.join(tools, "rt"), "echo no proof of this; exit 1")]:
+        with open(path, "w") as file:
+            file.write(f"#!/bin/sh\n{text}\n")
+        os.chmod(path, 0o755)
+    os.utime(program, (1, 1))
+    open(os.path.join(root, "crates.txt"), "w").close()
+    surroundings = {**os.environ, "PATH": f"{tools}:{os.environ['PATH']}"}
+    ended = subprocess.run([os.path.join(root, "mc"), base], env=surroundings, stdin=subprocess.DEVNULL, capture_output=True)
+    check("a build that fails is told, with its reason", ended.returncode == 1 and b"no proof of this" in ended.stderr)
+    check("an old program isn't started", b"an old program" not in ended.stdout and not os.path.exists(program))
+
+
 def main():
     program, starter = os.path.abspath(sys.argv[1]), os.path.abspath(sys.argv[2])
     base = tempfile.mkdtemp()
@@ -345,6 +366,7 @@ def main():
         check_set_id_bits(program, base, check)
         check_stty(program, base, check)
         check_signals(starter, base, check)
+        check_failed_build(starter, base, check)
 
         for words, want, line in [
             ([os.path.join(base, "nowhere")], 2, b"no such file or folder"),
