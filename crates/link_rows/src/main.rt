@@ -2,6 +2,8 @@
 //! expected lines stand in `stdout`.
 #![tactic(auto)]
 
+ghost use Rattle.std.specs.Prelude.{◌≤◌};
+
 use anyhow::Result;
 use mc_text::Path;
 use mem_tree::MemTree;
@@ -83,21 +85,48 @@ fn answered(alloc: Global, tree: &mut MemTree, step: Step, place: &str) -> Resul
 /// searched.
 fn linked(alloc: Global) -> Result<MemTree> {
     let mut tree = MemTree::new(alloc, 0)?;
-    for (folder, link, inner, mode) in [
-        ("/dir", "/dir/link", "/dir/folder", 0o755),
-        ("/fixed", "/fixed/link", "/fixed/folder", 0o555),
-        ("/shut", "/shut/link", "/shut/folder", 0o600),
-    ] {
-        let folder = Path::parse(alloc, folder)?;
-        let link = Path::parse(alloc, link)?;
-        let inner = Path::parse(alloc, inner)?;
-        tree.make_folder(alloc, &folder, 0o755)?;
-        tree.make_link(alloc, &link, "file")?;
-        tree.make_folder(alloc, &inner, 0o755)?;
-        tree.set_mode(alloc, &folder, mode)?;
-    }
-    tree.make_file(alloc, &Path::parse(alloc, "/dir/file")?, 0o644)?;
+    plant_all(alloc, &mut tree)?;
     Ok(tree)
+}
+
+fn plant_all(alloc: Global, tree: &mut MemTree) -> Result<()> {
+    plant(alloc, tree, "/dir", "/dir/link", "/dir/folder", 0o755)?;
+    plant(alloc, tree, "/fixed", "/fixed/link", "/fixed/folder", 0o555)?;
+    plant(alloc, tree, "/shut", "/shut/link", "/shut/folder", 0o600)?;
+    let file = Path::parse(alloc, "/dir/file")?;
+    tree.make_file(alloc, &file, 0o644)?;
+    Ok(())
+}
+
+/// Makes a folder with a link and a folder in it, and then gives it its mode.
+fn plant(
+    alloc: Global,
+    tree: &mut MemTree,
+    folder: &str,
+    link: &str,
+    inner: &str,
+    mode: u16,
+) -> Result<()>
+    requires mode { mode ≤ 0o7777 }
+{
+    let folder = Path::parse(alloc, folder)?;
+    tree.make_folder(alloc, &folder, 0o755)?;
+    plant_link(alloc, tree, link)?;
+    plant_folder(alloc, tree, inner)?;
+    tree.set_mode(alloc, &folder, mode)?;
+    Ok(())
+}
+
+fn plant_link(alloc: Global, tree: &mut MemTree, link: &str) -> Result<()> {
+    let link = Path::parse(alloc, link)?;
+    tree.make_link(alloc, &link, "file")?;
+    Ok(())
+}
+
+fn plant_folder(alloc: Global, tree: &mut MemTree, folder: &str) -> Result<()> {
+    let folder = Path::parse(alloc, folder)?;
+    tree.make_folder(alloc, &folder, 0o755)?;
+    Ok(())
 }
 
 /// What a call answers, where it is not refused.

@@ -43,15 +43,29 @@ fn small_tree(alloc: Global) -> Result<MemTree>
     ensures unused { IfOk result (λ tree. tree.log.changes ≡ []) }
 {
     let mut tree = MemTree::new(alloc, 40)?;
-    put_folder(alloc, &mut tree, "/dir", 0o755)?;
-    put_folder(alloc, &mut tree, "/locked", 0o000)?;
-    put_folder(alloc, &mut tree, "/fixed", 0o555)?;
-    put_file(alloc, &mut tree, "/dir/b", 0o644)?;
-    put_file(alloc, &mut tree, "/dir/shut", 0o000)?;
-    put_file(alloc, &mut tree, "/locked/c", 0o644)?;
-    put_file(alloc, &mut tree, "/fixed/d", 0o644)?;
-    put_other(alloc, &mut tree, "/dir/pipe")?;
+    put_folders(alloc, &mut tree)?;
+    put_files(alloc, &mut tree)?;
     Ok(tree)
+}
+
+fn put_folders(alloc: Global, tree: &mut MemTree) -> Result<()>
+    requires unused { tree.old.log.changes ≡ [] }
+    ensures unused { tree.new.log.changes ≡ [] }
+{
+    put_folder(alloc, tree, "/dir", 0o755)?;
+    put_folder(alloc, tree, "/locked", 0o000)?;
+    put_folder(alloc, tree, "/fixed", 0o555)
+}
+
+fn put_files(alloc: Global, tree: &mut MemTree) -> Result<()>
+    requires unused { tree.old.log.changes ≡ [] }
+    ensures unused { tree.new.log.changes ≡ [] }
+{
+    put_file(alloc, tree, "/dir/b", 0o644)?;
+    put_file(alloc, tree, "/dir/shut", 0o000)?;
+    put_file(alloc, tree, "/locked/c", 0o644)?;
+    put_file(alloc, tree, "/fixed/d", 0o644)?;
+    put_other(alloc, tree, "/dir/pipe")
 }
 
 /// A tree with a mount that holds eight bytes, and a file beside it.
