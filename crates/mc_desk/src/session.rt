@@ -18,7 +18,6 @@ use crate::starts::Start;
 use crate::tag::Tag;
 use copy_move::{Dirty, Run};
 use key_screen::KeyReader;
-use mc_text::Path;
 use mc_ui::Ui;
 use std::alloc::Global;
 use std::marker::{Model, PhantomData};
@@ -50,7 +49,6 @@ pub struct Session<N: Tag, T: Tree, S: Sink, P: Spawner> {
     calls: u64,
     shown: u128,
     unseen: bool,
-    stuck_at: Option<Path>,
     due: Due,
     closed: bool,
     quit: bool,
@@ -160,7 +158,6 @@ impl<N: Tag, T: Tree, S: Sink, P: Spawner> Session<N, T, S, P> {
                 calls: 0,
                 shown: 0,
                 unseen: false,
-                stuck_at: None,
                 due: Due::First,
                 closed: false,
                 quit: false,

@@ -1,9 +1,11 @@
 //! Steps of the job, and the end of a session.
 ghost use Rattle.std.specs.Prelude.{◌≡◌, ◌<◌, ◌≤◌, true, Option, Some, None, IsSome, ◌||◌, reverse, if◌then◌else◌};
 ghost use Rattle.std.specs.Option.{option_map};
+ghost use Rattle.session_history.specs.Entries.{is_closed};
 ghost use Rattle.copy_move.specs.Jobs.{closed_job};
 ghost use Rattle.copy_move.specs.Ranks.{rank_with};
-ghost use Rattle.copy_move.specs.Told.{if_closed, live_job, IsReady};
+ghost use Rattle.copy_move.specs.Told.{if_closed, IsReady};
+ghost use Rattle.history_laws.specs.ToldJob.{live_job};
 ghost use Rattle.history_laws.specs.Traces.{IsTracedTo};
 ghost use Rattle.mc_desk.specs.Sessions.{EndsSession};
 ghost use Rattle.mc_desk.specs.Tallies.{can_step, faults_in, keys_in, has_lost};
@@ -14,8 +16,10 @@ use super::{Due, Session};
 use crate::claims::NoClaims;
 use crate::replies::{Ended, StepReply};
 use crate::tag::Tag;
-use copy_move::{Did, Ending, Entry, Event, Run, Stepped, is_end, stuck_at};
+use copy_move::Run;
+use job_reports::{Did, Ending, Stepped, is_end};
 use mc_text::Path;
+use session_history::{Entry, Event};
 use std::alloc::Global;
 use tree_trait::{Sink, Spawner, Tree};
 
@@ -76,7 +80,6 @@ impl<N: Tag, T: Tree, S: Sink, P: Spawner> Session<N, T, S, P> {
         let Stepped { did, calls } = job.step(alloc, &mut self.tree, &NoClaims, &mut self.dirty);
         self.calls = self.calls.saturating_add(calls);
         let ended = is_end(&did);
-        self.stuck_at = stuck_at(alloc, &did);
         self.log.note(Entry {
             seat,
             calls: self.calls,
@@ -131,7 +134,6 @@ impl<N: Tag, T: Tree, S: Sink, P: Spawner> Session<N, T, S, P> {
             calls: _,
             shown: _,
             unseen: _,
-            stuck_at: _,
             due: _,
             closed: _,
             quit,
