@@ -1,9 +1,9 @@
 -- What the steps of a job make of the dirty folders.
 use Rattle.std.proofs.Common.{◌≡◌, ℕ, ◌+◌, ◌-◌, ◌<◌, ◌≤◌, ◌&&◌, not, Bool, true, false, List, [], ◌∷◌, ◌++◌, length, take, refl, sym, ◌∙◌, ap, subst, inl, inr, Option, Some, None, Result, Ok, Err, arith}
-use Rattle.std.specs.Prelude.{if◌then◌else◌}
 use Rattle.std.proofs.lemmas.Bool.{true≢false, false≢true}
 use Rattle.std.proofs.lemmas.List.{length-append}
 use Rattle.std.proofs.Math.Seq.{take-append_seam}
+use Rattle.std.specs.Prelude.{if◌then◌else◌}
 use Rattle.mc_text.specs.Routes.{Route}
 use Rattle.tree_trait.specs.declared.calls.TreeError.{TreeError}
 use Rattle.tree_trait.specs.declared.calls.TreeError.TheVariants as refused
@@ -11,34 +11,35 @@ use Rattle.tree_trait.specs.Calls.{SyncFolder}
 use Rattle.tree_trait.specs.Change.{CallLog, current}
 use Rattle.tree_trait.specs.Answers.{IfKnown, HasRisen, Performs}
 use Rattle.tree_trait.specs.CrashImages.{Among}
-use Rattle.file_copy.specs.declared.report.Cause.{Cause}
-use Rattle.file_copy.specs.declared.report.Cause.TheVariants.{Memory}
-use Rattle.file_copy.specs.declared.report.Ending.{Ending}
-use Rattle.file_copy.specs.declared.report.Ending.TheVariants.{Finished, Aborted, Killed, NoMemory}
-use Rattle.file_copy.specs.declared.report.Did.{Did}
-use Rattle.file_copy.specs.declared.report.Did.TheVariants.{Began, Chunk, Placed, Removed, Skipped, Cleaned, Barrier, Troubled, Ended}
+use Rattle.job_reports.specs.declared.report.Cause.{Cause}
+use Rattle.job_reports.specs.declared.report.Cause.TheVariants.{Memory}
+use Rattle.job_reports.specs.declared.report.Ending.{Ending}
+use Rattle.job_reports.specs.declared.report.Ending.TheVariants.{Finished, Aborted, Killed, NoMemory}
+use Rattle.job_reports.specs.declared.report.Did.{Did}
+use Rattle.job_reports.specs.declared.report.Did.TheVariants.{Began, Chunk, Placed, Removed, Skipped, Cleaned, Barrier, Troubled, Ended}
 use Rattle.file_copy.specs.declared.stage.Stage.{Stage}
 use Rattle.file_copy.specs.declared.stage.Stage.TheVariants as at
 use Rattle.file_copy.specs.declared.stage.FolderState.{FolderState}
 use Rattle.file_copy.specs.declared.stage.FolderState.TheVariants.{Synced, Dirty}
-use Rattle.file_copy.specs.CallRuns.{HasMore}
+use Rattle.job_reports.specs.CallRuns.{HasMore}
 use Rattle.file_copy.specs.CopyCalls.{CopyCalls}
-use Rattle.file_copy.specs.CopySteps.{IsFault}
-use Rattle.file_copy.specs.Copying.{Copying, Tells, folder_of}
+use Rattle.job_reports.specs.Reports.{IsFault, ends}
+use Rattle.file_copy.specs.Copying.{Copying, Tells}
+use Rattle.job_reports.specs.Paths.{folder_of, without}
 use Rattle.file_copy.specs.Copying as copying
 use Rattle.file_copy.specs.LastSteps.{Winds}
-use Rattle.file_copy.specs.Stops.{no_memory_of}
+use Rattle.job_reports.specs.Stops.{no_memory_of, tries_of, cause_of, trouble_at}
 use Rattle.copy_move.specs.declared.deletion.Stage.TheVariants as deletion
 use Rattle.copy_move.specs.declared.deletion.Stage.{Stage as DeletionStage}
 use Rattle.copy_move.specs.declared.work.Work.{Work}
 use Rattle.copy_move.specs.declared.work.Work.TheVariants.{Copy, Delete}
 use Rattle.copy_move.specs.declared.run.Course.{Course}
 use Rattle.copy_move.specs.declared.run.Course.TheVariants.{GoesOn, InTrouble, Unsettled, Skips, Ends}
-use Rattle.copy_move.specs.Deletions.{Deleting, DeletionCalls, calls_for, cause_of, trouble_at}
+use Rattle.copy_move.specs.Deletions.{Deleting, DeletionCalls}
 use Rattle.copy_move.specs.Deletions as deletions
 use Rattle.copy_move.specs.Jobs.{Running, CallsOn, TellsOn, WorkTells, WorkWinds, WorkCalls, course_after, is_fresh, skipped}
 use Rattle.copy_move.specs.Ranks.{rank_on}
-use Rattle.copy_move.specs.Settling.{NoneOwed, after_try, changed_folder, is_dirty, with_change, without}
+use Rattle.copy_move.specs.Settling.{NoneOwed, after_try, changed_folder, is_dirty, with_change}
 use Rattle.copy_move.specs.Steps.{LeavesDirty, OwnStep, SettlingStep, SkipSteps, WindingStep, WorkSteps, WorkWindsUp}
 use Rattle.copy_move.proofs.DeletionRuns.{counts_call, fault-cause, few_calls}
 use Rattle.copy_move.proofs.Falling.{passing_falls, trouble_falls, waiting_falls}
@@ -373,7 +374,7 @@ winding_step ending id old work course job did calls left folder dirty dirty_aft
 -- The sync of a folder that an ended job left.
 module _ (folder : Route) (dirty dirty_after : List Route) (job : Running) (goes : job.course ≡ GoesOn) (fresh : is_fresh job.work ≡ true) (owed : Among dirty folder) (before after : Option CallLog) (f0 f1 : ℕ)
     (unknown : before ≡ None → after ≡ None) (later : f0 ≤ f1) where
-  counted : (answer : Result (Unit {0}) TreeError) (calls : ℕ) → calls ≡ calls_for answer → IfKnown before (λ log. Performs {A = Unit {0}} log (SyncFolder folder) answer after) → IfKnown before (λ log. IfKnown after (HasMore log calls))
+  counted : (answer : Result (Unit {0}) TreeError) (calls : ℕ) → calls ≡ tries_of answer → IfKnown before (λ log. Performs {A = Unit {0}} log (SyncFolder folder) answer after) → IfKnown before (λ log. IfKnown after (HasMore log calls))
   counted answer calls is called log known now has = subst (λ n. HasMore log n now) (sym is) (counts_call log now (SyncFolder folder) answer after (called log known) has)
 
   pub settled_folder : (did : Did) (calls : ℕ) → did ≡ Barrier → calls ≡ 1 → dirty_after ≡ without folder dirty → IfKnown before (λ log. Performs {A = Unit {0}} log (SyncFolder folder) (Ok tt) after)
@@ -391,7 +392,7 @@ module _ (folder : Route) (dirty dirty_after : List Route) (job : Running) (goes
     fault = λ h. absurd (subst IsFault is h);
   }
 
-  pub refused_folder : (e : TreeError) (did : Did) (calls : ℕ) (new : Running) → did ≡ Troubled (trouble_at e folder true) → calls ≡ calls_for (Err e) → new ≡ record job { course = Unsettled (cause_of e) } → dirty_after ≡ dirty
+  pub refused_folder : (e : TreeError) (did : Did) (calls : ℕ) (new : Running) → did ≡ Troubled (trouble_at e folder true) → calls ≡ tries_of (Err e) → new ≡ record job { course = Unsettled (cause_of e) } → dirty_after ≡ dirty
       → IfKnown before (λ log. Performs {A = Unit {0}} log (SyncFolder folder) (Err e) after) → (e ≡ refused.Fault → HasRisen f0 f1) → SettlingStep job new did calls dirty dirty_after before after f0 f1
   refused_folder e did calls new is count new_is after_is called risen = record {
     goes = goes;

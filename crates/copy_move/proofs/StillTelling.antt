@@ -6,17 +6,18 @@ use Rattle.tree_trait.specs.declared.calls.TreeError.TheVariants as refused
 use Rattle.tree_trait.specs.Calls.{Call, RemoveFile, SyncFolder}
 use Rattle.tree_trait.specs.Change.{CallLog, current}
 use Rattle.tree_trait.specs.Answers.{Performs}
-use Rattle.file_copy.specs.declared.report.Cause.{Cause}
-use Rattle.file_copy.specs.declared.report.Cause.TheVariants.{Tree, TargetKind, SpecialSource, PartTaken, TooLong, Changed, Memory}
-use Rattle.file_copy.specs.declared.report.Did.{Did}
-use Rattle.file_copy.specs.declared.report.Did.TheVariants.{Began, Chunk, Placed, Removed, Skipped, Cleaned, Barrier, Troubled, Ended}
+use Rattle.job_reports.specs.declared.report.Cause.{Cause}
+use Rattle.job_reports.specs.declared.report.Cause.TheVariants.{Tree, TargetKind, SpecialSource, PartTaken, TooLong, Changed, Memory}
+use Rattle.job_reports.specs.declared.report.Did.{Did}
+use Rattle.job_reports.specs.declared.report.Did.TheVariants.{Began, Chunk, Placed, Removed, Skipped, Cleaned, Barrier, Troubled, Ended}
 use Rattle.file_copy.specs.declared.stage.Stage.{Stage}
 use Rattle.file_copy.specs.declared.stage.Stage.TheVariants.{Begin, Fill, Clean, Left, Decided}
-use Rattle.file_copy.specs.CallRuns.{RunStops, StopsAt}
-use Rattle.file_copy.specs.Copying.{Copying, Places, folder_of, places_of}
+use Rattle.job_reports.specs.CallRuns.{RunStops, StopsAt}
+use Rattle.file_copy.specs.Copying.{Copying, Places, places_of}
+use Rattle.job_reports.specs.Paths.{folder_of}
 use Rattle.file_copy.specs.CopyCalls.{CopyCalls, CopyStops, making, placing, writing}
 use Rattle.file_copy.specs.LastSteps.{SyncTried, WindCalls, removable}
-use Rattle.file_copy.proofs.Runs.{all_some}
+use Rattle.job_reports.proofs.Runs.{all_some}
 use Rattle.copy_move.specs.declared.deletion.Stage.TheVariants.{Sync}
 use Rattle.copy_move.specs.declared.work.Work.{Work}
 use Rattle.copy_move.specs.declared.work.Work.TheVariants.{Copy, Delete}

@@ -4,13 +4,13 @@ use Rattle.std.specs.Prelude.{◌≡◌, ◌⊎◌, ℕ, ◌≤◌, Option, None
 use Rattle.tree_trait.specs.declared.calls.TreeError.{TreeError}
 use Rattle.tree_trait.specs.Change.{CallLog}
 use Rattle.tree_trait.specs.Answers.{IfKnown, HasRisen}
-use Rattle.file_copy.specs.declared.report.Cause.{Cause}
-use Rattle.file_copy.specs.declared.report.Ending.{Ending}
-use Rattle.file_copy.specs.declared.report.Did.{Did}
-use Rattle.file_copy.specs.declared.report.Did.TheVariants.{Skipped, Troubled}
-use Rattle.file_copy.specs.CallRuns.{HasMore}
-use Rattle.file_copy.specs.CopySteps.{IsFault}
-use Rattle.file_copy.specs.Stops.{no_memory_of}
+use Rattle.job_reports.specs.declared.report.Cause.{Cause}
+use Rattle.job_reports.specs.declared.report.Ending.{Ending}
+use Rattle.job_reports.specs.declared.report.Did.{Did}
+use Rattle.job_reports.specs.declared.report.Did.TheVariants.{Skipped, Troubled}
+use Rattle.job_reports.specs.CallRuns.{HasMore}
+use Rattle.job_reports.specs.Reports.{IsFault}
+use Rattle.job_reports.specs.Stops.{no_memory_of}
 use Rattle.copy_move.specs.Deletions.{Deleting, Tells, Winds, DeletionCalls, DeletionLeaves, LastCalls, at_barrier, skipped}
 
 -- A step: what it reports is allowed, the deletion is then as it says, it is the call of the tree that it says, and it

@@ -1,23 +1,24 @@
 -- A live job: what it does, how far it is, and whether it goes on; what a step of it may report, and what that says of the
 -- tree's calls.
-use Rattle.std.specs.Prelude.{◌≡◌, ◌⊎◌, ℕ, ⊤, Bool, true, false, ◌&&◌, is_some, if◌then◌else◌, [], ◌∷◌, Option, Some, None}
+use Rattle.std.specs.Prelude.{◌≡◌, ◌⊎◌, ℕ, ⊤, Bool, true, false, ◌&&◌, is_some, [], ◌∷◌, Option, Some, None, if◌then◌else◌}
 use Rattle.mc_text.specs.Routes.{Route, parent_of}
 use Rattle.tree_trait.specs.Change.{CallLog}
-use Rattle.file_copy.specs.declared.report.Cause.TheVariants.{Memory}
-use Rattle.file_copy.specs.declared.report.Trouble.{Trouble}
-use Rattle.file_copy.specs.declared.report.Ending.{Ending}
-use Rattle.file_copy.specs.declared.report.Ending.TheVariants.{Aborted}
-use Rattle.file_copy.specs.declared.report.Did.{Did}
-use Rattle.file_copy.specs.declared.report.Did.TheVariants.{Began, Chunk, Placed, Removed, Skipped, Cleaned, Barrier, Troubled, Ended}
+use Rattle.job_reports.specs.declared.report.Cause.TheVariants.{Memory}
+use Rattle.job_reports.specs.declared.report.Trouble.{Trouble}
+use Rattle.job_reports.specs.declared.report.Ending.{Ending}
+use Rattle.job_reports.specs.declared.report.Ending.TheVariants.{Aborted}
+use Rattle.job_reports.specs.declared.report.Did.{Did}
+use Rattle.job_reports.specs.declared.report.Did.TheVariants.{Began, Chunk, Placed, Removed, Skipped, Cleaned, Barrier, Troubled, Ended}
+use Rattle.job_reports.specs.Reports.{passes_over}
 use Rattle.file_copy.specs.Copying.{begun}
 use Rattle.file_copy.specs.Copying as copying
 use Rattle.file_copy.specs.CopyCalls.{CopyCalls}
 use Rattle.file_copy.specs.LastSteps as last
-use Rattle.file_copy.specs.Stops.{no_memory_of}
-use Rattle.copy_move.specs.declared.history.Job.{Job}
-use Rattle.copy_move.specs.declared.history.Job.TheVariants as plan
-use Rattle.copy_move.specs.declared.history.Answer.{Answer}
-use Rattle.copy_move.specs.declared.history.Answer.TheVariants.{Retry, Skip, SkipAll, Abort}
+use Rattle.job_reports.specs.Stops.{no_memory_of}
+use Rattle.job_reports.specs.declared.job.Job.{Job}
+use Rattle.job_reports.specs.declared.job.Job.TheVariants as plan
+use Rattle.job_reports.specs.declared.answer.Answer.{Answer}
+use Rattle.job_reports.specs.declared.answer.Answer.TheVariants.{Retry, Skip, SkipAll, Abort}
 use Rattle.copy_move.specs.declared.deletion.Stage.TheVariants.{Remove}
 use Rattle.copy_move.specs.declared.work.Work.{Work}
 use Rattle.copy_move.specs.declared.work.Work.TheVariants.{Copy, Delete}
@@ -50,30 +51,6 @@ first_work id (plan.Copy []) = None
 first_work id (plan.Copy (pair ∷ [])) =
     if is_some (parent_of pair.source) && is_some (parent_of pair.target) then Some (copies id pair.source pair.target) else None
 first_work id (plan.Copy (pair ∷ more ∷ pairs)) = None
-
--- the report is that of an end
-abbrev pub ends : Did → Bool
-ends (Ended ending part) = true
-ends (Began part) = false
-ends (Chunk count) = false
-ends (Placed path) = false
-ends (Removed path) = false
-ends (Skipped path cause) = false
-ends (Cleaned part) = false
-ends Barrier = false
-ends (Troubled trouble) = false
-
--- the path at which a report says that a job is stuck
-abbrev pub stuck_path : Did → Option Route
-stuck_path (Troubled trouble) = trouble.path
-stuck_path (Began part) = None
-stuck_path (Chunk count) = None
-stuck_path (Placed path) = None
-stuck_path (Removed path) = None
-stuck_path (Skipped path cause) = None
-stuck_path (Cleaned part) = None
-stuck_path Barrier = None
-stuck_path (Ended ending part) = None
 
 -- what a job works on: the file that is copied or deleted
 abbrev pub file_of : Work → Route
@@ -204,13 +181,6 @@ answered_on (Ends ending) answer job = job
 
 abbrev pub answered : Answer → Running → Running
 answered answer job = answered_on job.course answer job
-
--- these pass over what is in trouble
-abbrev pub passes_over : Answer → Bool
-passes_over Skip = true
-passes_over SkipAll = true
-passes_over Retry = false
-passes_over Abort = false
 
 -- a job waits for an answer
 abbrev pub waits_on : Course → Bool

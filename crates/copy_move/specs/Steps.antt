@@ -6,19 +6,19 @@ use Rattle.tree_trait.specs.Calls.{SyncFolder}
 use Rattle.tree_trait.specs.Change.{CallLog, current}
 use Rattle.tree_trait.specs.Answers.{IfKnown, HasRisen, Performs}
 use Rattle.tree_trait.specs.CrashImages.{Among}
-use Rattle.file_copy.specs.declared.report.Did.{Did}
-use Rattle.file_copy.specs.declared.report.Ending.{Ending}
-use Rattle.file_copy.specs.CallRuns.{HasMore}
-use Rattle.file_copy.specs.CopySteps.{IsFault}
-use Rattle.file_copy.specs.declared.report.Cause.{Cause}
-use Rattle.file_copy.specs.declared.report.Did.TheVariants.{Barrier, Skipped, Troubled}
-use Rattle.file_copy.specs.Stops.{no_memory_of}
+use Rattle.job_reports.specs.declared.report.Did.{Did}
+use Rattle.job_reports.specs.declared.report.Ending.{Ending}
+use Rattle.job_reports.specs.CallRuns.{HasMore}
+use Rattle.job_reports.specs.Reports.{IsFault, ends}
+use Rattle.job_reports.specs.declared.report.Cause.{Cause}
+use Rattle.job_reports.specs.declared.report.Did.TheVariants.{Barrier, Skipped, Troubled}
+use Rattle.job_reports.specs.Stops.{no_memory_of, cause_of, trouble_at}
 use Rattle.copy_move.specs.declared.work.Work.{Work}
 use Rattle.copy_move.specs.declared.run.Course.{Course}
 use Rattle.copy_move.specs.declared.run.Course.TheVariants.{GoesOn, Unsettled, Ends}
-use Rattle.copy_move.specs.Deletions.{cause_of, trouble_at}
-use Rattle.copy_move.specs.Jobs.{Running, JobTells, JobCalls, WorkTells, WorkCalls, WorkWinds, WorkLastCalls, at_barrier, course_after, ends, file_of, is_fresh, skipped}
-use Rattle.copy_move.specs.Settling.{NoneOwed, TellsFolder, after_try, changed_folder, is_dirty, with_change, without}
+use Rattle.copy_move.specs.Jobs.{Running, JobTells, JobCalls, WorkTells, WorkCalls, WorkWinds, WorkLastCalls, at_barrier, course_after, file_of, is_fresh, skipped}
+use Rattle.copy_move.specs.Settling.{NoneOwed, TellsFolder, after_try, changed_folder, is_dirty, with_change}
+use Rattle.job_reports.specs.Paths.{without}
 use Rattle.copy_move.specs.Ranks.{rank, rank_on, work_rank, last_rank}
 
 -- A step of a job: what it reports is allowed, the job is then as it says, it made the calls of the tree that it says, at

@@ -2,13 +2,12 @@
 //! then is it finished, so that a finished deletion is on the disk.
 ghost use Rattle.std.specs.Prelude.{◌≡◌, Err, None, Some};
 ghost use Rattle.mc_text.specs.Routes.{parent_of};
-ghost use Rattle.file_copy.specs.Stops.{no_memory_of};
-ghost use Rattle.copy_move.specs.Deletions.{at_barrier, calls_for, cause_of, is_dirty, is_fresh, skipped as skipped_to, trouble_at};
-ghost use Rattle.file_copy.specs.LastSteps.{refusal_in};
-ghost use Rattle.file_copy.specs.Copying.{folder_of};
+ghost use Rattle.job_reports.specs.Stops.{no_memory_of, tries_of, cause_of, trouble_at, refusal_in};
+ghost use Rattle.copy_move.specs.Deletions.{at_barrier, is_dirty, is_fresh, skipped as skipped_to};
+ghost use Rattle.job_reports.specs.Paths.{folder_of};
 ghost use Rattle.copy_move.specs.DeletionSteps.{DeletionSkips, DeletionStep, LastDeletionStep};
 
-use file_copy::{Cause, Did, Ending, LastStepped, Stepped, Trouble};
+use job_reports::{Cause, Did, Ending, LastStepped, Stepped, Trouble};
 use mc_text::Path;
 use std::alloc::Global;
 use std::marker::Model;
@@ -198,7 +197,7 @@ fn skipped(stage: Stage) -> Stage
 /// A sync that was tried, whatever it answered. One that found no memory was not made.
 fn tried(answer: Result<(), TreeError>) -> LastStepped
     ensures did { result.did ≡ Did.Barrier }
-    ensures calls { result.calls ≡ calls_for answer }
+    ensures calls { result.calls ≡ tries_of answer }
     ensures left { result.left ≡ refusal_in answer }
 {
     match answer {
@@ -259,7 +258,7 @@ pub(crate) fn no_memory(barrier: bool) -> Trouble
 /// The report of a refused call. One that found no memory was not made.
 pub(crate) fn refused(error: TreeError, path: Path, barrier: bool) -> Stepped
     ensures did { result.did ≡ Did.Troubled (trouble_at error path barrier) }
-    ensures calls { result.calls ≡ calls_for (Err error) }
+    ensures calls { result.calls ≡ tries_of (Err error) }
 {
     match error {
         TreeError::Memory => without_call(Did::Troubled(no_memory(barrier))),

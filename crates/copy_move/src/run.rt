@@ -1,20 +1,22 @@
 //! A job that is worked, step by step: it does its work, waits in a trouble for an answer, and makes its last steps where it
 //! is to end early.
-ghost use Rattle.std.specs.Prelude.{◌≡◌, ◌&&◌, Err, IfErr, IfOk, IsSome, OnErr, OnOk, Some, false, option_map, true};
+ghost use Rattle.std.specs.Prelude.{◌≡◌, ◌&&◌, Err, IfErr, IfOk, OnErr, OnOk, Some, false, option_map, true};
 ghost use Rattle.tree_trait.specs.Change.{current};
 ghost use Rattle.tree_trait.specs.Answers.{IfKnown};
 ghost use Rattle.tree_trait.specs.CrashImages.{Among};
-ghost use Rattle.copy_move.specs.Jobs.{MayAnswer, answered, closed_job, course_after, ended_course, first_work, is_barred, is_fresh, part_of, passes_over, trouble_on, waits_on};
+ghost use Rattle.job_reports.specs.Jobs.{is_workable};
+ghost use Rattle.copy_move.specs.Jobs.{MayAnswer, answered, closed_job, course_after, ended_course, first_work, is_barred, is_fresh, part_of, trouble_on, waits_on};
+ghost use Rattle.job_reports.specs.Reports.{passes_over};
 ghost use Rattle.copy_move.specs.Settling.{NoneOwed, changed_folder};
 ghost use Rattle.copy_move.specs.Steps.{OwnStep, RunStep, SettlingStep, SkipSteps, WindingStep};
 ghost use Rattle.copy_move.specs.Told.{running};
 
 use crate::deletion::{cause_of, no_memory, refused, with_call, without_call};
 use crate::dirty::Dirty;
-use crate::history::{Answer, AnswerError, Job};
 use crate::starting::{copy_of, deletion_of};
 use crate::work::Work;
-use file_copy::{Cause, Did, Ending, LastStepped, PartTest, Stepped, Trouble};
+use file_copy::PartTest;
+use job_reports::{Answer, AnswerError, Cause, Did, Ending, Job, LastStepped, Stepped, Trouble};
 use mc_text::{NoMemory, Path};
 use std::alloc::Global;
 use std::marker::Model;
@@ -43,6 +45,7 @@ pub struct Run {
 }
 
 impl Model for Run {
+    ghost use Rattle.job_reports.specs.Jobs.{is_workable};
     ghost use Rattle.copy_move.specs.Jobs.{Running, IsSound};
 
     ghost Value = { Running };
@@ -55,7 +58,7 @@ impl Model for Run {
 impl Run {
     /// Starts a job of one file, which isn't the root.
     pub fn start(alloc: Global, job: &Job, id: u32) -> Result<Run, NoMemory>
-        requires sound { IsSome (first_work id job.now) }
+        requires sound { is_workable job.now ≡ true }
         ensures id { IfOk result (λ run. run.id ≡ id) }
         ensures started { IfOk result (λ run. option_map (running id) (first_work id job.now) ≡ Some run) }
     {

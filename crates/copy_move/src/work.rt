@@ -5,7 +5,8 @@ ghost use Rattle.copy_move.specs.Settling.{changed_folder, is_dirty};
 ghost use Rattle.copy_move.specs.Steps.{WorkSkips, WorkSteps, WorkWindsUp};
 
 use crate::deletion::Deletion;
-use file_copy::{Cause, Did, Ending, FileCopy, LastStepped, PartTest, Stepped};
+use file_copy::{FileCopy, PartTest};
+use job_reports::{Cause, Did, Ending, LastStepped, Stepped};
 use mc_text::Path;
 use std::alloc::Global;
 use tree_trait::Tree;

@@ -7,12 +7,12 @@ use Rattle.tree_trait.specs.declared.calls.TreeError.TheVariants as refused
 use Rattle.tree_trait.specs.Calls.{Stat}
 use Rattle.tree_trait.specs.Refusals.{refusal_of}
 use Rattle.tree_trait.proofs.Visible.{same_path-true, same_path-self}
-use Rattle.file_copy.specs.declared.report.Cause.{Cause}
-use Rattle.file_copy.specs.declared.report.Cause.TheVariants.{Tree, TargetKind, SpecialSource, PartTaken, TooLong, Changed, Memory}
-use Rattle.file_copy.specs.declared.report.Trouble.{Trouble}
+use Rattle.job_reports.specs.declared.report.Cause.{Cause}
+use Rattle.job_reports.specs.declared.report.Cause.TheVariants.{Tree, TargetKind, SpecialSource, PartTaken, TooLong, Changed, Memory}
+use Rattle.job_reports.specs.declared.report.Trouble.{Trouble}
 use Rattle.file_copy.specs.Copying.{Places}
 use Rattle.file_copy.specs.PartNames.{IsFree, IsShort, NameStops, NoneFree, TryStops, part_path}
-use Rattle.file_copy.specs.Stops.{IsNamed}
+use Rattle.job_reports.specs.Stops.{IsNamed}
 
 one_of : (a b f : Bool) → (a || b || not f) ≡ true → (a ≡ true) ⊎ ((b ≡ true) ⊎ (f ≡ false))
 one_of true b f h = inl refl

@@ -4,11 +4,11 @@ use Rattle.mc_text.specs.Routes.{Route}
 use Rattle.tree_trait.specs.Calls.{Call, SetMode, SyncFile, Rename}
 use Rattle.tree_trait.specs.Change.{CallLog, current}
 use Rattle.tree_trait.specs.Answers.{IfKnown}
-use Rattle.file_copy.specs.declared.report.Cause.{Cause}
-use Rattle.file_copy.specs.declared.report.Ending.TheVariants.{Finished, Aborted, Killed, NoMemory}
-use Rattle.file_copy.specs.declared.report.Did.{Did}
-use Rattle.file_copy.specs.declared.report.Did.TheVariants.{Began, Chunk, Placed, Removed, Skipped, Cleaned, Barrier, Troubled, Ended}
-use Rattle.file_copy.specs.declared.report.Trouble.{Trouble}
+use Rattle.job_reports.specs.declared.report.Cause.{Cause}
+use Rattle.job_reports.specs.declared.report.Ending.TheVariants.{Finished, Aborted, Killed, NoMemory}
+use Rattle.job_reports.specs.declared.report.Did.{Did}
+use Rattle.job_reports.specs.declared.report.Did.TheVariants.{Began, Chunk, Placed, Removed, Skipped, Cleaned, Barrier, Troubled, Ended}
+use Rattle.job_reports.specs.declared.report.Trouble.{Trouble}
 use Rattle.file_copy.specs.declared.stage.Said.{Said}
 use Rattle.file_copy.specs.declared.stage.Next.{Next}
 use Rattle.file_copy.specs.declared.stage.Next.TheVariants as next
@@ -16,7 +16,7 @@ use Rattle.file_copy.specs.declared.stage.Stage.{Stage}
 use Rattle.file_copy.specs.declared.stage.Stage.TheVariants.{Begin, Fill, Clean, Left, Decided}
 use Rattle.file_copy.specs.declared.stage.FolderState.{FolderState}
 use Rattle.file_copy.specs.declared.stage.FolderState.TheVariants.{Dirty}
-use Rattle.file_copy.specs.declared.stop.Stop.{Stop}
+use Rattle.job_reports.specs.declared.stop.Stop.{Stop}
 use Rattle.file_copy.specs.declared.work.Made.{Made}
 use Rattle.file_copy.specs.declared.work.Moved.{Moved}
 use Rattle.file_copy.specs.Chunks.{Wrote}
@@ -24,10 +24,11 @@ use Rattle.file_copy.specs.CopyCalls.{CopyCalls, CopyStops, moding, part_mode, p
 use Rattle.file_copy.specs.CopySteps.{Begins, MovesOn, StepsOn}
 use Rattle.file_copy.specs.Copying.{Copying, IsSound, Places, Tells, after_clean, copying}
 use Rattle.file_copy.specs.LastSteps.{left_at}
-use Rattle.file_copy.specs.Looking.{IsReady, IsSaid, Peeks}
+use Rattle.file_copy.specs.Looking.{IsReady, IsSaid}
+use Rattle.job_reports.specs.Reading.{Peeks}
 use Rattle.file_copy.specs.PartNames.{NameStops}
-use Rattle.file_copy.specs.Stops.{Ran, unmade_of}
-use Rattle.file_copy.proofs.Runs.{no_more, risen_before}
+use Rattle.job_reports.specs.Stops.{Ran, unmade_of}
+use Rattle.job_reports.proofs.Runs.{no_more, risen_before}
 
 -- no name could be given, and no call was made
 pub begins_unnamed : (unclaimed : Route → Type 0) (p : Places) (said : Said) (t : Trouble) (stop : Stop) (before mid after : Option CallLog) (f0 f1 f2 : ℕ)

@@ -6,18 +6,20 @@ use Rattle.tree_trait.specs.declared.calls.TreeError.TheVariants as refused
 use Rattle.tree_trait.specs.Calls.{Call, RemoveFile, SyncFolder}
 use Rattle.tree_trait.specs.Change.{CallLog}
 use Rattle.tree_trait.specs.Answers.{IfKnown, HasCause, Performs}
-use Rattle.file_copy.specs.declared.report.Ending.{Ending}
-use Rattle.file_copy.specs.declared.report.Did.{Did}
-use Rattle.file_copy.specs.declared.report.Did.TheVariants.{Began, Chunk, Placed, Removed, Skipped, Cleaned, Barrier, Troubled, Ended}
+use Rattle.job_reports.specs.declared.report.Ending.{Ending}
+use Rattle.job_reports.specs.declared.report.Did.{Did}
+use Rattle.job_reports.specs.declared.report.Did.TheVariants.{Began, Chunk, Placed, Removed, Skipped, Cleaned, Barrier, Troubled, Ended}
 use Rattle.file_copy.specs.declared.stage.Stage.{Stage}
 use Rattle.file_copy.specs.declared.stage.Stage.TheVariants.{Begin, Fill, Clean, Left, Decided}
 use Rattle.file_copy.specs.declared.stage.FolderState.{FolderState}
 use Rattle.file_copy.specs.declared.stage.FolderState.TheVariants.{Synced, Dirty}
 use Rattle.file_copy.specs.declared.winding.Wound.{Wound}
-use Rattle.file_copy.specs.CallRuns.{HasMore}
-use Rattle.file_copy.specs.Copying.{Copying, IsSound, Places, copying, folder_of}
-use Rattle.file_copy.specs.LastSteps.{Leaves, SyncAnswers, SyncTried, WindMoves, Winds, WindsOn, given_up, last_steps, let_go, refusal_in, removable, sync_answer, tries_of}
-use Rattle.file_copy.proofs.Runs.{one_more, no_more, ran_one}
+use Rattle.job_reports.specs.CallRuns.{HasMore}
+use Rattle.file_copy.specs.Copying.{Copying, IsSound, Places, copying}
+use Rattle.job_reports.specs.Paths.{folder_of}
+use Rattle.file_copy.specs.LastSteps.{Leaves, SyncAnswers, SyncTried, WindMoves, Winds, WindsOn, given_up, last_steps, let_go, removable}
+use Rattle.job_reports.specs.Stops.{refusal_in, sync_answer, tries_of}
+use Rattle.job_reports.proofs.Runs.{one_more, no_more, ran_one}
 
 -- a call that was tried counts
 counts_try : (call : Call) (answer : Result (Unit {0}) TreeError) (log now : CallLog) (after : Option CallLog)

@@ -4,10 +4,10 @@ use Rattle.mc_text.specs.Routes.{Route}
 use Rattle.tree_trait.specs.Change.{CallLog, current}
 use Rattle.tree_trait.specs.Answers.{IfKnown, HasRisen}
 use Rattle.tree_trait.specs.declared.calls.TreeError.TheVariants as refused
-use Rattle.file_copy.specs.declared.report.Cause.TheVariants.{Tree}
+use Rattle.job_reports.specs.declared.report.Cause.TheVariants.{Tree}
 use Rattle.file_copy.specs.declared.stage.Said.{Said}
-use Rattle.file_copy.specs.declared.stop.Stop.{Stop}
-use Rattle.file_copy.specs.CallRuns.{AllDone, HasMore}
+use Rattle.job_reports.specs.declared.stop.Stop.{Stop}
+use Rattle.job_reports.specs.CallRuns.{AllDone, HasMore}
 use Rattle.file_copy.specs.Copying.{Places, chunk_bytes}
 use Rattle.file_copy.specs.CopyCalls.{ChunkStops, next_bytes, writing}
 

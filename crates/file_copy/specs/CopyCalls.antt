@@ -1,20 +1,22 @@
 -- What a copy's report says of the calls that the step made, on a tree that tells what it holds.
-use Rattle.std.specs.Prelude.{◌≡◌, ◌⊎◌, ℕ, ◌-◌, ◌<◌, ◌≤◌, ◌==◌, if◌then◌else◌, List, [], ◌∷◌, ◌++◌, length, take, drop, min, bit_or, Option, Some, None}
+use Rattle.std.specs.Prelude.{◌≡◌, ◌⊎◌, ℕ, ◌-◌, ◌<◌, ◌≤◌, ◌==◌, List, [], ◌∷◌, ◌++◌, length, take, drop, min, bit_or, Option, Some, None, if◌then◌else◌}
 use Rattle.mc_text.specs.Routes.{Route}
 use Rattle.tree_trait.specs.declared.file_system.FileSystem.{FileSystem}
 use Rattle.tree_trait.specs.Calls.{Call, ReadAt, MakeFile, WriteAt, SetMode, Rename, RemoveFile, SyncFile, SyncFolder}
 use Rattle.tree_trait.specs.Change.{CallLog, current}
-use Rattle.file_copy.specs.declared.report.Cause.{Cause}
-use Rattle.file_copy.specs.declared.report.Cause.TheVariants.{Tree, TargetKind, SpecialSource, PartTaken, TooLong, Changed, Memory}
-use Rattle.file_copy.specs.declared.report.Did.{Did}
-use Rattle.file_copy.specs.declared.report.Did.TheVariants.{Began, Chunk, Placed, Removed, Skipped, Cleaned, Barrier, Troubled, Ended}
+use Rattle.job_reports.specs.declared.report.Cause.{Cause}
+use Rattle.job_reports.specs.declared.report.Cause.TheVariants.{Tree, TargetKind, SpecialSource, PartTaken, TooLong, Changed, Memory}
+use Rattle.job_reports.specs.declared.report.Did.{Did}
+use Rattle.job_reports.specs.declared.report.Did.TheVariants.{Began, Chunk, Placed, Removed, Skipped, Cleaned, Barrier, Troubled, Ended}
 use Rattle.file_copy.specs.declared.stage.Said.{Said}
 use Rattle.file_copy.specs.declared.stage.Stage.{Stage}
 use Rattle.file_copy.specs.declared.stage.Stage.TheVariants.{Begin, Fill, Clean, Left, Decided}
-use Rattle.file_copy.specs.CallRuns.{AllDone, RunStops}
-use Rattle.file_copy.specs.Looking.{file_at, IsSaid, IsReady, IsRefusedWith, LookStops}
+use Rattle.job_reports.specs.CallRuns.{AllDone, RunStops}
+use Rattle.file_copy.specs.Looking.{file_at, IsSaid, IsReady, LookStops}
+use Rattle.job_reports.specs.Reading.{IsRefusedWith}
 use Rattle.file_copy.specs.PartNames.{part_path, IsFirstFree, NameStops}
-use Rattle.file_copy.specs.Copying.{Places, Copying, places_of, folder_of, chunk_bytes}
+use Rattle.file_copy.specs.Copying.{Places, Copying, places_of, chunk_bytes}
+use Rattle.job_reports.specs.Paths.{folder_of}
 
 -- a part has the mode of the source, and its owner may read and write it
 abbrev pub part_mode : ℕ → ℕ

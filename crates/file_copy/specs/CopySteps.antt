@@ -4,27 +4,23 @@ use Rattle.mc_text.specs.Routes.{Route}
 use Rattle.tree_trait.specs.Change.{CallLog, current}
 use Rattle.tree_trait.specs.Answers.{IfKnown, HasRisen}
 use Rattle.tree_trait.specs.declared.calls.TreeError.TheVariants as refused
-use Rattle.file_copy.specs.declared.report.Cause.{Cause}
-use Rattle.file_copy.specs.declared.report.Cause.TheVariants.{Tree}
-use Rattle.file_copy.specs.declared.report.Did.{Did}
-use Rattle.file_copy.specs.declared.report.Did.TheVariants.{Chunk, Placed, Skipped, Cleaned, Barrier, Troubled}
+use Rattle.job_reports.specs.declared.report.Cause.{Cause}
+use Rattle.job_reports.specs.declared.report.Cause.TheVariants.{Tree}
+use Rattle.job_reports.specs.declared.report.Did.{Did}
+use Rattle.job_reports.specs.declared.report.Did.TheVariants.{Chunk, Placed, Skipped, Cleaned, Barrier, Troubled}
+use Rattle.job_reports.specs.Reports.{IsFault}
 use Rattle.file_copy.specs.declared.stage.Stage.{Stage}
 use Rattle.file_copy.specs.declared.stage.Stage.TheVariants.{Decided}
 use Rattle.file_copy.specs.declared.stage.FolderState.{FolderState}
-use Rattle.file_copy.specs.declared.stop.Stop.{Stop}
+use Rattle.job_reports.specs.declared.stop.Stop.{Stop}
 use Rattle.file_copy.specs.declared.work.Made.{Made}
 use Rattle.file_copy.specs.declared.work.Moved.{Moved}
-use Rattle.file_copy.specs.CallRuns.{AllDone, HasMore}
+use Rattle.job_reports.specs.CallRuns.{AllDone, HasMore}
 use Rattle.file_copy.specs.Copying.{Places, Copying, IsSound, Tells, skipped, at_barrier, steps_left}
 use Rattle.file_copy.specs.CopyCalls.{CopyCalls, BeginStops, making}
 use Rattle.file_copy.specs.Looking.{HasRange, IsReady, IsSaid}
 use Rattle.file_copy.specs.PartNames.{IsFirstFree, part_path}
-use Rattle.file_copy.specs.Stops.{no_memory_of}
-
--- the report says that the device failed
-abbrev pub IsFault : Did → Type 0
-IsFault (Troubled trouble) = trouble.cause ≡ Tree refused.Fault
-IsFault did = ⊥
+use Rattle.job_reports.specs.Stops.{no_memory_of}
 
 -- fewer steps are left
 abbrev pub IsFewer : Copying → Copying → Type 0

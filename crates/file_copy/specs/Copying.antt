@@ -1,9 +1,9 @@
 -- The order in which a file is copied: what a step may report where the copy stands, and where it stands then.
 use Rattle.std.specs.Prelude.{◌≡◌, ℕ, ◌+◌, ◌-◌, ◌^◌, ◌≤◌, ⊤, Bool, true, false, not, [], ◌∷◌, Option, Some, None}
 use Rattle.mc_text.specs.Routes.{Route}
-use Rattle.file_copy.specs.declared.report.Ending.TheVariants.{Finished}
-use Rattle.file_copy.specs.declared.report.Did.{Did}
-use Rattle.file_copy.specs.declared.report.Did.TheVariants.{Began, Chunk, Placed, Removed, Skipped, Cleaned, Barrier, Troubled, Ended}
+use Rattle.job_reports.specs.declared.report.Ending.TheVariants.{Finished}
+use Rattle.job_reports.specs.declared.report.Did.{Did}
+use Rattle.job_reports.specs.declared.report.Did.TheVariants.{Began, Chunk, Placed, Removed, Skipped, Cleaned, Barrier, Troubled, Ended}
 use Rattle.file_copy.specs.declared.stage.Said.{Said}
 use Rattle.file_copy.specs.declared.stage.Next.{Next}
 use Rattle.file_copy.specs.declared.stage.Next.TheVariants as next
@@ -20,11 +20,6 @@ pub record Places : Type 0 where
 
 abbrev pub places : ℕ → Route → Route → Places
 places job source target = record { job = job; source = source; target = target }
-
--- the folder that holds a path
-abbrev pub folder_of : Route → Route
-folder_of [] = []
-folder_of (name ∷ folder) = folder
 
 -- the copy of a file, as it stands: its places, what is to be done next, and whether the target's folder is to be synced
 pub record Copying : Type 0 where

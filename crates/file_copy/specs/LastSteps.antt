@@ -1,21 +1,22 @@
 -- The last steps of a copy that is to end: its part is removed, if it can be, the folder's sync is tried, and it ends.
-use Rattle.std.specs.Prelude.{◌≡◌, ℕ, ◌+◌, ◌<◌, ◌≤◌, ⊤, [], ◌∷◌, Option, Some, None, Result, Ok, Err}
+use Rattle.std.specs.Prelude.{◌≡◌, ℕ, ◌+◌, ◌<◌, ◌≤◌, ⊤, [], ◌∷◌, Option, Some, None, Result, Err}
 use Rattle.mc_text.specs.Routes.{Route}
 use Rattle.tree_trait.specs.declared.calls.TreeError.{TreeError}
-use Rattle.tree_trait.specs.declared.calls.TreeError.TheVariants as refused
-use Rattle.tree_trait.specs.Calls.{Call, RemoveFile, SyncFolder}
+use Rattle.tree_trait.specs.Calls.{RemoveFile, SyncFolder}
 use Rattle.tree_trait.specs.Change.{CallLog}
 use Rattle.tree_trait.specs.Answers.{IfKnown, Performs}
-use Rattle.file_copy.specs.declared.report.Ending.{Ending}
-use Rattle.file_copy.specs.declared.report.Did.{Did}
-use Rattle.file_copy.specs.declared.report.Did.TheVariants.{Began, Chunk, Placed, Removed, Skipped, Cleaned, Barrier, Troubled, Ended}
+use Rattle.job_reports.specs.declared.report.Ending.{Ending}
+use Rattle.job_reports.specs.declared.report.Did.{Did}
+use Rattle.job_reports.specs.declared.report.Did.TheVariants.{Began, Chunk, Placed, Removed, Skipped, Cleaned, Barrier, Troubled, Ended}
+use Rattle.job_reports.specs.Stops.{IsTried, refusal_in, sync_answer, tries_of}
 use Rattle.file_copy.specs.declared.stage.Stage.{Stage}
 use Rattle.file_copy.specs.declared.stage.Stage.TheVariants.{Begin, Fill, Clean, Left, Decided}
 use Rattle.file_copy.specs.declared.stage.FolderState.{FolderState}
 use Rattle.file_copy.specs.declared.stage.FolderState.TheVariants.{Synced, Dirty}
-use Rattle.file_copy.specs.CallRuns.{AllDone, HasMore}
+use Rattle.job_reports.specs.CallRuns.{AllDone, HasMore}
 use Rattle.file_copy.specs.declared.winding.Wound.{Wound}
-use Rattle.file_copy.specs.Copying.{Places, Copying, copying, folder_of}
+use Rattle.file_copy.specs.Copying.{Places, Copying, copying}
+use Rattle.job_reports.specs.Paths.{folder_of}
 
 -- the part that could not be removed
 abbrev pub left_at : Stage → Option Route
@@ -63,10 +64,6 @@ Winds ending c (Removed path) new = ⊥
 Winds ending c (Skipped path cause) new = ⊥
 Winds ending c (Troubled trouble) new = ⊥
 
--- a call that may be refused, or find no memory
-abbrev pub IsTried : CallLog → Call → Option CallLog → Type 0
-IsTried log call after = (answer : Result (Unit {0}) TreeError) × Performs {A = Unit {0}} log call answer after
-
 -- the sync of the folder is tried; a part that stands was refused its removal before
 abbrev pub SyncTried : Copying → Option Route → CallLog → Option CallLog → Type 0
 SyncTried c None log after = IsTried log (SyncFolder (folder_of c.target)) after
@@ -84,16 +81,6 @@ WindCalls c (Placed path) log after = ⊥
 WindCalls c (Removed path) log after = ⊥
 WindCalls c (Skipped path cause) log after = ⊥
 WindCalls c (Troubled trouble) log after = ⊥
-
--- what a sync answered: it was done, or it was refused so
-abbrev pub sync_answer : Option TreeError → Result (Unit {0}) TreeError
-sync_answer None = Ok tt
-sync_answer (Some e) = Err e
-
--- the refusal that an answer is
-abbrev pub refusal_in : Result (Unit {0}) TreeError → Option TreeError
-refusal_in (Ok done) = None
-refusal_in (Err e) = Some e
 
 -- the sync of the folder was answered so; a part that stands was refused its removal before
 abbrev pub SyncAnswers : Copying → Option Route → Option TreeError → CallLog → Option CallLog → Type 0
@@ -139,12 +126,6 @@ pub record WindsOn (ending : Ending) (old new : Copying) (did : Did) (calls : �
 abbrev pub WindMoves : Ending → Copying → Wound → Option CallLog → Option CallLog → ℕ → ℕ → Type 0
 WindMoves ending old wound before after faults faults_after =
     WindsOn ending old (record old { stage = wound.stage; folder = wound.folder }) wound.did wound.calls wound.left before after faults faults_after
-
--- how many calls were made for an answer: none where there was no memory
-abbrev pub tries_of : Result (Unit {0}) TreeError → ℕ
-tries_of (Ok done) = 1
-tries_of (Err refused.Memory) = 0
-tries_of (Err e) = 1
 
 -- the end of a copy with no part to be removed
 abbrev pub Ends : Ending → Stage → Wound → Type 0

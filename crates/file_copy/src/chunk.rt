@@ -4,13 +4,12 @@ ghost use Rattle.tree_trait.specs.Change.{current};
 ghost use Rattle.tree_trait.specs.Answers.{IfKnown};
 ghost use Rattle.file_copy.specs.Chunks.{HasCount, Wrote};
 ghost use Rattle.file_copy.specs.CopyCalls.{ReadStops, next_bytes as bytes_of};
-ghost use Rattle.file_copy.specs.Looking.{Peeks};
+ghost use Rattle.job_reports.specs.Reading.{Peeks};
 
 use crate::item::Item;
 use crate::place::write_part;
-use crate::report::{Cause, Trouble};
 use crate::stage::Said;
-use crate::stop::{Stop, named, no_memory, refused, unmade};
+use job_reports::{Cause, Stop, Trouble, named, no_memory, refused, unmade};
 use mc_text::Path;
 use std::alloc::Global;
 use tree_trait::Tree;

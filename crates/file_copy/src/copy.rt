@@ -1,22 +1,22 @@
 //! The copy of one file, a piece of work at each step.
 ghost use Rattle.std.specs.Prelude.{◌≡◌, None, Some, true, option_map};
 ghost use Rattle.mc_text.specs.Routes.{parent_of};
-ghost use Rattle.file_copy.specs.Copying.{IsSound, at_barrier, begun, folder_of, is_dirty, is_fresh, part_at, skipped as skipped_to, taken_anew as stage_anew};
+ghost use Rattle.file_copy.specs.Copying.{IsSound, at_barrier, begun, is_dirty, is_fresh, part_at, skipped as skipped_to, taken_anew as stage_anew};
+ghost use Rattle.job_reports.specs.Paths.{folder_of};
 ghost use Rattle.file_copy.specs.CopySteps.{Skips, StepsOn};
 ghost use Rattle.file_copy.specs.LastSteps.{WindsOn, left_at};
 
 use crate::item::Item;
 use crate::part_name::PartTest;
-use crate::report::{Cause, Did, Ending};
 use crate::stage::{FolderState, Next, Stage};
-use crate::stop::no_memory;
 use crate::winding::wind;
 use crate::work::{Moved, work};
+use job_reports::{Cause, Did, Ending, LastStepped, Stepped, no_memory};
 use mc_text::Path;
 use std::alloc::Global;
 use std::marker::Model;
 use std::mem;
-use tree_trait::{Tree, TreeError};
+use tree_trait::Tree;
 
 /// The copy of one file to a path at which nothing stands.
 #[derive(Debug, Drop)]
@@ -34,22 +34,6 @@ impl Model for FileCopy {
     ghost view = { λ c. copying c.item c.stage c.folder };
 
     ghost invariant = { λ c. IsSound c.stage c.folder };
-}
-
-/// What a step did, and how many changing calls of the tree it made.
-#[derive(Debug, Drop)]
-pub struct Stepped {
-    pub did: Did,
-    pub calls: u64,
-}
-
-/// What a last step did, how many changing calls of the tree it made, and the refusal of a sync that was tried in vain:
-/// the folder then has names that no sync has brought onto the disk.
-#[derive(Debug, Drop)]
-pub struct LastStepped {
-    pub did: Did,
-    pub calls: u64,
-    pub left: Option<TreeError>,
 }
 
 impl FileCopy {

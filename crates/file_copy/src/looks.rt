@@ -4,12 +4,12 @@ ghost use Rattle.tree_trait.specs.Calls.{Stat};
 ghost use Rattle.tree_trait.specs.Change.{current};
 ghost use Rattle.tree_trait.specs.Refusals.{refusal_of};
 ghost use Rattle.tree_trait.specs.Answers.{IfKnown, IsInRange, IsMeta};
-ghost use Rattle.file_copy.specs.Looking.{HasRange, IsReady, IsSaid, IsThere, Judges, LookStops, Peeks, StatStops, TargetStops};
+ghost use Rattle.file_copy.specs.Looking.{HasRange, IsReady, IsSaid, IsThere, Judges, LookStops};
+ghost use Rattle.job_reports.specs.Reading.{Peeks, StatStops, TargetStops};
 
 use crate::item::Item;
-use crate::report::{Cause, Trouble};
 use crate::stage::Said;
-use crate::stop::{absent, named, refused};
+use job_reports::{Cause, Trouble, absent, named, refused};
 use mc_text::{Kind, Path};
 use std::alloc::Global;
 use tree_trait::{Meta, Tree};

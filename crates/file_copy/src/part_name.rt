@@ -3,13 +3,12 @@ ghost use Rattle.std.specs.Prelude.{◌≡◌, ◌||◌, not, Bool, true, IfOk, 
 ghost use Rattle.mc_text.specs.Routes.{Route, same_path};
 ghost use Rattle.tree_trait.specs.Change.{current};
 ghost use Rattle.tree_trait.specs.Answers.{IfKnown};
-ghost use Rattle.file_copy.specs.Looking.{Peeks};
-ghost use Rattle.file_copy.specs.Stops.{IsNamed};
+ghost use Rattle.job_reports.specs.Reading.{Peeks};
+ghost use Rattle.job_reports.specs.Stops.{IsNamed};
 ghost use Rattle.file_copy.specs.PartNames.{IsChosen, IsPathOf, IsShort, IsTaken, IsTakenPath, NameStops, PathStops, TryStops, part_name as name_of};
 
 use crate::item::Item;
-use crate::report::{Cause, Trouble};
-use crate::stop::{absent, named, no_memory};
+use job_reports::{Cause, Trouble, absent, named, no_memory};
 use mc_text::{Name, NoMemory, Path, PathError};
 use std::alloc::Global;
 use tree_trait::Tree;

@@ -1,10 +1,10 @@
 //! The calls that change a part, and those that bring it to its place: each refusal is named with its path.
 ghost use Rattle.std.specs.Prelude.{◌+◌, ◌≤◌, ◌^◌, ◌∷◌, [], length, true, false};
-ghost use Rattle.tree_trait.specs.Calls.{MakeFile, WriteAt, SetMode, Rename, RemoveFile, SyncFile, SyncFolder};
+ghost use Rattle.tree_trait.specs.Calls.{MakeFile, WriteAt, Rename, RemoveFile, SyncFile, SyncFolder};
 ghost use Rattle.file_copy.specs.CopyCalls.{moding, placing};
-ghost use Rattle.file_copy.specs.Stops.{Comes, Ran};
+ghost use Rattle.job_reports.specs.Stops.{Comes, Ran};
 
-use crate::stop::{Stop, no_memory, ran, then, unmade};
+use job_reports::{Stop, no_memory, ran, then, unmade};
 use mc_text::Path;
 use std::alloc::Global;
 use tree_trait::Tree;

@@ -1,11 +1,12 @@
 //! The last steps of a copy that is aborted or killed: one try to remove its part, one try to sync the folder.
 ghost use Rattle.std.specs.Prelude.{◌≡◌, ◌≤◌, None};
 ghost use Rattle.file_copy.specs.Copying.{IsSound, copying};
-ghost use Rattle.file_copy.specs.LastSteps.{Ends, Leaves, Removes, WindMoves, refusal_in, removable, tries_of};
+ghost use Rattle.file_copy.specs.LastSteps.{Ends, Leaves, Removes, WindMoves, removable};
+ghost use Rattle.job_reports.specs.Stops.{refusal_in};
 
 use crate::item::Item;
-use crate::report::{Did, Ending};
 use crate::stage::{FolderState, Stage};
+use job_reports::{Did, Ending, refusal_in, tries};
 use mc_text::Path;
 use std::alloc::Global;
 use tree_trait::{Tree, TreeError};
@@ -56,7 +57,7 @@ fn remove_or_leave<T: Tree>(alloc: Global, tree: &mut T, item: &Item, part: Path
             stage: Stage::Decided,
             folder: FolderState::Dirty,
         },
-        Err(error) => leave(alloc, tree, item, part, tried(Err(error))),
+        Err(error) => leave(alloc, tree, item, part, tries(Err(error))),
     }
 }
 
@@ -69,7 +70,7 @@ fn leave<T: Tree>(alloc: Global, tree: &mut T, item: &Item, part: Path, calls: u
     let answer = tree.sync_folder(alloc, item.folder());
     Wound {
         did: Did::Barrier,
-        calls: calls + tried(answer),
+        calls: calls + tries(answer),
         left: refusal_in(answer),
         stage: Stage::Left { part },
         folder: FolderState::Synced,
@@ -103,7 +104,7 @@ fn try_sync<T: Tree>(alloc: Global, tree: &mut T, item: &Item, stage: Stage) -> 
     let synced = tree.sync_folder(alloc, item.folder());
     Wound {
         did: Did::Barrier,
-        calls: tried(synced),
+        calls: tries(synced),
         left: refusal_in(synced),
         stage,
         folder: FolderState::Synced,
@@ -130,25 +131,5 @@ fn ended(ending: Ending, part: Option<Path>, stage: Stage) -> Wound
         left: None,
         stage,
         folder: FolderState::Synced,
-    }
-}
-
-/// How many calls were made for an answer: none where there was no memory.
-fn tried(answer: Result<(), TreeError>) -> u64
-    ensures { result ≡ tries_of answer }
-{
-    match answer {
-        Err(TreeError::Memory) => 0,
-        Ok(()) | Err(_) => 1,
-    }
-}
-
-/// The refusal that an answer is.
-fn refusal_in(answer: Result<(), TreeError>) -> Option<TreeError>
-    ensures { result ≡ refusal_in answer }
-{
-    match answer {
-        Ok(()) => None,
-        Err(error) => Some(error),
     }
 }

@@ -7,13 +7,13 @@ use Rattle.tree_trait.specs.Shape.{IsTree}
 use Rattle.tree_trait.specs.Change.{CallLog, current}
 use Rattle.tree_trait.specs.CrashImages.{all_settled}
 use Rattle.crash_law.specs.Guarded.{Marks}
-use Rattle.file_copy.specs.declared.report.Did.{Did}
-use Rattle.file_copy.specs.declared.report.Did.TheVariants.{Began, Chunk, Placed, Removed, Skipped, Cleaned, Barrier, Troubled, Ended}
-use Rattle.file_copy.specs.declared.report.Ending.{Ending}
-use Rattle.file_copy.specs.Copying.{Copying, folder_of}
+use Rattle.job_reports.specs.declared.report.Did.{Did}
+use Rattle.job_reports.specs.declared.report.Did.TheVariants.{Began, Chunk, Placed, Removed, Skipped, Cleaned, Barrier, Troubled, Ended}
+use Rattle.job_reports.specs.declared.report.Ending.{Ending}
+use Rattle.job_reports.specs.Paths.{folder_of}
 use Rattle.file_copy.specs.Copying as copying
-use Rattle.copy_move.specs.declared.history.Event.TheVariants.{Step}
-use Rattle.copy_move.specs.declared.history.Entry.{Entry}
+use Rattle.session_history.specs.declared.history.Event.TheVariants.{Step}
+use Rattle.session_history.specs.declared.history.Entry.{Entry}
 use Rattle.copy_move.specs.declared.run.Course.{Course}
 use Rattle.copy_move.specs.declared.run.Course.TheVariants.{GoesOn, InTrouble, Unsettled, Skips, Ends}
 use Rattle.copy_move.specs.declared.work.Work.{Work}
@@ -25,11 +25,11 @@ use Rattle.copy_move.specs.Steps.{SyncsFolder}
 use Rattle.history_laws.specs.Calmed.{CalmLaw, HasBegun}
 use Rattle.history_laws.specs.Doubt.{is_unsettled}
 use Rattle.history_laws.specs.LiveJobs.{live_jobs, work_of}
-use Rattle.history_laws.specs.Owed.{IsApart, begins_change, has_changed}
+use Rattle.history_laws.specs.Owed.{IsApart}
+use Rattle.session_history.specs.Named.{begins_change, has_changed, names_path}
 use Rattle.history_laws.specs.Replayed.{front}
-use Rattle.history_laws.specs.Safe.{calls_in}
-use Rattle.history_laws.specs.Staying.{names_path}
-use Rattle.history_laws.specs.Traces.{EventLeads, IsTraced, Stand, StepLeads, WorkLeads}
+use Rattle.session_history.specs.Entries.{calls_in}
+use Rattle.history_laws.specs.Traces.{EventLeads, WorkLeads}
 use Rattle.history_laws.proofs.Done.{IsFound, found_moment, same_work}
 use Rattle.history_laws.proofs.Finished.{AreTidy, IsTidyJob, traced_tidy}
 use Rattle.history_laws.proofs.Fronts.{told_of}

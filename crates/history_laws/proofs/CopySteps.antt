@@ -15,21 +15,22 @@ use Rattle.tree_trait.specs.CrashImages.{Among}
 use Rattle.tree_trait.specs.Answers.{Performs}
 use Rattle.tree_trait.proofs.Ending as ending
 use Rattle.crash_law.specs.Guarded.{Marks}
-use Rattle.file_copy.specs.declared.report.Cause.{Cause}
-use Rattle.file_copy.specs.declared.report.Cause.TheVariants as cause
-use Rattle.file_copy.specs.declared.report.Ending.TheVariants.{Finished, Aborted, Killed, NoMemory}
-use Rattle.file_copy.specs.declared.report.Did.{Did}
-use Rattle.file_copy.specs.declared.report.Did.TheVariants.{Began, Chunk, Placed, Removed, Skipped, Cleaned, Barrier, Troubled, Ended}
+use Rattle.job_reports.specs.declared.report.Cause.{Cause}
+use Rattle.job_reports.specs.declared.report.Cause.TheVariants as cause
+use Rattle.job_reports.specs.declared.report.Ending.TheVariants.{Finished, Aborted, Killed, NoMemory}
+use Rattle.job_reports.specs.declared.report.Did.{Did}
+use Rattle.job_reports.specs.declared.report.Did.TheVariants.{Began, Chunk, Placed, Removed, Skipped, Cleaned, Barrier, Troubled, Ended}
 use Rattle.file_copy.specs.declared.stage.FolderState.TheVariants.{Synced, Dirty}
 use Rattle.file_copy.specs.declared.stage.Next.{Next}
 use Rattle.file_copy.specs.declared.stage.Next.TheVariants as next
 use Rattle.file_copy.specs.declared.stage.Said.{Said as SaidOf}
 use Rattle.file_copy.specs.declared.stage.Stage.{Stage}
 use Rattle.file_copy.specs.declared.stage.Stage.TheVariants.{Begin, Fill, Clean, Left, Decided}
-use Rattle.file_copy.specs.CallRuns.{AllDone, RunStops}
+use Rattle.job_reports.specs.CallRuns.{AllDone, RunStops}
 use Rattle.file_copy.specs.CopyCalls.{BeganOf, CopyCalls, CopyStops, making, next_bytes, placing, writing}
-use Rattle.file_copy.specs.Copying.{Copying, Tells, after_clean, folder_of, is_dirty, is_fresh, places_of}
-use Rattle.file_copy.proofs.CopyAnswers.{calm_stops, one_done, some_log}
+use Rattle.file_copy.specs.Copying.{Copying, Tells, after_clean, is_dirty, is_fresh, places_of}
+use Rattle.job_reports.specs.Paths.{folder_of}
+use Rattle.job_reports.proofs.CallAnswers.{calm_stops, one_done, some_log}
 use Rattle.tree_trait.proofs.Visible.{same_path-self}
 use Rattle.copy_move.specs.declared.work.Work.{Work}
 use Rattle.copy_move.specs.declared.work.Work.TheVariants.{Copy}
@@ -37,7 +38,7 @@ use Rattle.copy_move.specs.declared.run.Course.{Course}
 use Rattle.copy_move.specs.declared.run.Course.TheVariants.{GoesOn, InTrouble}
 use Rattle.copy_move.specs.Jobs.{course_after}
 use Rattle.copy_move.specs.Settling.{NoneOwed, with_change as moves_dirty}
-use Rattle.copy_move.specs.Traces.{IsUnclaimed}
+use Rattle.history_laws.specs.Traces.{IsUnclaimed}
 use Rattle.history_laws.proofs.Calming.{written_known}
 use Rattle.history_laws.proofs.Changing.{off_itself, removed_known}
 use Rattle.history_laws.proofs.Deleted.{IsRemoval, comes_refused, removal_done}

@@ -1,6 +1,6 @@
 -- What a finished job did stays done, in the words of the history: its entry tells of the job that was live then.
 use Rattle.std.proofs.Common.{◌≡◌, ℕ, ◌+◌, Bool, true, false, List, [], ◌∷◌, ◌++◌, length, refl, sym, ◌∙◌, ap, subst, inl, inr, Option, Some, None, arith, append-nil, append_assoc}
-use Rattle.std.specs.Prelude.{if◌then◌else◌, is_some}
+use Rattle.std.specs.Prelude.{is_some, if◌then◌else◌}
 use Rattle.std.specs.Option.{option_map}
 use Rattle.std.proofs.lemmas.Bool.{both_ways, eq-eqb, false≢true, true≢false}
 use Rattle.mc_text.specs.Routes.{Route}
@@ -9,21 +9,22 @@ use Rattle.tree_trait.specs.FileSystem.{Spot, Value, find, node, value, value_at
 use Rattle.tree_trait.specs.Shape.{IsTree}
 use Rattle.tree_trait.specs.Change.{Change, CallLog, current}
 use Rattle.tree_trait.specs.CrashImages.{Among, IsCrashImage, all_settled}
-use Rattle.file_copy.specs.declared.report.Ending.TheVariants.{Finished}
-use Rattle.file_copy.specs.declared.report.Did.TheVariants.{Ended}
-use Rattle.file_copy.specs.Copying.{folder_of}
-use Rattle.copy_move.specs.declared.history.Event.TheVariants.{Step}
-use Rattle.copy_move.specs.declared.history.Entry.{Entry}
+use Rattle.job_reports.specs.declared.report.Ending.TheVariants.{Finished}
+use Rattle.job_reports.specs.declared.report.Did.TheVariants.{Ended}
+use Rattle.job_reports.specs.Paths.{folder_of}
+use Rattle.session_history.specs.declared.history.Event.TheVariants.{Step}
+use Rattle.session_history.specs.declared.history.Entry.{Entry}
 use Rattle.copy_move.specs.declared.work.Work.{Work}
 use Rattle.copy_move.specs.Jobs.{JobTells, Running}
 use Rattle.copy_move.specs.Settling.{changed_folder}
 use Rattle.copy_move.specs.Steps.{SyncsFolder}
 use Rattle.history_laws.specs.Doubt.{is_unsettled}
 use Rattle.history_laws.specs.LiveJobs.{IsLivePart, LiveJob, after_event, after_report, live_jobs, work_of}
-use Rattle.history_laws.specs.Owed.{has_changed}
-use Rattle.history_laws.specs.Replayed.{front, named_after, named_parts, replayed_tree}
-use Rattle.history_laws.specs.Safe.{IsMoment, IsPart, IsSafe, calls_in}
-use Rattle.history_laws.specs.Staying.{DoneLaw, HasFinished, IsUnnamedSince, names_path}
+use Rattle.session_history.specs.Named.{has_changed, named_after, named_parts, IsUnnamedSince, names_path}
+use Rattle.history_laws.specs.Replayed.{front, replayed_tree}
+use Rattle.session_history.specs.Entries.{IsMoment, calls_in}
+use Rattle.history_laws.specs.Safe.{IsPart, IsSafe}
+use Rattle.history_laws.specs.Staying.{DoneLaw, HasFinished}
 use Rattle.history_laws.specs.Traces.{EventLeads, IsTraced, Stand}
 use Rattle.history_laws.proofs.Fronts.{replayed_more, told_of}
 use Rattle.history_laws.proofs.Histories.{enters, only_job, traced_reached}

@@ -1,7 +1,7 @@
 -- A part is made, and filled.
 use Rattle.std.proofs.Common.{◌≡◌, ℕ, ◌<◌, ◌≤◌, ◌+◌, true, false, List, [], ◌∷◌, ◌++◌, length, take, drop, refl, sym, ◌∙◌, ap, subst, Some, None, arith}
 use Rattle.std.specs.Prelude.{◌==◌, ◌||◌, not, unwrap_or}
-use Rattle.std.proofs.lemmas.Bool.{true≢false, false≢true, both_ways, false_from_ne_true, or_left}
+use Rattle.std.proofs.lemmas.Bool.{false_from_ne_true, or_left}
 use Rattle.mc_text.specs.declared.kind.Kind.TheVariants.{File}
 use Rattle.mc_text.specs.Routes.{Route, same_path}
 use Rattle.tree_trait.specs.declared.file_system.Node.{Node}
@@ -13,22 +13,23 @@ use Rattle.tree_trait.proofs.Walking.{stat-found}
 use Rattle.crash_law.specs.Guarded.{Marks}
 use Rattle.crash_law.proofs.Guarding.{found_there, same_quiet}
 use Rattle.crash_law.proofs.Syncing.{unaltered_law}
-use Rattle.file_copy.specs.declared.report.Did.TheVariants.{Began}
+use Rattle.job_reports.specs.declared.report.Did.TheVariants.{Began}
 use Rattle.file_copy.specs.declared.stage.FolderState.{FolderState}
 use Rattle.file_copy.specs.declared.stage.FolderState.TheVariants.{Synced, Dirty}
 use Rattle.file_copy.specs.declared.stage.Said.{Said as SaidOf}
 use Rattle.file_copy.specs.declared.stage.Stage.TheVariants.{Fill}
 use Rattle.file_copy.specs.CopyCalls.{making, next_bytes, part_mode, room_for, writing}
-use Rattle.file_copy.specs.Copying.{Copying, folder_of, places_of, is_dirty}
+use Rattle.file_copy.specs.Copying.{Copying, places_of, is_dirty}
+use Rattle.job_reports.specs.Paths.{folder_of}
 use Rattle.file_copy.specs.Looking.{IsReady, IsSaid}
 use Rattle.file_copy.specs.PartNames.{IsFirstFree, part_name}
-use Rattle.file_copy.proofs.CopyAnswers.{IsDoneCall}
+use Rattle.job_reports.proofs.CallAnswers.{IsDoneCall}
 use Rattle.file_copy.proofs.FilledParts.{Holds, written_on}
-use Rattle.file_copy.proofs.PermittedCalls.{IsMaking, making_passes, stat_missing}
+use Rattle.job_reports.proofs.PermittedCalls.{IsMaking, making_passes, stat_missing}
 use Rattle.copy_move.specs.declared.work.Work.TheVariants.{Copy}
 use Rattle.copy_move.specs.declared.run.Course.TheVariants.{GoesOn}
 use Rattle.copy_move.specs.Settling.{NoneOwed, with_change as moves_dirty}
-use Rattle.copy_move.specs.Traces.{IsUnclaimed}
+use Rattle.history_laws.specs.Traces.{IsUnclaimed}
 use Rattle.history_laws.proofs.Calming.{written_known}
 use Rattle.history_laws.proofs.Knowing.{Said, IsKnown, IsKept, settled_marks}
 use Rattle.history_laws.proofs.JobKnows.{HasName, HasPart, IsFilled, IsUntouched, WorkKnows, none_waits, part_settled, untouched_free}

@@ -4,10 +4,11 @@ use Rattle.std.proofs.lemmas.List.{take-append-le}
 use Rattle.mc_text.specs.Routes.{Route}
 use Rattle.tree_trait.specs.FileSystem.{View}
 use Rattle.tree_trait.specs.Change.{Change, CallLog}
-use Rattle.copy_move.specs.declared.history.Event.{Event}
-use Rattle.copy_move.specs.declared.history.Entry.{Entry}
+use Rattle.session_history.specs.declared.history.Event.{Event}
+use Rattle.session_history.specs.declared.history.Entry.{Entry}
 use Rattle.history_laws.specs.LiveJobs.{live_jobs}
-use Rattle.history_laws.specs.Replayed.{earlier_event, earlier_tree, front, named_after, named_parts, replayed_event, replayed_tree}
+use Rattle.history_laws.specs.Replayed.{earlier_event, earlier_tree, front, replayed_event, replayed_tree}
+use Rattle.session_history.specs.Named.{named_after, named_parts}
 use Rattle.history_laws.proofs.Knowing.{Said, anywhere}
 use Rattle.history_laws.proofs.Stepped.{more}
 

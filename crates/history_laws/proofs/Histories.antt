@@ -12,17 +12,17 @@ use Rattle.crash_law.specs.Guarded.{Marks}
 use Rattle.crash_law.specs.Steps.{as_it_stands}
 use Rattle.crash_law.proofs.Others.{opening_law}
 use Rattle.crash_law.proofs.Guarding.{found_there}
-use Rattle.file_copy.specs.declared.report.Did.{Did}
-use Rattle.file_copy.specs.declared.report.Ending.TheVariants.{NoMemory}
-use Rattle.file_copy.specs.declared.report.Did.TheVariants.{Ended}
-use Rattle.file_copy.specs.declared.report.Did.TheVariants as reported
-use Rattle.copy_move.specs.declared.history.Answer.{Answer}
-use Rattle.copy_move.specs.declared.history.Answer.TheVariants.{Retry, Skip, SkipAll, Abort}
-use Rattle.copy_move.specs.declared.history.Event.{Event}
-use Rattle.copy_move.specs.declared.history.Event.TheVariants.{Key, Look, Began, Order, Step, Closed}
-use Rattle.copy_move.specs.declared.history.JobOrder.{JobOrder}
-use Rattle.copy_move.specs.declared.history.JobOrder.TheVariants.{Answered}
-use Rattle.copy_move.specs.declared.history.Entry.{Entry}
+use Rattle.job_reports.specs.declared.report.Did.{Did}
+use Rattle.job_reports.specs.declared.report.Ending.TheVariants.{NoMemory}
+use Rattle.job_reports.specs.declared.report.Did.TheVariants.{Ended}
+use Rattle.job_reports.specs.declared.report.Did.TheVariants as reported
+use Rattle.job_reports.specs.declared.answer.Answer.{Answer}
+use Rattle.job_reports.specs.declared.answer.Answer.TheVariants.{Retry, Skip, SkipAll, Abort}
+use Rattle.session_history.specs.declared.history.Event.{Event}
+use Rattle.session_history.specs.declared.history.Event.TheVariants.{Key, Look, Began, Order, Step, Closed}
+use Rattle.session_history.specs.declared.history.JobOrder.{JobOrder}
+use Rattle.session_history.specs.declared.history.JobOrder.TheVariants.{Answered}
+use Rattle.session_history.specs.declared.history.Entry.{Entry}
 use Rattle.copy_move.specs.declared.run.Course.{Course}
 use Rattle.copy_move.specs.declared.run.Course.TheVariants.{GoesOn, InTrouble, Unsettled, Skips, Ends}
 use Rattle.copy_move.specs.declared.work.Work.{Work}
@@ -32,11 +32,12 @@ use Rattle.file_copy.specs.declared.stage.Stage.TheVariants as at
 use Rattle.file_copy.specs.Copying.{Copying}
 use Rattle.file_copy.specs.Copying as copying
 use Rattle.copy_move.specs.Jobs.{Running, answered, answered_on, closed_course, closed_job, first_work, taken_anew}
-use Rattle.copy_move.specs.Told.{is_closed, running}
+use Rattle.session_history.specs.Entries.{is_closed}
+use Rattle.copy_move.specs.Told.{running}
 use Rattle.tree_trait.specs.declared.file_system.FileSystem.{FileSystem}
 use Rattle.history_laws.specs.LiveJobs.{LiveJob, after_event, after_report, live, live_jobs, work_of}
 use Rattle.history_laws.specs.Replayed.{earlier_tree, front, replayed_step, replayed_tree}
-use Rattle.history_laws.specs.Traces.{EventLeads, Follows, GivesUp, IsJob, IsTraced, Stand, StepLeads, SyncLeads, WorkLeads, begun, if_closed, nothing_live, ordered, unless_ended, with_job}
+use Rattle.history_laws.specs.Traces.{EventLeads, Follows, IsJob, IsTraced, Stand, StepLeads, begun, if_closed, ordered, unless_ended, with_job}
 use Rattle.history_laws.proofs.Fronts.{AreWithin, earlier_more, replayed_more, said_by, told_of, told_with, within_more}
 use Rattle.history_laws.proofs.JobKnows.{StageKnows, WorkKnows, work_course}
 use Rattle.history_laws.proofs.JobLeads.{sync_leads, work_leads}
@@ -105,11 +106,11 @@ module _ (told : Said) (dirty : List Route) (marks : Marks) (s : FileSystem) whe
   answer_knows (InTrouble why) Retry job is k = anew_knows told dirty marks s job.course job.work k
   answer_knows (InTrouble why) Skip job is k = on_course job.course (Skips why) job.work (λ e. let f : ⊥ = cc in f) k
   answer_knows (InTrouble why) SkipAll job is k = on_course job.course (Skips why) job.work (λ e. let f : ⊥ = cc in f) k
-  answer_knows (InTrouble why) Abort job is k = on_course job.course (Ends Rattle.file_copy.specs.declared.report.Ending.TheVariants.Aborted) job.work (λ e. let f : ⊥ = cc in f) k
+  answer_knows (InTrouble why) Abort job is k = on_course job.course (Ends Rattle.job_reports.specs.declared.report.Ending.TheVariants.Aborted) job.work (λ e. let f : ⊥ = cc in f) k
   answer_knows (Unsettled why) Retry job is k = anew_knows told dirty marks s job.course job.work k
   answer_knows (Unsettled why) Skip job is k = k
   answer_knows (Unsettled why) SkipAll job is k = k
-  answer_knows (Unsettled why) Abort job is k = on_course job.course (Ends Rattle.file_copy.specs.declared.report.Ending.TheVariants.Aborted) job.work (λ e. let f : ⊥ = cc in f) k
+  answer_knows (Unsettled why) Abort job is k = on_course job.course (Ends Rattle.job_reports.specs.declared.report.Ending.TheVariants.Aborted) job.work (λ e. let f : ⊥ = cc in f) k
   answer_knows GoesOn answer job is k = k
   answer_knows (Skips why) answer job is k = k
   answer_knows (Ends ending) answer job is k = k
@@ -203,13 +204,13 @@ module _ (opening : CallLog) (older : List Entry) (calls : ℕ) (was : Stand) (b
     told_is made now_is =
         let tree : replayed_tree opening now older ≡ replayed_tree opening before older = ap (λ l. replayed_tree opening l older) now_is ∙ replayed_more opening before made older r.within in
         let earlier : earlier_tree opening now older ≡ earlier_tree opening before older = ap (λ l. earlier_tree opening l older) now_is ∙ earlier_more opening before made older r.within in
-        ap (λ t. said_by t (Rattle.history_laws.specs.Replayed.keeping (Rattle.history_laws.specs.Replayed.changed_by did) (replayed_tree opening now older) (earlier_tree opening now older)) (Rattle.history_laws.specs.Replayed.named_by did (Rattle.history_laws.specs.Replayed.named_parts older)) (part_after did r.part))
+        ap (λ t. said_by t (Rattle.history_laws.specs.Replayed.keeping (Rattle.session_history.specs.Named.changed_by did) (replayed_tree opening now older) (earlier_tree opening now older)) (Rattle.session_history.specs.Named.named_by did (Rattle.session_history.specs.Named.named_parts older)) (part_after did r.part))
         (ap (λ l. replayed_step l did (work_of id (live_jobs older)) (replayed_tree opening now older)) at_end
         ∙ (ap (λ w. replayed_step now did w (replayed_tree opening now older)) work_is
         ∙ (ap (replayed_step now did (Some job_live.0)) tree ∙ replayed_same now did job_live.0 job.work (replayed_tree opening before older) job_live.2)))
-        ∙ ap (λ t. said_by (replayed_step now did (Some job.work) (replayed_tree opening before older)) t (Rattle.history_laws.specs.Replayed.named_by did (Rattle.history_laws.specs.Replayed.named_parts older)) (part_after did r.part))
-        (ap (λ v. Rattle.history_laws.specs.Replayed.keeping (Rattle.history_laws.specs.Replayed.changed_by did) v (earlier_tree opening now older)) tree
-        ∙ ap (Rattle.history_laws.specs.Replayed.keeping (Rattle.history_laws.specs.Replayed.changed_by did) (replayed_tree opening before older)) earlier)
+        ∙ ap (λ t. said_by (replayed_step now did (Some job.work) (replayed_tree opening before older)) t (Rattle.session_history.specs.Named.named_by did (Rattle.session_history.specs.Named.named_parts older)) (part_after did r.part))
+        (ap (λ v. Rattle.history_laws.specs.Replayed.keeping (Rattle.session_history.specs.Named.changed_by did) v (earlier_tree opening now older)) tree
+        ∙ ap (Rattle.history_laws.specs.Replayed.keeping (Rattle.session_history.specs.Named.changed_by did) (replayed_tree opening before older)) earlier)
         ∙ ap (λ d. (let t : Said = record (said_after now did job.work told) { doubt = d } in t)) (sym (doubt_anywhere did r.part))
 
     job_knows : WorkKnows told was.dirty r.marks (current before) job.course job.work
@@ -265,7 +266,7 @@ module _ (opening : CallLog) (older : List Entry) (calls : ℕ) (was : Stand) (b
             ap (after_report id (Ended NoMemory left)) job_live.1 ∙ ap (λ b. if◌then◌else◌ b [] ((let l : LiveJob = record { id = job.id; work = job_live.0; part = r.part } in l) ∷ [])) (eq-eqb job.id id id_is)
 
   -- a job begins
-  begins : (id : ℕ) (plan : Rattle.copy_move.specs.declared.history.Job.Job) (background : Bool) → was.jobs ≡ [] → (o : Option Work) → first_work id plan ≡ o
+  begins : (id : ℕ) (plan : Rattle.job_reports.specs.declared.job.Job.Job) (background : Bool) → was.jobs ≡ [] → (o : Option Work) → first_work id plan ≡ o
       → Quiet (Began id plan background) (record was { jobs = begun id plan }) before
   begins id plan background none o is = record {
     made = [];

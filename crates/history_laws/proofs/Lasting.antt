@@ -6,21 +6,23 @@ use Rattle.tree_trait.specs.FileSystem.{Spot, View, value_at}
 use Rattle.tree_trait.specs.Change.{CallLog, current}
 use Rattle.tree_trait.specs.CrashImages.{Among}
 use Rattle.tree_trait.proofs.Visible.{same_path-self}
-use Rattle.file_copy.specs.declared.report.Did.{Did}
-use Rattle.file_copy.specs.declared.report.Did.TheVariants.{Began, Chunk, Placed, Removed, Skipped, Cleaned, Barrier, Troubled, Ended}
+use Rattle.job_reports.specs.declared.report.Did.{Did}
+use Rattle.job_reports.specs.declared.report.Did.TheVariants.{Began, Chunk, Placed, Removed, Skipped, Cleaned, Barrier, Troubled, Ended}
 use Rattle.file_copy.specs.Copied.{copied}
-use Rattle.copy_move.specs.declared.history.Event.{Event}
-use Rattle.copy_move.specs.declared.history.Event.TheVariants.{Key, Look, Order, Step, Closed}
-use Rattle.copy_move.specs.declared.history.Event.TheVariants as event
-use Rattle.copy_move.specs.declared.history.Entry.{Entry}
+use Rattle.session_history.specs.declared.history.Event.{Event}
+use Rattle.session_history.specs.declared.history.Event.TheVariants.{Key, Look, Order, Step, Closed}
+use Rattle.session_history.specs.declared.history.Event.TheVariants as event
+use Rattle.session_history.specs.declared.history.Entry.{Entry}
 use Rattle.copy_move.specs.declared.work.Work.{Work}
 use Rattle.copy_move.specs.declared.work.Work.TheVariants.{Copy, Delete}
 use Rattle.copy_move.specs.Jobs.{Running}
 use Rattle.history_laws.specs.Doubt.{is_unsettled}
 use Rattle.history_laws.specs.LiveJobs.{IsLivePart, LiveJob, live_jobs, work_of}
-use Rattle.history_laws.specs.Replayed.{front, named_after, named_by, named_parts, placed_by, replayed_event, replayed_step, replayed_tree}
-use Rattle.history_laws.specs.Safe.{IsSafe, calls_in}
-use Rattle.history_laws.specs.Staying.{FinishedStaysLaw, IsUnnamedSince, names, names_path}
+use Rattle.history_laws.specs.Replayed.{front, placed_by, replayed_event, replayed_step, replayed_tree}
+use Rattle.session_history.specs.Named.{named_after, named_by, named_parts, IsUnnamedSince, names, names_path}
+use Rattle.history_laws.specs.Safe.{IsSafe}
+use Rattle.session_history.specs.Entries.{calls_in}
+use Rattle.history_laws.specs.Staying.{FinishedStaysLaw}
 use Rattle.history_laws.proofs.Deleted.{put_off}
 use Rattle.history_laws.proofs.Finished.{finished_law}
 use Rattle.history_laws.proofs.Histories.{traced_reached}

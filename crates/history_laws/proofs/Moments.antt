@@ -1,5 +1,5 @@
 -- Each moment of a session is safe.
-use Rattle.std.proofs.Common.{◌≡◌, ◌⊎◌, ℕ, ◌+◌, ◌≤◌, true, List, [], ◌∷◌, ◌++◌, length, length-append, take, refl, sym, ◌∙◌, ap, subst, inl, inr, Option, Some, None, arith, append_assoc}
+use Rattle.std.proofs.Common.{◌≡◌, ◌⊎◌, ℕ, ◌+◌, ◌≤◌, true, List, [], ◌∷◌, ◌++◌, length, take, refl, sym, ◌∙◌, ap, subst, inl, inr, Option, Some, None, arith, append_assoc}
 use Rattle.std.proofs.Math.Seq.{take-append_seam}
 use Rattle.std.proofs.lemmas.List.{take-append-le}
 use Rattle.mc_text.specs.Routes.{Route}
@@ -10,11 +10,12 @@ use Rattle.tree_trait.specs.Change.{Change, CallLog, current}
 use Rattle.tree_trait.specs.CrashImages.{all_settled}
 use Rattle.crash_law.specs.Guarded.{Marks}
 use Rattle.crash_law.specs.Possible.{IsImage}
-use Rattle.copy_move.specs.declared.history.Entry.{Entry}
+use Rattle.session_history.specs.declared.history.Entry.{Entry}
 use Rattle.copy_move.specs.Jobs.{Running}
 use Rattle.history_laws.specs.LiveJobs.{LiveJob, IsLivePart, live_jobs}
 use Rattle.history_laws.specs.Replayed.{front, replayed_tree}
-use Rattle.history_laws.specs.Safe.{IsMoment, IsSafe, ReplayLaw, SessionLaw, calls_in}
+use Rattle.session_history.specs.Entries.{IsMoment, calls_in}
+use Rattle.history_laws.specs.Safe.{IsSafe, ReplayLaw, SessionLaw}
 use Rattle.history_laws.specs.Traces.{Follows, IsTraced, Stand}
 use Rattle.history_laws.proofs.Fronts.{told_more, told_of, within_more}
 use Rattle.history_laws.proofs.Histories.{IsEntered, IsReached, enters, traced_reached}

@@ -5,18 +5,18 @@ use Rattle.mc_text.specs.Routes.{Route}
 use Rattle.tree_trait.specs.Shape.{IsTree}
 use Rattle.tree_trait.specs.Change.{CallLog, current}
 use Rattle.tree_trait.specs.CrashImages.{all_settled}
-use Rattle.file_copy.specs.declared.report.Did.{Did}
-use Rattle.file_copy.specs.Copying.{folder_of}
-use Rattle.copy_move.specs.declared.history.Event.TheVariants.{Step}
-use Rattle.copy_move.specs.declared.history.Entry.{Entry}
+use Rattle.job_reports.specs.declared.report.Did.{Did}
+use Rattle.job_reports.specs.Paths.{folder_of}
+use Rattle.session_history.specs.declared.history.Event.TheVariants.{Step}
+use Rattle.session_history.specs.declared.history.Entry.{Entry}
 use Rattle.copy_move.specs.declared.work.Work.{Work}
 use Rattle.copy_move.specs.Settling.{changed_folder}
 use Rattle.history_laws.specs.Doubt.{is_unsettled}
 use Rattle.history_laws.specs.LiveJobs.{live_jobs, work_of}
-use Rattle.history_laws.specs.Owed.{IsApart, begins_change, has_changed}
+use Rattle.history_laws.specs.Owed.{IsApart}
+use Rattle.session_history.specs.Named.{begins_change, has_changed, names_path}
 use Rattle.history_laws.specs.Replayed.{front}
-use Rattle.history_laws.specs.Safe.{IsMoment, calls_in}
-use Rattle.history_laws.specs.Staying.{names_path}
+use Rattle.session_history.specs.Entries.{IsMoment, calls_in}
 use Rattle.history_laws.specs.Traces.{IsTraced, Stand}
 
 -- This entry, after the older ones, is the report of the first change of a job that changes names in this folder.

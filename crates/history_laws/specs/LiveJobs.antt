@@ -1,15 +1,15 @@
 -- The live jobs, as a history tells of them: each with its number, its work as it was begun, and its part. Histories stand
 -- newest first here.
-use Rattle.std.specs.Prelude.{◌≡◌, ℕ, ◌==◌, if◌then◌else◌, List, [], ◌∷◌, Option, Some, None}
+use Rattle.std.specs.Prelude.{◌≡◌, ℕ, ◌==◌, List, [], ◌∷◌, Option, Some, None, if◌then◌else◌}
 use Rattle.std.specs.Option.{option_map_or}
 use Rattle.mc_text.specs.Routes.{Route}
 use Rattle.tree_trait.specs.CrashImages.{Among}
-use Rattle.file_copy.specs.declared.report.Did.{Did}
-use Rattle.file_copy.specs.declared.report.Did.TheVariants.{Began, Chunk, Placed, Removed, Skipped, Cleaned, Barrier, Troubled, Ended}
-use Rattle.copy_move.specs.declared.history.Event.{Event}
-use Rattle.copy_move.specs.declared.history.Event.TheVariants.{Key, Look, Order, Step, Closed}
-use Rattle.copy_move.specs.declared.history.Event.TheVariants as event
-use Rattle.copy_move.specs.declared.history.Entry.{Entry}
+use Rattle.job_reports.specs.declared.report.Did.{Did}
+use Rattle.job_reports.specs.declared.report.Did.TheVariants.{Began, Chunk, Placed, Removed, Skipped, Cleaned, Barrier, Troubled, Ended}
+use Rattle.session_history.specs.declared.history.Event.{Event}
+use Rattle.session_history.specs.declared.history.Event.TheVariants.{Key, Look, Order, Step, Closed}
+use Rattle.session_history.specs.declared.history.Event.TheVariants as event
+use Rattle.session_history.specs.declared.history.Entry.{Entry}
 use Rattle.copy_move.specs.declared.work.Work.{Work}
 use Rattle.copy_move.specs.Jobs.{first_work}
 

@@ -1,55 +1,27 @@
 -- What is on the disk stays on the disk until an entry names it again; so what a finished job did stays done. Histories stand
 -- newest first here.
-use Rattle.std.specs.Prelude.{◌≡◌, ◌⊎◌, ℕ, ◌+◌, Bool, true, false, List, [], ◌∷◌, length, Option, Some}
-use Rattle.std.specs.Option.{option_map_or}
-use Rattle.mc_text.specs.Routes.{Route, same_path}
+use Rattle.std.specs.Prelude.{◌≡◌, ◌⊎◌, ℕ, ◌+◌, true, false, List, [], ◌∷◌, length, Option, Some}
+use Rattle.mc_text.specs.Routes.{Route}
 use Rattle.tree_trait.specs.declared.file_system.FileSystem.{FileSystem}
 use Rattle.tree_trait.specs.FileSystem.{value_at}
 use Rattle.tree_trait.specs.Shape.{IsTree}
 use Rattle.tree_trait.specs.Change.{CallLog, current}
 use Rattle.tree_trait.specs.CrashImages.{Among, all_settled, IsCrashImage}
-use Rattle.file_copy.specs.declared.report.Did.{Did}
-use Rattle.file_copy.specs.declared.report.Did.TheVariants.{Began, Chunk, Placed, Removed, Skipped, Cleaned, Barrier, Troubled, Ended}
-use Rattle.file_copy.specs.declared.report.Ending.TheVariants.{Finished}
-use Rattle.file_copy.specs.Copying.{folder_of}
-use Rattle.copy_move.specs.declared.history.Event.{Event}
-use Rattle.copy_move.specs.declared.history.Event.TheVariants.{Key, Look, Order, Step, Closed}
-use Rattle.copy_move.specs.declared.history.Event.TheVariants as event
-use Rattle.copy_move.specs.declared.history.Entry.{Entry}
+use Rattle.job_reports.specs.declared.report.Did.TheVariants.{Ended}
+use Rattle.job_reports.specs.declared.report.Ending.TheVariants.{Finished}
+use Rattle.job_reports.specs.Paths.{folder_of}
+use Rattle.session_history.specs.declared.history.Event.TheVariants.{Step}
+use Rattle.session_history.specs.declared.history.Entry.{Entry}
 use Rattle.copy_move.specs.declared.work.Work.{Work}
 use Rattle.copy_move.specs.Jobs.{JobTells, Running}
 use Rattle.copy_move.specs.Settling.{changed_folder}
 use Rattle.history_laws.specs.Doubt.{is_unsettled}
 use Rattle.history_laws.specs.LiveJobs.{IsLivePart, live_jobs, work_of}
-use Rattle.history_laws.specs.Owed.{has_changed}
-use Rattle.history_laws.specs.Replayed.{front, named_parts, replayed_tree}
-use Rattle.history_laws.specs.Safe.{IsMoment, IsPart, calls_in}
+use Rattle.session_history.specs.Named.{has_changed, named_parts, names_path, IsUnnamedSince}
+use Rattle.history_laws.specs.Replayed.{front, replayed_tree}
+use Rattle.session_history.specs.Entries.{IsMoment, calls_in}
+use Rattle.history_laws.specs.Safe.{IsPart}
 use Rattle.history_laws.specs.Traces.{IsTraced, Stand}
-
--- a report names this path: as a part that was made, is gone, or is left, or as what was placed or removed
-abbrev pub names : Did → Route → Bool
-names (Began part) path = same_path path part
-names (Placed target) path = same_path path target
-names (Removed file) path = same_path path file
-names (Cleaned part) path = same_path path part
-names (Ended ending part) path = option_map_or (same_path path) part false
-names (Chunk count) path = false
-names (Skipped file cause) path = false
-names Barrier path = false
-names (Troubled trouble) path = false
-
-abbrev pub names_path : Event → Route → Bool
-names_path (Step id did) path = names did path
-names_path (Key key now refusals lost) path = false
-names_path (Look refusals) path = false
-names_path (event.Began id plan background) path = false
-names_path (Order id order) path = false
-names_path Closed path = false
-
--- these entries are the older ones with more on top, of which none names this path
-abbrev pub IsUnnamedSince : List Entry → Route → List Entry → Type 0
-IsUnnamedSince older path [] = older ≡ []
-IsUnnamedSince older path (e ∷ entries) = (older ≡ e ∷ entries) ⊎ ((names_path e.what path ≡ false) × IsUnnamedSince older path entries)
 
 -- A path of which no change waited for a sync where the older entries ended, and that was no live job's part, waits for none
 -- at any later moment, inside a call too, until an entry names it.

@@ -9,28 +9,29 @@ use Rattle.tree_trait.specs.declared.calls.TreeError.{TreeError}
 use Rattle.tree_trait.specs.Calls.{Stat, ListFolder, SyncFolder}
 use Rattle.tree_trait.specs.Change.{CallLog}
 use Rattle.tree_trait.specs.Answers.{IfKnown, HasRisen}
-use Rattle.file_copy.specs.CallRuns.{HasMore}
-use Rattle.file_copy.specs.declared.report.Did.{Did}
-use Rattle.file_copy.specs.declared.report.Did.TheVariants.{Began as BeganPart, Chunk, Placed, Removed, Skipped, Cleaned, Barrier, Troubled, Ended}
-use Rattle.file_copy.specs.declared.report.Trouble.{Trouble}
-use Rattle.file_copy.specs.declared.report.Ending.TheVariants.{NoMemory}
-use Rattle.copy_move.specs.declared.history.Entry.{Entry}
-use Rattle.copy_move.specs.declared.history.Event.{Event}
-use Rattle.copy_move.specs.declared.history.Event.TheVariants.{Key, Look, Began, Order, Step, Closed}
-use Rattle.copy_move.specs.declared.history.JobOrder.TheVariants.{Answered}
-use Rattle.copy_move.specs.declared.history.Answer.{Answer}
-use Rattle.copy_move.specs.declared.history.Job.{Job}
-use Rattle.copy_move.specs.declared.history.Refusal.{Refusal}
-use Rattle.copy_move.specs.Jobs.{Running, MayAnswer, answered, closed_job, ends, first_work, part_of, waits_on}
+use Rattle.job_reports.specs.CallRuns.{HasMore}
+use Rattle.job_reports.specs.declared.report.Did.{Did}
+use Rattle.job_reports.specs.declared.report.Did.TheVariants.{Began as BeganPart, Chunk, Placed, Removed, Skipped, Cleaned, Barrier, Troubled, Ended}
+use Rattle.job_reports.specs.declared.report.Trouble.{Trouble}
+use Rattle.job_reports.specs.declared.report.Ending.TheVariants.{NoMemory}
+use Rattle.session_history.specs.declared.history.Entry.{Entry}
+use Rattle.session_history.specs.declared.history.Event.{Event}
+use Rattle.session_history.specs.declared.history.Event.TheVariants.{Key, Look, Began, Order, Step, Closed}
+use Rattle.session_history.specs.declared.history.JobOrder.TheVariants.{Answered}
+use Rattle.job_reports.specs.declared.answer.Answer.{Answer}
+use Rattle.job_reports.specs.declared.job.Job.{Job}
+use Rattle.session_history.specs.declared.refusal.Refusal.{Refusal}
+use Rattle.copy_move.specs.Jobs.{Running, MayAnswer, answered, closed_job, first_work, part_of, waits_on}
+use Rattle.job_reports.specs.Reports.{ends}
 use Rattle.copy_move.specs.Told.{after_step, if_closed, running, told}
 use Rattle.copy_move.specs.declared.work.Work.{Work}
 use Rattle.copy_move.specs.declared.run.Course.TheVariants.{Unsettled}
-use Rattle.copy_move.specs.Deletions.{cause_of, trouble_at}
+use Rattle.job_reports.specs.Stops.{cause_of, trouble_at}
 use Rattle.copy_move.specs.Steps.{OwnStep, RunStep, SettlingStep, SyncsFolder}
-use Rattle.copy_move.specs.Traces.{AreRefused, IsUnclaimed}
+use Rattle.session_history.specs.Refusals.{AreRefused}
+use Rattle.history_laws.specs.Traces.{IsUnclaimed, EventLeads, IsJob, Stand, StepLeads, before_others, begun, ordered, with_job}
 use Rattle.copy_move.proofs.StillTelling.{StillTells, performs_tells, step_tells}
 use Rattle.copy_move.proofs.Telling.{answered_told, began_told, closed_told, fresh_told, step_told, sync_told}
-use Rattle.history_laws.specs.Traces.{EventLeads, IsJob, Stand, StepLeads, before_others, begun, ordered, with_job}
 use Rattle.history_laws.proofs.Owing.{step_law}
 use Rattle.history_laws.proofs.Reports.{with_one}
 use Rattle.mc_ui.specs.Screens.{Begins, Answers, Ends, KeyLeads, LookLeads, Screen, sight}
@@ -90,12 +91,12 @@ module _ (contents contents_after : Option CallLog) (same : contents_after ≡ c
 
   -- an entry that makes no changing call
   leads_on : (old new : Seen) (e : Entry) (after : Option Running) → e.calls ≡ old.tally.calls → ((log : CallLog) → contents ≡ Some log → EventLeads (stand_of old) e.what (stand_with after new.dirty) log log)
-      → new.job ≡ if_closed (Rattle.copy_move.specs.Told.closes e.what || old.tally.closed) after → Leads contents contents_after old new e
+      → new.job ≡ if_closed (Rattle.session_history.specs.Entries.closes e.what || old.tally.closed) after → Leads contents contents_after old new e
   leads_on old new e after calls leads job log known = (log, after, same ∙ known, leads log known, job, (let l : length log.changes ≡ length log.changes = refl in omega (arith, calls)))
 
   -- nor changes where the session stands
   leads_still : (old new : Seen) (e : Entry) → e.calls ≡ old.tally.calls → new.dirty ≡ old.dirty → ((log : CallLog) → stand_with old.job new.dirty ≡ stand_of old → EventLeads (stand_of old) e.what (stand_with old.job new.dirty) log log)
-      → new.job ≡ if_closed (Rattle.copy_move.specs.Told.closes e.what || old.tally.closed) old.job → Leads contents contents_after old new e
+      → new.job ≡ if_closed (Rattle.session_history.specs.Entries.closes e.what || old.tally.closed) old.job → Leads contents contents_after old new e
   leads_still old new e calls dirty leads job = leads_on old new e old.job calls (λ log known. leads log (ap (stand_with old.job) dirty)) job
 
 -- a job that was begun is the one that is live

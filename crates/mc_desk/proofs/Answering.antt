@@ -4,13 +4,13 @@ use Rattle.std.specs.Option.{option_map}
 use Rattle.file_copy.specs.declared.stage.Stage.{Stage}
 use Rattle.file_copy.specs.declared.stage.Stage.TheVariants.{Begin, Fill, Clean, Left, Decided}
 use Rattle.file_copy.specs.Copying as copying
-use Rattle.copy_move.specs.declared.history.Answer.{Answer}
+use Rattle.job_reports.specs.declared.answer.Answer.{Answer}
 use Rattle.copy_move.specs.declared.work.Work.{Work}
 use Rattle.copy_move.specs.declared.work.Work.TheVariants.{Copy, Delete}
 use Rattle.copy_move.specs.declared.run.Course.{Course}
 use Rattle.copy_move.specs.declared.run.Course.TheVariants.{GoesOn, InTrouble, Unsettled, Skips, Ends}
 use Rattle.mc_text.specs.Routes.{Route}
-use Rattle.file_copy.specs.declared.report.Trouble.{Trouble}
+use Rattle.job_reports.specs.declared.report.Trouble.{Trouble}
 use Rattle.copy_move.specs.Jobs.{Running, MayAnswer, at_barrier, is_barred, part_of, trouble_on, waits_on}
 use Rattle.copy_move.specs.Told.{stage_told, told, work_told}
 use Rattle.mc_ui.specs.Screens.{ShowsTrouble}

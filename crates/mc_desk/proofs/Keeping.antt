@@ -4,12 +4,12 @@ use Rattle.std.specs.Option.{option_map}
 use Rattle.mc_text.specs.Routes.{Route}
 use Rattle.tree_trait.specs.Change.{CallLog}
 use Rattle.tree_trait.specs.Answers.{IfKnown}
-use Rattle.copy_move.specs.declared.history.Entry.{Entry}
-use Rattle.copy_move.specs.declared.history.Event.{Event}
-use Rattle.copy_move.specs.declared.history.Event.TheVariants.{Key, Look, Began, Order, Step, Closed}
+use Rattle.session_history.specs.declared.history.Entry.{Entry}
+use Rattle.session_history.specs.declared.history.Event.{Event}
+use Rattle.session_history.specs.declared.history.Event.TheVariants.{Key, Look, Began, Order, Step, Closed}
 use Rattle.copy_move.specs.Jobs.{Running}
-use Rattle.copy_move.specs.Told.{told, closes, if_closed, is_closed}
-use Rattle.history_laws.specs.Safe.{calls_in}
+use Rattle.copy_move.specs.Told.{told, if_closed}
+use Rattle.session_history.specs.Entries.{closes, is_closed, calls_in}
 use Rattle.history_laws.specs.Traces.{IsTraced, IsTracedTo, Stand, at_rest}
 use Rattle.history_laws.specs.Traces as traces
 use Rattle.history_laws.proofs.Moments.{traced_count}

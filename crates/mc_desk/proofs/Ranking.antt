@@ -7,8 +7,8 @@ use Rattle.tree_trait.specs.declared.calls.TreeError.{TreeError}
 use Rattle.tree_trait.specs.Change.{CallLog}
 use Rattle.tree_trait.specs.CrashImages.{Among}
 use Rattle.tree_trait.proofs.Visible.{same_path-self}
-use Rattle.file_copy.specs.declared.report.Did.{Did}
-use Rattle.file_copy.specs.declared.report.Did.TheVariants.{Began, Chunk, Placed, Removed, Skipped, Cleaned, Barrier, Troubled, Ended}
+use Rattle.job_reports.specs.declared.report.Did.{Did}
+use Rattle.job_reports.specs.declared.report.Did.TheVariants.{Began, Chunk, Placed, Removed, Skipped, Cleaned, Barrier, Troubled, Ended}
 use Rattle.file_copy.specs.declared.stage.Stage.{Stage}
 use Rattle.file_copy.specs.declared.stage.Stage.TheVariants.{Begin, Fill, Clean, Left, Decided}
 use Rattle.file_copy.specs.declared.stage.Next.TheVariants as next
@@ -21,9 +21,11 @@ use Rattle.copy_move.specs.declared.work.Work.{Work}
 use Rattle.copy_move.specs.declared.work.Work.TheVariants.{Copy, Delete}
 use Rattle.copy_move.specs.declared.run.Course.{Course}
 use Rattle.copy_move.specs.declared.run.Course.TheVariants.{GoesOn, InTrouble, Unsettled, Skips, Ends}
-use Rattle.copy_move.specs.Jobs.{Running, closed_course, ends}
+use Rattle.copy_move.specs.Jobs.{Running, closed_course}
+use Rattle.job_reports.specs.Reports.{ends}
 use Rattle.copy_move.specs.Ranks.{copy_rank, deletion_rank, last_deletion_steps, last_rank, rank, rank_on, rank_with, work_rank}
-use Rattle.copy_move.specs.Settling.{after_try, changed_folder, is_dirty, with_change, without}
+use Rattle.copy_move.specs.Settling.{after_try, changed_folder, is_dirty, with_change}
+use Rattle.job_reports.specs.Paths.{without}
 use Rattle.copy_move.specs.Steps.{LeavesDirty, RunStep, SettlingStep, SyncsFolder}
 use Rattle.copy_move.specs.Told.{if_closed}
 use Rattle.copy_move.proofs.Falling.{trouble_falls}

@@ -9,21 +9,25 @@ use Rattle.tree_trait.specs.Calls.{Stat, ListFolder}
 use Rattle.tree_trait.specs.FileSystem.{View}
 use Rattle.tree_trait.specs.Change.{CallLog}
 use Rattle.tree_trait.specs.Answers.{IfKnown, HasRisen}
-use Rattle.file_copy.specs.declared.report.Did.{Did}
-use Rattle.file_copy.specs.declared.report.Did.TheVariants.{Ended}
-use Rattle.file_copy.specs.declared.report.Ending.TheVariants.{NoMemory}
-use Rattle.file_copy.specs.declared.report.Trouble.{Trouble}
-use Rattle.copy_move.specs.declared.history.Entry.{Entry}
-use Rattle.copy_move.specs.declared.history.Event.TheVariants.{Key, Look, Began, Order, Step, Closed}
-use Rattle.copy_move.specs.declared.history.JobOrder.TheVariants.{Answered}
-use Rattle.copy_move.specs.declared.history.Answer.{Answer}
-use Rattle.copy_move.specs.declared.history.Refusal.{Refusal}
+use Rattle.job_reports.specs.declared.report.Did.{Did}
+use Rattle.job_reports.specs.declared.report.Did.TheVariants.{Ended}
+use Rattle.job_reports.specs.declared.report.Ending.TheVariants.{NoMemory}
+use Rattle.job_reports.specs.declared.report.Trouble.{Trouble}
+use Rattle.session_history.specs.declared.history.Entry.{Entry}
+use Rattle.session_history.specs.declared.history.Event.TheVariants.{Key, Look, Began, Order, Step, Closed}
+use Rattle.session_history.specs.declared.history.JobOrder.TheVariants.{Answered}
+use Rattle.job_reports.specs.declared.answer.Answer.{Answer}
+use Rattle.session_history.specs.declared.refusal.Refusal.{Refusal}
 use Rattle.copy_move.specs.declared.run.Course.{Course}
 use Rattle.copy_move.specs.declared.run.Course.TheVariants.{GoesOn, InTrouble, Unsettled, Skips, Ends}
-use Rattle.copy_move.specs.Jobs.{Running, MayAnswer, answered, closed_course, closed_job, ends, first_work, part_of, waits_on}
-use Rattle.copy_move.specs.Told.{after_event, if_closed, is_closed, live_job, running, told}
+use Rattle.copy_move.specs.Jobs.{Running, MayAnswer, answered, closed_course, closed_job, first_work, part_of, waits_on}
+use Rattle.job_reports.specs.Reports.{ends}
+use Rattle.history_laws.specs.ToldJob.{after_event, live_job}
+use Rattle.copy_move.specs.Told.{if_closed, running, told}
+use Rattle.session_history.specs.Entries.{is_closed}
 use Rattle.copy_move.specs.Steps.{RunStep}
-use Rattle.copy_move.specs.Traces.{AreRefused, IsUnclaimed}
+use Rattle.session_history.specs.Refusals.{AreRefused}
+use Rattle.history_laws.specs.Traces.{IsUnclaimed}
 use Rattle.mc_ui.specs.declared.asks.Ask.{Ask}
 use Rattle.mc_ui.specs.declared.asks.Ask.TheVariants as ask
 use Rattle.mc_ui.specs.declared.asks.Confirmed.{Confirmed}

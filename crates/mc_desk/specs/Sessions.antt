@@ -6,15 +6,15 @@ use Rattle.mc_text.specs.Routes.{Route}
 use Rattle.tree_trait.specs.Calls.{Stat, ListFolder}
 use Rattle.tree_trait.specs.Change.{CallLog}
 use Rattle.tree_trait.specs.Answers.{HasRisen, IfKnown}
-use Rattle.file_copy.specs.CopySteps.{IsFault}
-use Rattle.copy_move.specs.declared.history.Event.{Event}
-use Rattle.copy_move.specs.declared.history.Event.TheVariants.{Key, Look, Began, Order, Step, Closed}
-use Rattle.copy_move.specs.declared.history.JobOrder.TheVariants.{Answered}
-use Rattle.copy_move.specs.declared.history.Entry.{Entry}
+use Rattle.job_reports.specs.Reports.{IsFault}
+use Rattle.session_history.specs.declared.history.Event.{Event}
+use Rattle.session_history.specs.declared.history.Event.TheVariants.{Key, Look, Began, Order, Step, Closed}
+use Rattle.session_history.specs.declared.history.JobOrder.TheVariants.{Answered}
+use Rattle.session_history.specs.declared.history.Entry.{Entry}
 use Rattle.copy_move.specs.Jobs.{Running, MayAnswer, first_work}
 use Rattle.copy_move.specs.Told.{IsAllowedStep}
-use Rattle.copy_move.specs.Traces.{AreRefused}
-use Rattle.history_laws.specs.Safe.{calls_in}
+use Rattle.session_history.specs.Refusals.{AreRefused}
+use Rattle.session_history.specs.Entries.{calls_in}
 use Rattle.history_laws.specs.Traces.{Follows, Stand, at_rest, nothing_live}
 use Rattle.mc_ui.specs.Refused.{has_fault}
 use Rattle.mc_ui.specs.Screens.{Screen, Planned, Begins, Answers, Ends, sight, KeyLeads, LookLeads, IsOpening}

@@ -3,13 +3,15 @@ use Rattle.std.specs.Prelude.{ℕ, ◌+◌, ◌-◌, ◌^◌, nat_lt, Bool, true
 use Rattle.std.specs.Option.{option_map}
 use Rattle.mc_text.specs.Routes.{Route}
 use Rattle.key_screen.specs.declared.keys.Key.{Key as KeyType}
-use Rattle.file_copy.specs.declared.report.Did.TheVariants.{Ended}
-use Rattle.copy_move.specs.declared.history.Event.{Event}
-use Rattle.copy_move.specs.declared.history.Event.TheVariants.{Key, Look, Began, Order, Step, Closed}
-use Rattle.copy_move.specs.declared.history.Entry.{Entry}
-use Rattle.copy_move.specs.Jobs.{Running, ends, waits_on}
-use Rattle.copy_move.specs.Told.{live_job, last_id, is_closed, closes, if_closed, after_event, id_after}
-use Rattle.history_laws.specs.Safe.{calls_in}
+use Rattle.job_reports.specs.declared.report.Did.TheVariants.{Ended}
+use Rattle.session_history.specs.declared.history.Event.{Event}
+use Rattle.session_history.specs.declared.history.Event.TheVariants.{Key, Look, Began, Order, Step, Closed}
+use Rattle.session_history.specs.declared.history.Entry.{Entry}
+use Rattle.copy_move.specs.Jobs.{Running, waits_on}
+use Rattle.job_reports.specs.Reports.{ends}
+use Rattle.history_laws.specs.ToldJob.{live_job, after_event}
+use Rattle.session_history.specs.Entries.{last_id, is_closed, closes, id_after, calls_in}
+use Rattle.copy_move.specs.Told.{if_closed}
 
 -- a job has ended, and no look has taken it up
 abbrev pub end_unseen_event : Event → Bool → Bool

@@ -3,7 +3,8 @@ ghost use Rattle.std.specs.Prelude.{◌≡◌, ◌+◌, ◌-◌, ◌^◌, ◌≤
 ghost use Rattle.mc_desk.specs.Logs.{begun_by, jobs_begun};
 ghost use Rattle.mc_desk.specs.Tallies.{is_end_or_look as ends_or_looks, named_part as part_named, part_left as last_part};
 
-use copy_move::{Did, Entries, Entry, Event, History, is_end};
+use job_reports::{Did, is_end};
+use session_history::{Entries, Entry, Event, History};
 use mc_text::{NoMemory, Path};
 use std::alloc::Global;
 use std::marker::Model;

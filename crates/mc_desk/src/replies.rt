@@ -1,6 +1,6 @@
 //! What the calls on a session answer.
 use crate::starts::StartError;
-use copy_move::History;
+use session_history::History;
 use thiserror::Error;
 
 /// A start that was refused gives the devices back.

@@ -5,7 +5,7 @@ use Rattle.tree_trait.specs.Calls.{ListFolder}
 use Rattle.tree_trait.specs.Refusals.{refusal_of}
 use Rattle.tree_trait.specs.Change.{CallLog, current}
 use Rattle.tree_trait.specs.Answers.{IfKnown, HasRisen}
-use Rattle.copy_move.specs.declared.history.Entry.{Entry}
+use Rattle.session_history.specs.declared.history.Entry.{Entry}
 use Rattle.history_laws.specs.LiveJobs.{IsLivePart, live_jobs}
 use Rattle.history_laws.specs.Traces.{IsTraced, IsTracedTo, at_rest}
 use Rattle.history_laws.proofs.Calmed.{calm_law}

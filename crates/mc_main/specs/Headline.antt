@@ -12,10 +12,11 @@ use Rattle.tree_trait.specs.CrashImages.{all_settled, IsCrashImage}
 use Rattle.tree_trait.specs.Answers.{HasRisen, IfKnown}
 use Rattle.tree_trait.specs.declared.devices.SourceFault.{SourceFault}
 use Rattle.key_screen.specs.DecodedKeys.{decoded_keys}
-use Rattle.copy_move.specs.declared.history.Entry.{Entry}
+use Rattle.session_history.specs.declared.history.Entry.{Entry}
 use Rattle.history_laws.specs.Calmed.{CalmsOthers}
 use Rattle.history_laws.specs.Replayed.{front, replayed_tree}
-use Rattle.history_laws.specs.Safe.{IsMoment, IsSafe}
+use Rattle.session_history.specs.Entries.{IsMoment}
+use Rattle.history_laws.specs.Safe.{IsSafe}
 use Rattle.history_laws.specs.Staying.{StaysDone}
 use Rattle.mc_desk.specs.Tallies.{keys_in}
 use Rattle.mc_desk.specs.declared.starts.Start.{Start}

@@ -2,7 +2,7 @@
 ghost use Rattle.std.specs.Prelude.{◌≡◌, ◌≢◌, ◌≤◌, ◌<◌, ◌++◌, [], true, IfOk, OnOk, Option, None, Some, codes, reverse, string_bytes};
 ghost use Rattle.mc_text.specs.Drawn.{drawn as drawn_text};
 ghost use Rattle.tree_trait.specs.Answers.{IfKnown, HasRisen};
-ghost use Rattle.copy_move.specs.Told.{live_job};
+ghost use Rattle.history_laws.specs.ToldJob.{live_job};
 ghost use Rattle.history_laws.specs.Traces.{IsTracedTo};
 ghost use Rattle.mc_desk.specs.Logs.{jobs_begun};
 ghost use Rattle.mc_desk.specs.Tallies.{faults_in, has_lost};
@@ -12,7 +12,7 @@ ghost use Rattle.mc_main.specs.Headline.{IsStatusOr, IsStatusOf, RanSession, Rea
 
 use crate::outcome::Outcome;
 use crate::session::{SessionEnd, run_session};
-use copy_move::{Entries, History};
+use session_history::{Entries, History};
 use mc_desk::{Desk, Ended, Refused, Side, StartError, Tag, cause_text};
 use mc_text::{NoMemory, Text, drawn};
 use std::alloc::Global;

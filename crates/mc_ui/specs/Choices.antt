@@ -5,9 +5,10 @@ use Rattle.tree_trait.specs.declared.calls.TreeError.{TreeError}
 use Rattle.tree_trait.specs.declared.calls.TreeError.TheVariants.{Missing, Memory}
 use Rattle.tree_trait.specs.FileSystem.{View}
 use Rattle.tree_trait.specs.Calls.{Stat}
-use Rattle.tree_trait.specs.Change.{CallLog}
-use Rattle.copy_move.specs.declared.history.Refusal.TheVariants.{Tree}
-use Rattle.copy_move.specs.Traces.{HasCause, IsRefusedWith}
+use Rattle.tree_trait.specs.Change.{CallLog, current}
+use Rattle.session_history.specs.declared.refusal.Refusal.TheVariants.{Tree}
+use Rattle.session_history.specs.Refusals.{HasCause}
+use Rattle.job_reports.specs.Reading.{IsRefusedWith}
 use Rattle.mc_ui.specs.declared.choosing.Choice.{Choice}
 use Rattle.mc_ui.specs.declared.choosing.Choice.TheVariants.{Nothing, File, Refused}
 use Rattle.mc_ui.specs.declared.copying.CopyPlan.{CopyPlan}
@@ -26,7 +27,7 @@ IsChoice tree (Some path) (Refused refused e) = refused ≡ path
 abbrev pub ChoiceCalls : CallLog → Choice → Type 0
 ChoiceCalls log Nothing = ⊤
 ChoiceCalls log (File chosen) = ⊤
-ChoiceCalls log (Refused path e) = IsRefusedWith log (Stat path) e
+ChoiceCalls log (Refused path e) = IsRefusedWith (current log) (Stat path) e
 
 -- the look at the thing met a fault
 abbrev pub is_faulty : Choice → Bool

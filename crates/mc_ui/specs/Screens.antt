@@ -10,15 +10,16 @@ use Rattle.tree_trait.specs.Change.{CallLog, current}
 use Rattle.key_screen.specs.declared.keys.Key.{Key}
 use Rattle.key_screen.specs.declared.keys.Base.{Base}
 use Rattle.key_screen.specs.declared.keys.Base.TheVariants.{Char, F, Down, Enter, Escape, Unknown}
-use Rattle.file_copy.specs.declared.report.Trouble.{Trouble}
-use Rattle.copy_move.specs.declared.history.Answer.{Answer}
-use Rattle.copy_move.specs.declared.history.Answer.TheVariants.{Retry, Skip, SkipAll, Abort}
-use Rattle.copy_move.specs.declared.history.Job.{Job}
-use Rattle.copy_move.specs.declared.history.Job.TheVariants as plan
-use Rattle.copy_move.specs.declared.history.PlanError.TheVariants.{TargetThere, TargetTooLong}
-use Rattle.copy_move.specs.declared.history.Refusal.{Refusal}
-use Rattle.copy_move.specs.declared.history.Refusal.TheVariants.{Tree, Plan}
-use Rattle.copy_move.specs.Jobs.{Running, MayAnswer, is_barred, passes_over, trouble_on, waits_on}
+use Rattle.job_reports.specs.declared.report.Trouble.{Trouble}
+use Rattle.job_reports.specs.declared.answer.Answer.{Answer}
+use Rattle.job_reports.specs.declared.answer.Answer.TheVariants.{Retry, Skip, SkipAll, Abort}
+use Rattle.job_reports.specs.declared.job.Job.{Job}
+use Rattle.job_reports.specs.declared.job.Job.TheVariants as plan
+use Rattle.session_history.specs.declared.refusal.PlanError.TheVariants.{TargetThere, TargetTooLong}
+use Rattle.session_history.specs.declared.refusal.Refusal.{Refusal}
+use Rattle.session_history.specs.declared.refusal.Refusal.TheVariants.{Tree, Plan}
+use Rattle.copy_move.specs.Jobs.{Running, MayAnswer, is_barred, trouble_on, waits_on}
+use Rattle.job_reports.specs.Reports.{passes_over}
 use Rattle.mc_ui.specs.declared.asks.Ask.{Ask}
 use Rattle.mc_ui.specs.declared.asks.Ask.TheVariants as ask
 use Rattle.mc_ui.specs.declared.dialog.Dialog.{Dialog}

@@ -3,7 +3,9 @@ ghost use Rattle.std.specs.Prelude.{◌≡◌, Some, option_map};
 ghost use Rattle.copy_move.specs.Jobs.{first_work};
 ghost use Rattle.copy_move.specs.Told.{running};
 
-use copy_move::{Answer, Job, Refusals, Run};
+use job_reports::{Answer, Job};
+use session_history::Refusals;
+use copy_move::Run;
 
 /// A job that was confirmed: its plan, and the job as it starts.
 #[derive(Debug, Drop)]

@@ -2,7 +2,8 @@
 ghost use Rattle.std.specs.Prelude.{◌≡◌};
 ghost use Rattle.mc_ui.specs.Causes.{cause_words};
 
-use copy_move::{Cause, PlanError, Refusal};
+use job_reports::Cause;
+use session_history::{PlanError, Refusal};
 use mc_text::NoMemory;
 use tree_trait::TreeError;
 

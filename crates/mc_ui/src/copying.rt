@@ -9,7 +9,9 @@ ghost use Rattle.mc_ui.specs.Choices.{AfterLook, PlanCalls, PlanLeads, has_plan_
 
 use crate::asks::Confirmed;
 use crate::dialog::Chosen;
-use copy_move::{Job, Pair, Pairs, PlanError, Refusal, Run};
+use job_reports::{Job, Pair, Pairs};
+use session_history::{PlanError, Refusal};
+use copy_move::Run;
 use mc_text::{NoMemory, Path, PathError, Paths};
 use std::alloc::Global;
 use tree_trait::{Meta, Tree, TreeError};

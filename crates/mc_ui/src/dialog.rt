@@ -2,7 +2,7 @@
 ghost use Rattle.std.specs.Prelude.{◌≡◌, true, is_some};
 ghost use Rattle.mc_text.specs.Routes.{parent_of};
 
-use file_copy::Trouble;
+use job_reports::Trouble;
 use mc_text::Path;
 
 /// A file that was chosen. It lies in a folder.

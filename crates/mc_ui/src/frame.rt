@@ -7,7 +7,7 @@ use crate::causes::write_cause;
 use crate::dialog::Dialog;
 use crate::panel::Panel;
 use crate::ui::Ui;
-use file_copy::Trouble;
+use job_reports::Trouble;
 use mc_text::{NoMemory, Path, drawn, fit};
 use std::alloc::Global;
 use tree_trait::{Sink, SinkError};

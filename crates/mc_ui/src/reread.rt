@@ -2,11 +2,11 @@
 ghost use Rattle.std.specs.Prelude.{◌≡◌, ◌≤◌, true, IfOk};
 ghost use Rattle.tree_trait.specs.Calls.{ListFolder};
 ghost use Rattle.tree_trait.specs.Answers.{IfKnown, HasRisen};
-ghost use Rattle.copy_move.specs.Traces.{AreRefused};
+ghost use Rattle.session_history.specs.Refusals.{AreRefused};
 ghost use Rattle.mc_ui.specs.Screens.{IsReread, listed, sight};
 ghost use Rattle.mc_ui.specs.Refused.{has_fault};
 
-use copy_move::Refusal;
+use session_history::Refusal;
 use mc_text::{Names, NoMemory, Path};
 use std::alloc::Global;
 use tree_trait::{Tree, TreeError};

@@ -1,9 +1,11 @@
 //! Steps of the job, and the end of a session.
 ghost use Rattle.std.specs.Prelude.{◌≡◌, ◌<◌, ◌≤◌, true, Option, Some, None, IsSome, ◌||◌, reverse, if◌then◌else◌};
 ghost use Rattle.std.specs.Option.{option_map};
+ghost use Rattle.session_history.specs.Entries.{is_closed};
 ghost use Rattle.copy_move.specs.Jobs.{closed_job};
 ghost use Rattle.copy_move.specs.Ranks.{rank_with};
-ghost use Rattle.copy_move.specs.Told.{if_closed, live_job, IsReady};
+ghost use Rattle.copy_move.specs.Told.{if_closed, IsReady};
+ghost use Rattle.history_laws.specs.ToldJob.{live_job};
 ghost use Rattle.history_laws.specs.Traces.{IsTracedTo};
 ghost use Rattle.mc_desk.specs.Sessions.{EndsSession};
 ghost use Rattle.mc_desk.specs.Tallies.{can_step, faults_in, keys_in, has_lost};
@@ -14,7 +16,9 @@ use super::{Due, Session};
 use crate::claims::NoClaims;
 use crate::replies::{Ended, StepReply};
 use crate::tag::Tag;
-use copy_move::{Did, Ending, Entry, Event, Run, Stepped, is_end, stuck_at};
+use job_reports::{Did, Ending, Stepped, is_end, stuck_at};
+use session_history::{Entry, Event};
+use copy_move::Run;
 use mc_text::Path;
 use std::alloc::Global;
 use tree_trait::{Sink, Spawner, Tree};

@@ -3,10 +3,10 @@ ghost use Rattle.std.specs.Prelude.{◌≡◌, ◌≢◌, ◌≤◌, ◌&&◌, �
 ghost use Rattle.tree_trait.specs.Calls.{Stat};
 ghost use Rattle.tree_trait.specs.Answers.{IfKnown, HasRisen};
 ghost use Rattle.copy_move.specs.Told.{told};
-ghost use Rattle.copy_move.specs.Traces.{AreRefused};
+ghost use Rattle.session_history.specs.Refusals.{AreRefused};
 ghost use Rattle.mc_ui.specs.Refused.{has_fault};
 ghost use Rattle.key_screen.specs.declared.keys.Base.{Base as BaseType};
-ghost use Rattle.copy_move.specs.Jobs.{passes_over};
+ghost use Rattle.job_reports.specs.Reports.{passes_over};
 ghost use Rattle.mc_ui.specs.Screens.{DeleteBox, InTargetBox, MaskBox, NoBox, PartLeftBox, PlansCopy, TargetBox, TroubleBox, WellAsked, answered_box, can_answer as may_answer, closes_message as does_close, confirms as number_for, in_delete_box, in_mask_box, in_message_box, in_trouble_box, is_cancel as does_cancel, is_enter as is_enter_key, letter_of as answer_of, seen_box, sight, target_in, with_ask};
 
 use super::Ui;
@@ -15,8 +15,8 @@ use crate::asks::{Ask, KeyAct};
 use crate::causes::{NO_MORE_NUMBERS, refusal_text};
 use crate::copying::{CopyPlan, begin_deletion, plan_copy};
 use crate::dialog::{Chosen, Dialog};
-use copy_move::{Answer, Run};
-use file_copy::Trouble;
+use job_reports::{Answer, Trouble};
+use copy_move::Run;
 use key_screen::Base;
 use mc_text::{NoMemory, Path};
 use std::alloc::Global;

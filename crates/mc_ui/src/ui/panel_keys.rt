@@ -3,7 +3,7 @@ ghost use Rattle.std.specs.Prelude.{◌≡◌, ◌↔◌, ◌∷◌, ◌≤◌, 
 ghost use Rattle.tree_trait.specs.Calls.{Stat};
 ghost use Rattle.tree_trait.specs.Answers.{IfKnown, HasRisen};
 ghost use Rattle.copy_move.specs.Told.{told};
-ghost use Rattle.copy_move.specs.Traces.{AreRefused};
+ghost use Rattle.session_history.specs.Refusals.{AreRefused};
 ghost use Rattle.mc_ui.specs.Refused.{has_fault};
 ghost use Rattle.mc_ui.specs.Panels.{current_path};
 ghost use Rattle.mc_ui.specs.Screens.{Chooses, InPanel, NoBox, WellAsked, box_of, seen_box, sight, with_ask};
@@ -13,7 +13,8 @@ use crate::asks::{Ask, KeyAct};
 use crate::causes::cause_text;
 use crate::choosing::{Choice, choose};
 use crate::dialog::{Chosen, Dialog};
-use copy_move::{Refusal, Refusals, Run};
+use session_history::{Refusal, Refusals};
+use copy_move::Run;
 use key_screen::Base;
 use mc_text::NoMemory;
 use std::alloc::Global;

@@ -1,5 +1,5 @@
 -- A look that is refused.
-use Rattle.file_copy.proofs.Peeking.{stat_stops}
+use Rattle.job_reports.proofs.Reading.{stat_stops}
 use Rattle.file_copy.proofs.looks.look.Goals as goal
 
 pub returns-in-Err-clause-known : goal.returns-in-Err-clause-known

@@ -1,5 +1,5 @@
 -- A look that is refused, and not for want of a thing there.
-use Rattle.file_copy.proofs.Peeking.{absent_stops}
+use Rattle.job_reports.proofs.Reading.{absent_stops}
 use Rattle.file_copy.proofs.looks.look_at_target.Goals as goal
 
 pub returns-in-Err-absent-clause-known : goal.returns-in-Err-absent-clause-known

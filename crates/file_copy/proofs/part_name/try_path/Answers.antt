@@ -2,7 +2,7 @@
 use Rattle.std.proofs.Common.{◌∙◌, sym, refl}
 use Rattle.tree_trait.specs.Change.{current}
 use Rattle.file_copy.proofs.Naming.{barred, open_path}
-use Rattle.file_copy.proofs.Peeking.{absent_stops, absent_missing}
+use Rattle.job_reports.proofs.Reading.{absent_stops, absent_missing}
 use Rattle.file_copy.proofs.part_name.try_path.Goals as goal
 
 pub returns-then-is_barred-clause-known : goal.returns-then-is_barred-clause-known

@@ -2,7 +2,7 @@
 use Rattle.std.proofs.Common.{false}
 use Rattle.tree_trait.specs.Calls.{SetMode}
 use Rattle.file_copy.proofs.Placing.{ran_moding}
-use Rattle.file_copy.proofs.Runs.{ran_call}
+use Rattle.job_reports.proofs.Runs.{ran_call}
 use Rattle.file_copy.proofs.place.give_mode.Goals as goal
 
 pub returns : goal.returns

@@ -2,8 +2,8 @@
 use Rattle.std.proofs.Common.{[], ◌∷◌, false}
 use Rattle.tree_trait.specs.Calls.{SyncFile, Rename}
 use Rattle.file_copy.specs.CopyCalls.{moding}
-use Rattle.file_copy.specs.Stops.{Comes}
-use Rattle.file_copy.proofs.Runs.{ran_told, ran_stopped}
+use Rattle.job_reports.specs.Stops.{Comes}
+use Rattle.job_reports.proofs.Runs.{ran_told, ran_stopped}
 use Rattle.file_copy.proofs.place.place.Goals as goal
 
 pub returns-in-Ok : goal.returns-in-Ok

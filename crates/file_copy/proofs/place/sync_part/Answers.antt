@@ -1,8 +1,8 @@
 -- One call, with its answer.
 use Rattle.std.proofs.Common.{false}
 use Rattle.tree_trait.specs.Calls.{SyncFile}
-use Rattle.file_copy.specs.Stops.{Comes}
-use Rattle.file_copy.proofs.Runs.{ran_call}
+use Rattle.job_reports.specs.Stops.{Comes}
+use Rattle.job_reports.proofs.Runs.{ran_call}
 use Rattle.file_copy.proofs.place.sync_part.Goals as goal
 
 pub returns : goal.returns

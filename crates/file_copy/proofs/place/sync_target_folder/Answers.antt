@@ -1,7 +1,7 @@
 -- One call, with its answer.
 use Rattle.std.proofs.Common.{true}
 use Rattle.tree_trait.specs.Calls.{SyncFolder}
-use Rattle.file_copy.proofs.Runs.{ran_call}
+use Rattle.job_reports.proofs.Runs.{ran_call}
 use Rattle.file_copy.proofs.place.sync_target_folder.Goals as goal
 
 pub returns : goal.returns

@@ -2,10 +2,11 @@
 use Rattle.std.proofs.Common.{ap, sym, ◌∙◌, refl, arith, false, ◌≡◌, Some}
 use Rattle.tree_trait.specs.declared.calls.TreeError.TheVariants as refused
 use Rattle.tree_trait.specs.Calls.{RemoveFile}
-use Rattle.file_copy.specs.declared.report.Did.TheVariants.{Removed, Troubled}
-use Rattle.file_copy.specs.declared.copy.Stepped.{Stepped}
+use Rattle.job_reports.specs.declared.report.Did.TheVariants.{Removed, Troubled}
+use Rattle.job_reports.specs.declared.report.Stepped.{Stepped}
 use Rattle.copy_move.specs.declared.deletion.Stage.TheVariants.{Sync}
-use Rattle.copy_move.specs.Deletions.{Deleting, call_of, trouble_at}
+use Rattle.copy_move.specs.Deletions.{Deleting, call_of}
+use Rattle.job_reports.specs.Stops.{trouble_at}
 use Rattle.copy_move.proofs.DeletionRuns.{steps_removed, steps_refused, steps_unmade, remove_at, fault-cause, err_is}
 use Rattle.copy_move.proofs.deletion.Deletion.remove.Goals as goal
 

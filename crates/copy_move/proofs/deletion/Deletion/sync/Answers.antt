@@ -2,10 +2,11 @@
 use Rattle.std.proofs.Common.{ap, ◌∙◌, refl, arith, true}
 use Rattle.tree_trait.specs.declared.calls.TreeError.TheVariants as refused
 use Rattle.tree_trait.specs.Calls.{SyncFolder}
-use Rattle.file_copy.specs.declared.report.Did.TheVariants.{Troubled}
-use Rattle.file_copy.specs.declared.copy.Stepped.{Stepped}
+use Rattle.job_reports.specs.declared.report.Did.TheVariants.{Troubled}
+use Rattle.job_reports.specs.declared.report.Stepped.{Stepped}
 use Rattle.copy_move.specs.declared.deletion.Stage.TheVariants.{Finish}
-use Rattle.copy_move.specs.Deletions.{Deleting, call_of, trouble_at}
+use Rattle.copy_move.specs.Deletions.{Deleting, call_of}
+use Rattle.job_reports.specs.Stops.{trouble_at}
 use Rattle.copy_move.proofs.DeletionRuns.{steps_synced, steps_refused, steps_unmade, sync_at, sync_call, fault-cause, err_is}
 use Rattle.copy_move.proofs.deletion.Deletion.sync.Goals as goal
 

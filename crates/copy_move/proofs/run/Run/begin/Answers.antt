@@ -1,9 +1,9 @@
 -- A dirty folder is synced first, or there is none on that mount.
 use Rattle.std.proofs.Common.{◌≡◌, true, ap, ◌∙◌, refl, inl, inr}
 use Rattle.tree_trait.specs.declared.calls.TreeError.TheVariants as refused
-use Rattle.file_copy.specs.declared.copy.Stepped.{Stepped}
-use Rattle.file_copy.specs.declared.report.Cause.TheVariants.{Memory}
-use Rattle.file_copy.specs.declared.report.Did.TheVariants.{Troubled}
+use Rattle.job_reports.specs.declared.report.Stepped.{Stepped}
+use Rattle.job_reports.specs.declared.report.Cause.TheVariants.{Memory}
+use Rattle.job_reports.specs.declared.report.Did.TheVariants.{Troubled}
 use Rattle.copy_move.specs.declared.run.Course.TheVariants.{Unsettled}
 use Rattle.copy_move.specs.Jobs.{Running}
 use Rattle.copy_move.proofs.FolderSteps.{own_later, refused_folder, settling_later}

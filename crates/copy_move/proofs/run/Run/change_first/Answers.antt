@@ -1,8 +1,8 @@
 -- The step that may make the first change, or no memory for it.
 use Rattle.std.proofs.Common.{◌≡◌, ◌-◌, length, take, true, ap, ◌∙◌}
 use Rattle.std.specs.Prelude.{if◌then◌else◌}
-use Rattle.file_copy.specs.declared.copy.Stepped.{Stepped}
-use Rattle.file_copy.specs.declared.report.Did.TheVariants.{Troubled}
+use Rattle.job_reports.specs.declared.report.Stepped.{Stepped}
+use Rattle.job_reports.specs.declared.report.Did.TheVariants.{Troubled}
 use Rattle.copy_move.proofs.FolderSteps.{changed_first, unmade_first}
 use Rattle.copy_move.proofs.run.Run.change_first.Goals as goal
 

@@ -1,6 +1,6 @@
 -- The folder was synced, or that was refused.
 use Rattle.std.proofs.Common.{ap, ◌∙◌, refl}
-use Rattle.file_copy.specs.declared.copy.Stepped.{Stepped}
+use Rattle.job_reports.specs.declared.report.Stepped.{Stepped}
 use Rattle.copy_move.specs.declared.run.Course.TheVariants.{Unsettled}
 use Rattle.copy_move.specs.Jobs.{Running}
 use Rattle.copy_move.proofs.DeletionRuns.{err_is}

@@ -1,7 +1,7 @@
 -- The end of keys is written down.
 use Rattle.std.proofs.Common.{rules, ◌≡◌, ◌∷◌, false, true, None, refl, ap, ◌∙◌, arith}
 use Rattle.std.specs.Option.{option_map}
-use Rattle.copy_move.specs.declared.history.Entry.{Entry}
+use Rattle.session_history.specs.declared.history.Entry.{Entry}
 use Rattle.copy_move.specs.Jobs.{closed_job}
 use Rattle.copy_move.specs.Told.{told}
 use Rattle.copy_move.proofs.Telling.{closed_told}

@@ -1,7 +1,7 @@
 -- A look is written down as it was made.
 use Rattle.std.proofs.Common.{rules, ◌≡◌, ◌≤◌, ◌∷◌, false, None, if◌then◌else◌, refl, ap, sym, ◌∙◌, subst, arith}
 use Rattle.std.specs.Option.{option_map}
-use Rattle.copy_move.specs.declared.history.Event.TheVariants.{Look}
+use Rattle.session_history.specs.declared.history.Event.TheVariants.{Look}
 use Rattle.copy_move.specs.Told.{told}
 use Rattle.mc_desk.specs.Tallies.{Tally, part_left}
 use Rattle.mc_desk.specs.Desks.{Blames, awaited}

@@ -1,8 +1,8 @@
 -- The key is written down as lost, and the desk closed.
 use Rattle.std.proofs.Common.{rules, ◌≡◌, ◌≤◌, ◌∷◌, false, true, None, refl, ap, ◌∙◌, arith}
 use Rattle.std.specs.Option.{option_map}
-use Rattle.copy_move.specs.declared.history.Entry.{Entry}
-use Rattle.copy_move.specs.declared.history.Event.TheVariants.{Key}
+use Rattle.session_history.specs.declared.history.Entry.{Entry}
+use Rattle.session_history.specs.declared.history.Event.TheVariants.{Key}
 use Rattle.copy_move.specs.Jobs.{closed_job}
 use Rattle.copy_move.specs.Told.{told}
 use Rattle.copy_move.proofs.Telling.{closed_told}

@@ -4,10 +4,11 @@ use Rattle.std.specs.Prelude.{if◌then◌else◌}
 use Rattle.std.specs.Option.{option_map}
 use Rattle.std.proofs.lemmas.Bool.{both_ways}
 use Rattle.mc_text.specs.Routes.{Route}
-use Rattle.file_copy.specs.declared.report.Did.TheVariants.{Ended}
-use Rattle.file_copy.specs.declared.report.Ending.TheVariants.{NoMemory}
-use Rattle.copy_move.specs.declared.history.Event.TheVariants.{Step}
-use Rattle.copy_move.specs.Jobs.{Running, ends, waits_on}
+use Rattle.job_reports.specs.declared.report.Did.TheVariants.{Ended}
+use Rattle.job_reports.specs.declared.report.Ending.TheVariants.{NoMemory}
+use Rattle.session_history.specs.declared.history.Event.TheVariants.{Step}
+use Rattle.copy_move.specs.Jobs.{Running, waits_on}
+use Rattle.job_reports.specs.Reports.{ends}
 use Rattle.copy_move.specs.Ranks.{rank_with}
 use Rattle.copy_move.specs.Told.{if_closed, told}
 use Rattle.mc_desk.specs.Tallies.{Tally}

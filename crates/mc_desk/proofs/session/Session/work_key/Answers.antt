@@ -1,8 +1,8 @@
 -- A key is written down as it was worked, and what it asked for directly after it.
 use Rattle.std.proofs.Common.{rules, ◌≡◌, ◌≤◌, ◌∷◌, false, Some, None, refl, ap, sym, subst, ◌∙◌, arith, Result, Ok, Err, OnOk}
-use Rattle.copy_move.specs.declared.history.Entry.{Entry}
-use Rattle.copy_move.specs.declared.history.Event.TheVariants.{Began, Key, Order}
-use Rattle.copy_move.specs.declared.history.JobOrder.TheVariants.{Answered}
+use Rattle.session_history.specs.declared.history.Entry.{Entry}
+use Rattle.session_history.specs.declared.history.Event.TheVariants.{Began, Key, Order}
+use Rattle.session_history.specs.declared.history.JobOrder.TheVariants.{Answered}
 use Rattle.copy_move.specs.Jobs.{MayAnswer, answered}
 use Rattle.copy_move.specs.Told.{told}
 use Rattle.key_screen.specs.declared.keys.Base.TheVariants.{Unknown}

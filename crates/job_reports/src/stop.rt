@@ -1,6 +1,6 @@
 //! What changing calls come to: how many were made, or the trouble that stopped them.
 ghost use Rattle.std.specs.Prelude.{◌≡◌, ◌≤◌};
-ghost use Rattle.file_copy.specs.Stops.{IsAbsent, IsNamed, IsTold, calls_of, later_of, no_memory_of, ran_of, unmade_of};
+ghost use Rattle.job_reports.specs.Stops.{IsAbsent, IsNamed, IsTold, calls_of, later_of, no_memory_of, ran_of, refusal_in as refused_with, tries_of, unmade_of};
 
 use crate::report::{Cause, Trouble};
 use mc_text::Path;
@@ -9,13 +9,13 @@ use tree_trait::TreeError;
 
 /// A trouble, and how many changing calls were made until then.
 #[derive(Debug, Drop)]
-pub(crate) struct Stop {
-    pub(crate) trouble: Trouble,
-    pub(crate) calls: u64,
+pub struct Stop {
+    pub trouble: Trouble,
+    pub calls: u64,
 }
 
 /// What the answer of a call comes to. One that found no memory was not made.
-pub(crate) fn ran(answer: Result<(), TreeError>, path: Path, barrier: bool) -> Result<u64, Stop>
+pub fn ran(answer: Result<(), TreeError>, path: Path, barrier: bool) -> Result<u64, Stop>
     ensures { result ≡ ran_of answer path barrier }
 {
     match answer {
@@ -33,7 +33,7 @@ pub(crate) fn ran(answer: Result<(), TreeError>, path: Path, barrier: bool) -> R
 }
 
 /// What calls come to before which so many were made.
-pub(crate) fn then(calls: u64, answer: Result<u64, Stop>) -> Result<u64, Stop>
+pub fn then(calls: u64, answer: Result<u64, Stop>) -> Result<u64, Stop>
     requires few { calls ≤ 3 }
     requires few_more { calls_of answer ≤ 3 }
     ensures { result ≡ later_of calls answer }
@@ -48,14 +48,14 @@ pub(crate) fn then(calls: u64, answer: Result<u64, Stop>) -> Result<u64, Stop>
 }
 
 /// A trouble before any call was made.
-pub(crate) fn unmade(trouble: Trouble) -> Stop
+pub fn unmade(trouble: Trouble) -> Stop
     ensures { result ≡ unmade_of trouble }
 {
     Stop { trouble, calls: 0 }
 }
 
 /// Trouble for want of memory.
-pub(crate) fn no_memory(barrier: bool) -> Trouble
+pub fn no_memory(barrier: bool) -> Trouble
     ensures { result ≡ no_memory_of barrier }
 {
     Trouble {
@@ -66,7 +66,7 @@ pub(crate) fn no_memory(barrier: bool) -> Trouble
 }
 
 /// A trouble away from a barrier with this cause, which names a path, or want of memory for the path's copy.
-pub(crate) fn named(alloc: Global, cause: Cause, path: &Path) -> Trouble
+pub fn named(alloc: Global, cause: Cause, path: &Path) -> Trouble
     ensures { IsNamed cause path.now result }
 {
     match path.copy(alloc) {
@@ -80,7 +80,7 @@ pub(crate) fn named(alloc: Global, cause: Cause, path: &Path) -> Trouble
 }
 
 /// The trouble of a reading call that was refused.
-pub(crate) fn refused(alloc: Global, error: TreeError, path: &Path) -> Trouble
+pub fn refused(alloc: Global, error: TreeError, path: &Path) -> Trouble
     ensures { IsTold error path.now result }
 {
     match error {
@@ -90,11 +90,31 @@ pub(crate) fn refused(alloc: Global, error: TreeError, path: &Path) -> Trouble
 }
 
 /// Whether a look was refused because nothing is there. Another refusal is a trouble.
-pub(crate) fn absent(alloc: Global, error: TreeError, path: &Path) -> Result<(), Trouble>
+pub fn absent(alloc: Global, error: TreeError, path: &Path) -> Result<(), Trouble>
     ensures { IsAbsent error path.now result }
 {
     match error {
         TreeError::Missing => Ok(()),
         error => Err(refused(alloc, error, path)),
+    }
+}
+
+/// How many calls were made for an answer: none where there was no memory.
+pub fn tries(answer: Result<(), TreeError>) -> u64
+    ensures { result ≡ tries_of answer }
+{
+    match answer {
+        Err(TreeError::Memory) => 0,
+        Ok(()) | Err(_) => 1,
+    }
+}
+
+/// The refusal that an answer is.
+pub fn refusal_in(answer: Result<(), TreeError>) -> Option<TreeError>
+    ensures { result ≡ refused_with answer }
+{
+    match answer {
+        Ok(()) => None,
+        Err(error) => Some(error),
     }
 }

@@ -3,14 +3,14 @@ use Rattle.std.specs.Prelude.{◌≡◌, ◌⊎◌, ℕ, ◌+◌, ◌≤◌, ⊤
 use Rattle.mc_text.specs.Routes.{Route}
 use Rattle.tree_trait.specs.Calls.{Call}
 use Rattle.tree_trait.specs.Change.{CallLog}
-use Rattle.tree_trait.specs.Answers.{IfKnown, HasRisen}
+use Rattle.tree_trait.specs.Answers.{IfKnown, HasRisen, Performs}
 use Rattle.tree_trait.specs.declared.calls.TreeError.{TreeError}
 use Rattle.tree_trait.specs.declared.calls.TreeError.TheVariants as refused
-use Rattle.file_copy.specs.declared.report.Cause.{Cause}
-use Rattle.file_copy.specs.declared.report.Cause.TheVariants.{Tree, Memory}
-use Rattle.file_copy.specs.declared.report.Trouble.{Trouble}
-use Rattle.file_copy.specs.declared.stop.Stop.{Stop}
-use Rattle.file_copy.specs.CallRuns.{AllDone, RunStops, HasMore}
+use Rattle.job_reports.specs.declared.report.Cause.{Cause}
+use Rattle.job_reports.specs.declared.report.Cause.TheVariants.{Tree, Memory}
+use Rattle.job_reports.specs.declared.report.Trouble.{Trouble}
+use Rattle.job_reports.specs.declared.stop.Stop.{Stop}
+use Rattle.job_reports.specs.CallRuns.{AllDone, RunStops, HasMore}
 
 -- trouble for want of memory
 abbrev pub no_memory_of : Bool → Trouble
@@ -68,3 +68,37 @@ pub record Ran (calls : List Call) (at_barrier : Bool) (result : Result ℕ Stop
 -- The same, as a word that stays closed: so the prover goes by lemmas from the calls of a row to the row.
 unfoldable pub Comes : List Call → Bool → Result ℕ Stop → Option CallLog → Option CallLog → ℕ → ℕ → Type 0
 Comes calls at_barrier result before after faults faults_after = Ran calls at_barrier result before after faults faults_after
+
+-- the cause of a trouble where a call was refused
+abbrev pub cause_of : TreeError → Cause
+cause_of refused.Memory = Memory
+cause_of e = Tree e
+
+-- the path that a trouble names; for want of memory it names none
+abbrev pub named_path : TreeError → Route → Option Route
+named_path refused.Memory path = None
+named_path e path = Some path
+
+-- trouble at a path: a call on it was refused, or there was no memory
+abbrev pub trouble_at : TreeError → Route → Bool → Trouble
+trouble_at e path barrier = record { cause = cause_of e; path = named_path e path; barrier = barrier }
+
+-- a call that may be refused, or find no memory
+abbrev pub IsTried : CallLog → Call → Option CallLog → Type 0
+IsTried log call after = (answer : Result (Unit {0}) TreeError) × Performs {A = Unit {0}} log call answer after
+
+-- what a sync answered: it was done, or it was refused so
+abbrev pub sync_answer : Option TreeError → Result (Unit {0}) TreeError
+sync_answer None = Ok tt
+sync_answer (Some e) = Err e
+
+-- the refusal that an answer is
+abbrev pub refusal_in : Result (Unit {0}) TreeError → Option TreeError
+refusal_in (Ok done) = None
+refusal_in (Err e) = Some e
+
+-- how many calls were made for an answer: none where there was no memory
+abbrev pub tries_of : Result (Unit {0}) TreeError → ℕ
+tries_of (Ok done) = 1
+tries_of (Err refused.Memory) = 0
+tries_of (Err e) = 1

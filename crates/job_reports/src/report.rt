@@ -1,5 +1,9 @@
 //! What the step of a job reports.
+ghost use Rattle.std.specs.Prelude.{◌≡◌, IfSome, Some};
+ghost use Rattle.job_reports.specs.Reports.{ends, stuck_path};
+
 use mc_text::{Kind, Path};
+use std::alloc::Global;
 use tree_trait::TreeError;
 
 /// Why a job can't go on.
@@ -59,4 +63,40 @@ pub enum Did {
     Troubled(Trouble),
     /// The job ended; `part` is a part file that it could not remove.
     Ended { ending: Ending, part: Option<Path> },
+}
+
+/// What a step did, and how many changing calls of the tree it made.
+#[derive(Debug, Drop)]
+pub struct Stepped {
+    pub did: Did,
+    pub calls: u64,
+}
+
+/// What a last step did, how many changing calls of the tree it made, and the refusal of a sync that was tried in vain:
+/// the folder then has names that no sync has brought onto the disk.
+#[derive(Debug, Drop)]
+pub struct LastStepped {
+    pub did: Did,
+    pub calls: u64,
+    pub left: Option<TreeError>,
+}
+
+/// Whether a report is that of an end.
+pub fn is_end(did: &Did) -> bool
+    ensures { result ≡ ends did.now }
+{
+    matches!(did, Did::Ended { .. })
+}
+
+/// The path at which a report says that a job is stuck; none where there is no memory for it.
+pub fn stuck_at(alloc: Global, did: &Did) -> Option<Path>
+    ensures { IfSome result (λ path. stuck_path did.now ≡ Some path) }
+{
+    match did {
+        Did::Troubled(trouble) => match &trouble.path {
+            None => None,
+            Some(path) => path.copy(alloc).ok(),
+        },
+        _ => None,
+    }
 }

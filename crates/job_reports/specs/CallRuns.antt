@@ -5,8 +5,8 @@ use Rattle.tree_trait.specs.Calls.{Call, Stat, ListFolder, ReadAt, ReadLink, Mak
 use Rattle.tree_trait.specs.Change.{CallLog}
 use Rattle.tree_trait.specs.Answers.{Performs}
 use Rattle.tree_trait.specs.declared.calls.TreeError.{TreeError}
-use Rattle.file_copy.specs.declared.report.Cause.{Cause}
-use Rattle.file_copy.specs.declared.report.Cause.TheVariants.{Tree, TargetKind, SpecialSource, PartTaken, TooLong, Changed, Memory}
+use Rattle.job_reports.specs.declared.report.Cause.{Cause}
+use Rattle.job_reports.specs.declared.report.Cause.TheVariants.{Tree, TargetKind, SpecialSource, PartTaken, TooLong, Changed, Memory}
 
 -- all were done, one after the other
 abbrev pub AllDone : CallLog → List Call → Option CallLog → Type 0

@@ -6,11 +6,11 @@ use Rattle.tree_trait.specs.declared.calls.TreeError.TheVariants as refused
 use Rattle.tree_trait.specs.Calls.{Call}
 use Rattle.tree_trait.specs.Change.{Change, CallLog, with_change}
 use Rattle.tree_trait.specs.Answers.{IfKnown, HasRisen, HasCause, Performs}
-use Rattle.file_copy.specs.declared.report.Cause.{Cause}
-use Rattle.file_copy.specs.declared.report.Cause.TheVariants.{Tree, TargetKind, SpecialSource, PartTaken, TooLong, Changed, Memory}
-use Rattle.file_copy.specs.declared.stop.Stop.{Stop}
-use Rattle.file_copy.specs.CallRuns.{AllDone, StopsAt, RunStops, HasMore, path_of}
-use Rattle.file_copy.specs.Stops.{Comes, Ran, calls_of, ran_of, later_of}
+use Rattle.job_reports.specs.declared.report.Cause.{Cause}
+use Rattle.job_reports.specs.declared.report.Cause.TheVariants.{Tree, TargetKind, SpecialSource, PartTaken, TooLong, Changed, Memory}
+use Rattle.job_reports.specs.declared.stop.Stop.{Stop}
+use Rattle.job_reports.specs.CallRuns.{AllDone, StopsAt, RunStops, HasMore, path_of}
+use Rattle.job_reports.specs.Stops.{Comes, Ran, calls_of, ran_of, later_of}
 
 -- one change more, or none where there was no memory
 pub one_more : (log : CallLog) (c : Change) (now : CallLog) → (let o : Option CallLog = Some (with_change log c) in o) ≡ Some now → HasMore log 1 now

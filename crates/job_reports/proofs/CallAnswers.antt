@@ -7,9 +7,9 @@ use Rattle.tree_trait.specs.Refusals.{refusal_of}
 use Rattle.tree_trait.specs.Change.{Nothing, CallLog, current, with_change, change_of, torn_write}
 use Rattle.tree_trait.specs.Answers.{Performs}
 use Rattle.tree_trait.proofs.Ending.{IsQuiet, Performs-err}
-use Rattle.file_copy.specs.declared.report.Cause.{Cause}
-use Rattle.file_copy.specs.declared.report.Cause.TheVariants as cause
-use Rattle.file_copy.specs.CallRuns.{AllDone, RunStops}
+use Rattle.job_reports.specs.declared.report.Cause.{Cause}
+use Rattle.job_reports.specs.declared.report.Cause.TheVariants as cause
+use Rattle.job_reports.specs.CallRuns.{AllDone, RunStops}
 
 pub some_log : (x y : CallLog) → (let o : Option CallLog = Some x in o) ≡ Some y → x ≡ y
 some_log x y h = cc
