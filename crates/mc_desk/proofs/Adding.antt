@@ -129,7 +129,7 @@ steps old new live did after log now is leads = (
   (after, leads, sym (with_one live after) ∙ ap (λ j. with_job live.id after (before_others j [])) (sym is)),
 )
 
-module _ (contents contents_after : Option CallLog) (faults : ℕ) (old new : Seen) (seat count shown : ℕ) where
+module _ (contents contents_after : Option CallLog) (faults : ℕ) (old new : Seen) (seat count shown : ℕ) (main : seat ≡ 0) where
   -- a key that was worked
   pub adds_key : (key : KeyType) (now : ℕ) (refusals : List Refusal) → new.newest ≡ entry seat old.tally.calls count shown (Key key now refusals false) ∷ old.newest → new.tally ≡ old.tally → new.job ≡ old.job
       → new.tally.job ≡ option_map told new.job → old.tally.closed ≡ false → old.tally.due ≡ None → old.tally.lost ≡ false → old.screen.planned ≡ None → contents_after ≡ contents
@@ -141,7 +141,7 @@ module _ (contents contents_after : Option CallLog) (faults : ℕ) (old new : Se
     tally = tally ∙ open_tally old.tally unclosed;
     told = tells;
     timely = unplanned old unasked settled;
-    counts = record { later = later; fault = fault; calls = omega arith; most = omega arith };
+    counts = record { seat = main; later = later; fault = fault; calls = omega arith; most = omega arith };
     leads = (record { unclosed = unclosed; looked = looked; unlost = unlost }, leads);
     caused = refused;
     traced = leads_still contents contents_after same old new (entry seat old.tally.calls count shown (Key key now refusals false)) refl dirty (λ log stays. (stays, refl)) (job ∙ open_job old.tally.closed old.job unclosed);
@@ -159,7 +159,7 @@ module _ (contents contents_after : Option CallLog) (faults : ℕ) (old new : Se
     tally = tally ∙ ap (λ b. let r : Tally = record old.tally { job = if_closed b old.tally.job; lost = true } in r) (sym unclosed);
     told = tells;
     timely = unplanned old unasked settled;
-    counts = record { later = later; fault = λ h. absurd cc; calls = omega arith; most = omega arith };
+    counts = record { seat = main; later = later; fault = λ h. absurd cc; calls = omega arith; most = omega arith };
     leads = (record { unclosed = unclosed; looked = looked; unlost = unlost }, same_noted old new screen quit);
     caused = λ log known. tt;
     traced = leads_still contents contents_after same old new (entry seat old.tally.calls count shown (Key key now [] true)) refl dirty (λ log stays. (stays, refl)) (job ∙ open_job old.tally.closed old.job unclosed);
@@ -179,7 +179,7 @@ module _ (contents contents_after : Option CallLog) (faults : ℕ) (old new : Se
         ∙ ap (λ b. let r : Tally = record old.tally { job = if_closed b old.tally.job; unseen = false; due = if can_step old.tally.job then old.tally.due else None } in r) (sym unclosed);
     told = tells;
     timely = unplanned old unasked settled;
-    counts = record { later = later; fault = fault; calls = omega arith; most = omega arith };
+    counts = record { seat = main; later = later; fault = fault; calls = omega arith; most = omega arith };
     leads = (
       unclosed,
       subst (λ s. LookLeads (sight contents) (rows_told old.newest) old.tally.unseen (part_left old.newest) refusals s (noted new)) (sym (unasked_screen old unasked))
@@ -203,7 +203,7 @@ module _ (contents contents_after : Option CallLog) (faults : ℕ) (old new : Se
         ∙ ap (λ b. let r : Tally = record old.tally { job = if_closed b (option_map (running id) (first_work id plan)); last = id; due = Some id } in r) (sym unclosed));
     told = ap (λ (t : Tally). t.job) tally ∙ sym (ap (option_map told) job);
     timely = tt;
-    counts = record { later = later; fault = λ h. absurd h; calls = omega arith; most = omega arith };
+    counts = record { seat = main; later = later; fault = λ h. absurd h; calls = omega arith; most = omega arith };
     leads = record {
       asked = ap (λ (s : Screen). s.planned) (unasked_screen old unasked) ∙ planned;
       idle = idle;
@@ -236,7 +236,7 @@ module _ (contents contents_after : Option CallLog) (faults : ℕ) (old new : Se
         ∙ ap (λ b. let r : Tally = record old.tally { job = if_closed b (option_map (answered answer) old.tally.job); due = option_map (λ (j : Running). j.id) old.tally.job } in r) (sym unclosed)));
     told = ap (λ (t : Tally). t.job) tally ∙ sym (ap (option_map told) job);
     timely = tt;
-    counts = record { later = later; fault = λ h. absurd h; calls = omega arith; most = omega arith };
+    counts = record { seat = main; later = later; fault = λ h. absurd h; calls = omega arith; most = omega arith };
     leads = record {
       asked = ap (λ (s : Screen). s.planned) (unasked_screen old unasked) ∙ planned;
       row = row_of live (trouble_told old.newest);
@@ -264,7 +264,7 @@ module _ (contents contents_after : Option CallLog) (faults : ℕ) (old new : Se
     tally = tally;
     told = tells;
     timely = may_end old settled;
-    counts = record { later = later; fault = λ h. absurd h; calls = omega arith; most = omega arith };
+    counts = record { seat = main; later = later; fault = λ h. absurd h; calls = omega arith; most = omega arith };
     leads = same_noted old new screen quit;
     caused = λ log known. tt;
     traced = leads_still contents contents_after same old new (entry seat old.tally.calls count shown Closed) refl dirty (λ log stays. (stays, refl)) job;
@@ -323,6 +323,7 @@ module _ (contents contents_after : Option CallLog) (faults : ℕ) (old new : Se
         told = ap (λ (t : Tally). t.job) tally;
         timely = may_end old settled;
         counts = record {
+          seat = main;
           later = let l = s.later in omega (arith, l, had, now);
           fault = λ h. let risen = s.fault h in omega (arith, risen, had, now);
           calls = omega (arith, calls_is);
@@ -353,6 +354,7 @@ module _ (contents contents_after : Option CallLog) (faults : ℕ) (old new : Se
     told = ap (λ (t : Tally). t.job) tally;
     timely = may_end old settled;
     counts = record {
+      seat = main;
       later = let l = s.later in omega (arith, l, had, now);
       fault = λ h. let risen = s.fault h in omega (arith, risen, had, now);
       calls = omega (arith, calls_is);
@@ -403,7 +405,7 @@ module _ (contents contents_after : Option CallLog) (faults : ℕ) (old new : Se
     tally = tally ∙ stepped_tally old.tally _ _ _ _ old.tally.calls (none_left old.tally.closed ∙ ap (if_closed old.tally.closed) (sym (ap (λ j. option_and_then (after_step (Ended NoMemory part)) j) told_is))) refl;
     told = ap (λ (t : Tally). t.job) tally ∙ sym (ap (option_map told) job);
     timely = may_end old settled;
-    counts = record { later = later; fault = λ h. absurd h; calls = omega arith; most = omega arith };
+    counts = record { seat = main; later = later; fault = λ h. absurd h; calls = omega arith; most = omega arith };
     leads = (same_noted old new screen quit, (told live, told_is, refl, inr (inl (waits_told live ∙ ready, ap (Ended NoMemory) (part_is ∙ sym (part_told live))))));
     caused = λ log known. tt;
     traced = leads_on contents contents_after same old new (entry seat old.tally.calls count shown (Step live.id (Ended NoMemory part))) None refl

@@ -1,5 +1,5 @@
 -- What a key comes to, by what the desk does about it.
-use Rattle.std.proofs.Common.{◌≡◌, ◌⊎◌, ℕ, Bool, true, false, List, [], ◌∷◌, refl, sym, ◌∙◌, ap, subst, inl, inr, Option, Some, None}
+use Rattle.std.proofs.Common.{◌≡◌, ◌⊎◌, ℕ, Bool, true, false, List, [], sym, ◌∙◌, ap, subst, inl, inr, Option, Some, None}
 use Rattle.std.proofs.lemmas.Bool.{false≢true}
 use Rattle.key_screen.specs.declared.keys.Key.{Key as KeyType}
 use Rattle.tree_trait.specs.Calls.{Stat}
@@ -18,7 +18,7 @@ use Rattle.mc_ui.specs.declared.asks.Told.{Told}
 use Rattle.mc_ui.specs.declared.asks.Told.TheVariants as told
 use Rattle.mc_ui.specs.LiveJobs.{can_answer, takes_answer}
 use Rattle.mc_ui.specs.Refused.{has_fault}
-use Rattle.mc_ui.specs.Screens.{Answers, Begins, Ends, KeyLeads, NoBox, Screen, WellAsked, is_request, settled, sight, with_ask}
+use Rattle.mc_ui.specs.Screens.{Answers, Begins, Ends, KeyLeads, Screen, WellAsked, is_request, settled, sight, with_ask}
 use Rattle.copy_move.specs.Jobs.{Running}
 use Rattle.mc_desk.specs.declared.granting.Confirmed.{Confirmed}
 use Rattle.mc_desk.specs.declared.granting.Deed.{Deed}
@@ -53,47 +53,47 @@ module _ (start : Option Start) (opening contents : Option CallLog) (faults : �
 
   -- the key, as the screen works it
   leads_to : (is : Ask) (refusals : List Refusal) (after : Screen) → asked ≡ is → refusals ≡ own → after ≡ with_ask is screen → KeyLeads (sight contents) (rows_told old.newest) key refusals (noted old) after
-  leads_to is refusals after same told there =
+  leads_to is refusals after same refused there =
       subst (λ rs. KeyLeads (sight contents) rs key refusals (noted old) after) told_rows
       (subst (λ s. KeyLeads (sight contents) rows key refusals s after) (sym (unasked_screen old unasked))
-      (subst (λ rs. KeyLeads (sight contents) rows key rs old.screen after) (sym told)
+      (subst (λ rs. KeyLeads (sight contents) rows key rs old.screen after) (sym refused)
       (subst (λ s. KeyLeads (sight contents) rows key own old.screen s) (sym there) (subst (λ a. KeyLeads (sight contents) rows key own old.screen (with_ask a screen)) same leads))))
 
   module _ (refusals : List Refusal) (now : Screen) (done : Deed) (granted : IsGranted (next_id old.tally.last) asked own done refusals) (now_is : now ≡ settled (told_of done) screen) where
     here : (is : Deed) → done ≡ is → now ≡ settled (told_of is) screen
     here is same = subst (λ d. now ≡ settled (told_of d) screen) same now_is
 
-    as : (is : Deed) → done ≡ is → IsGranted (next_id old.tally.last) asked own is refusals
-    as is same = done_as (next_id old.tally.last) asked own refusals done is same granted
+    granted_as : (is : Deed) → done ≡ is → IsGranted (next_id old.tally.last) asked own is refusals
+    granted_as is same = done_as (next_id old.tally.last) asked own refusals done is same granted
 
     -- it asked for nothing
     pub works_nothing : done ≡ deed.Nothing → KeyWorks (before contents old) key refusals now
-    works_nothing same = let g = as deed.Nothing same in inl (leads_to ask.Nothing refusals now g.0 g.1 (here deed.Nothing same))
+    works_nothing same = let g = granted_as deed.Nothing same in inl (leads_to ask.Nothing refusals now g.0 g.1 (here deed.Nothing same))
 
     -- it asked for the end
     pub works_end : done ≡ deed.End → KeyWorks (before contents old) key refusals (record now { planned = Some Ends })
     works_end same =
-        let g = as deed.End same in
+        let g = granted_as deed.End same in
         inl (leads_to ask.End refusals (record now { planned = Some Ends }) g.0 g.1 (ap (λ (s : Screen). let c : Screen = record s { planned = Some Ends } in c) (here deed.End same)))
 
     -- it confirmed a job
     pub works_begin : (confirmed : Confirmed) → done ≡ deed.Begin confirmed → KeyWorks (before contents old) key refusals (record now { planned = Some (Begins confirmed.plan confirmed.background) })
     works_begin confirmed same =
-        let g = as (deed.Begin confirmed) same in
+        let g = granted_as (deed.Begin confirmed) same in
         inl (leads_to (ask.Begin confirmed.plan confirmed.background) refusals (record now { planned = Some (Begins confirmed.plan confirmed.background) }) g.0 g.2
         (ap (λ (s : Screen). let c : Screen = record s { planned = Some (Begins confirmed.plan confirmed.background) } in c) (here (deed.Begin confirmed) same)))
 
     -- it answered the trouble
     pub works_answer : (answer : Answer) → done ≡ deed.Answer answer → KeyWorks (before contents old) key refusals (record now { planned = Some (Answers answer) })
     works_answer answer same =
-        let g = as (deed.Answer answer) same in
+        let g = granted_as (deed.Answer answer) same in
         inl (leads_to (ask.Answer answer) refusals (record now { planned = Some (Answers answer) }) g.0 g.1
         (ap (λ (s : Screen). let c : Screen = record s { planned = Some (Answers answer) } in c) (here (deed.Answer answer) same)))
 
     -- it asked for a job, and no number is left
     pub works_refuse : done ≡ deed.Refuse → (is_request asked ≡ true → screen ≡ old.screen) → (is_request asked ≡ true → own ≡ []) → KeyWorks (before contents old) key refusals now
     works_refuse same stays alone =
-        let g = as deed.Refuse same in
+        let g = granted_as deed.Refuse same in
         let request : is_request asked ≡ true = ap is_request g.2 in
         let stayed : screen ≡ noted old = stays request ∙ sym (unasked_screen old unasked) in
         inr record {

@@ -1,5 +1,5 @@
 -- The trouble in which a job waits is at a barrier exactly where nothing can be passed over, as its newest report tells it.
-use Rattle.std.proofs.Common.{◌≡◌, ℕ, Bool, true, false, ◌&&◌, ◌⊎◌, List, [], ◌∷◌, refl, sym, ◌∙◌, ap, subst, inl, inr, Option, Some, None}
+use Rattle.std.proofs.Common.{◌≡◌, ℕ, Bool, true, false, ◌&&◌, List, [], ◌∷◌, refl, sym, ◌∙◌, ap, subst, inl, inr, Option, Some, None}
 use Rattle.std.specs.Prelude.{if◌then◌else◌, not, option_and_then, ⊤}
 use Rattle.std.specs.Option.{option_map, option_map_or}
 use Rattle.std.proofs.lemmas.Bool.{true≢false, false≢true}
@@ -26,7 +26,7 @@ use Rattle.copy_move.specs.declared.run.Course.{Course}
 use Rattle.copy_move.specs.declared.run.Course.TheVariants.{GoesOn, InTrouble, Unsettled, Skips, Ends}
 use Rattle.copy_move.specs.Deletions as deletions
 use Rattle.copy_move.specs.Jobs.{Running, MayAnswer, TellsOn, WorkTells, WorkWinds, answered, answered_on, at_barrier, closed_course, closed_job, first_work, is_barred, is_fresh, waits_on}
-use Rattle.copy_move.specs.Told.{IsAllowedStep, after_step, course_told, if_closed, running, told, work_told}
+use Rattle.copy_move.specs.Told.{IsAllowedStep, after_step, course_told, if_closed, running, told}
 use Rattle.history_laws.specs.ToldJob.{after_event, live_job}
 use Rattle.history_laws.specs.Traces.{Stand}
 use Rattle.mc_ui.specs.LiveJobs.{fits, is_troubled, takes_answer}

@@ -117,8 +117,8 @@ module _ (start : Option Start) (opening contents contents_after : Option CallLo
     written =
         written_more faults mid new _ start opening contents_after contents_after
         (written_more faults old mid _ start opening contents contents_after desk.written
-        (adds_lost contents contents_after faults old mid 0 count shown key now refl refl refl desk.written.told unclosed looked (unlost start opening contents faults old desk unclosed) desk.settled same later refl refl unasked refl))
-        (adds_closed contents_after contents_after faults mid new 0 count 0 more is job tells desk.settled refl (omega arith) screen quit dirty);
+        (adds_lost contents contents_after faults old mid 0 count shown refl key now refl refl refl desk.written.told unclosed looked (unlost start opening contents faults old desk unclosed) desk.settled same later refl refl unasked refl))
+        (adds_closed contents_after contents_after faults mid new 0 count 0 refl more is job tells desk.settled refl (omega arith) screen quit dirty);
     settled = ap (λ (s : Screen). s.planned) screen ∙ desk.settled;
     asked = λ h. ap (λ (t : Tally). t.due) is;
     lost = λ h. ap (λ (t : Tally). t.closed) is;
@@ -137,7 +137,7 @@ module _ (start : Option Start) (opening contents contents_after : Option CallLo
     desk_keyed more is job tells works dirty =
         desk_of start opening contents_after faults new
         (written_more faults old new _ start opening contents contents_after desk.written
-        (adds_key contents contents_after faults old new 0 count shown key now refusals more is job tells unclosed looked (unlost start opening contents faults old desk unclosed) desk.settled same later fault refused
+        (adds_key contents contents_after faults old new 0 count shown refl key now refusals more is job tells unclosed looked (unlost start opening contents faults old desk unclosed) desk.settled same later fault refused
         works unasked dirty))
         settled (λ h. ap (λ (t : Tally). t.closed) is ∙ desk.lost (sym (ap (λ (t : Tally). t.lost) is) ∙ h)) (λ h. ap (λ (t : Tally). t.due) is ∙ looked)
         (λ h. ap (λ (t : Tally). t.due) is ∙ desk.shut (sym (ap (λ (t : Tally). t.closed) is) ∙ h)) room
@@ -152,7 +152,7 @@ module _ (start : Option Start) (opening contents contents_after : Option CallLo
     keyed_written : (screen : Screen) → KeyWorks (before contents old) key refusals screen → IsWritten start opening contents_after faults (keyed screen)
     keyed_written screen works =
         written_more faults old (keyed screen) _ start opening contents contents_after desk.written
-        (adds_key contents contents_after faults old (keyed screen) 0 count shown key now refusals refl refl refl desk.written.told unclosed looked (unlost start opening contents faults old desk unclosed) desk.settled same later fault
+        (adds_key contents contents_after faults old (keyed screen) 0 count shown refl key now refusals refl refl refl desk.written.told unclosed looked (unlost start opening contents faults old desk unclosed) desk.settled same later fault
         refused (subst (λ s. KeyWorks (before contents old) key refusals s) (sym (unasked_screen (keyed screen) unasked)) works) unasked refl)
 
     -- a key that confirmed a job, and the job that it begins
@@ -165,7 +165,7 @@ module _ (start : Option Start) (opening contents contents_after : Option CallLo
         let written = keyed_written screen works in
         desk_of start opening contents_after faults new
         (written_more faults (keyed screen) new _ start opening contents_after contents_after written
-        (adds_began contents_after contents_after faults (keyed screen) new 0 began_count 0 id plan background run more
+        (adds_began contents_after contents_after faults (keyed screen) new 0 began_count 0 refl id plan background run more
         (subst (λ n. option_map (running n) (first_work n plan) ≡ Some run) number started) job is unclosed
         (rows_are start opening contents_after faults (keyed screen) written ∙ ap (λ j. rows_of j (trouble_told (keyed screen).newest)) idle) workable refl refl counted
         (numbered ∙ ap Some number) (cleared new.screen settled) quit unasked idle dirty))
@@ -185,7 +185,7 @@ module _ (start : Option Start) (opening contents contents_after : Option CallLo
         let written = keyed_written screen works in
         desk_of start opening contents_after faults new
         (written_more faults (keyed screen) new _ start opening contents_after contents_after written
-        (adds_order contents_after contents_after faults (keyed screen) new 0 order_count 0 answer live more was
+        (adds_order contents_after contents_after faults (keyed screen) new 0 order_count 0 refl answer live more was
         (rows_are start opening contents_after faults (keyed screen) written ∙ ap (λ j. rows_of j (trouble_told (keyed screen).newest)) was) takes
         desk.written.told job is unclosed refl refl counted (cleared new.screen settled) quit unasked dirty))
         settled (λ h. ap (λ (t : Tally). t.closed) is ∙ desk.lost (sym (ap (λ (t : Tally). t.lost) is) ∙ h)) (λ h. absurd (not_asked h quit))
@@ -205,7 +205,7 @@ pub desk_closed : (start : Option Start) (opening contents : Option CallLog) (fa
     → new.screen ≡ old.screen → new.quit ≡ old.quit → old.spare ≤ new.spare + 1 → new.dirty ≡ old.dirty → IsDesk start opening contents faults new
 desk_closed start opening contents faults old new count desk unclosed later more is job tells screen quit left dirty = record {
   written = written_more faults old new _ start opening contents contents desk.written
-      (adds_closed contents contents faults old new 0 count 0 more is job tells desk.settled refl later screen quit dirty);
+      (adds_closed contents contents faults old new 0 count 0 refl more is job tells desk.settled refl later screen quit dirty);
   settled = ap (λ (s : Screen). s.planned) screen ∙ desk.settled;
   asked = λ h. ap (λ (t : Tally). t.due) is;
   lost = λ h. ap (λ (t : Tally). t.closed) is;
@@ -225,7 +225,7 @@ pub desk_looked : (start : Option Start) (opening contents contents_after : Opti
 desk_looked start opening contents contents_after faults old new count shown refusals rows part rows_is part_is desk unclosed same later fault refused leads more is job tells settled quit room dirty unasked =
     desk_of start opening contents_after faults new
     (written_more faults old new _ start opening contents contents_after desk.written
-    (adds_look contents contents_after faults old new 0 count shown refusals more is job tells unclosed desk.settled same later fault refused
+    (adds_look contents contents_after faults old new 0 count shown refl refusals more is job tells unclosed desk.settled same later fault refused
     (subst (λ rs. LookLeads (sight contents) rs old.tally.unseen (part_left old.newest) refusals old.screen new.screen) (rows_is ∙ sym (rows_are start opening contents faults old desk.written))
     (subst (λ p. LookLeads (sight contents) rows old.tally.unseen p refusals old.screen new.screen) part_is leads)) quit unasked dirty))
     settled (λ h. ap (λ (t : Tally). t.closed) is ∙ desk.lost (sym (ap (λ (t : Tally). t.lost) is) ∙ h)) (λ h. absurd (let no = unasked in cc)) (λ h. absurd (let shut = ap (λ (t : Tally). t.closed) is in cc)) room
@@ -238,19 +238,19 @@ few_made live stepped did made dirty dirty_after contents contents_after before 
 
 -- a step of the job, written down
 pub desk_stepped : (start : Option Start) (opening contents contents_after : Option CallLog) (faults : ℕ) (old new : Seen) (seat count made calls before after : ℕ) (live stepped : Running) (did : Did)
-    → IsDesk start opening contents faults old → old.job ≡ Some live → RunStep IsUnclaimed live stepped did made old.dirty new.dirty contents contents_after before after → length old.newest + 3 ≤ 2 ^ 56
+    → seat ≡ 0 → IsDesk start opening contents faults old → old.job ≡ Some live → RunStep IsUnclaimed live stepped did made old.dirty new.dirty contents contents_after before after → length old.newest + 3 ≤ 2 ^ 56
     → calls ≡ min (old.tally.calls + made) (2 ^ 64 - 1) → faults_in faults old.newest ≤ before → after ≡ count
     → new.newest ≡ entry seat calls count 0 (Step live.id did) ∷ old.newest
     → new.job ≡ if_closed old.tally.closed (if ends did then None else Some stepped)
     → new.tally ≡ record old.tally { job = option_map told new.job; unseen = ends did || old.tally.unseen; calls = calls } → new.screen ≡ old.screen
     → new.quit ≡ old.quit → 2 ≤ new.spare → IsDesk start opening contents_after faults new
-desk_stepped start opening contents contents_after faults old new seat count made calls before after live stepped did desk is steps fits calls_is had now more job tally screen quit room =
+desk_stepped start opening contents contents_after faults old new seat count made calls before after live stepped did main desk is steps fits calls_is had now more job tally screen quit room =
     let all : calls ≡ old.tally.calls + made =
     let few = desk.written.calls in let three = few_made live stepped did made old.dirty new.dirty contents contents_after before after steps in omega (arith, calls_is, three, fits, few) in
     desk_of start opening contents_after faults new
     (written_more faults old new _ start opening contents contents_after desk.written (elim steps [
-      | inl o ↦ adds_step contents contents_after faults old new seat count 0 live stepped did made calls before after is desk.written.told o all more job tally desk.settled had now screen quit
-      | inr s ↦ adds_settled contents contents_after faults old new seat count 0 live stepped did made calls before after is desk.written.told s all more job tally desk.settled had now screen quit
+      | inl o ↦ adds_step contents contents_after faults old new seat count 0 main live stepped did made calls before after is desk.written.told o all more job tally desk.settled had now screen quit
+      | inr s ↦ adds_settled contents contents_after faults old new seat count 0 main live stepped did made calls before after is desk.written.told s all more job tally desk.settled had now screen quit
     ]))
     (ap (λ (s : Screen). s.planned) screen ∙ desk.settled) (λ h. ap (λ (t : Tally). t.closed) tally ∙ desk.lost (sym (ap (λ (t : Tally). t.lost) tally) ∙ h))
     (λ h. ap (λ (t : Tally). t.due) tally ∙ desk.asked (sym quit ∙ h))
@@ -284,13 +284,13 @@ unknown_plans_nothing tree rows key refusals before after asked planned unknown 
 
 -- the end of a job for want of memory, written down in the room that was kept for it
 pub desk_gave_up : (start : Option Start) (opening contents : Option CallLog) (faults : ℕ) (old new : Seen) (seat count : ℕ) (live : Running) (part : Option Route)
-    → IsDesk start opening contents faults old → old.job ≡ Some live → waits_on live.course ≡ false → part ≡ part_of live.work → faults_in faults old.newest ≤ count
+    → seat ≡ 0 → IsDesk start opening contents faults old → old.job ≡ Some live → waits_on live.course ≡ false → part ≡ part_of live.work → faults_in faults old.newest ≤ count
     → new.newest ≡ entry seat old.tally.calls count 0 (Step live.id (Ended NoMemory part)) ∷ old.newest
     → new.job ≡ None → new.tally ≡ record old.tally { job = None; unseen = true } → new.screen ≡ old.screen → new.quit ≡ old.quit → kept_room old.tally.closed None ≤ new.spare → new.dirty ≡ old.dirty
     → IsDesk start opening contents faults new
-desk_gave_up start opening contents faults old new seat count live part desk is ready part_is later more job tally screen quit room dirty = record {
+desk_gave_up start opening contents faults old new seat count live part main desk is ready part_is later more job tally screen quit room dirty = record {
   written = written_more faults old new _ start opening contents contents desk.written
-      (adds_given_up contents contents faults old new seat count 0 live part is desk.written.told ready part_is more job tally desk.settled refl later screen quit dirty);
+      (adds_given_up contents contents faults old new seat count 0 main live part is desk.written.told ready part_is more job tally desk.settled refl later screen quit dirty);
   settled = ap (λ (s : Screen). s.planned) screen ∙ desk.settled;
   asked = λ h. ap (λ (t : Tally). t.due) tally ∙ desk.asked (sym quit ∙ h);
   lost = λ h. ap (λ (t : Tally). t.closed) tally ∙ desk.lost (sym (ap (λ (t : Tally). t.lost) tally) ∙ h);

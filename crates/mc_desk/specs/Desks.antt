@@ -166,6 +166,16 @@ is_quit Go = false
 is_quit (Wait job) = false
 is_quit Quit = true
 
+-- what is to be looked at, by the answer
+abbrev pub awaited_by : DeskReply → Option ℕ
+awaited_by Go = None
+awaited_by (Wait job) = Some job
+awaited_by Quit = None
+
+-- An error closes the desk, but for want of memory that left all as it was; there may be more room for entries then.
+abbrev pub FailsClosed : DeskError → Seen → Seen → Type 0
+FailsClosed answer old new = (new.tally.closed ≡ true) ⊎ ((answer ≡ error.Memory) × (record new { spare = old.spare } ≡ old))
+
 -- nothing was taken, and the session is not over
 pub record IsFresh (desk : Seen) : Type 0 where
   pub none : desk.newest ≡ []

@@ -112,9 +112,10 @@ IsTimely (Order id order) before = ⊤
 IsTimely (Step id did) before = MayEnd before.planned
 IsTimely Closed before = MayEnd before.planned
 
--- The counts of an entry. The tree's faults don't fall, and rise where the entry tells of one. Only a step makes changing
--- calls, and at most three.
+-- The counts of an entry. It is the main thread's, since there is no other yet. The tree's faults don't fall, and rise where the
+-- entry tells of one. Only a step makes changing calls, and at most three.
 pub record Counts (failed made : ℕ) (e : Entry) : Type 0 where
+  pub seat : e.seat ≡ 0
   pub later : failed ≤ e.faults
   pub fault : TellsFault e.what → HasRisen failed e.faults
   pub calls : made ≤ e.calls

@@ -50,9 +50,9 @@ pub fn grant(alloc: Global, act: KeyAct, next: Option<u32>) -> Result<Granted, N
 {
     let KeyAct { ask, refusals } = act;
     match ask {
-        Ask::Nothing => Ok(granted(Deed::Nothing, refusals)),
-        Ask::End => Ok(granted(Deed::End, refusals)),
-        Ask::Answer(answer) => Ok(granted(Deed::Answer(answer), refusals)),
+        Ask::Nothing => Ok(with_deed(Deed::Nothing, refusals)),
+        Ask::End => Ok(with_deed(Deed::End, refusals)),
+        Ask::Answer(answer) => Ok(with_deed(Deed::Answer(answer), refusals)),
         Ask::Begin { plan, background } => match next {
             None => refuse(alloc),
             Some(number) => begin(alloc, plan, background, number, refusals),
@@ -71,7 +71,7 @@ pub fn told(deed: &Deed) -> Told
     }
 }
 
-fn granted(deed: Deed, refusals: Refusals) -> Granted
+fn with_deed(deed: Deed, refusals: Refusals) -> Granted
     ensures { result ≡ record { deed = deed; refusals = refusals } }
 {
     Granted { deed, refusals }
@@ -83,7 +83,7 @@ fn refuse(alloc: Global) -> Result<Granted, NoMemory>
 {
     let mut refusals = Vec::new(alloc);
     refusals.push(Refusal::Begin(BeginError::NoMoreIds))?;
-    Ok(granted(Deed::Refuse, Refusals(refusals)))
+    Ok(with_deed(Deed::Refuse, Refusals(refusals)))
 }
 
 /// Starts a job.
@@ -98,7 +98,7 @@ fn begin(
     ensures { IfOk result (λ granted. IsGranted (Some number) (Ask.Begin plan background) refusals granted.deed granted.refusals) }
 {
     let run = Run::start(alloc, &plan, number)?;
-    Ok(granted(
+    Ok(with_deed(
         Deed::Begin(Confirmed {
             plan,
             background,

@@ -148,13 +148,15 @@ IsComplete log (Some start) status failed =
     refusal_of (current log) (ListFolder start.left) ≡ None → refusal_of (current log) (ListFolder start.right) ≡ None → (failed → ⊥) → (status ≡ 0) ⊎ (status ≡ 5)
 
 -- The status of a session. A key that was lost makes it 5. Else it is 3 only where the keyboard failed, 4 only where the
--- screen did, and 0 only at the quit key or the end of the keys; so it is never 0 where the session failed.
+-- screen did, and 0 only at the quit key or the end of the keys, where the screen never failed; so it is never 0 where the
+-- session failed.
 pub record IsStatusOf (end : SessionEnd) (screen_failed key_lost : Bool) (status : ℕ) : Type 0 where
   pub lost : key_lost ≡ true → status ≡ 5
   pub not_usage : status ≢ 1
   pub not_start : status ≢ 2
   pub keyboard : status ≡ 3 → end ≡ KeysFailed
   pub screen : status ≡ 4 → screen_failed ≡ true
+  pub told : screen_failed ≡ true → status ≢ 0
   pub done : status ≡ 0 → (end ≡ Quit) ⊎ (end ≡ KeysEnded)
   pub failed : (end ≡ ScreenFailed) ⊎ (end ≡ NoMemory) → IsCutShort status
   pub most : status ≤ 5

@@ -12,9 +12,9 @@ ghost use Rattle.mc_main.specs.Headline.{IsStatusOr, IsStatusOf, RanSession, Rea
 
 use crate::outcome::Outcome;
 use crate::session::{SessionEnd, run_session};
-use session_history::{Entries, History};
 use mc_desk::{Desk, Ended, Refused, Side, StartError, Tag, cause_text};
 use mc_text::{NoMemory, Text, drawn};
+use session_history::{Entries, History};
 use std::alloc::Global;
 use tree_trait::{Clock, Sink, SinkError, Source, Spawner, Tree, TreeError};
 

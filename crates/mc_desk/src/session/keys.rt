@@ -3,7 +3,7 @@ ghost use Rattle.std.specs.Prelude.{◌≡◌, ◌+◌, ◌≤◌, ◌∷◌, �
 ghost use Rattle.copy_move.specs.Told.{IsReady};
 ghost use Rattle.mc_ui.specs.Screens.{plain_base};
 ghost use Rattle.mc_desk.specs.Tallies.{can_step, keys_in, next_id as number_after};
-ghost use Rattle.mc_desk.specs.Desks.{BlamesScreen, CountsByte, failed_by, awaited, is_over, is_quit, HasTaken, TakesByte, KeepsKeys};
+ghost use Rattle.mc_desk.specs.Desks.{BlamesScreen, CountsByte, FailsClosed, failed_by, awaited, awaited_by, is_over, is_quit, HasTaken, TakesByte, KeepsKeys};
 
 use super::steps::{closed, closing};
 use super::{Due, Session};
@@ -32,6 +32,8 @@ impl<N: Tag, T: Tree, S: Sink, P: Spawner> Session<N, T, S, P> {
             → TakesByte result bytes byte self.old self.new }
         ensures counted { is_over self.old ≡ false → CountsByte result self.old.taken self.new.taken }
         ensures quit { IfOk result (λ reply. is_quit reply ≡ is_over self.new) }
+        ensures awaits { IfOk result (λ reply. awaited_by reply ≡ self.new.tally.due) }
+        ensures fails { IfErr result (λ error. FailsClosed error self.old self.new) }
         ensures unclosed { OnOk result (self.new.tally.closed ≡ self.old.tally.closed) }
     {
         if self.closed {
@@ -69,6 +71,7 @@ impl<N: Tag, T: Tree, S: Sink, P: Spawner> Session<N, T, S, P> {
         ensures dirty { self.new.dirty ≡ self.old.dirty }
         ensures screen_failed { BlamesScreen result self.new.failed }
         ensures looked { OnOk result (can_step self.old.tally.job ≡ false → self.new.tally.due ≡ None) }
+        ensures fails { IfErr result (λ error. FailsClosed error self.old self.new) }
         ensures unclosed { OnOk result (self.new.tally.closed ≡ self.old.tally.closed) }
         ensures quit { self.new.quit ≡ self.old.quit }
     {
@@ -150,6 +153,7 @@ impl<N: Tag, T: Tree, S: Sink, P: Spawner> Session<N, T, S, P> {
         ensures unasked { OnOk result (plain_base key ≡ Base.Unknown → self.new.quit ≡ false) }
         ensures room { OnOk result (self.old.spare ≤ self.new.spare + 2) }
         ensures quit { IfOk result (λ reply. is_quit reply ≡ self.new.quit) }
+        ensures awaits { IfOk result (λ reply. awaited_by reply ≡ self.new.tally.due) }
     {
         let Ok(rows) = rows_of(alloc, &self.job, &self.log) else {
             return self.lose_key(alloc, key, now);
@@ -189,13 +193,7 @@ impl<N: Tag, T: Tree, S: Sink, P: Spawner> Session<N, T, S, P> {
                     run,
                 } = confirmed;
                 let number = run.id();
-                self.log.note(began(
-                    self.calls,
-                    self.tree.faults(),
-                    number,
-                    plan,
-                    background,
-                ));
+                self.log.note(began(self.calls, self.tree.faults(), number, plan, background));
                 self.job = Some(run);
                 self.last_id = number;
                 self.due = Due::Job(number);
@@ -262,7 +260,8 @@ impl<N: Tag, T: Tree, S: Sink, P: Spawner> Session<N, T, S, P> {
         ensures unclosed { OnOk result (self.new.tally.closed ≡ self.old.tally.closed) }
         ensures shut { OnErr result (self.new.tally.closed ≡ true) }
         ensures quit { self.new.quit ≡ self.old.quit }
-        ensures goes_on { IfOk result (λ reply. is_quit reply ≡ false) }
+        ensures goes_on { IfOk result (λ reply. reply ≡ DeskReply.Go) }
+        ensures due { OnOk result (self.new.tally.due ≡ self.old.tally.due) }
     {
         let drawn = draw(alloc, &mut self.screen, &self.ui);
         self.shown = after_draw(self.shown, &drawn);

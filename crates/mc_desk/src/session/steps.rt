@@ -46,6 +46,7 @@ impl<N: Tag, T: Tree, S: Sink, P: Spawner> Session<N, T, S, P> {
     /// Makes one step of the job, if it is ready: `Did` where an entry was added. Without memory for the entry no call of
     /// the tree is made, and the job ends by the entry for which room was kept.
     pub fn step(&mut self, alloc: Global, seat: u32) -> StepReply
+        requires main { seat ≡ 0 }
         ensures screen { self.new.screen ≡ self.old.screen }
         ensures keys { KeepsKeys self.old self.new }
         ensures dirty { MovesDirty self.old.job self.new.newest self.old.dirty self.new.dirty }

@@ -1,25 +1,21 @@
 -- A key is written down as it was worked, and what it asked for directly after it.
-use Rattle.std.proofs.Common.{rules, ◌≡◌, ◌≤◌, ◌∷◌, true, false, Some, None, refl, ap, sym, subst, ◌∙◌, arith, Result, Ok, Err, OnOk, Bool}
+use Rattle.std.proofs.Common.{rules, ◌≡◌, ◌≤◌, ◌∷◌, false, Some, None, refl, ap, sym, subst, ◌∙◌, arith, Result, Ok, Err, OnOk}
 use Rattle.session_history.specs.declared.history.Entry.{Entry}
 use Rattle.session_history.specs.declared.history.Event.TheVariants.{Began, Key, Order}
 use Rattle.session_history.specs.declared.history.JobOrder.TheVariants.{Answered}
-use Rattle.job_reports.specs.Jobs.{is_workable}
 use Rattle.copy_move.specs.Jobs.{MayAnswer, answered}
 use Rattle.copy_move.specs.Told.{told}
 use Rattle.key_screen.specs.declared.keys.Base.TheVariants.{Unknown}
 use Rattle.mc_ui.specs.declared.asks.Ask.{Ask}
-use Rattle.mc_ui.specs.declared.asks.Ask.TheVariants as ask
-use Rattle.mc_ui.specs.LiveJobs.{takes_answer}
-use Rattle.mc_ui.specs.Screens.{Begins, Answers, Ends, is_request, settled, with_ask, plain_base}
+use Rattle.mc_ui.specs.Screens.{Begins, Answers, Ends, settled, with_ask, plain_base}
 use Rattle.mc_desk.specs.declared.granting.Deed.TheVariants as deed
 use Rattle.mc_desk.specs.declared.replies.DeskReply.{DeskReply}
 use Rattle.mc_desk.specs.declared.replies.DeskError.{DeskError}
 use Rattle.mc_desk.specs.Granting.{IsGranted, told_of}
-use Rattle.mc_desk.specs.LiveRows.{row_of, trouble_told}
 use Rattle.mc_desk.specs.Sessions.{KeyWorks}
 use Rattle.mc_desk.specs.Tallies.{Tally, next_id}
 use Rattle.mc_desk.specs.Desks.{Seen, Blames, awaited, with_end}
-use Rattle.mc_desk.proofs.Adding.{entry, unasked_screen}
+use Rattle.mc_desk.proofs.Adding.{entry}
 use Rattle.mc_desk.proofs.Asking.{begins_idle, called_told, can_be_worked, done_as, fault_told, now_settled, takes_asked, works_answer, works_begin, works_end, works_nothing, works_refuse}
 use Rattle.mc_desk.proofs.Blaming.{blames_drawn}
 use Rattle.mc_desk.proofs.Whole.{answers_live, desk_began, desk_keyed, desk_ordered, unknown_plans_nothing}
