@@ -48,7 +48,7 @@ pub(crate) fn write_part<T: Tree>(
 }
 
 /// Brings a full part to the target. It is synced before it is renamed, so that no crash leaves half a target.
-#[tactic(auto, unfolding(crate::specs::Stops::Comes))]
+#[tactic(auto, unfolding(job_reports::specs::Stops::Comes))]
 pub(crate) fn place<T: Tree>(
     alloc: Global,
     tree: &mut T,
@@ -81,7 +81,7 @@ fn give_mode<T: Tree>(alloc: Global, tree: &mut T, part: &Path, mode: u16) -> Re
     ran(tree.set_mode(alloc, part, mode), named, false)
 }
 
-#[tactic(auto, using(crate::proofs::Runs::comes_then, crate::proofs::Runs::comes_stopped, crate::proofs::Runs::comes_few))]
+#[tactic(auto, using(job_reports::proofs::Runs::comes_then, job_reports::proofs::Runs::comes_stopped, job_reports::proofs::Runs::comes_few))]
 fn sync_and_rename<T: Tree>(
     alloc: Global,
     tree: &mut T,
@@ -97,7 +97,7 @@ fn sync_and_rename<T: Tree>(
     }
 }
 
-#[tactic(auto, unfolding(crate::specs::Stops::Comes))]
+#[tactic(auto, unfolding(job_reports::specs::Stops::Comes))]
 fn sync_part<T: Tree>(alloc: Global, tree: &mut T, part: &Path) -> Result<u64, Stop>
     ensures { Comes (SyncFile part.now ∷ []) false result (T.contents tree.old) (T.contents tree.new)
         (T.fault_count tree.old) (T.fault_count tree.new) }
@@ -108,7 +108,7 @@ fn sync_part<T: Tree>(alloc: Global, tree: &mut T, part: &Path) -> Result<u64, S
     ran(tree.sync_file(alloc, part), named, false)
 }
 
-#[tactic(auto, unfolding(crate::specs::Stops::Comes))]
+#[tactic(auto, unfolding(job_reports::specs::Stops::Comes))]
 fn rename_part<T: Tree>(
     alloc: Global,
     tree: &mut T,
