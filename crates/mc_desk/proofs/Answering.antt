@@ -8,7 +8,7 @@ use Rattle.job_reports.specs.declared.answer.Answer.{Answer}
 use Rattle.copy_move.specs.declared.work.Work.{Work}
 use Rattle.copy_move.specs.declared.work.Work.TheVariants.{Copy, Delete}
 use Rattle.copy_move.specs.declared.run.Course.{Course}
-use Rattle.copy_move.specs.declared.run.Course.TheVariants.{GoesOn, InTrouble, Unsettled, Skips, Ends}
+use Rattle.copy_move.specs.declared.run.Course.TheVariants.{GoesOn, InTrouble, OwedSyncFailed, Skips, Ends}
 use Rattle.mc_text.specs.Routes.{Route}
 use Rattle.job_reports.specs.declared.report.Trouble.{Trouble}
 use Rattle.copy_move.specs.Jobs.{Running, MayAnswer, at_barrier, is_barred, part_of, trouble_on, waits_on}
@@ -45,7 +45,7 @@ pub waits_told : (job : Running) → waits_on (told job).course ≡ waits_on job
 waits_told job = refl
 
 barred_told : (course : Course) (work : Work) → is_barred course (work_told work) ≡ is_barred course work
-barred_told (Unsettled cause) work = refl
+barred_told (OwedSyncFailed cause) work = refl
 barred_told GoesOn work = barrier_told work
 barred_told (InTrouble cause) work = barrier_told work
 barred_told (Skips cause) work = barrier_told work
@@ -60,7 +60,7 @@ steps_told (Some job) = refl
 
 trouble_told : (course : Course) (work : Work) (path : Option Route) → trouble_on course (work_told work) path ≡ trouble_on course work path
 trouble_told (InTrouble cause) work path = ap (λ b. Some (record { cause = cause; path = path; barrier = b })) (barrier_told work)
-trouble_told (Unsettled cause) work path = refl
+trouble_told (OwedSyncFailed cause) work path = refl
 trouble_told GoesOn work path = refl
 trouble_told (Skips cause) work path = refl
 trouble_told (Ends ending) work path = refl

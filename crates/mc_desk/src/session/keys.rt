@@ -83,7 +83,7 @@ impl<N: Tag, T: Tree, S: Sink, P: Spawner> Session<N, T, S, P> {
         let Ok(part) = self.log.part_left(alloc) else {
             return Err(DeskError::Memory);
         };
-        let trouble = shown_trouble(&self.job, self.stuck_at.take());
+        let trouble = shown_trouble(&self.job, self.trouble_path.take());
         let Ok(refusals) = self
             .ui
             .look(alloc, &mut self.tree, self.unseen, trouble, part)

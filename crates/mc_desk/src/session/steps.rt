@@ -16,7 +16,7 @@ use super::{Due, Session};
 use crate::claims::NoClaims;
 use crate::replies::{Ended, StepReply};
 use crate::tag::Tag;
-use job_reports::{Did, Ending, Stepped, is_end, stuck_at};
+use job_reports::{Did, Ending, StepResult, is_end, trouble_path};
 use session_history::{Entry, Event};
 use copy_move::Run;
 use mc_text::Path;
@@ -77,10 +77,10 @@ impl<N: Tag, T: Tree, S: Sink, P: Spawner> Session<N, T, S, P> {
             self.unseen = true;
             return StepReply::Did;
         }
-        let Stepped { did, calls } = job.step(alloc, &mut self.tree, &NoClaims, &mut self.dirty);
+        let StepResult { did, calls } = job.step(alloc, &mut self.tree, &NoClaims, &mut self.dirty);
         self.calls = self.calls.saturating_add(calls);
         let ended = is_end(&did);
-        self.stuck_at = stuck_at(alloc, &did);
+        self.trouble_path = trouble_path(alloc, &did);
         self.log.note(Entry {
             seat,
             calls: self.calls,
@@ -135,7 +135,7 @@ impl<N: Tag, T: Tree, S: Sink, P: Spawner> Session<N, T, S, P> {
             calls: _,
             shown: _,
             unseen: _,
-            stuck_at: _,
+            trouble_path: _,
             due: _,
             closed: _,
             quit,
