@@ -12,10 +12,10 @@ use Rattle.job_reports.specs.CallRuns.{HasMore}
 use Rattle.job_reports.specs.Reports.{IsFault, ends}
 use Rattle.job_reports.specs.declared.report.Cause.{Cause}
 use Rattle.job_reports.specs.declared.report.Did.TheVariants.{Barrier, Skipped, Troubled}
-use Rattle.job_reports.specs.Stops.{no_memory_of, cause_of, trouble_at}
+use Rattle.job_reports.specs.Stops.{out_of_memory_at, cause_of, trouble_at}
 use Rattle.copy_move.specs.declared.work.Work.{Work}
 use Rattle.copy_move.specs.declared.run.Course.{Course}
-use Rattle.copy_move.specs.declared.run.Course.TheVariants.{GoesOn, Unsettled, Ends}
+use Rattle.copy_move.specs.declared.run.Course.TheVariants.{GoesOn, OwedSyncFailed, Ends}
 use Rattle.copy_move.specs.Jobs.{Running, JobTells, JobCalls, WorkTells, WorkCalls, WorkWinds, WorkLastCalls, at_barrier, course_after, file_of, is_fresh, skipped}
 use Rattle.copy_move.specs.Settling.{NoneOwed, TellsFolder, after_try, changed_folder, is_dirty, with_change}
 use Rattle.job_reports.specs.Paths.{without}
@@ -51,11 +51,11 @@ pub record OwnStep (unclaimed : Route → Type 0) (old new : Running) (did : Did
 abbrev pub SyncsFolder : Running → Route → Did → Running → List Route → List Route → Option CallLog → Option CallLog → Type 0
 SyncsFolder old folder did new dirty dirty_after before after =
     ((did ≡ Barrier) × (new ≡ old) × (dirty_after ≡ without folder dirty) × IfKnown before (λ log. Performs {A = Unit {0}} log (SyncFolder folder) (Ok tt) after))
-    ⊎ ((e : TreeError) × (did ≡ Troubled (trouble_at e folder true)) × (new ≡ record old { course = Unsettled (cause_of e) }) × (dirty_after ≡ dirty)
+    ⊎ ((e : TreeError) × (did ≡ Troubled (trouble_at e folder true)) × (new ≡ record old { course = OwedSyncFailed (cause_of e) }) × (dirty_after ≡ dirty)
     × IfKnown before (λ log. Performs {A = Unit {0}} log (SyncFolder folder) (Err e) after))
 
 -- A step of a job that has changed nothing yet, where an ended job left a dirty folder: that is synced first.
-pub record SettlingStep (old new : Running) (did : Did) (calls : ℕ) (dirty dirty_after : List Route) (before after : Option CallLog) (faults faults_after : ℕ) : Type 0 where
+pub record OwedSyncStep (old new : Running) (did : Did) (calls : ℕ) (dirty dirty_after : List Route) (before after : Option CallLog) (faults faults_after : ℕ) : Type 0 where
   pub goes : old.course ≡ GoesOn
   pub fresh : is_fresh old.work ≡ true
   pub folder : Route
@@ -70,7 +70,7 @@ pub record SettlingStep (old new : Running) (did : Did) (calls : ℕ) (dirty dir
 abbrev pub RunStep : (Route → Type 0) → Running → Running → Did → ℕ → List Route → List Route → Option CallLog → Option CallLog → ℕ → ℕ → Type 0
 RunStep unclaimed old new did calls dirty dirty_after before after faults faults_after =
     OwnStep unclaimed old new did calls dirty dirty_after before after faults faults_after
-    ⊎ SettlingStep old new did calls dirty dirty_after before after faults faults_after
+    ⊎ OwedSyncStep old new did calls dirty dirty_after before after faults faults_after
 
 -- A piece of work, likewise. Fewer steps are left then, and at most three where it is refused.
 pub record WorkSteps (unclaimed : Route → Type 0) (old new : Work) (did : Did) (calls : ℕ) (before after : Option CallLog) (faults faults_after : ℕ) : Type 0 where
@@ -98,7 +98,7 @@ pub record WorkWindsUp (ending : Ending) (old new : Work) (did : Did) (calls : �
 abbrev pub WorkSkips : Cause → Work → Did → Work → Type 0
 WorkSkips cause old did new =
     ((did ≡ Skipped (file_of old) cause) × (new ≡ skipped old))
-    ⊎ ((did ≡ Troubled (no_memory_of (at_barrier old))) × (new ≡ old))
+    ⊎ ((did ≡ Troubled (out_of_memory_at (at_barrier old))) × (new ≡ old))
 
 -- the step of a job that passes over its file: it makes no call
 pub record SkipSteps (cause : Cause) (old new : Running) (did : Did) (calls : ℕ) : Type 0 where

@@ -7,7 +7,7 @@ use Rattle.job_reports.specs.declared.report.Trouble.{Trouble}
 use Rattle.job_reports.specs.declared.report.Ending.TheVariants.{NoMemory}
 use Rattle.job_reports.specs.declared.report.Did.{Did}
 use Rattle.job_reports.specs.declared.report.Did.TheVariants.{Began, Chunk, Placed, Removed, Skipped, Cleaned, Barrier, Troubled, Ended}
-use Rattle.file_copy.specs.declared.stage.Said.{Said}
+use Rattle.file_copy.specs.declared.stage.SourceFacts.{SourceFacts}
 use Rattle.file_copy.specs.declared.stage.Stage.{Stage}
 use Rattle.file_copy.specs.declared.stage.Stage.TheVariants as at
 use Rattle.file_copy.specs.declared.stage.FolderState.TheVariants.{Synced, Dirty}
@@ -17,17 +17,17 @@ use Rattle.copy_move.specs.declared.deletion.Stage.TheVariants as deletion
 use Rattle.copy_move.specs.declared.work.Work.{Work}
 use Rattle.copy_move.specs.declared.work.Work.TheVariants.{Copy, Delete}
 use Rattle.copy_move.specs.declared.run.Course.{Course}
-use Rattle.copy_move.specs.declared.run.Course.TheVariants.{GoesOn, InTrouble, Unsettled}
+use Rattle.copy_move.specs.declared.run.Course.TheVariants.{GoesOn, InTrouble, OwedSyncFailed}
 use Rattle.copy_move.specs.Deletions.{after_sync}
 use Rattle.copy_move.specs.Jobs.{Running, JobTells, closed_job, is_fresh, part_of, skipped, waits_on}
 
 -- what no history tells
-abbrev pub unsaid : Said
-unsaid = record { size = 0; mode = 0 }
+abbrev pub untold_facts : SourceFacts
+untold_facts = record { size = 0; mode = 0 }
 
 -- a copy's place in its work, as its history tells it
 abbrev pub stage_told : Stage → Stage
-stage_told (at.Fill part said done) = at.Fill part unsaid 0
+stage_told (at.Fill part facts done) = at.Fill part untold_facts 0
 stage_told at.Begin = at.Begin
 stage_told (at.Clean part follows) = at.Clean part follows
 stage_told (at.Left part) = at.Left part
@@ -43,7 +43,7 @@ told job = record job { work = work_told job.work }
 
 -- the work once a part stands
 abbrev pub with_part : Route → Work → Work
-with_part part (Copy c) = Copy (record c { stage = at.Fill part unsaid 0; folder = Dirty })
+with_part part (Copy c) = Copy (record c { stage = at.Fill part untold_facts 0; folder = Dirty })
 with_part part (Delete d) = Delete d
 
 -- the work once its file was placed
@@ -73,7 +73,7 @@ synced (Delete d) = Delete (record d { stage = after_sync d.stage })
 
 -- a trouble at a barrier before the first change is that of a folder which an ended job left
 abbrev pub course_told : Work → Trouble → Course
-course_told work trouble = if is_fresh work && trouble.barrier then Unsettled trouble.cause else InTrouble trouble.cause
+course_told work trouble = if is_fresh work && trouble.barrier then OwedSyncFailed trouble.cause else InTrouble trouble.cause
 
 -- the job after a step
 abbrev pub after_step : Did → Running → Option Running

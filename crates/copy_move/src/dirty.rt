@@ -93,7 +93,7 @@ impl Dirty {
 
     /// The first of them that lies on the mount of this folder, as far as the tree can be asked. One at which nothing stands
     /// any more was removed.
-    pub(crate) fn first_beside<T: Tree>(
+    pub(crate) fn first_on_mount_of<T: Tree>(
         &self,
         alloc: Global,
         tree: &mut T,

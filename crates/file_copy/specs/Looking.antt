@@ -16,19 +16,19 @@ use Rattle.job_reports.specs.declared.report.Cause.{Cause}
 use Rattle.job_reports.specs.declared.report.Cause.TheVariants.{Tree, TargetKind, SpecialSource, PartTaken, TooLong, Changed, Memory}
 use Rattle.job_reports.specs.declared.report.Trouble.{Trouble}
 use Rattle.job_reports.specs.Reading.{IsRefusedWith}
-use Rattle.file_copy.specs.declared.stage.Said.{Said}
+use Rattle.file_copy.specs.declared.stage.SourceFacts.{SourceFacts}
 use Rattle.file_copy.specs.Copying.{Places}
 use Rattle.job_reports.specs.Paths.{folder_of}
-use Rattle.job_reports.specs.Stops.{IsNamed}
+use Rattle.job_reports.specs.Stops.{IsTroubleWithPath}
 
 -- the file that a path leads to
 abbrev pub file_at : FileSystem → Route → Node
 file_at s path = node s (found s path)
 
 -- what the source was said to be is what it is
-pub record IsSaid (s : FileSystem) (source : Route) (said : Said) : Type 0 where
-  pub size : said.size ≡ length (file_at s source).bytes
-  pub mode : said.mode ≡ (file_at s source).mode
+pub record AreFactsOf (s : FileSystem) (source : Route) (facts : SourceFacts) : Type 0 where
+  pub size : facts.size ≡ length (file_at s source).bytes
+  pub mode : facts.mode ≡ (file_at s source).mode
 
 -- a file stands at the source, and nothing at the target
 pub record IsReady (s : FileSystem) (p : Places) : Type 0 where
@@ -75,13 +75,13 @@ IsThere s target None = refusal_of s (Stat target) ≡ Some refused.Missing
 IsThere s target (Some meta) = (refusal_of s (Stat target) ≡ None) × IsMeta s target meta
 
 -- a file has at most 2^63 bytes, and a mode twelve bits
-pub record HasRange (said : Said) : Type 0 where
-  pub mode : said.mode ≤ 0o7777
-  pub size : said.size ≤ 2 ^ 63
+pub record HasRange (facts : SourceFacts) : Type 0 where
+  pub mode : facts.mode ≤ 0o7777
+  pub size : facts.size ≤ 2 ^ 63
 
 -- what the looks at source and target come to
-abbrev pub Judges : Places → Meta → Option Meta → Result Said Trouble → Type 0
-Judges p source (Some target) (Ok said) = ⊥
-Judges p source (Some target) (Err trouble) = IsNamed (TargetKind target.kind) p.target trouble
-Judges p source None (Ok said) = (source.kind ≡ File) × (said ≡ record { size = source.size; mode = source.mode })
-Judges p source None (Err trouble) = (source.kind ≢ File) × IsNamed SpecialSource p.source trouble
+abbrev pub Judges : Places → Meta → Option Meta → Result SourceFacts Trouble → Type 0
+Judges p source (Some target) (Ok facts) = ⊥
+Judges p source (Some target) (Err trouble) = IsTroubleWithPath (TargetKind target.kind) p.target trouble
+Judges p source None (Ok facts) = (source.kind ≡ File) × (facts ≡ record { size = source.size; mode = source.mode })
+Judges p source None (Err trouble) = (source.kind ≢ File) × IsTroubleWithPath SpecialSource p.source trouble

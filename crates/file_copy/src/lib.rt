@@ -14,4 +14,4 @@ mod work;
 
 pub use copy::FileCopy;
 pub use part_name::PartTest;
-pub use stage::{FolderState, Next, Said, Stage};
+pub use stage::{FolderState, Next, SourceFacts, Stage};

@@ -21,15 +21,15 @@ use Rattle.copy_move.specs.Steps.{SyncsFolder}
 use Rattle.history_laws.specs.Doubt.{is_unsettled}
 use Rattle.history_laws.specs.LiveJobs.{IsLivePart, LiveJob, after_event, after_report, live_jobs, work_of}
 use Rattle.session_history.specs.Named.{has_changed, named_after, named_parts, IsUnnamedSince, names_path}
-use Rattle.history_laws.specs.Replayed.{front, replayed_tree}
+use Rattle.history_laws.specs.Replayed.{log_prefix, replayed_tree}
 use Rattle.session_history.specs.Entries.{IsMoment, calls_in}
 use Rattle.history_laws.specs.Safe.{IsPart, IsSafe}
 use Rattle.history_laws.specs.Staying.{DoneLaw, HasFinished}
 use Rattle.history_laws.specs.Traces.{EventLeads, IsTraced, Stand}
-use Rattle.history_laws.proofs.Fronts.{replayed_more, told_of}
+use Rattle.history_laws.proofs.Prefixes.{replayed_more, told_of}
 use Rattle.history_laws.proofs.Histories.{enters, only_job, traced_reached}
 use Rattle.history_laws.proofs.Lasting.{finished_stays_law, replayed_since}
-use Rattle.history_laws.proofs.Moments.{IsShown, front_is, log_of, replay_law, session_law, shown_moment, traced_count}
+use Rattle.history_laws.proofs.Moments.{IsShown, prefix_is, log_of, replay_law, session_law, shown_moment, traced_count}
 use Rattle.history_laws.proofs.Reports.{HasLive}
 use Rattle.history_laws.proofs.Sources.{folder_same}
 use Rattle.history_laws.proofs.Staying.{event_part, stays_law}
@@ -192,12 +192,12 @@ module _ (opening now : CallLog) (newest : List Entry) (stand : Stand) (tree : I
       let by = ender opening tree settled now e older (folder_of path) h f in
       let n = traced_count opening f.before older f.was f.traced in
       finished_stays_law opening now newest older standing coming f.was stand by.job by.new h.part calls path image tree settled traced
-      (subst (λ (l : CallLog). IsTraced opening older f.was l) (sym (front_is opening now (calls_in older) f.before f.rest f.end_is (omega (arith, n)))) f.traced)
+      (subst (λ (l : CallLog). IsTraced opening older f.was l) (sym (prefix_is opening now (calls_in older) f.before f.rest f.end_is (omega (arith, n)))) f.traced)
       by.jobs_is by.tells (subst (λ i. has_changed i older ≡ true) (sym by.id_is) h.changed) by.within unnamed moment (since_before e older standing path bare since) (since_before e older coming path bare later) left
 
   -- a path at which nothing stood when the job had ended, and of which nothing waited
   abbrev at_end : CallLog
-  at_end = front opening e.calls now
+  at_end = log_prefix opening e.calls now
 
   no_live : IsLivePart (live_jobs (e ∷ older)) path → ⊥
   no_live live = let l = subst (λ jobs. IsLivePart jobs path) (none_live opening tree settled now e older (folder_of path) h found) live in l.1
@@ -215,7 +215,7 @@ module _ (opening now : CallLog) (newest : List Entry) (stand : Stand) (tree : I
       let f = found in
       let c = f.calls in
       let r = traced_reached opening tree settled (e ∷ older) f.stand f.now f.whole in
-      let at : at_end ≡ f.now = front_is opening now e.calls f.now f.later f.later_is (omega (arith, c)) in
+      let at : at_end ≡ f.now = prefix_is opening now e.calls f.now f.later f.later_is (omega (arith, c)) in
       let shown = (replay_law opening f.now (e ∷ older) f.stand tree settled f.whole).shows path no_live in
       let same : replayed_tree opening now (e ∷ older) path ≡ replayed_tree opening f.now (e ∷ older) path =
       ap (λ (l : CallLog). replayed_tree opening l (e ∷ older) path) f.later_is ∙ ap (λ v. v path) (replayed_more opening f.now f.later (e ∷ older) r.within) in
@@ -225,22 +225,22 @@ module _ (opening now : CallLog) (newest : List Entry) (stand : Stand) (tree : I
   of_gone none sure_then =
       elim (session_law opening now newest standing coming stand calls image tree settled traced moment left) [ inl safe ↦ by standing since safe | inr safe ↦ by coming later safe ]
     where
-      sure : is_unsettled (front opening calls now) path ≡ false
+      sure : is_unsettled (log_prefix opening calls now) path ≡ false
       sure = stays_law opening now newest (e ∷ older) standing coming stand calls path tree settled traced moment since later sure_then no_live
 
-      gone_by : (g : List Entry) → IsUnnamedSince (e ∷ older) path g → IsShown opening now (front opening calls now) g → is_some (find (current (front opening calls now)) path) ≡ true → ⊥
+      gone_by : (g : List Entry) → IsUnnamedSince (e ∷ older) path g → IsShown opening now (log_prefix opening calls now) g → is_some (find (current (log_prefix opening calls now)) path) ≡ true → ⊥
       gone_by g unnamed_since shown =
-          none_stands (current (front opening calls now)) path _
+          none_stands (current (log_prefix opening calls now)) path _
           (ap (λ (s : Spot). s.value) (shown path (λ live. no_live (live_since (e ∷ older) g path unnamed_since live)) ∙ replayed_since opening now (e ∷ older) g path unnamed_since))
           (told_none none)
 
-      gone : is_some (find (current (front opening calls now)) path) ≡ true → ⊥
+      gone : is_some (find (current (log_prefix opening calls now)) path) ≡ true → ⊥
       gone = elim (shown_moment opening now newest standing coming stand calls tree settled traced moment) [ inl shown ↦ gone_by standing since shown | inr shown ↦ gone_by coming later shown ]
 
-      no_part : (g : List Entry) → IsPart g (front opening calls now) path → ⊥
+      no_part : (g : List Entry) → IsPart g (log_prefix opening calls now) path → ⊥
       no_part g part = elim part.stays [ inl stands ↦ gone stands | inr waits ↦ both_ways _ sure waits ]
 
-      by : (g : List Entry) → IsUnnamedSince (e ∷ older) path g → IsSafe opening now g (front opening calls now) image → Holds
+      by : (g : List Entry) → IsUnnamedSince (e ∷ older) path g → IsSafe opening now g (log_prefix opening calls now) image → Holds
       by g unnamed_since safe = elim (safe path (no_part g)) [
         | inl told ↦ told ∙ ap (λ (s : Spot). s.value) (replayed_since opening now (e ∷ older) g path unnamed_since ∙ told_same)
         | inr doubt ↦ absurd (both_ways _ sure doubt.0)
@@ -256,5 +256,5 @@ module _ (opening now : CallLog) (newest : List Entry) (stand : Stand) (tree : I
 
 pub done_law : DoneLaw
 done_law opening now newest stand tree settled traced e older standing coming calls path image h no_part bare moment since later left =
-    by_part opening now newest stand tree settled traced e older standing coming calls path image h bare moment since later left no_part (is_some (find (current (front opening e.calls now)) path)) (is_unsettled (front opening e.calls now) path)
+    by_part opening now newest stand tree settled traced e older standing coming calls path image h bare moment since later left no_part (is_some (find (current (log_prefix opening e.calls now)) path)) (is_unsettled (log_prefix opening e.calls now) path)
     refl refl

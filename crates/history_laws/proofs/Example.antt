@@ -27,7 +27,7 @@ use Rattle.job_reports.specs.Stops.{trouble_at, cause_of}
 use Rattle.copy_move.specs.Jobs.{Running}
 use Rattle.history_laws.specs.Doubt.{is_unsettled}
 use Rattle.history_laws.specs.LiveJobs.{IsLivePart, LiveJob, live_jobs}
-use Rattle.history_laws.specs.Replayed.{earlier_tree, front, replayed_tree}
+use Rattle.history_laws.specs.Replayed.{earlier_tree, log_prefix, replayed_tree}
 use Rattle.history_laws.specs.Traces.{IsTraced, Stand, nothing_live}
 use Rattle.history_laws.proofs.Moments.{session_law}
 use Rattle.history_laws.proofs.Staying.{stays_law}
@@ -307,7 +307,7 @@ no_live_part : IsLivePart (live_jobs settled_entries) the_file → ⊥
 no_live_part (found, inl same, is) = let none : (let o : Option Route = None in o) ≡ Some the_file = ap (λ (l : LiveJob). l.part) (sym same) ∙ is in cc
 no_live_part (found, inr none, is) = none
 
-still_settled : is_unsettled (front (log []) 4 settled_log) the_file ≡ false
+still_settled : is_unsettled (log_prefix (log []) 4 settled_log) the_file ≡ false
 still_settled =
     stays_law (log []) settled_log ended_entries settled_entries ended_entries ended_entries (stand (second ∷ []) []) 4 the_file small_tree refl ended_traced (inl (refl, refl, refl)) (inr (refl, inl refl)) (inr (refl, inl refl))
     refl no_live_part

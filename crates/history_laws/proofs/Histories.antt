@@ -24,7 +24,7 @@ use Rattle.session_history.specs.declared.history.JobOrder.{JobOrder}
 use Rattle.session_history.specs.declared.history.JobOrder.TheVariants.{Answered}
 use Rattle.session_history.specs.declared.history.Entry.{Entry}
 use Rattle.copy_move.specs.declared.run.Course.{Course}
-use Rattle.copy_move.specs.declared.run.Course.TheVariants.{GoesOn, InTrouble, Unsettled, Skips, Ends}
+use Rattle.copy_move.specs.declared.run.Course.TheVariants.{GoesOn, InTrouble, OwedSyncFailed, Skips, Ends}
 use Rattle.copy_move.specs.declared.work.Work.{Work}
 use Rattle.copy_move.specs.declared.work.Work.TheVariants.{Copy, Delete}
 use Rattle.file_copy.specs.declared.stage.Stage.{Stage}
@@ -36,9 +36,9 @@ use Rattle.session_history.specs.Entries.{is_closed}
 use Rattle.copy_move.specs.Told.{running}
 use Rattle.tree_trait.specs.declared.file_system.FileSystem.{FileSystem}
 use Rattle.history_laws.specs.LiveJobs.{LiveJob, after_event, after_report, live, live_jobs, work_of}
-use Rattle.history_laws.specs.Replayed.{earlier_tree, front, replayed_step, replayed_tree}
+use Rattle.history_laws.specs.Replayed.{earlier_tree, log_prefix, replayed_step, replayed_tree}
 use Rattle.history_laws.specs.Traces.{EventLeads, Follows, IsJob, IsTraced, Stand, StepLeads, begun, if_closed, ordered, unless_ended, with_job}
-use Rattle.history_laws.proofs.Fronts.{AreWithin, earlier_more, replayed_more, said_by, told_of, told_with, within_more}
+use Rattle.history_laws.proofs.Prefixes.{AreWithin, earlier_more, replayed_more, said_by, told_of, told_with, within_more}
 use Rattle.history_laws.proofs.JobKnows.{StageKnows, WorkKnows, work_course}
 use Rattle.history_laws.proofs.JobLeads.{sync_leads, work_leads}
 use Rattle.history_laws.proofs.JobSteps.{gives_up}
@@ -107,10 +107,10 @@ module _ (told : Said) (dirty : List Route) (marks : Marks) (s : FileSystem) whe
   answer_knows (InTrouble why) Skip job is k = on_course job.course (Skips why) job.work (λ e. let f : ⊥ = cc in f) k
   answer_knows (InTrouble why) SkipAll job is k = on_course job.course (Skips why) job.work (λ e. let f : ⊥ = cc in f) k
   answer_knows (InTrouble why) Abort job is k = on_course job.course (Ends Rattle.job_reports.specs.declared.report.Ending.TheVariants.Aborted) job.work (λ e. let f : ⊥ = cc in f) k
-  answer_knows (Unsettled why) Retry job is k = anew_knows told dirty marks s job.course job.work k
-  answer_knows (Unsettled why) Skip job is k = k
-  answer_knows (Unsettled why) SkipAll job is k = k
-  answer_knows (Unsettled why) Abort job is k = on_course job.course (Ends Rattle.job_reports.specs.declared.report.Ending.TheVariants.Aborted) job.work (λ e. let f : ⊥ = cc in f) k
+  answer_knows (OwedSyncFailed why) Retry job is k = anew_knows told dirty marks s job.course job.work k
+  answer_knows (OwedSyncFailed why) Skip job is k = k
+  answer_knows (OwedSyncFailed why) SkipAll job is k = k
+  answer_knows (OwedSyncFailed why) Abort job is k = on_course job.course (Ends Rattle.job_reports.specs.declared.report.Ending.TheVariants.Aborted) job.work (λ e. let f : ⊥ = cc in f) k
   answer_knows GoesOn answer job is k = k
   answer_knows (Skips why) answer job is k = k
   answer_knows (Ends ending) answer job is k = k
@@ -130,7 +130,7 @@ module _ (told : Said) (dirty : List Route) (marks : Marks) (s : FileSystem) whe
   closed_by : (course : Course) → closed_course course ≡ GoesOn → course ≡ GoesOn
   closed_by GoesOn e = refl
   closed_by (InTrouble why) e = absurd (let f : ⊥ = cc in f)
-  closed_by (Unsettled why) e = absurd (let f : ⊥ = cc in f)
+  closed_by (OwedSyncFailed why) e = absurd (let f : ⊥ = cc in f)
   closed_by (Skips why) e = absurd (let f : ⊥ = cc in f)
   closed_by (Ends ending) e = absurd (let f : ⊥ = cc in f)
 
@@ -190,7 +190,7 @@ module _ (opening : CallLog) (older : List Entry) (calls : ℕ) (was : Stand) (b
 
   -- a job steps
   module _ (now : CallLog) (id : ℕ) (did : Did) (counts : length now.changes ≡ length opening.changes + calls) (job : Running) (jobs_is : was.jobs ≡ job ∷ []) (id_is : job.id ≡ id) where
-    at_end : front opening calls now ≡ now
+    at_end : log_prefix opening calls now ≡ now
     at_end = ap (λ xs. (let l : CallLog = record now { changes = xs } in l)) (ap (λ n. take n now.changes) (sym counts) ∙ take-length now.changes)
 
     job_live : HasLive (live_jobs older) (job ∷ []) r.part

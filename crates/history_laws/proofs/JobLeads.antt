@@ -20,7 +20,7 @@ use Rattle.copy_move.specs.declared.deletion.Stage.TheVariants as deletion
 use Rattle.copy_move.specs.declared.work.Work.{Work}
 use Rattle.copy_move.specs.declared.work.Work.TheVariants.{Copy, Delete}
 use Rattle.copy_move.specs.declared.run.Course.{Course}
-use Rattle.copy_move.specs.declared.run.Course.TheVariants.{GoesOn, InTrouble, Unsettled, Skips, Ends}
+use Rattle.copy_move.specs.declared.run.Course.TheVariants.{GoesOn, InTrouble, OwedSyncFailed, Skips, Ends}
 use Rattle.copy_move.specs.Deletions as deletions
 use Rattle.copy_move.specs.Jobs.{Running, CallsOn, TellsOn, WorkCalls, WorkLastCalls, WorkTells, WorkWinds, course_after, is_fresh, skipped}
 use Rattle.copy_move.specs.Settling.{NoneOwed, changed_folder, is_dirty, with_change as moves_dirty}
@@ -84,7 +84,7 @@ module _ (told : Said) (dirty dirty_after : List Route) (marks : Marks) (log now
       (work_tells job.work work did knows tells (subst (λ (x : Running). WorkCalls IsUnclaimed job.work did x.work log (Some now)) new_is calls) (settled refl)
       (leaves ∙ ap (λ (x : Running). moves_dirty (is_dirty job.work) (is_dirty x.work) (changed_folder job.work) dirty) new_is))
   by_course job new did (InTrouble why) is knows tells calls settled leaves = absurd tells
-  by_course job new did (Unsettled why) is knows tells calls settled leaves = absurd tells
+  by_course job new did (OwedSyncFailed why) is knows tells calls settled leaves = absurd tells
   by_course job new did (Skips why) is knows (inl (did_is, new_is)) calls settled leaves =
       subst (λ x. Leads job x new) (sym did_is) (subst (λ (x : Running). Leads job (Skipped (Rattle.copy_move.specs.Jobs.file_of job.work) why) x) (sym new_is)
       (stands told dirty dirty_after marks log now kept GoesOn (skipped job.work) (skip_knows told dirty marks (current log) (Skips why) job.work knows)
@@ -92,7 +92,7 @@ module _ (told : Said) (dirty dirty_after : List Route) (marks : Marks) (log now
       ∙ (ap (λ b. moves_dirty (is_dirty job.work) b (changed_folder job.work) dirty) (skip_dirty job.work) ∙ same_dirty (is_dirty job.work) (changed_folder job.work) dirty)))
       (some_log now log calls)))
   by_course job new did (Skips why) is knows (inr (did_is, new_is)) calls settled leaves =
-      subst (λ x. Leads job x new) (sym did_is) (subst (λ (x : Running). Leads job (Troubled (Rattle.job_reports.specs.Stops.no_memory_of (Rattle.copy_move.specs.Jobs.at_barrier job.work))) x) (sym new_is)
+      subst (λ x. Leads job x new) (sym did_is) (subst (λ (x : Running). Leads job (Troubled (Rattle.job_reports.specs.Stops.out_of_memory_at (Rattle.copy_move.specs.Jobs.at_barrier job.work))) x) (sym new_is)
       (stands told dirty dirty_after marks log now kept (InTrouble Memory) job.work
       (work_course told dirty marks (current log) (Skips why) (InTrouble Memory) job.work (λ e. absurd (let f : ⊥ = cc in f)) knows)
       (leaves ∙ (ap (λ (x : Running). moves_dirty (is_dirty job.work) (is_dirty x.work) (changed_folder job.work) dirty) new_is ∙ same_dirty (is_dirty job.work) (changed_folder job.work) dirty))
@@ -115,7 +115,7 @@ module _ (told : Said) (dirty dirty_after : List Route) (marks : Marks) (log now
           (fresh_knows told dirty (Rattle.job_reports.specs.Paths.without s.folder dirty) marks (current log) job.course job.work s.fresh knows) (called log refl))))
       by (inr (e, did_is, new_is, routes, called)) =
           subst (λ x. Leads job x new) (sym did_is) (subst (λ (x : Running). Leads job (Troubled (trouble_at e s.folder true)) x) (sym new_is)
-          (subst (λ xs. Comes told told xs log now (λ m. WorkKnows told xs m (current now) (Unsettled (cause_of e)) job.work)) (sym routes)
-          (comes_refused told dirty marks log now (Unsettled (cause_of e)) job.work kept
-          (work_course told dirty marks (current log) job.course (Unsettled (cause_of e)) job.work (λ x. absurd (let f : ⊥ = cc in f)) knows)
+          (subst (λ xs. Comes told told xs log now (λ m. WorkKnows told xs m (current now) (OwedSyncFailed (cause_of e)) job.work)) (sym routes)
+          (comes_refused told dirty marks log now (OwedSyncFailed (cause_of e)) job.work kept
+          (work_course told dirty marks (current log) job.course (OwedSyncFailed (cause_of e)) job.work (λ x. absurd (let f : ⊥ = cc in f)) knows)
           (refused_is log now (SyncFolder s.folder) e (λ x bytes. refl) (called log refl)))))

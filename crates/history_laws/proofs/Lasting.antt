@@ -18,7 +18,7 @@ use Rattle.copy_move.specs.declared.work.Work.TheVariants.{Copy, Delete}
 use Rattle.copy_move.specs.Jobs.{Running}
 use Rattle.history_laws.specs.Doubt.{is_unsettled}
 use Rattle.history_laws.specs.LiveJobs.{IsLivePart, LiveJob, live_jobs, work_of}
-use Rattle.history_laws.specs.Replayed.{front, placed_by, replayed_event, replayed_step, replayed_tree}
+use Rattle.history_laws.specs.Replayed.{log_prefix, placed_by, replayed_event, replayed_step, replayed_tree}
 use Rattle.session_history.specs.Named.{named_after, named_by, named_parts, IsUnnamedSince, names, names_path}
 use Rattle.history_laws.specs.Safe.{IsSafe}
 use Rattle.session_history.specs.Entries.{calls_in}
@@ -61,7 +61,7 @@ pub replayed_since : (opening end : CallLog) (older g : List Entry) (path : Rout
 replayed_since opening end older [] path same = ap (λ x. replayed_tree opening end x path) (sym same)
 replayed_since opening end older (e ∷ g) path (inl same) = ap (λ x. replayed_tree opening end x path) (sym same)
 replayed_since opening end older (e ∷ g) path (inr (unnamed, since)) =
-    event_unnamed (front opening e.calls end) e.what (live_jobs g) (replayed_tree opening end g) path unnamed ∙ replayed_since opening end older g path since
+    event_unnamed (log_prefix opening e.calls end) e.what (live_jobs g) (replayed_tree opening end g) path unnamed ∙ replayed_since opening end older g path since
 
 -- a path that no entry names is a named part only if it was one
 named_step : (did : Did) (parts : List Route) (path : Route) → names did path ≡ false → Among (named_by did parts) path → Among parts path
@@ -105,14 +105,14 @@ finished_stays_law opening now newest older standing coming was stand job new pa
   where
     no_part : IsLivePart (live_jobs older) path → ⊥
     no_part found =
-        let r = traced_reached opening tree settled older was (front opening (calls_in older) now) before in
+        let r = traced_reached opening tree settled older was (log_prefix opening (calls_in older) now) before in
         unnamed (r.kept.known.aside path (r.kept.known.part path (part_known was.jobs r.part (live_jobs older) path r.live found)).0)
 
-    sure : is_unsettled (front opening calls now) path ≡ false
+    sure : is_unsettled (log_prefix opening calls now) path ≡ false
     sure = stays_law opening now newest older standing coming stand calls path tree settled traced moment since later
-        (finished_law opening (front opening (calls_in older) now) older was job new part path tree settled before jobs_is tells changed folder) no_part
+        (finished_law opening (log_prefix opening (calls_in older) now) older was job new part path tree settled before jobs_is tells changed folder) no_part
 
-    by : (g : List Entry) → IsUnnamedSince older path g → IsSafe opening now g (front opening calls now) image → value_at image path ≡ (replayed_tree opening now older path).value
+    by : (g : List Entry) → IsUnnamedSince older path g → IsSafe opening now g (log_prefix opening calls now) image → value_at image path ≡ (replayed_tree opening now older path).value
     by g unnamed_since safe = elim (safe path (λ is. unnamed (named_since older g path unnamed_since is.named))) [
       | inl told ↦ told ∙ ap (λ (s : Spot). s.value) (replayed_since opening now older g path unnamed_since)
       | inr doubt ↦ absurd (both_ways _ sure doubt.0)

@@ -17,7 +17,7 @@ use Rattle.job_reports.specs.declared.answer.Answer.TheVariants.{Retry, Skip, Sk
 use Rattle.copy_move.specs.declared.work.Work.{Work}
 use Rattle.copy_move.specs.declared.work.Work.TheVariants.{Copy, Delete}
 use Rattle.copy_move.specs.declared.run.Course.{Course}
-use Rattle.copy_move.specs.declared.run.Course.TheVariants.{GoesOn, InTrouble, Unsettled, Skips, Ends}
+use Rattle.copy_move.specs.declared.run.Course.TheVariants.{GoesOn, InTrouble, OwedSyncFailed, Skips, Ends}
 use Rattle.copy_move.specs.Deletions.{Deleting}
 use Rattle.copy_move.specs.Deletions as deletions
 use Rattle.copy_move.specs.Jobs.{Running, JobTells, TellsOn, WorkTells, WorkWinds, answered, answered_on, skipped, taken_anew}
@@ -137,7 +137,7 @@ IsSame old new = (new.id ≡ old.id) × (paths_in new.work ≡ paths_in old.work
 on_same : (old new : Running) (did : Did) (course : Course) → TellsOn course old did new → IsSame old new
 on_same old new did GoesOn (work, tells, new_is) = (ap (λ (x : Running). x.id) new_is, ap (λ (x : Running). paths_in x.work) new_is ∙ work_paths old.work work did tells)
 on_same old new did (InTrouble why) t = absurd t
-on_same old new did (Unsettled why) t = absurd t
+on_same old new did (OwedSyncFailed why) t = absurd t
 on_same old new did (Skips why) (inl (did_is, new_is)) = (ap (λ (x : Running). x.id) new_is, ap (λ (x : Running). paths_in x.work) new_is ∙ skip_paths old.work)
 on_same old new did (Skips why) (inr (did_is, new_is)) = (ap (λ (x : Running). x.id) new_is, ap (λ (x : Running). paths_in x.work) new_is)
 on_same old new did (Ends ending) (work, winds, new_is) = (ap (λ (x : Running). x.id) new_is, ap (λ (x : Running). paths_in x.work) new_is ∙ wind_paths ending old.work work did winds)
@@ -150,10 +150,10 @@ answer_on (InTrouble why) Retry job = (refl, anew_paths job.work)
 answer_on (InTrouble why) Skip job = (refl, refl)
 answer_on (InTrouble why) SkipAll job = (refl, refl)
 answer_on (InTrouble why) Abort job = (refl, refl)
-answer_on (Unsettled why) Retry job = (refl, anew_paths job.work)
-answer_on (Unsettled why) Skip job = (refl, refl)
-answer_on (Unsettled why) SkipAll job = (refl, refl)
-answer_on (Unsettled why) Abort job = (refl, refl)
+answer_on (OwedSyncFailed why) Retry job = (refl, anew_paths job.work)
+answer_on (OwedSyncFailed why) Skip job = (refl, refl)
+answer_on (OwedSyncFailed why) SkipAll job = (refl, refl)
+answer_on (OwedSyncFailed why) Abort job = (refl, refl)
 answer_on GoesOn answer job = (refl, refl)
 answer_on (Skips why) answer job = (refl, refl)
 answer_on (Ends ending) answer job = (refl, refl)

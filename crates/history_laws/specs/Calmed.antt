@@ -15,7 +15,7 @@ use Rattle.history_laws.specs.Doubt.{is_unsettled}
 use Rattle.history_laws.specs.LiveJobs.{live_jobs, work_of}
 use Rattle.history_laws.specs.Owed.{IsApart}
 use Rattle.session_history.specs.Named.{begins_change, has_changed, names_path}
-use Rattle.history_laws.specs.Replayed.{front}
+use Rattle.history_laws.specs.Replayed.{log_prefix}
 use Rattle.session_history.specs.Entries.{IsMoment, calls_in}
 use Rattle.history_laws.specs.Traces.{IsTraced, Stand}
 
@@ -35,8 +35,8 @@ pub record HasBegun (e : Entry) (older : List Entry) (folder : Route) : Type 0 w
 abbrev pub CalmsOthers : CallLog → CallLog → List Entry → Type 0
 CalmsOthers opening now newest =
     (e : Entry) (older : List Entry) (folder path : Route)
-    → HasBegun e older folder → IsMoment newest (e ∷ older) (e ∷ older) e.calls → is_unsettled (front opening e.calls now) path ≡ true
-    → (names_path e.what path ≡ true) ⊎ IsApart (front opening (calls_in older) now) folder (folder_of path)
+    → HasBegun e older folder → IsMoment newest (e ∷ older) (e ∷ older) e.calls → is_unsettled (log_prefix opening e.calls now) path ≡ true
+    → (names_path e.what path ≡ true) ⊎ IsApart (log_prefix opening (calls_in older) now) folder (folder_of path)
 
 abbrev pub CalmLaw : Type 0
 CalmLaw = (opening now : CallLog) (newest : List Entry) (stand : Stand)

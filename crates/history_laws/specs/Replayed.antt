@@ -17,8 +17,8 @@ use Rattle.copy_move.specs.declared.work.Work.TheVariants.{Copy, Delete}
 use Rattle.history_laws.specs.LiveJobs.{LiveJob, live_jobs, work_of}
 
 -- the log as it was when so many calls had been made since the opening
-abbrev pub front : CallLog → ℕ → CallLog → CallLog
-front opening calls now = record now { changes = take (length opening.changes + calls) now.changes }
+abbrev pub log_prefix : CallLog → ℕ → CallLog → CallLog
+log_prefix opening calls now = record now { changes = take (length opening.changes + calls) now.changes }
 
 -- a file that is placed has at the target what stands at the source
 abbrev pub placed_by : Option Work → Route → View → View
@@ -51,7 +51,7 @@ replayed_event log Closed jobs v = v
 -- the tree that can be seen after these entries, from the opening, over a tree that has come to this log
 abbrev pub replayed_tree : CallLog → CallLog → List Entry → View
 replayed_tree opening now [] = visible_tree (current opening)
-replayed_tree opening now (e ∷ older) = replayed_event (front opening e.calls now) e.what (live_jobs older) (replayed_tree opening now older)
+replayed_tree opening now (e ∷ older) = replayed_event (log_prefix opening e.calls now) e.what (live_jobs older) (replayed_tree opening now older)
 
 abbrev pub keeping : Option Route → View → View → View
 keeping None v before = before

@@ -10,7 +10,7 @@ use Rattle.session_history.specs.declared.history.Entry.{Entry}
 use Rattle.session_history.specs.Entries.{IsMoment}
 use Rattle.history_laws.specs.Doubt.{is_unsettled}
 use Rattle.history_laws.specs.LiveJobs.{live_jobs, IsLivePart}
-use Rattle.history_laws.specs.Replayed.{earlier_tree, front, replayed_tree}
+use Rattle.history_laws.specs.Replayed.{earlier_tree, log_prefix, replayed_tree}
 use Rattle.session_history.specs.Named.{named_parts}
 use Rattle.history_laws.specs.Traces.{IsTraced, Stand}
 
@@ -33,7 +33,7 @@ abbrev pub SessionLaw : Type 0
 SessionLaw = (opening now : CallLog) (newest standing coming : List Entry) (stand : Stand) (calls : ℕ) (image : FileSystem)
     → IsTree (current opening) → all_settled opening.changes ≡ true → IsTraced opening newest stand now
     → IsMoment newest standing coming calls → IsCrashImage now (length opening.changes + calls) image
-    → IsSafe opening now standing (front opening calls now) image ⊎ IsSafe opening now coming (front opening calls now) image
+    → IsSafe opening now standing (log_prefix opening calls now) image ⊎ IsSafe opening now coming (log_prefix opening calls now) image
 
 -- The log goes on from the opening, and what can be seen at its end is what the history makes of the opening, but for the parts
 -- of live jobs.

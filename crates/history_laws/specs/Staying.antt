@@ -18,7 +18,7 @@ use Rattle.copy_move.specs.Settling.{changed_folder}
 use Rattle.history_laws.specs.Doubt.{is_unsettled}
 use Rattle.history_laws.specs.LiveJobs.{IsLivePart, live_jobs, work_of}
 use Rattle.session_history.specs.Named.{has_changed, named_parts, names_path, IsUnnamedSince}
-use Rattle.history_laws.specs.Replayed.{front, replayed_tree}
+use Rattle.history_laws.specs.Replayed.{log_prefix, replayed_tree}
 use Rattle.session_history.specs.Entries.{IsMoment, calls_in}
 use Rattle.history_laws.specs.Safe.{IsPart}
 use Rattle.history_laws.specs.Traces.{IsTraced, Stand}
@@ -29,15 +29,15 @@ abbrev pub StaysLaw : Type 0
 StaysLaw = (opening now : CallLog) (newest older standing coming : List Entry) (stand : Stand) (calls : ℕ) (path : Route)
     → IsTree (current opening) → all_settled opening.changes ≡ true → IsTraced opening newest stand now → IsMoment newest standing coming calls
     → IsUnnamedSince older path standing → IsUnnamedSince older path coming
-    → is_unsettled (front opening (calls_in older) now) path ≡ false → (IsLivePart (live_jobs older) path → ⊥)
-    → is_unsettled (front opening calls now) path ≡ false
+    → is_unsettled (log_prefix opening (calls_in older) now) path ≡ false → (IsLivePart (live_jobs older) path → ⊥)
+    → is_unsettled (log_prefix opening calls now) path ≡ false
 
 -- Where the older entries ended a job may report that it is finished, and it has changed something. From then on, at each
 -- moment, inside a call too, each path of its folder holds after any crash what the history said then, until an entry names
 -- it; but for paths that were named as parts.
 abbrev pub FinishedStaysLaw : Type 0
 FinishedStaysLaw = (opening now : CallLog) (newest older standing coming : List Entry) (was stand : Stand) (job new : Running) (part : Option Route) (calls : ℕ) (path : Route) (image : FileSystem)
-    → IsTree (current opening) → all_settled opening.changes ≡ true → IsTraced opening newest stand now → IsTraced opening older was (front opening (calls_in older) now)
+    → IsTree (current opening) → all_settled opening.changes ≡ true → IsTraced opening newest stand now → IsTraced opening older was (log_prefix opening (calls_in older) now)
     → was.jobs ≡ job ∷ [] → JobTells job (Ended Finished part) new → has_changed job.id older ≡ true → folder_of path ≡ changed_folder job.work → (Among (named_parts older) path → ⊥)
     → IsMoment newest standing coming calls → IsUnnamedSince older path standing → IsUnnamedSince older path coming → IsCrashImage now (length opening.changes + calls) image
     → value_at image path ≡ (replayed_tree opening now older path).value
@@ -59,7 +59,7 @@ pub record HasFinished (e : Entry) (older : List Entry) (folder : Route) : Type 
 abbrev pub StaysDone : CallLog → CallLog → List Entry → Type 0
 StaysDone opening now newest =
     (e : Entry) (older standing coming : List Entry) (calls : ℕ) (path : Route) (image : FileSystem)
-    → HasFinished e older (folder_of path) → (IsPart (e ∷ older) (front opening e.calls now) path → ⊥) → names_path e.what path ≡ false
+    → HasFinished e older (folder_of path) → (IsPart (e ∷ older) (log_prefix opening e.calls now) path → ⊥) → names_path e.what path ≡ false
     → IsMoment newest standing coming calls → IsUnnamedSince (e ∷ older) path standing → IsUnnamedSince (e ∷ older) path coming
     → IsCrashImage now (length opening.changes + calls) image → value_at image path ≡ (replayed_tree opening now older path).value
 

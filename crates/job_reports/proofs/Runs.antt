@@ -10,7 +10,7 @@ use Rattle.job_reports.specs.declared.report.Cause.{Cause}
 use Rattle.job_reports.specs.declared.report.Cause.TheVariants.{Tree, TargetKind, SpecialSource, PartTaken, TooLong, Changed, Memory}
 use Rattle.job_reports.specs.declared.stop.Stop.{Stop}
 use Rattle.job_reports.specs.CallRuns.{AllDone, StopsAt, RunStops, HasMore, path_of}
-use Rattle.job_reports.specs.Stops.{Comes, Ran, calls_of, ran_of, later_of}
+use Rattle.job_reports.specs.Stops.{RanFolded, Ran, calls_of, made_or_stopped_of, after_calls_of}
 
 -- one change more, or none where there was no memory
 pub one_more : (log : CallLog) (c : Change) (now : CallLog) → (let o : Option CallLog = Some (with_change log c) in o) ≡ Some now → HasMore log 1 now
@@ -38,7 +38,7 @@ no_fault e h is = h cc
 -- one call
 pub ran_one : (call : Call) (answer : Result (Unit {0}) TreeError) (path : Route) (b : Bool) (before after : Option CallLog) (f0 f1 : ℕ) → path ≡ path_of call
     → IfKnown before (λ log. Performs {A = Unit {0}} log call answer after) → (before ≡ None → after ≡ None) → HasCause refused.Fault f0 f1 answer
-    → Ran (call ∷ []) b (ran_of answer path b) before after f0 f1
+    → Ran (call ∷ []) b (made_or_stopped_of answer path b) before after f0 f1
 ran_one call (Ok done) path b before after f0 f1 at called unknown cause = record {
   done = λ log known. let h = called log known in (with_change log _, (h.0, (h.1.0, refl)), h.1.1);
   stopped = tt;
@@ -81,7 +81,7 @@ ran_one call (Err e) path b before after f0 f1 at called unknown cause = record 
 }
 
 -- one call whose answer was told so
-pub ran_call : (call : Call) (answer : Result (Unit {0}) TreeError) (path : Route) (b : Bool) (before after : Option CallLog) (f0 f1 : ℕ) (r : Result ℕ Stop) → r ≡ ran_of answer path b
+pub ran_call : (call : Call) (answer : Result (Unit {0}) TreeError) (path : Route) (b : Bool) (before after : Option CallLog) (f0 f1 : ℕ) (r : Result ℕ Stop) → r ≡ made_or_stopped_of answer path b
     → path ≡ path_of call → IfKnown before (λ log. Performs {A = Unit {0}} log call answer after) → (before ≡ None → after ≡ None) → HasCause refused.Fault f0 f1 answer
     → Ran (call ∷ []) b r before after f0 f1
 ran_call call answer path b before after f0 f1 r is at called unknown cause =
@@ -160,7 +160,7 @@ run_more xs ys log (Changed said got) path after k = k
 
 module _ (xs ys : List Call) (b : Bool) (before mid after : Option CallLog) (f0 f1 f2 : ℕ) where
   -- calls that were done, and then others
-  pub ran_then : (n : ℕ) (r : Result ℕ Stop) → Ran xs b (Ok n) before mid f0 f1 → Ran ys b r mid after f1 f2 → Ran (xs ++ ys) b (later_of n r) before after f0 f2
+  pub ran_then : (n : ℕ) (r : Result ℕ Stop) → Ran xs b (Ok n) before mid f0 f1 → Ran ys b r mid after f1 f2 → Ran (xs ++ ys) b (after_calls_of n r) before after f0 f2
   ran_then n (Ok m) one two = record {
     done = λ log known.
         let middle = all_some xs log mid (one.done log known) in
@@ -194,7 +194,7 @@ module _ (xs ys : List Call) (b : Bool) (before mid after : Option CallLog) (f0 
     fault = λ h. risen_before f0 f1 f2 one.later (two.fault h);
   }
 
-  pub ran_told : (n : ℕ) (r told : Result ℕ Stop) → told ≡ later_of n r → Ran xs b (Ok n) before mid f0 f1 → Ran ys b r mid after f1 f2 → Ran (xs ++ ys) b told before after f0 f2
+  pub ran_told : (n : ℕ) (r told : Result ℕ Stop) → told ≡ after_calls_of n r → Ran xs b (Ok n) before mid f0 f1 → Ran ys b r mid after f1 f2 → Ran (xs ++ ys) b told before after f0 f2
   ran_told n r told is one two = subst (λ q. Ran (xs ++ ys) b q before after f0 f2) (sym is) (ran_then n r one two)
 
 -- calls that stopped are the same with others to come behind them
@@ -212,18 +212,18 @@ ran_stopped xs ys b before after f0 f1 stop one = record {
 }
 
 -- the same of calls whose row is closed
-pub comes_few : (calls : List Call) (b : Bool) (r : Result ℕ Stop) (before after : Option CallLog) (f0 f1 : ℕ) → Comes calls b r before after f0 f1 → calls_of r ≤ length calls
-unfolding Comes
+pub comes_few : (calls : List Call) (b : Bool) (r : Result ℕ Stop) (before after : Option CallLog) (f0 f1 : ℕ) → RanFolded calls b r before after f0 f1 → calls_of r ≤ length calls
+unfolding RanFolded
 comes_few calls b r before after f0 f1 h = h.few
 
 -- a call that was done, and then another
-pub comes_then : (x y : Call) (b : Bool) (before mid after : Option CallLog) (f0 f1 f2 : ℕ) (n : ℕ) (r told : Result ℕ Stop) → told ≡ later_of n r
-    → Comes (x ∷ []) b (Ok n) before mid f0 f1 → Comes (y ∷ []) b r mid after f1 f2 → Comes (x ∷ y ∷ []) b told before after f0 f2
-unfolding Comes
+pub comes_then : (x y : Call) (b : Bool) (before mid after : Option CallLog) (f0 f1 f2 : ℕ) (n : ℕ) (r told : Result ℕ Stop) → told ≡ after_calls_of n r
+    → RanFolded (x ∷ []) b (Ok n) before mid f0 f1 → RanFolded (y ∷ []) b r mid after f1 f2 → RanFolded (x ∷ y ∷ []) b told before after f0 f2
+unfolding RanFolded
 comes_then x y b before mid after f0 f1 f2 n r told is one two = ran_told (x ∷ []) (y ∷ []) b before mid after f0 f1 f2 n r told is one two
 
 -- a call that stopped, and no other
 pub comes_stopped : (x y : Call) (b : Bool) (before after : Option CallLog) (f0 f1 : ℕ) (stop : Stop)
-    → Comes (x ∷ []) b (Err stop) before after f0 f1 → Comes (x ∷ y ∷ []) b (Err stop) before after f0 f1
-unfolding Comes
+    → RanFolded (x ∷ []) b (Err stop) before after f0 f1 → RanFolded (x ∷ y ∷ []) b (Err stop) before after f0 f1
+unfolding RanFolded
 comes_stopped x y b before after f0 f1 stop one = ran_stopped (x ∷ []) (y ∷ []) b before after f0 f1 stop one

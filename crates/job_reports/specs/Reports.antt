@@ -21,16 +21,16 @@ ends Barrier = false
 ends (Troubled trouble) = false
 
 -- the path at which a report says that a job is stuck
-abbrev pub stuck_path : Did → Option Route
-stuck_path (Troubled trouble) = trouble.path
-stuck_path (Began part) = None
-stuck_path (Chunk count) = None
-stuck_path (Placed path) = None
-stuck_path (Removed path) = None
-stuck_path (Skipped path cause) = None
-stuck_path (Cleaned part) = None
-stuck_path Barrier = None
-stuck_path (Ended ending part) = None
+abbrev pub path_of_trouble : Did → Option Route
+path_of_trouble (Troubled trouble) = trouble.path
+path_of_trouble (Began part) = None
+path_of_trouble (Chunk count) = None
+path_of_trouble (Placed path) = None
+path_of_trouble (Removed path) = None
+path_of_trouble (Skipped path cause) = None
+path_of_trouble (Cleaned part) = None
+path_of_trouble Barrier = None
+path_of_trouble (Ended ending part) = None
 
 -- the report says that the device failed
 abbrev pub IsFault : Did → Type 0

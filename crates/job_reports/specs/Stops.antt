@@ -13,35 +13,35 @@ use Rattle.job_reports.specs.declared.stop.Stop.{Stop}
 use Rattle.job_reports.specs.CallRuns.{AllDone, RunStops, HasMore}
 
 -- trouble for want of memory
-abbrev pub no_memory_of : Bool → Trouble
-no_memory_of barrier = record { cause = Memory; path = None; barrier = barrier }
+abbrev pub out_of_memory_at : Bool → Trouble
+out_of_memory_at barrier = record { cause = Memory; path = None; barrier = barrier }
 
 -- a trouble before any call was made
-abbrev pub unmade_of : Trouble → Stop
-unmade_of trouble = record { trouble = trouble; calls = 0 }
+abbrev pub stopped_before_of : Trouble → Stop
+stopped_before_of trouble = record { trouble = trouble; calls = 0 }
 
 -- away from a barrier a trouble with this cause names this path, or there was no memory for it
-abbrev pub IsNamed : Cause → Route → Trouble → Type 0
-IsNamed cause path trouble =
-    (trouble ≡ record { cause = cause; path = Some path; barrier = false }) ⊎ (trouble ≡ no_memory_of false)
+abbrev pub IsTroubleWithPath : Cause → Route → Trouble → Type 0
+IsTroubleWithPath cause path trouble =
+    (trouble ≡ record { cause = cause; path = Some path; barrier = false }) ⊎ (trouble ≡ out_of_memory_at false)
 
 -- the trouble of a reading call that was refused with this error at this path
-abbrev pub IsTold : TreeError → Route → Trouble → Type 0
-IsTold refused.Memory path trouble = trouble ≡ no_memory_of false
-IsTold e path trouble = IsNamed (Tree e) path trouble
+abbrev pub IsReadingTrouble : TreeError → Route → Trouble → Type 0
+IsReadingTrouble refused.Memory path trouble = trouble ≡ out_of_memory_at false
+IsReadingTrouble e path trouble = IsTroubleWithPath (Tree e) path trouble
 
 -- a look that was refused with this error found nothing there, or is a trouble
-abbrev pub IsAbsent : TreeError → Route → Result (Unit {0}) Trouble → Type 0
-IsAbsent refused.Missing path (Ok done) = ⊤
-IsAbsent refused.Missing path (Err trouble) = ⊥
-IsAbsent e path (Ok done) = ⊥
-IsAbsent e path (Err trouble) = IsTold e path trouble
+abbrev pub IsMissingOrTrouble : TreeError → Route → Result (Unit {0}) Trouble → Type 0
+IsMissingOrTrouble refused.Missing path (Ok done) = ⊤
+IsMissingOrTrouble refused.Missing path (Err trouble) = ⊥
+IsMissingOrTrouble e path (Ok done) = ⊥
+IsMissingOrTrouble e path (Err trouble) = IsReadingTrouble e path trouble
 
 -- what the answer of one call comes to; one that found no memory was not made
-abbrev pub ran_of : Result (Unit {0}) TreeError → Route → Bool → Result ℕ Stop
-ran_of (Ok done) path barrier = Ok 1
-ran_of (Err refused.Memory) path barrier = Err (unmade_of (no_memory_of barrier))
-ran_of (Err e) path barrier = Err (record { trouble = record { cause = Tree e; path = Some path; barrier = barrier }; calls = 1 })
+abbrev pub made_or_stopped_of : Result (Unit {0}) TreeError → Route → Bool → Result ℕ Stop
+made_or_stopped_of (Ok done) path barrier = Ok 1
+made_or_stopped_of (Err refused.Memory) path barrier = Err (stopped_before_of (out_of_memory_at barrier))
+made_or_stopped_of (Err e) path barrier = Err (record { trouble = record { cause = Tree e; path = Some path; barrier = barrier }; calls = 1 })
 
 -- how many calls were made
 abbrev pub calls_of : Result ℕ Stop → ℕ
@@ -49,9 +49,9 @@ calls_of (Ok calls) = calls
 calls_of (Err stop) = stop.calls
 
 -- what calls come to before which so many were made
-abbrev pub later_of : ℕ → Result ℕ Stop → Result ℕ Stop
-later_of calls (Ok more) = Ok (calls + more)
-later_of calls (Err stop) = Err (record stop { calls = calls + stop.calls })
+abbrev pub after_calls_of : ℕ → Result ℕ Stop → Result ℕ Stop
+after_calls_of calls (Ok more) = Ok (calls + more)
+after_calls_of calls (Err stop) = Err (record stop { calls = calls + stop.calls })
 
 -- What calls in a row come to, on a tree that may tell what it holds: all were done, or the trouble says which one was
 -- not. It counts those that were made, and reports a fault only where the tree's count has risen.
@@ -66,8 +66,8 @@ pub record Ran (calls : List Call) (at_barrier : Bool) (result : Result ℕ Stop
   pub fault : IfErr result (λ stop. stop.trouble.cause ≡ Tree refused.Fault → HasRisen faults faults_after)
 
 -- The same, as a word that stays closed: so the prover goes by lemmas from the calls of a row to the row.
-unfoldable pub Comes : List Call → Bool → Result ℕ Stop → Option CallLog → Option CallLog → ℕ → ℕ → Type 0
-Comes calls at_barrier result before after faults faults_after = Ran calls at_barrier result before after faults faults_after
+unfoldable pub RanFolded : List Call → Bool → Result ℕ Stop → Option CallLog → Option CallLog → ℕ → ℕ → Type 0
+RanFolded calls at_barrier result before after faults faults_after = Ran calls at_barrier result before after faults faults_after
 
 -- the cause of a trouble where a call was refused
 abbrev pub cause_of : TreeError → Cause
@@ -98,7 +98,7 @@ refusal_in (Ok done) = None
 refusal_in (Err e) = Some e
 
 -- how many calls were made for an answer: none where there was no memory
-abbrev pub tries_of : Result (Unit {0}) TreeError → ℕ
-tries_of (Ok done) = 1
-tries_of (Err refused.Memory) = 0
-tries_of (Err e) = 1
+abbrev pub calls_made_for : Result (Unit {0}) TreeError → ℕ
+calls_made_for (Ok done) = 1
+calls_made_for (Err refused.Memory) = 0
+calls_made_for (Err e) = 1

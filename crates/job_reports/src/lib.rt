@@ -9,6 +9,9 @@ mod stop;
 
 pub use answer::{Answer, AnswerError};
 pub use job::{Job, Pair, Pairs};
-pub use report::{Cause, Did, Ending, LastStepped, Stepped, Trouble, is_end, stuck_at};
+pub use report::{Cause, Did, Ending, LastStepResult, StepResult, Trouble, is_end, trouble_path};
 pub use row::{JobRow, JobRows, JobState};
-pub use stop::{Stop, absent, named, no_memory, ran, refusal_in, refused, then, tries, unmade};
+pub use stop::{
+    Stop, after_calls, calls_made, made_or_stopped, missing_or_trouble, out_of_memory,
+    reading_trouble, refusal_in, stopped_before, trouble_with_path,
+};

@@ -1,6 +1,6 @@
 //! What the step of a job reports.
 ghost use Rattle.std.specs.Prelude.{◌≡◌, IfOk, IfSome, Some};
-ghost use Rattle.job_reports.specs.Reports.{ends, stuck_path};
+ghost use Rattle.job_reports.specs.Reports.{ends, path_of_trouble};
 
 use mc_text::{Kind, NoMemory, Path};
 use std::alloc::Global;
@@ -90,7 +90,7 @@ pub enum Did {
 
 /// What a step did, and how many changing calls of the tree it made.
 #[derive(Debug, Drop)]
-pub struct Stepped {
+pub struct StepResult {
     pub did: Did,
     pub calls: u64,
 }
@@ -98,7 +98,7 @@ pub struct Stepped {
 /// What a last step did, how many changing calls of the tree it made, and the refusal of a sync that was tried in vain:
 /// the folder then has names that no sync has brought onto the disk.
 #[derive(Debug, Drop)]
-pub struct LastStepped {
+pub struct LastStepResult {
     pub did: Did,
     pub calls: u64,
     pub left: Option<TreeError>,
@@ -112,8 +112,8 @@ pub fn is_end(did: &Did) -> bool
 }
 
 /// The path at which a report says that a job is stuck; none where there is no memory for it.
-pub fn stuck_at(alloc: Global, did: &Did) -> Option<Path>
-    ensures { IfSome result (λ path. stuck_path did.now ≡ Some path) }
+pub fn trouble_path(alloc: Global, did: &Did) -> Option<Path>
+    ensures { IfSome result (λ path. path_of_trouble did.now ≡ Some path) }
 {
     match did {
         Did::Troubled(trouble) => match &trouble.path {

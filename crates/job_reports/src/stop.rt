@@ -1,6 +1,6 @@
 //! What changing calls come to: how many were made, or the trouble that stopped them.
 ghost use Rattle.std.specs.Prelude.{◌≡◌, ◌≤◌};
-ghost use Rattle.job_reports.specs.Stops.{IsAbsent, IsNamed, IsTold, calls_of, later_of, no_memory_of, ran_of, refusal_in as refused_with, tries_of, unmade_of};
+ghost use Rattle.job_reports.specs.Stops.{IsMissingOrTrouble, IsReadingTrouble, IsTroubleWithPath, after_calls_of, calls_made_for, calls_of, made_or_stopped_of, out_of_memory_at, refusal_in as refused_with, stopped_before_of};
 
 use crate::report::{Cause, Trouble};
 use mc_text::Path;
@@ -15,12 +15,16 @@ pub struct Stop {
 }
 
 /// What the answer of a call comes to. One that found no memory was not made.
-pub fn ran(answer: Result<(), TreeError>, path: Path, barrier: bool) -> Result<u64, Stop>
-    ensures { result ≡ ran_of answer path barrier }
+pub fn made_or_stopped(
+    answer: Result<(), TreeError>,
+    path: Path,
+    barrier: bool,
+) -> Result<u64, Stop>
+    ensures { result ≡ made_or_stopped_of answer path barrier }
 {
     match answer {
         Ok(()) => Ok(1),
-        Err(TreeError::Memory) => Err(unmade(no_memory(barrier))),
+        Err(TreeError::Memory) => Err(stopped_before(out_of_memory(barrier))),
         Err(error) => Err(Stop {
             trouble: Trouble {
                 cause: Cause::Tree(error),
@@ -33,10 +37,10 @@ pub fn ran(answer: Result<(), TreeError>, path: Path, barrier: bool) -> Result<u
 }
 
 /// What calls come to before which so many were made.
-pub fn then(calls: u64, answer: Result<u64, Stop>) -> Result<u64, Stop>
+pub fn after_calls(calls: u64, answer: Result<u64, Stop>) -> Result<u64, Stop>
     requires few { calls ≤ 3 }
     requires few_more { calls_of answer ≤ 3 }
-    ensures { result ≡ later_of calls answer }
+    ensures { result ≡ after_calls_of calls answer }
 {
     match answer {
         Ok(more) => Ok(calls + more),
@@ -48,15 +52,15 @@ pub fn then(calls: u64, answer: Result<u64, Stop>) -> Result<u64, Stop>
 }
 
 /// A trouble before any call was made.
-pub fn unmade(trouble: Trouble) -> Stop
-    ensures { result ≡ unmade_of trouble }
+pub fn stopped_before(trouble: Trouble) -> Stop
+    ensures { result ≡ stopped_before_of trouble }
 {
     Stop { trouble, calls: 0 }
 }
 
 /// Trouble for want of memory.
-pub fn no_memory(barrier: bool) -> Trouble
-    ensures { result ≡ no_memory_of barrier }
+pub fn out_of_memory(barrier: bool) -> Trouble
+    ensures { result ≡ out_of_memory_at barrier }
 {
     Trouble {
         cause: Cause::Memory,
@@ -66,8 +70,8 @@ pub fn no_memory(barrier: bool) -> Trouble
 }
 
 /// A trouble away from a barrier with this cause, which names a path, or want of memory for the path's copy.
-pub fn named(alloc: Global, cause: Cause, path: &Path) -> Trouble
-    ensures { IsNamed cause path.now result }
+pub fn trouble_with_path(alloc: Global, cause: Cause, path: &Path) -> Trouble
+    ensures { IsTroubleWithPath cause path.now result }
 {
     match path.copy(alloc) {
         Ok(path) => Trouble {
@@ -75,33 +79,33 @@ pub fn named(alloc: Global, cause: Cause, path: &Path) -> Trouble
             path: Some(path),
             barrier: false,
         },
-        Err(_) => no_memory(false),
+        Err(_) => out_of_memory(false),
     }
 }
 
 /// The trouble of a reading call that was refused.
-pub fn refused(alloc: Global, error: TreeError, path: &Path) -> Trouble
-    ensures { IsTold error path.now result }
+pub fn reading_trouble(alloc: Global, error: TreeError, path: &Path) -> Trouble
+    ensures { IsReadingTrouble error path.now result }
 {
     match error {
-        TreeError::Memory => no_memory(false),
-        error => named(alloc, Cause::Tree(error), path),
+        TreeError::Memory => out_of_memory(false),
+        error => trouble_with_path(alloc, Cause::Tree(error), path),
     }
 }
 
 /// Whether a look was refused because nothing is there. Another refusal is a trouble.
-pub fn absent(alloc: Global, error: TreeError, path: &Path) -> Result<(), Trouble>
-    ensures { IsAbsent error path.now result }
+pub fn missing_or_trouble(alloc: Global, error: TreeError, path: &Path) -> Result<(), Trouble>
+    ensures { IsMissingOrTrouble error path.now result }
 {
     match error {
         TreeError::Missing => Ok(()),
-        error => Err(refused(alloc, error, path)),
+        error => Err(reading_trouble(alloc, error, path)),
     }
 }
 
 /// How many calls were made for an answer: none where there was no memory.
-pub fn tries(answer: Result<(), TreeError>) -> u64
-    ensures { result ≡ tries_of answer }
+pub fn calls_made(answer: Result<(), TreeError>) -> u64
+    ensures { result ≡ calls_made_for answer }
 {
     match answer {
         Err(TreeError::Memory) => 0,

@@ -25,9 +25,9 @@ use Rattle.copy_move.specs.Jobs.{Running, answered, closed_job, first_work, part
 use Rattle.job_reports.specs.Reports.{ends}
 use Rattle.copy_move.specs.Told.{after_step, if_closed, running, told}
 use Rattle.copy_move.specs.declared.work.Work.{Work}
-use Rattle.copy_move.specs.declared.run.Course.TheVariants.{Unsettled}
+use Rattle.copy_move.specs.declared.run.Course.TheVariants.{OwedSyncFailed}
 use Rattle.job_reports.specs.Stops.{cause_of, trouble_at}
-use Rattle.copy_move.specs.Steps.{OwnStep, RunStep, SettlingStep, SyncsFolder}
+use Rattle.copy_move.specs.Steps.{OwnStep, RunStep, OwedSyncStep, SyncsFolder}
 use Rattle.session_history.specs.Refusals.{AreRefused}
 use Rattle.history_laws.specs.Traces.{IsUnclaimed, EventLeads, IsJob, Stand, StepLeads, before_others, begun, ordered, with_job}
 use Rattle.copy_move.proofs.StillTelling.{StillTells, performs_tells, step_tells}
@@ -340,7 +340,7 @@ module _ (contents contents_after : Option CallLog) (faults : ℕ) (old new : Se
 
   -- the sync of a folder that an ended job left
   pub adds_settled : (live stepped : Running) (did : Did) (made calls before after : ℕ) → old.job ≡ Some live → old.tally.job ≡ option_map told old.job
-      → SettlingStep live stepped did made old.dirty new.dirty contents contents_after before after → calls ≡ old.tally.calls + made
+      → OwedSyncStep live stepped did made old.dirty new.dirty contents contents_after before after → calls ≡ old.tally.calls + made
       → new.newest ≡ entry seat calls count shown (Step live.id did) ∷ old.newest
       → new.job ≡ if_closed old.tally.closed (if ends did then None else Some stepped)
       → new.tally ≡ record old.tally { job = option_map told new.job; unseen = ends did || old.tally.unseen; calls = calls }
@@ -379,11 +379,11 @@ module _ (contents contents_after : Option CallLog) (faults : ℕ) (old new : Se
       goes_on : (if ends did then None else Some stepped) ≡ Some stepped
       goes_on = ap (λ b. if b then None else Some stepped) (not_ended s.synced)
 
-      report : Syncs → ((did ≡ Barrier) × (Some stepped ≡ Some live)) ⊎ ((e : TreeError) × (did ≡ Troubled (trouble_at e s.folder true)) × (Some stepped ≡ Some (record live { course = Unsettled (cause_of e) })))
+      report : Syncs → ((did ≡ Barrier) × (Some stepped ≡ Some live)) ⊎ ((e : TreeError) × (did ≡ Troubled (trouble_at e s.folder true)) × (Some stepped ≡ Some (record live { course = OwedSyncFailed (cause_of e) })))
       report (inl h) = inl (h.0, ap Some h.1)
       report (inr h) = inr (h.0, h.1, ap Some h.2)
 
-      reported : ((did ≡ Barrier) × (Some stepped ≡ Some live)) ⊎ ((e : TreeError) × (did ≡ Troubled (trouble_at e s.folder true)) × (Some stepped ≡ Some (record live { course = Unsettled (cause_of e) })))
+      reported : ((did ≡ Barrier) × (Some stepped ≡ Some live)) ⊎ ((e : TreeError) × (did ≡ Troubled (trouble_at e s.folder true)) × (Some stepped ≡ Some (record live { course = OwedSyncFailed (cause_of e) })))
       reported = report s.synced
 
       reports : Syncs → (did ≡ Barrier) ⊎ ((trouble : Trouble) × (did ≡ Troubled trouble) × (trouble.barrier ≡ true))

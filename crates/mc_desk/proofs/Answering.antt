@@ -7,7 +7,7 @@ use Rattle.file_copy.specs.Copying as copying
 use Rattle.copy_move.specs.declared.work.Work.{Work}
 use Rattle.copy_move.specs.declared.work.Work.TheVariants.{Copy, Delete}
 use Rattle.copy_move.specs.declared.run.Course.{Course}
-use Rattle.copy_move.specs.declared.run.Course.TheVariants.{GoesOn, InTrouble, Unsettled, Skips, Ends}
+use Rattle.copy_move.specs.declared.run.Course.TheVariants.{GoesOn, InTrouble, OwedSyncFailed, Skips, Ends}
 use Rattle.job_reports.specs.declared.report.Trouble.{Trouble}
 use Rattle.copy_move.specs.Jobs.{Running, at_barrier, is_barred, part_of, waits_on}
 use Rattle.copy_move.specs.Told.{stage_told, told, work_told}
@@ -43,7 +43,7 @@ pub waits_told : (job : Running) → waits_on (told job).course ≡ waits_on job
 waits_told job = refl
 
 pub barred_told : (course : Course) (work : Work) → is_barred course (work_told work) ≡ is_barred course work
-barred_told (Unsettled cause) work = refl
+barred_told (OwedSyncFailed cause) work = refl
 barred_told GoesOn work = barrier_told work
 barred_told (InTrouble cause) work = barrier_told work
 barred_told (Skips cause) work = barrier_told work

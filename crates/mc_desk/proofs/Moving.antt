@@ -16,7 +16,7 @@ use Rattle.copy_move.specs.declared.deletion.Stage.TheVariants.{Remove, Sync, Fi
 use Rattle.copy_move.specs.declared.work.Work.{Work}
 use Rattle.copy_move.specs.declared.work.Work.TheVariants.{Copy, Delete}
 use Rattle.copy_move.specs.declared.run.Course.{Course}
-use Rattle.copy_move.specs.declared.run.Course.TheVariants.{GoesOn, InTrouble, Unsettled, Skips, Ends}
+use Rattle.copy_move.specs.declared.run.Course.TheVariants.{GoesOn, InTrouble, OwedSyncFailed, Skips, Ends}
 use Rattle.copy_move.specs.Deletions as deletions
 use Rattle.copy_move.specs.Jobs.{Running, TellsOn, WorkTells}
 use Rattle.copy_move.specs.Settling.{after_try, changed_folder, is_dirty, with_change}
@@ -115,7 +115,7 @@ module _ (job : Option Running) (newest older : List Entry) (dirty dirty_after :
           changes live (is_dirty live.work) (is_dirty stepped.work) is
           (λ was now. clean_before live.work work did tells was (sym (ap (λ (s : Running). is_dirty s.work) new_is) ∙ now)) leaves
       by (InTrouble cause) tells leaves = absurd tells
-      by (Unsettled cause) tells leaves = absurd tells
+      by (OwedSyncFailed cause) tells leaves = absurd tells
       by (Skips cause) (inl (did_is, new_is)) leaves =
           inl (still (changed_folder live.work) (is_dirty live.work) (is_dirty stepped.work) (ap (λ (s : Running). is_dirty s.work) new_is ∙ skipped_dirty live.work) leaves)
       by (Skips cause) (inr (did_is, new_is)) leaves = inl (still (changed_folder live.work) (is_dirty live.work) (is_dirty stepped.work) (ap (λ (s : Running). is_dirty s.work) new_is) leaves)

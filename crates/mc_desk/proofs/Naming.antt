@@ -12,7 +12,7 @@ use Rattle.session_history.specs.declared.history.Event.TheVariants.{Key, Look, 
 use Rattle.session_history.specs.declared.history.JobOrder.TheVariants.{Answered}
 use Rattle.copy_move.specs.declared.work.Work.{Work}
 use Rattle.copy_move.specs.declared.run.Course.{Course}
-use Rattle.copy_move.specs.declared.run.Course.TheVariants.{GoesOn, InTrouble, Unsettled, Skips, Ends}
+use Rattle.copy_move.specs.declared.run.Course.TheVariants.{GoesOn, InTrouble, OwedSyncFailed, Skips, Ends}
 use Rattle.copy_move.specs.Jobs.{Running, answered, answered_on, first_work}
 use Rattle.history_laws.specs.ToldJob.{live_job, after_event}
 use Rattle.session_history.specs.Entries.{is_closed}
@@ -45,10 +45,10 @@ answered_id Retry (InTrouble cause) job = refl
 answered_id Skip (InTrouble cause) job = refl
 answered_id SkipAll (InTrouble cause) job = refl
 answered_id Abort (InTrouble cause) job = refl
-answered_id Retry (Unsettled cause) job = refl
-answered_id Skip (Unsettled cause) job = refl
-answered_id SkipAll (Unsettled cause) job = refl
-answered_id Abort (Unsettled cause) job = refl
+answered_id Retry (OwedSyncFailed cause) job = refl
+answered_id Skip (OwedSyncFailed cause) job = refl
+answered_id SkipAll (OwedSyncFailed cause) job = refl
+answered_id Abort (OwedSyncFailed cause) job = refl
 answered_id answer GoesOn job = refl
 answered_id answer (Skips cause) job = refl
 answered_id answer (Ends ending) job = refl

@@ -12,7 +12,7 @@ use Rattle.job_reports.specs.declared.report.Did.TheVariants.{Began as BeganPart
 use Rattle.job_reports.specs.declared.report.Ending.{Ending}
 use Rattle.job_reports.specs.declared.report.Trouble.{Trouble}
 use Rattle.job_reports.specs.declared.row.JobState.TheVariants as state
-use Rattle.job_reports.specs.Stops.{no_memory_of}
+use Rattle.job_reports.specs.Stops.{out_of_memory_at}
 use Rattle.session_history.specs.declared.history.Entry.{Entry}
 use Rattle.session_history.specs.declared.history.Event.{Event}
 use Rattle.session_history.specs.declared.history.Event.TheVariants.{Key, Look, Began, Order, Step, Closed}
@@ -23,7 +23,7 @@ use Rattle.copy_move.specs.declared.deletion.Stage.TheVariants as deletion
 use Rattle.copy_move.specs.declared.work.Work.{Work}
 use Rattle.copy_move.specs.declared.work.Work.TheVariants.{Copy, Delete}
 use Rattle.copy_move.specs.declared.run.Course.{Course}
-use Rattle.copy_move.specs.declared.run.Course.TheVariants.{GoesOn, InTrouble, Unsettled, Skips, Ends}
+use Rattle.copy_move.specs.declared.run.Course.TheVariants.{GoesOn, InTrouble, OwedSyncFailed, Skips, Ends}
 use Rattle.copy_move.specs.Deletions as deletions
 use Rattle.copy_move.specs.Jobs.{Running, MayAnswer, TellsOn, WorkTells, WorkWinds, answered, answered_on, at_barrier, closed_course, closed_job, first_work, is_barred, is_fresh, waits_on}
 use Rattle.copy_move.specs.Told.{IsAllowedStep, after_step, course_told, if_closed, running, told}
@@ -67,9 +67,9 @@ no_winding ending (Delete d) (Delete new) trouble t = t
 tells_barrier : (course : Course) (old new : Running) (trouble : Trouble) → TellsOn course old (Troubled trouble) new → trouble.barrier ≡ at_barrier old.work
 tells_barrier GoesOn old new trouble (work, tells, is) = work_barrier old.work work trouble tells
 tells_barrier (InTrouble cause) old new trouble t = absurd t
-tells_barrier (Unsettled cause) old new trouble t = absurd t
+tells_barrier (OwedSyncFailed cause) old new trouble t = absurd t
 tells_barrier (Skips cause) old new trouble (inl (did, is)) = absurd cc
-tells_barrier (Skips cause) old new trouble (inr (did, is)) = let same : trouble ≡ no_memory_of (at_barrier old.work) = cc in ap (λ (t : Trouble). t.barrier) same
+tells_barrier (Skips cause) old new trouble (inr (did, is)) = let same : trouble ≡ out_of_memory_at (at_barrier old.work) = cc in ap (λ (t : Trouble). t.barrier) same
 tells_barrier (Ends ending) old new trouble (work, winds, is) = absurd (no_winding ending old.work work trouble winds)
 
 -- a trouble is at a barrier where its job's next call is, or where a folder that an ended job left was to be synced
@@ -90,7 +90,7 @@ true_both false b h = absurd (false≢true h)
 trouble_barred : (live : Running) (trouble : Trouble) → IsAllowedStep live (Troubled trouble) → trouble.barrier ≡ is_barred (course_told live.work trouble) live.work
 trouble_barred live trouble allowed = go (is_fresh live.work && trouble.barrier) refl
   where
-    go : (b : Bool) → (is_fresh live.work && trouble.barrier) ≡ b → trouble.barrier ≡ is_barred (if b then Unsettled trouble.cause else InTrouble trouble.cause) live.work
+    go : (b : Bool) → (is_fresh live.work && trouble.barrier) ≡ b → trouble.barrier ≡ is_barred (if b then OwedSyncFailed trouble.cause else InTrouble trouble.cause) live.work
     go true is = true_both (is_fresh live.work) trouble.barrier is
     go false is = step_barrier live trouble allowed is
 
@@ -98,7 +98,7 @@ trouble_barred live trouble allowed = go (is_fresh live.work && trouble.barrier)
 tells_ready : (course : Course) (old new : Running) (did : Did) → TellsOn course old did new → waits_on course ≡ false
 tells_ready GoesOn old new did t = refl
 tells_ready (InTrouble cause) old new did t = absurd t
-tells_ready (Unsettled cause) old new did t = absurd t
+tells_ready (OwedSyncFailed cause) old new did t = absurd t
 tells_ready (Skips cause) old new did t = refl
 tells_ready (Ends ending) old new did t = refl
 
@@ -127,10 +127,10 @@ answered_waits (InTrouble cause) Retry job t h = λ waits. absurd (false≢true 
 answered_waits (InTrouble cause) Skip job t h = λ waits. absurd (false≢true waits)
 answered_waits (InTrouble cause) SkipAll job t h = λ waits. absurd (false≢true waits)
 answered_waits (InTrouble cause) Abort job t h = λ waits. absurd (false≢true waits)
-answered_waits (Unsettled cause) Retry job t h = λ waits. absurd (false≢true waits)
-answered_waits (Unsettled cause) Skip job t h = h
-answered_waits (Unsettled cause) SkipAll job t h = h
-answered_waits (Unsettled cause) Abort job t h = λ waits. absurd (false≢true waits)
+answered_waits (OwedSyncFailed cause) Retry job t h = λ waits. absurd (false≢true waits)
+answered_waits (OwedSyncFailed cause) Skip job t h = h
+answered_waits (OwedSyncFailed cause) SkipAll job t h = h
+answered_waits (OwedSyncFailed cause) Abort job t h = λ waits. absurd (false≢true waits)
 answered_waits GoesOn answer job t h = h
 answered_waits (Skips cause) answer job t h = h
 answered_waits (Ends ending) answer job t h = h
@@ -156,7 +156,7 @@ event_waits was Closed after job t is leads h = h
 closed_goes : (course : Course) → waits_on (closed_course course) ≡ false
 closed_goes GoesOn = refl
 closed_goes (InTrouble cause) = refl
-closed_goes (Unsettled cause) = refl
+closed_goes (OwedSyncFailed cause) = refl
 closed_goes (Skips cause) = refl
 closed_goes (Ends ending) = refl
 

@@ -21,7 +21,7 @@ use Rattle.session_history.specs.declared.history.JobOrder.TheVariants.{Answered
 use Rattle.job_reports.specs.declared.answer.Answer.{Answer}
 use Rattle.session_history.specs.declared.refusal.Refusal.{Refusal}
 use Rattle.copy_move.specs.declared.run.Course.{Course}
-use Rattle.copy_move.specs.declared.run.Course.TheVariants.{GoesOn, InTrouble, Unsettled, Skips, Ends}
+use Rattle.copy_move.specs.declared.run.Course.TheVariants.{GoesOn, InTrouble, OwedSyncFailed, Skips, Ends}
 use Rattle.copy_move.specs.Jobs.{Running, MayAnswer, answered, closed_course, closed_job, first_work, part_of, waits_on}
 use Rattle.job_reports.specs.Reports.{ends}
 use Rattle.history_laws.specs.ToldJob.{after_event, live_job}
@@ -60,7 +60,7 @@ desk_of start opening contents faults desk written settled lost asked shut room 
 closed_waits : (course : Course) → waits_on (closed_course course) ≡ false
 closed_waits GoesOn = refl
 closed_waits (InTrouble cause) = refl
-closed_waits (Unsettled cause) = refl
+closed_waits (OwedSyncFailed cause) = refl
 closed_waits (Skips cause) = refl
 closed_waits (Ends ending) = refl
 

@@ -14,7 +14,7 @@ use Rattle.tree_trait.specs.declared.devices.SourceFault.{SourceFault}
 use Rattle.key_screen.specs.DecodedKeys.{decoded_keys}
 use Rattle.session_history.specs.declared.history.Entry.{Entry}
 use Rattle.history_laws.specs.Calmed.{CalmsOthers}
-use Rattle.history_laws.specs.Replayed.{front, replayed_tree}
+use Rattle.history_laws.specs.Replayed.{log_prefix, replayed_tree}
 use Rattle.session_history.specs.Entries.{IsMoment}
 use Rattle.history_laws.specs.Safe.{IsSafe}
 use Rattle.history_laws.specs.Staying.{StaysDone}
@@ -121,7 +121,7 @@ abbrev pub IsSafeRun : CallLog → CallLog → List Entry → Type 0
 IsSafeRun opening now newest =
     IsTree (current opening) → all_settled opening.changes ≡ true → (standing coming : List Entry) (calls : ℕ) (image : FileSystem)
     → IsMoment newest standing coming calls → IsCrashImage now (length opening.changes + calls) image
-    → IsSafe opening now standing (front opening calls now) image ⊎ IsSafe opening now coming (front opening calls now) image
+    → IsSafe opening now standing (log_prefix opening calls now) image ⊎ IsSafe opening now coming (log_prefix opening calls now) image
 
 -- what a finished job did stays done
 abbrev pub IsFinishedRun : CallLog → CallLog → List Entry → Type 0

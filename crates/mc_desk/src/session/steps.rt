@@ -17,7 +17,7 @@ use crate::claims::NoClaims;
 use crate::replies::{Ended, StepReply};
 use crate::tag::Tag;
 use copy_move::Run;
-use job_reports::{Did, Ending, Stepped, is_end};
+use job_reports::{Did, Ending, StepResult, is_end};
 use mc_text::Path;
 use session_history::{Entry, Event};
 use std::alloc::Global;
@@ -78,7 +78,7 @@ impl<N: Tag, T: Tree, S: Sink, P: Spawner> Session<N, T, S, P> {
             self.unseen = true;
             return StepReply::Did;
         }
-        let Stepped { did, calls } = job.step(alloc, &mut self.tree, &NoClaims, &mut self.dirty);
+        let StepResult { did, calls } = job.step(alloc, &mut self.tree, &NoClaims, &mut self.dirty);
         self.calls = self.calls.saturating_add(calls);
         let ended = is_end(&did);
         self.log.note(Entry {

@@ -5,7 +5,7 @@ use Rattle.tree_trait.specs.Change.{current}
 use Rattle.tree_trait.specs.Answers.{IfKnown}
 use Rattle.tree_trait.specs.CrashImages.{Among}
 use Rattle.copy_move.specs.Settling.{IsElsewhere}
-use Rattle.copy_move.proofs.dirty.Dirty.first_beside.Given as goal
+use Rattle.copy_move.proofs.dirty.Dirty.first_on_mount_of.Given as goal
 
 abbrev pub invariant-loop-first : goal.invariant-loop-first
 invariant-loop-first g l =

@@ -7,7 +7,7 @@ use Rattle.tree_trait.specs.Change.{Change, CallLog}
 use Rattle.session_history.specs.declared.history.Event.{Event}
 use Rattle.session_history.specs.declared.history.Entry.{Entry}
 use Rattle.history_laws.specs.LiveJobs.{live_jobs}
-use Rattle.history_laws.specs.Replayed.{earlier_event, earlier_tree, front, replayed_event, replayed_tree}
+use Rattle.history_laws.specs.Replayed.{earlier_event, earlier_tree, log_prefix, replayed_event, replayed_tree}
 use Rattle.session_history.specs.Named.{named_after, named_parts}
 use Rattle.history_laws.proofs.Knowing.{Said, anywhere}
 use Rattle.history_laws.proofs.Stepped.{more}
@@ -19,7 +19,7 @@ told_of opening end g part = record { tree = replayed_tree opening end g; earlie
 -- the same after one event more, by which so many calls were made
 abbrev pub told_with : CallLog → CallLog → List Entry → ℕ → Event → Option Route → Said
 told_with opening end older calls what part = record {
-  tree = replayed_event (front opening calls end) what (live_jobs older) (replayed_tree opening end older);
+  tree = replayed_event (log_prefix opening calls end) what (live_jobs older) (replayed_tree opening end older);
   earlier = earlier_event what (replayed_tree opening end older) (earlier_tree opening end older);
   named = named_after what (named_parts older);
   part = part;
@@ -35,14 +35,14 @@ pub within_more : (opening now : CallLog) (cs : List Change) (g : List Entry) �
 within_more opening now cs [] w = tt
 within_more opening now cs (e ∷ older) (few, w) = (let n = length-append now.changes cs in omega (arith, few, n), within_more opening now cs older w)
 
-front_more : (opening now : CallLog) (cs : List Change) (calls : ℕ) → length opening.changes + calls ≤ length now.changes → front opening calls (more now cs) ≡ front opening calls now
-front_more opening now cs calls few = ap (λ xs. (let l : CallLog = record now { changes = xs } in l)) (take-append-le (length opening.changes + calls) now.changes cs few)
+prefix_more : (opening now : CallLog) (cs : List Change) (calls : ℕ) → length opening.changes + calls ≤ length now.changes → log_prefix opening calls (more now cs) ≡ log_prefix opening calls now
+prefix_more opening now cs calls few = ap (λ xs. (let l : CallLog = record now { changes = xs } in l)) (take-append-le (length opening.changes + calls) now.changes cs few)
 
 pub replayed_more : (opening now : CallLog) (cs : List Change) (g : List Entry) → AreWithin opening g now → replayed_tree opening (more now cs) g ≡ replayed_tree opening now g
 replayed_more opening now cs [] w = refl
 replayed_more opening now cs (e ∷ older) (few, w) =
-    ap (λ l. replayed_event l e.what (live_jobs older) (replayed_tree opening (more now cs) older)) (front_more opening now cs e.calls few)
-    ∙ ap (replayed_event (front opening e.calls now) e.what (live_jobs older)) (replayed_more opening now cs older w)
+    ap (λ l. replayed_event l e.what (live_jobs older) (replayed_tree opening (more now cs) older)) (prefix_more opening now cs e.calls few)
+    ∙ ap (replayed_event (log_prefix opening e.calls now) e.what (live_jobs older)) (replayed_more opening now cs older w)
 
 pub earlier_more : (opening now : CallLog) (cs : List Change) (g : List Entry) → AreWithin opening g now → earlier_tree opening (more now cs) g ≡ earlier_tree opening now g
 earlier_more opening now cs [] w = refl
