@@ -168,22 +168,22 @@ module _ (contents contents_after : Option CallLog) (faults : ℕ) (old new : Se
 
   -- a look
   pub adds_look : (refusals : List Refusal) → new.newest ≡ entry seat old.tally.calls count shown (Look refusals) ∷ old.newest
-      → new.tally ≡ record old.tally { unseen = false; due = if can_step old.tally.job then old.tally.due else None } → new.job ≡ old.job → new.tally.job ≡ option_map told new.job
+      → new.tally ≡ record old.tally { has_unseen_end = false; due = if can_step old.tally.job then old.tally.due else None } → new.job ≡ old.job → new.tally.job ≡ option_map told new.job
       → old.tally.closed ≡ false → old.screen.planned ≡ None → contents_after ≡ contents
       → faults_in faults old.newest ≤ count → (has_fault refusals ≡ true → HasRisen (faults_in faults old.newest) count) → IfKnown contents (λ log. AreRefused ListFolder log refusals)
-      → LookLeads (sight contents) (rows_told old.newest) old.tally.unseen (part_left old.newest) refusals old.screen new.screen → new.quit ≡ old.quit → old.quit ≡ false → new.dirty ≡ old.dirty
+      → LookLeads (sight contents) (rows_told old.newest) old.tally.has_unseen_end (part_left old.newest) refusals old.screen new.screen → new.quit ≡ old.quit → old.quit ≡ false → new.dirty ≡ old.dirty
       → Adds contents contents_after faults old new (entry seat old.tally.calls count shown (Look refusals))
   adds_look refusals more tally job tells unclosed settled same later fault refused leads quit unasked dirty = record {
     more = more;
     tally = tally
-        ∙ ap (λ b. let r : Tally = record old.tally { job = if_closed b old.tally.job; unseen = false; due = if can_step old.tally.job then old.tally.due else None } in r) (sym unclosed);
+        ∙ ap (λ b. let r : Tally = record old.tally { job = if_closed b old.tally.job; has_unseen_end = false; due = if can_step old.tally.job then old.tally.due else None } in r) (sym unclosed);
     told = tells;
     timely = unplanned old unasked settled;
     counts = record { seat = main; later = later; fault = fault; calls = omega arith; most = omega arith };
     leads = (
       unclosed,
-      subst (λ s. LookLeads (sight contents) (rows_told old.newest) old.tally.unseen (part_left old.newest) refusals s (noted new)) (sym (unasked_screen old unasked))
-          (subst (λ s. LookLeads (sight contents) (rows_told old.newest) old.tally.unseen (part_left old.newest) refusals old.screen s) (sym (unasked_screen new (quit ∙ unasked))) leads),
+      subst (λ s. LookLeads (sight contents) (rows_told old.newest) old.tally.has_unseen_end (part_left old.newest) refusals s (noted new)) (sym (unasked_screen old unasked))
+          (subst (λ s. LookLeads (sight contents) (rows_told old.newest) old.tally.has_unseen_end (part_left old.newest) refusals old.screen s) (sym (unasked_screen new (quit ∙ unasked))) leads),
     );
     caused = refused;
     traced = leads_still contents contents_after same old new (entry seat old.tally.calls count shown (Look refusals)) refl dirty (λ log stays. (stays, refl)) (job ∙ open_job old.tally.closed old.job unclosed);
@@ -282,10 +282,10 @@ module _ (contents contents_after : Option CallLog) (faults : ℕ) (old new : Se
   unseen_step id (Troubled trouble) b = refl
   unseen_step id (Ended ending part) b = refl
 
-  stepped_tally : (t : Tally) (job job' : Option Running) (unseen unseen' : Bool) (calls : ℕ) → job ≡ job' → unseen ≡ unseen'
-      → (let r : Tally = record t { job = job; unseen = unseen; calls = calls } in r) ≡ record t { job = job'; unseen = unseen'; calls = calls }
-  stepped_tally t job job' unseen unseen' calls p q =
-      ap (λ j. let r : Tally = record t { job = j; unseen = unseen; calls = calls } in r) p ∙ ap (λ u. let r : Tally = record t { job = job'; unseen = u; calls = calls } in r) q
+  stepped_tally : (t : Tally) (job job' : Option Running) (has_unseen_end has_unseen_end' : Bool) (calls : ℕ) → job ≡ job' → has_unseen_end ≡ has_unseen_end'
+      → (let r : Tally = record t { job = job; has_unseen_end = has_unseen_end; calls = calls } in r) ≡ record t { job = job'; has_unseen_end = has_unseen_end'; calls = calls }
+  stepped_tally t job job' has_unseen_end has_unseen_end' calls p q =
+      ap (λ j. let r : Tally = record t { job = j; has_unseen_end = has_unseen_end; calls = calls } in r) p ∙ ap (λ u. let r : Tally = record t { job = job'; has_unseen_end = u; calls = calls } in r) q
 
   -- what a step says of the tree, once that goes on telling
   step_traced : (live stepped : Running) (did : Did) (made calls before after : ℕ) → old.job ≡ Some live → RunStep IsUnclaimed live stepped did made old.dirty new.dirty contents contents_after before after
@@ -310,7 +310,7 @@ module _ (contents contents_after : Option CallLog) (faults : ℕ) (old new : Se
       → OwnStep IsUnclaimed live stepped did made old.dirty new.dirty contents contents_after before after → calls ≡ old.tally.calls + made
       → new.newest ≡ entry seat calls count shown (Step live.id did) ∷ old.newest
       → new.job ≡ if_closed old.tally.closed (if ends did then None else Some stepped)
-      → new.tally ≡ record old.tally { job = option_map told new.job; unseen = ends did || old.tally.unseen; calls = calls }
+      → new.tally ≡ record old.tally { job = option_map told new.job; has_unseen_end = ends did || old.tally.has_unseen_end; calls = calls }
       → old.screen.planned ≡ None → faults_in faults old.newest ≤ before → after ≡ count → new.screen ≡ old.screen → new.quit ≡ old.quit
       → Adds contents contents_after faults old new (entry seat calls count shown (Step live.id did))
   adds_step live stepped did made calls before after is tells o calls_is more job tally settled had now screen quit =
@@ -319,7 +319,7 @@ module _ (contents contents_after : Option CallLog) (faults : ℕ) (old new : Se
         more = more;
         tally = tally ∙ stepped_tally old.tally _ _ _ _ calls
             (ap (option_map told) job ∙ (closed_told old.tally.closed (if ends did then None else Some stepped)
-            ∙ ap (if_closed old.tally.closed) (step_told live stepped did s.tells ∙ sym (ap (λ j. option_and_then (after_step did) j) told_is)))) (unseen_step live.id did old.tally.unseen);
+            ∙ ap (if_closed old.tally.closed) (step_told live stepped did s.tells ∙ sym (ap (λ j. option_and_then (after_step did) j) told_is)))) (unseen_step live.id did old.tally.has_unseen_end);
         told = ap (λ (t : Tally). t.job) tally;
         timely = may_end old settled;
         counts = record {
@@ -343,14 +343,14 @@ module _ (contents contents_after : Option CallLog) (faults : ℕ) (old new : Se
       → OwedSyncStep live stepped did made old.dirty new.dirty contents contents_after before after → calls ≡ old.tally.calls + made
       → new.newest ≡ entry seat calls count shown (Step live.id did) ∷ old.newest
       → new.job ≡ if_closed old.tally.closed (if ends did then None else Some stepped)
-      → new.tally ≡ record old.tally { job = option_map told new.job; unseen = ends did || old.tally.unseen; calls = calls }
+      → new.tally ≡ record old.tally { job = option_map told new.job; has_unseen_end = ends did || old.tally.has_unseen_end; calls = calls }
       → old.screen.planned ≡ None → faults_in faults old.newest ≤ before → after ≡ count → new.screen ≡ old.screen → new.quit ≡ old.quit
       → Adds contents contents_after faults old new (entry seat calls count shown (Step live.id did))
   adds_settled live stepped did made calls before after is tells s calls_is more job tally settled had now screen quit = record {
     more = more;
     tally = tally ∙ stepped_tally old.tally _ _ _ _ calls
         (ap (option_map told) (job ∙ ap (if_closed old.tally.closed) goes_on) ∙ (closed_told old.tally.closed (Some stepped)
-        ∙ ap (if_closed old.tally.closed) (sync_told live s.folder did (Some stepped) s.fresh reported ∙ sym (ap (λ j. option_and_then (after_step did) j) told_is)))) (unseen_step live.id did old.tally.unseen);
+        ∙ ap (if_closed old.tally.closed) (sync_told live s.folder did (Some stepped) s.fresh reported ∙ sym (ap (λ j. option_and_then (after_step did) j) told_is)))) (unseen_step live.id did old.tally.has_unseen_end);
     told = ap (λ (t : Tally). t.job) tally;
     timely = may_end old settled;
     counts = record {
@@ -394,10 +394,10 @@ module _ (contents contents_after : Option CallLog) (faults : ℕ) (old new : Se
       tells_on log known (inl h) = performs_tells log (SyncFolder s.folder) (Ok tt) contents_after (h.3 log known)
       tells_on log known (inr h) = performs_tells log (SyncFolder s.folder) (Err h.0) contents_after (h.4 log known)
 
-  -- the end of a job for want of memory
+  -- the end of a job that ran out of memory
   pub adds_given_up : (live : Running) (part : Option Route) → old.job ≡ Some live → old.tally.job ≡ option_map told old.job → waits_on live.course ≡ false → part ≡ part_of live.work
       → new.newest ≡ entry seat old.tally.calls count shown (Step live.id (Ended NoMemory part)) ∷ old.newest
-      → new.job ≡ None → new.tally ≡ record old.tally { job = None; unseen = true }
+      → new.job ≡ None → new.tally ≡ record old.tally { job = None; has_unseen_end = true }
       → old.screen.planned ≡ None → contents_after ≡ contents → faults_in faults old.newest ≤ count → new.screen ≡ old.screen → new.quit ≡ old.quit → new.dirty ≡ old.dirty
       → Adds contents contents_after faults old new (entry seat old.tally.calls count shown (Step live.id (Ended NoMemory part)))
   adds_given_up live part is tells ready part_is more job tally settled same later screen quit dirty = record {

@@ -24,7 +24,7 @@ use Rattle.mc_desk.specs.Desks.{Seen, IsWritten, IsDesk, noted, stand_of, stand_
 
 -- a desk on which nothing happened yet
 abbrev pub fresh : Tally
-fresh = record { job = None; last = 0; unseen = false; closed = false; due = Some 0; lost = false; calls = 0 }
+fresh = record { job = None; last = 0; has_unseen_end = false; closed = false; due = Some 0; lost = false; calls = 0 }
 
 pub kept_opening : (start : Option Start) (opening contents : Option CallLog) (faults : ℕ) (folders : Start) (screen : Screen) (log : Logged) (dirty : List Route) (taken : ℕ) (pending : List ℕ) (failed : Bool) → BeginsIn start folders
     → contents ≡ opening → IsOpened contents folders.left folders.right screen log → dirty ≡ []

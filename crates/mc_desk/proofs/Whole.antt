@@ -217,17 +217,17 @@ desk_closed start opening contents faults old new count desk unclosed later more
 -- a look, written down
 pub desk_looked : (start : Option Start) (opening contents contents_after : Option CallLog) (faults : ℕ) (old new : Seen) (count shown : ℕ) (refusals : List Refusal) (rows : List JobRow) (part : Option Route) → rows ≡ rows_of old.job (trouble_told old.newest) → part ≡ part_left old.newest → IsDesk start opening contents faults old
     → old.tally.closed ≡ false → contents_after ≡ contents → faults_in faults old.newest ≤ count → (has_fault refusals ≡ true → HasRisen (faults_in faults old.newest) count)
-    → IfKnown contents (λ log. AreRefused ListFolder log refusals) → LookLeads (sight contents) rows old.tally.unseen part refusals old.screen new.screen
+    → IfKnown contents (λ log. AreRefused ListFolder log refusals) → LookLeads (sight contents) rows old.tally.has_unseen_end part refusals old.screen new.screen
     → new.newest ≡ entry 0 old.tally.calls count shown (Look refusals) ∷ old.newest
-    → new.tally ≡ record old.tally { unseen = false; due = if can_step old.tally.job then old.tally.due else None } → new.job ≡ old.job → new.tally.job ≡ option_map told new.job
+    → new.tally ≡ record old.tally { has_unseen_end = false; due = if can_step old.tally.job then old.tally.due else None } → new.job ≡ old.job → new.tally.job ≡ option_map told new.job
     → new.screen.planned ≡ None → new.quit ≡ old.quit → 2 ≤ new.spare → new.dirty ≡ old.dirty → old.quit ≡ false
     → IsDesk start opening contents_after faults new
 desk_looked start opening contents contents_after faults old new count shown refusals rows part rows_is part_is desk unclosed same later fault refused leads more is job tells settled quit room dirty unasked =
     desk_of start opening contents_after faults new
     (written_more faults old new _ start opening contents contents_after desk.written
     (adds_look contents contents_after faults old new 0 count shown refl refusals more is job tells unclosed desk.settled same later fault refused
-    (subst (λ rs. LookLeads (sight contents) rs old.tally.unseen (part_left old.newest) refusals old.screen new.screen) (rows_is ∙ sym (rows_are start opening contents faults old desk.written))
-    (subst (λ p. LookLeads (sight contents) rows old.tally.unseen p refusals old.screen new.screen) part_is leads)) quit unasked dirty))
+    (subst (λ rs. LookLeads (sight contents) rs old.tally.has_unseen_end (part_left old.newest) refusals old.screen new.screen) (rows_is ∙ sym (rows_are start opening contents faults old desk.written))
+    (subst (λ p. LookLeads (sight contents) rows old.tally.has_unseen_end p refusals old.screen new.screen) part_is leads)) quit unasked dirty))
     settled (λ h. ap (λ (t : Tally). t.closed) is ∙ desk.lost (sym (ap (λ (t : Tally). t.lost) is) ∙ h)) (λ h. absurd (let no = unasked in cc)) (λ h. absurd (let shut = ap (λ (t : Tally). t.closed) is in cc)) room
 
 -- a step makes at most three changing calls
@@ -242,7 +242,7 @@ pub desk_stepped : (start : Option Start) (opening contents contents_after : Opt
     → calls ≡ min (old.tally.calls + made) (2 ^ 64 - 1) → faults_in faults old.newest ≤ before → after ≡ count
     → new.newest ≡ entry seat calls count 0 (Step live.id did) ∷ old.newest
     → new.job ≡ if_closed old.tally.closed (if ends did then None else Some stepped)
-    → new.tally ≡ record old.tally { job = option_map told new.job; unseen = ends did || old.tally.unseen; calls = calls } → new.screen ≡ old.screen
+    → new.tally ≡ record old.tally { job = option_map told new.job; has_unseen_end = ends did || old.tally.has_unseen_end; calls = calls } → new.screen ≡ old.screen
     → new.quit ≡ old.quit → 2 ≤ new.spare → IsDesk start opening contents_after faults new
 desk_stepped start opening contents contents_after faults old new seat count made calls before after live stepped did main desk is steps fits calls_is had now more job tally screen quit room =
     let all : calls ≡ old.tally.calls + made =
@@ -282,11 +282,11 @@ unknown_plans_nothing tree rows key refusals before after asked planned unknown 
     let none = ap (λ (s : Screen). s.planned) (unknown_stays tree rows key refusals before (with_ask asked after) unknown leads) ∙ settled in
     cc
 
--- the end of a job for want of memory, written down in the room that was kept for it
+-- the end of a job that ran out of memory, written down in the room that was kept for it
 pub desk_gave_up : (start : Option Start) (opening contents : Option CallLog) (faults : ℕ) (old new : Seen) (seat count : ℕ) (live : Running) (part : Option Route)
     → seat ≡ 0 → IsDesk start opening contents faults old → old.job ≡ Some live → waits_on live.course ≡ false → part ≡ part_of live.work → faults_in faults old.newest ≤ count
     → new.newest ≡ entry seat old.tally.calls count 0 (Step live.id (Ended NoMemory part)) ∷ old.newest
-    → new.job ≡ None → new.tally ≡ record old.tally { job = None; unseen = true } → new.screen ≡ old.screen → new.quit ≡ old.quit → kept_room old.tally.closed None ≤ new.spare → new.dirty ≡ old.dirty
+    → new.job ≡ None → new.tally ≡ record old.tally { job = None; has_unseen_end = true } → new.screen ≡ old.screen → new.quit ≡ old.quit → kept_room old.tally.closed None ≤ new.spare → new.dirty ≡ old.dirty
     → IsDesk start opening contents faults new
 desk_gave_up start opening contents faults old new seat count live part main desk is ready part_is later more job tally screen quit room dirty = record {
   written = written_more faults old new _ start opening contents contents desk.written

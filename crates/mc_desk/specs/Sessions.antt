@@ -82,7 +82,7 @@ pub record IsOrdered (was : Before) (id : ℕ) (answer : Answer) (after : Screen
 abbrev pub EventLeads : Before → Event → Screen → Type 0
 EventLeads was (Key key now refusals true) after = TakesKey was.tally × (after ≡ was.screen)
 EventLeads was (Key key now refusals false) after = TakesKey was.tally × KeyWorks was key refusals after
-EventLeads was (Look refusals) after = (was.tally.closed ≡ false) × LookLeads was.tree was.rows was.tally.unseen was.part refusals was.screen after
+EventLeads was (Look refusals) after = (was.tally.closed ≡ false) × LookLeads was.tree was.rows was.tally.has_unseen_end was.part refusals was.screen after
 EventLeads was (Began id plan background) after = IsBegun was id plan background after
 EventLeads was (Order id (Answered answer)) after = IsOrdered was id answer after
 EventLeads was (Step id did) after =

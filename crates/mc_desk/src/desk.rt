@@ -39,7 +39,7 @@ impl<N: Tag, T: Tree, S: Sink, P: Spawner> Model for Desk<N, T, S, P> {
 }
 
 impl<N: Tag, T: Tree, S: Sink, P: Spawner> Desk<N, T, S, P> {
-    /// Opens a session in two folders. It is refused as `list` of the first is that can't be listed, or for want of memory;
+    /// Opens a session in two folders. It is refused as `list` of the first is that can't be listed, or since memory ran out;
     /// the devices are as they were then, but for the tree's count of faults.
     pub fn begin(
         alloc: Global,

@@ -62,7 +62,7 @@ pub fn run_desk<N: Tag, T: Tree, K: Source, S: Sink, P: Spawner, C: Clock>(
     }
 }
 
-/// The status of a session. A lost key is want of memory; else the first cause that stands decides.
+/// The status of a session. With a lost key memory ran out; else the first cause that stands decides.
 fn status_of(end: SessionEnd, screen_failed: bool, key_lost: bool) -> u8
     ensures { IsStatusOf end screen_failed key_lost result }
 {

@@ -1,5 +1,5 @@
 -- What a key or a look makes of the screen: the two panels, and the box that stands over them.
-use Rattle.std.specs.Prelude.{◌≡◌, ◌≢◌, ◌⊎◌, ℕ, ◌<◌, Bool, true, false, ◌&&◌, ◌==◌, nat_le, is_none, is_some, MatchBool, ⊤, if◌then◌else◌, List, [], ◌∷◌, ◌++◌, length, IsSome, Option, Some, None}
+use Rattle.std.specs.Prelude.{◌≡◌, ◌≢◌, ◌⊎◌, ℕ, ◌<◌, Bool, true, false, ◌&&◌, ◌==◌, nat_le, MatchBool, ⊤, if◌then◌else◌, List, [], ◌∷◌, ◌++◌, length, IsSome, Option, Some, None}
 use Rattle.std.specs.Option.{option_map, option_map_or}
 use Rattle.mc_text.specs.Routes.{Route, spelled}
 use Rattle.tree_trait.specs.declared.calls.TreeError.{TreeError}
@@ -229,18 +229,18 @@ with_part (Some path) before = PartLeftBox path
 
 -- A look reads each panel again, after a job's end that was not taken up, and shows the trouble that there is, and the part
 -- that this end left.
-pub record LooksAgain (tree : Option View) (unseen : Bool) (trouble : Option Trouble) (part : Option Route) (refusals : List Refusal) (before after : Screen) : Type 0 where
+pub record LooksAgain (tree : Option View) (has_unseen_end : Bool) (trouble : Option Trouble) (part : Option Route) (refusals : List Refusal) (before after : Screen) : Type 0 where
   pub left : Reread
   pub right : Reread
-  pub left_is : IsReread tree unseen before.left.folder left
-  pub right_is : IsReread tree unseen before.right.folder right
+  pub left_is : IsReread tree has_unseen_end before.left.folder left
+  pub right_is : IsReread tree has_unseen_end before.right.folder right
   pub refused : refusals ≡ listed left.refused ++ listed right.refused
   pub after_is : after ≡ record before { left = with_names left.names before.left; right = with_names right.names before.right; over = with_part part (with_trouble trouble before.over) }
 
 -- What a look makes of the screen: it takes up what the live job did. The trouble of one that waits gets its box; so does the
 -- part that an ended one left.
 abbrev pub LookLeads : Option View → List JobRow → Bool → Option Route → List Refusal → Screen → Screen → Type 0
-LookLeads tree rows unseen part refusals before after = LooksAgain tree unseen (shown_trouble rows) part refusals before after
+LookLeads tree rows has_unseen_end part refusals before after = LooksAgain tree has_unseen_end (shown_trouble rows) part refusals before after
 
 -- the panels show the same folders
 abbrev pub SameFolders : Screen → Screen → Type 0

@@ -22,13 +22,13 @@ pub fn list_again<T: Tree>(
     alloc: Global,
     tree: &mut T,
     folder: &Path,
-    unseen: bool,
+    has_unseen_end: bool,
 ) -> Result<Reread, NoMemory>
-    ensures reread { IfOk result (IsReread (sight (T.contents tree.old)) unseen folder.now) }
+    ensures reread { IfOk result (IsReread (sight (T.contents tree.old)) has_unseen_end folder.now) }
     ensures reads { ReadsTree ListFolder (λ (r : RereadType). listed r.refused) result (T.contents tree.old) (T.contents tree.new)
         (T.fault_count tree.old) (T.fault_count tree.new) }
 {
-    if !unseen {
+    if !has_unseen_end {
         return Ok(Reread {
             names: None,
             refused: None,

@@ -127,17 +127,17 @@ impl Ui {
         }
     }
 
-    /// Takes up what the live jobs did. After a job's end, which `unseen` says, each panel is read again. A trouble gets its
+    /// Takes up what the live jobs did. After a job's end, which `has_unseen_end` says, each panel is read again. A trouble gets its
     /// box, and so does the part that the end left.
     pub fn look<T: Tree>(
         &mut self,
         alloc: Global,
         tree: &mut T,
         rows: &JobRows,
-        unseen: bool,
+        has_unseen_end: bool,
         part: Option<Path>,
     ) -> Result<Refusals, NoMemory>
-        ensures leads { IfOk result (λ refusals. LookLeads (sight (T.contents tree.old)) rows.now unseen part refusals self.old self.new) }
+        ensures leads { IfOk result (λ refusals. LookLeads (sight (T.contents tree.old)) rows.now has_unseen_end part refusals self.old self.new) }
         ensures left { self.new.left.folder ≡ self.old.left.folder }
         ensures right { self.new.right.folder ≡ self.old.right.folder }
         ensures settled { self.new.planned ≡ None }
@@ -147,8 +147,8 @@ impl Ui {
     {
         let _news = &self.news;
         let trouble = shown_trouble(alloc, rows)?;
-        let left = list_again(alloc, tree, self.left.folder(), unseen)?;
-        let right = list_again(alloc, tree, self.right.folder(), unseen)?;
+        let left = list_again(alloc, tree, self.left.folder(), has_unseen_end)?;
+        let right = list_again(alloc, tree, self.right.folder(), has_unseen_end)?;
         let Reread {
             names: left_names,
             refused: left_refused,
@@ -157,7 +157,7 @@ impl Ui {
             names: right_names,
             refused: right_refused,
         } = right;
-        let refusals = both(alloc, left_refused, right_refused)?;
+        let refusals = refusals_of(alloc, left_refused, right_refused)?;
         self.news = news_of(&refusals);
         self.left.take_names(left_names);
         self.right.take_names(right_names);
@@ -206,7 +206,7 @@ fn plain_base(key: Key) -> Base
 }
 
 /// Two refusals, as far as they are there.
-fn both(
+fn refusals_of(
     alloc: Global,
     first: Option<Refusal>,
     second: Option<Refusal>,

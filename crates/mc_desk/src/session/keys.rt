@@ -92,7 +92,7 @@ impl<N: Tag, T: Tree, S: Sink, P: Spawner> Session<N, T, S, P> {
         };
         let Ok(refusals) = self
             .ui
-            .look(alloc, &mut self.tree, &rows, self.unseen, part)
+            .look(alloc, &mut self.tree, &rows, self.has_unseen_end, part)
         else {
             return Err(DeskError::Memory);
         };
@@ -106,7 +106,7 @@ impl<N: Tag, T: Tree, S: Sink, P: Spawner> Session<N, T, S, P> {
             shown: self.shown,
             what: Event::Look { refusals },
         });
-        self.unseen = false;
+        self.has_unseen_end = false;
         self.due = after_look(self.due, can_step(&self.job));
         match drawn {
             Ok(_) => Ok(()),
@@ -216,7 +216,7 @@ impl<N: Tag, T: Tree, S: Sink, P: Spawner> Session<N, T, S, P> {
         }
     }
 
-    /// Writes down that a key was lost for want of memory, and closes the session.
+    /// Writes down that a key was lost since memory ran out, and closes the session.
     fn lose_key(&mut self, alloc: Global, key: Key, now: u64) -> Result<DeskReply, DeskError>
         requires unclosed { self.old.tally.closed ≡ false }
         requires unasked { self.old.quit ≡ false }

@@ -75,7 +75,7 @@ impl<N: Tag, T: Tree, S: Sink, P: Spawner> Session<N, T, S, P> {
                     did: ended_without_memory(job.give_up()),
                 },
             });
-            self.unseen = true;
+            self.has_unseen_end = true;
             return StepReply::Did;
         }
         let StepResult { did, calls } = job.step(alloc, &mut self.tree, &NoClaims, &mut self.dirty);
@@ -88,7 +88,7 @@ impl<N: Tag, T: Tree, S: Sink, P: Spawner> Session<N, T, S, P> {
             shown: 0,
             what: Event::Step { job: id, did },
         });
-        self.unseen = either(ended, self.unseen);
+        self.has_unseen_end = end_waits(ended, self.has_unseen_end);
         self.job = left(job, ended, self.closed);
         StepReply::Did
     }
@@ -134,7 +134,7 @@ impl<N: Tag, T: Tree, S: Sink, P: Spawner> Session<N, T, S, P> {
             last_id: _,
             calls: _,
             shown: _,
-            unseen: _,
+            has_unseen_end: _,
             due: _,
             closed: _,
             quit,
@@ -165,10 +165,11 @@ fn idle(is_closed: bool) -> StepReply
     }
 }
 
-fn either(one: bool, other: bool) -> bool
-    ensures { result ≡ (one || other) }
+/// Whether a job's end waits for a look. The prover keeps no branch of a call.
+fn end_waits(ended: bool, waited: bool) -> bool
+    ensures { result ≡ (ended || waited) }
 {
-    one || other
+    ended || waited
 }
 
 fn ended_without_memory(part: Option<Path>) -> Did

@@ -9,7 +9,7 @@ ghost use Rattle.mc_ui.specs.Reading.{ReadsTree};
 ghost use Rattle.mc_ui.specs.Screens.{DeleteBox, InTargetBox, MaskBox, NoBox, PartLeftBox, PlansCopy, TargetBox, TroubleBox, WellAsked, answered_box, closes_message as does_close, confirms as does_confirm, in_delete_box, in_mask_box, in_message_box, in_trouble_box, is_cancel as does_cancel, is_enter as is_enter_key, is_request, letter_of as answer_of, seen_box, sight, target_in, with_ask};
 
 use super::Ui;
-use super::panel_keys::{asks, nothing, one_refusal};
+use super::panel_keys::{asking, asking_nothing, one_refusal};
 use crate::asks::{Ask, KeyAct};
 use crate::causes::refusal_text;
 use crate::copying::{CopyPlan, deletion_of, plan_copy};
@@ -44,10 +44,10 @@ impl Ui {
         if confirms(base, rows) {
             let planned = deletion_of(alloc, &chosen);
             self.dialog = Dialog::Delete(chosen);
-            return Ok(asks(alloc, begin(planned?)));
+            return Ok(asking(alloc, begin(planned?)));
         }
         self.dialog = unless_shut(base, Dialog::Delete(chosen));
-        Ok(nothing(alloc))
+        Ok(asking_nothing(alloc))
     }
 
     /// A key while the source mask is shown.
@@ -62,7 +62,7 @@ impl Ui {
         } else {
             unless_shut(base, Dialog::SourceMask(chosen))
         };
-        nothing(alloc)
+        asking_nothing(alloc)
     }
 
     /// A key while the target of a copy is shown.
@@ -92,7 +92,7 @@ impl Ui {
             return self.accept_target(alloc, tree, chosen);
         }
         self.dialog = unless_shut(base, Dialog::CopyTo(chosen));
-        Ok(nothing(alloc))
+        Ok(asking_nothing(alloc))
     }
 
     /// Enter on a target: the copy is planned, or it is refused. The box stays until the copy is begun.
@@ -114,7 +114,7 @@ impl Ui {
         let planned = plan_copy(alloc, tree, &chosen, self.right.folder());
         self.dialog = Dialog::CopyTo(chosen);
         match planned {
-            Ok(CopyPlan::Begins(plan)) => Ok(asks(alloc, begin(plan))),
+            Ok(CopyPlan::Begins(plan)) => Ok(asking(alloc, begin(plan))),
             Ok(CopyPlan::Refuses(refusal)) => {
                 self.news = Some(refusal_text(&refusal));
                 Ok(KeyAct {
@@ -149,7 +149,7 @@ impl Ui {
             Some(answer) => self.answer_trouble(alloc, trouble, rows, answer),
             None => {
                 self.dialog = unless_shut(base, Dialog::Trouble(trouble));
-                nothing(alloc)
+                asking_nothing(alloc)
             }
         }
     }
@@ -172,9 +172,9 @@ impl Ui {
         let _news = &self.news;
         self.dialog = Dialog::Trouble(trouble);
         if can_answer(rows, answer) {
-            return asks(alloc, Ask::Answer(answer));
+            return asking(alloc, Ask::Answer(answer));
         }
-        nothing(alloc)
+        asking_nothing(alloc)
     }
 
     /// A key while a message tells of a part that was left.
@@ -187,7 +187,7 @@ impl Ui {
         if !closes_message(base) {
             self.dialog = Dialog::PartLeft(path);
         }
-        nothing(alloc)
+        asking_nothing(alloc)
     }
 }
 

@@ -49,12 +49,12 @@ impl Ui {
         match base {
             Base::Down => {
                 self.left.move_down();
-                Ok(nothing(alloc))
+                Ok(asking_nothing(alloc))
             }
             Base::F(5) => self.choose_current(alloc, tree, rows, Opens::SourceMask),
             Base::F(8) => self.choose_current(alloc, tree, rows, Opens::Delete),
-            Base::F(10) => Ok(asks(alloc, Ask::End)),
-            _ => Ok(nothing(alloc)),
+            Base::F(10) => Ok(asking(alloc, Ask::End)),
+            _ => Ok(asking_nothing(alloc)),
         }
     }
 
@@ -79,13 +79,13 @@ impl Ui {
     {
         let _news = &self.news;
         if !rows.0.is_empty() {
-            return Ok(nothing(alloc));
+            return Ok(asking_nothing(alloc));
         }
         match choose(alloc, tree, &self.left)? {
-            Choice::Nothing => Ok(nothing(alloc)),
+            Choice::Nothing => Ok(asking_nothing(alloc)),
             Choice::File(chosen) => {
                 self.dialog = opened(opens, chosen);
-                Ok(nothing(alloc))
+                Ok(asking_nothing(alloc))
             }
             Choice::Refused(path, error) => {
                 let refusals = one_refusal(alloc, Refusal::Tree(path, error))?;
@@ -110,14 +110,14 @@ fn opened(opens: Opens, chosen: Chosen) -> Dialog
 }
 
 /// A key that asks nothing.
-pub(super) fn nothing(alloc: Global) -> KeyAct
+pub(super) fn asking_nothing(alloc: Global) -> KeyAct
     ensures { result ≡ record { ask = Ask.Nothing; refusals = [] } }
 {
-    asks(alloc, Ask::Nothing)
+    asking(alloc, Ask::Nothing)
 }
 
 /// A key that asks this.
-pub(super) fn asks(alloc: Global, ask: Ask) -> KeyAct
+pub(super) fn asking(alloc: Global, ask: Ask) -> KeyAct
     ensures { result ≡ record { ask = ask; refusals = [] } }
 {
     KeyAct {

@@ -29,7 +29,7 @@ invariant_of-self-in-Ok-drawn g c =
           c.self.invariant.desk unclosed c.look.ensures.reads.same (omega (arith, counted, had, later)) (λ h. let risen = c.in-Ok-look.ensures.reads.fault h in omega (arith, counted, had, risen)) c.in-Ok-look.ensures.reads.called
           c.in-Ok-look.ensures.leads
           (c.note.ensures.added ∙ ap (λ es. entry 0 inside.calls count c.after_draw-self-inside.result (Look c.in-Ok-look.refusals) ∷ es) c.reserve.ensures.same)
-          (ap (λ d. let t : Tally = record { job = option_map told inside.job; last = inside.last_id; unseen = false; closed = inside.closed; due = d; lost = inside.lost; calls = inside.calls } in t)
+          (ap (λ d. let t : Tally = record { job = option_map told inside.job; last = inside.last_id; has_unseen_end = false; closed = inside.closed; due = d; lost = inside.lost; calls = inside.calls } in t)
           (c.after_look-self-inside.ensures ∙ ap (λ b. if b then awaited inside.due else None) (c.can_step.ensures ∙ sym (steps_told inside.job))))
           refl refl c.look.ensures.settled refl room refl unasked;
       counted = search rules;
@@ -55,7 +55,7 @@ invariant_of-self-in-Err g c =
           c.self.invariant.desk unclosed c.look.ensures.reads.same (omega (arith, counted, had, later)) (λ h. let risen = c.in-Ok-look.ensures.reads.fault h in omega (arith, counted, had, risen)) c.in-Ok-look.ensures.reads.called
           c.in-Ok-look.ensures.leads
           (c.note.ensures.added ∙ ap (λ es. entry 0 inside.calls count c.after_draw-self-inside.result (Look c.in-Ok-look.refusals) ∷ es) c.reserve.ensures.same)
-          (ap (λ d. let t : Tally = record { job = option_map told inside.job; last = inside.last_id; unseen = false; closed = inside.closed; due = d; lost = inside.lost; calls = inside.calls } in t)
+          (ap (λ d. let t : Tally = record { job = option_map told inside.job; last = inside.last_id; has_unseen_end = false; closed = inside.closed; due = d; lost = inside.lost; calls = inside.calls } in t)
           (c.after_look-self-inside.ensures ∙ ap (λ b. if b then awaited inside.due else None) (c.can_step.ensures ∙ sym (steps_told inside.job))))
           refl refl c.look.ensures.settled refl room refl unasked;
       counted = search rules;

@@ -190,8 +190,8 @@ invariant_of-self-in-Answer g c =
           (c.note-in-Answer.ensures.added ∙ (ap (λ (e : Entry). e ∷ c.note.new.self.newest) c.ordered.ensures ∙ (ap (λ n. entry 0 inside.calls c.faults-in-Answer.result 0 (Order n (Answered c.in-Answer.answer)) ∷ c.note.new.self.newest) c.id-id.ensures
           ∙ ap (λ es. entry 0 inside.calls c.faults-in-Answer.result 0 (Order c.in-Some.job.id (Answered c.in-Answer.answer)) ∷ es) noted)))
           (let again = c.faults-in-Answer.ensures in omega (arith, counted, again)) (ap Some new)
-          (ap (λ j. let t : Tally = record { job = Some (told j); last = inside.last_id; unseen = inside.unseen; closed = inside.closed; due = Some c.id-id.result; lost = inside.lost; calls = inside.calls } in t) new
-          ∙ ap (λ n. let t : Tally = record { job = Some (told (answered c.in-Answer.answer c.in-Some.job)); last = inside.last_id; unseen = inside.unseen; closed = inside.closed; due = Some n; lost = inside.lost; calls = inside.calls } in t) c.id-id.ensures) refl refl
+          (ap (λ j. let t : Tally = record { job = Some (told j); last = inside.last_id; has_unseen_end = inside.has_unseen_end; closed = inside.closed; due = Some c.id-id.result; lost = inside.lost; calls = inside.calls } in t) new
+          ∙ ap (λ n. let t : Tally = record { job = Some (told (answered c.in-Answer.answer c.in-Some.job)); last = inside.last_id; has_unseen_end = inside.has_unseen_end; closed = inside.closed; due = Some n; lost = inside.lost; calls = inside.calls } in t) c.id-id.ensures) refl refl
           (works_answer g.N.Tag.start g.N.Tag.opening (g.T.Tree.contents inside.tree) g.N.Tag.tree_faults _ c.self.invariant.desk.written unasked c.args.key c.in-Ok.rows act.refusals act.ask c.key.new.self c.in-Ok.ensures c.in-Ok-key.ensures.leads
           done.refusals c.settle.new.self done.deed granted now_is c.in-Answer.answer c.in-Answer.is);
       counted = search rules;
