@@ -102,10 +102,10 @@ pub record ReadsKeys (bytes : List ℕ) (left : Option (List ℕ)) (status : ℕ
   pub others : (left ≡ Some (drop taken bytes)) ⊎ ((left ≡ Some (drop (taken + 1) bytes)) × IsCutShort status)
 
 -- how many bytes a source gave
-abbrev pub given : Result (Option ℕ) SourceFault → ℕ
-given (Ok None) = 0
-given (Ok (Some byte)) = 1
-given (Err fault) = 0
+abbrev pub bytes_given : Result (Option ℕ) SourceFault → ℕ
+bytes_given (Ok None) = 0
+bytes_given (Ok (Some byte)) = 1
+bytes_given (Err fault) = 0
 
 -- the session was cut short by a draw that failed, or since memory ran out
 abbrev pub IsCut : Option SessionEnd → Type 0

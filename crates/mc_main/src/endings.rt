@@ -7,7 +7,7 @@ ghost use Rattle.history_laws.specs.Traces.{IsTracedTo};
 ghost use Rattle.mc_desk.specs.Logs.{jobs_begun};
 ghost use Rattle.mc_desk.specs.Tallies.{faults_in, has_lost};
 ghost use Rattle.mc_desk.specs.Desks.{IsFresh, RanNothing};
-ghost use Rattle.mc_main.specs.Printed.{PrintsCause, named, start_line as line_for};
+ghost use Rattle.mc_main.specs.Printed.{PrintsCause, folder_word, start_line as line_for};
 ghost use Rattle.mc_main.specs.Headline.{IsStatusOr, IsStatusOf, RanSession, ReadsKeys, TookAll};
 
 use crate::outcome::Outcome;
@@ -152,7 +152,7 @@ fn start_line(
 
 /// Adds the word that names the folder of a panel, and a colon.
 fn push_named(alloc: Global, line: &mut String, words: &[Text], side: Side) -> Result<(), NoMemory>
-    ensures { OnOk result (string_bytes line.new ≡ string_bytes line.old ++ named side words.now) }
+    ensures { OnOk result (string_bytes line.new ≡ string_bytes line.old ++ folder_word side words.now) }
 {
     match words {
         [] => Ok(()),
