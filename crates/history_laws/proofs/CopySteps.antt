@@ -23,7 +23,7 @@ use Rattle.job_reports.specs.declared.report.Did.TheVariants.{Began, Chunk, Plac
 use Rattle.file_copy.specs.declared.stage.FolderState.TheVariants.{Synced, Dirty}
 use Rattle.file_copy.specs.declared.stage.Next.{Next}
 use Rattle.file_copy.specs.declared.stage.Next.TheVariants as next
-use Rattle.file_copy.specs.declared.stage.SourceFacts.{SourceFacts as SaidOf}
+use Rattle.file_copy.specs.declared.stage.SourceFacts.{SourceFacts}
 use Rattle.file_copy.specs.declared.stage.Stage.{Stage}
 use Rattle.file_copy.specs.declared.stage.Stage.TheVariants.{Begin, Fill, Clean, Left, Decided}
 use Rattle.job_reports.specs.CallRuns.{AllDone, RunStops}
@@ -44,7 +44,7 @@ use Rattle.history_laws.proofs.Changing.{off_itself, removed_known}
 use Rattle.history_laws.proofs.Deleted.{IsRemoval, comes_refused, removal_done}
 use Rattle.history_laws.proofs.DeletionSteps.{Steps, ends, same_dirty, tried}
 use Rattle.history_laws.proofs.Filling.{begun, filled_more, listed_now, target_free}
-use Rattle.history_laws.proofs.Knowing.{SourceFacts, IsKnown, IsKept, settled_marks}
+use Rattle.history_laws.proofs.Knowing.{Said, IsKnown, IsKept, settled_marks}
 use Rattle.history_laws.proofs.JobKnows.{HasPart, IsUntouched, KnowsAfter, StageKnows, WorkKnows, part_settled, untouched_settled, work_course}
 use Rattle.history_laws.proofs.PartNodes.{part_on, part_there, written_node}
 use Rattle.history_laws.proofs.PlacingSteps.{part_placed, part_refused, placing_stops}
@@ -58,7 +58,7 @@ some_route : (p q : Route) → (let o : Option Route = Some p in o) ≡ Some q �
 some_route p q h = cc
 
 -- the part is removed
-pub part_cleaned : (told : SourceFacts) (dirty : List Route) (marks : Marks) (log now : CallLog) (work : Work) (target part : Route) (i : ℕ) → IsKept told dirty marks log → HasPart told marks (current log) target part i
+pub part_cleaned : (told : Said) (dirty : List Route) (marks : Marks) (log now : CallLog) (work : Work) (target part : Route) (i : ℕ) → IsKept told dirty marks log → HasPart told marks (current log) target part i
     → Among dirty (folder_of target) → Performs {A = Unit {0}} log (RemoveFile part) (Ok tt) (Some now)
     → Comes told (said_after now (Cleaned part) work told) dirty log now (λ m. IsUntouched m (current now) target)
 part_cleaned told dirty marks log now work target part i kept has listed done = at (removal_done log now part kept.known.guarded.tree done)
@@ -93,7 +93,7 @@ part_cleaned told dirty marks log now work target part i kept has listed done = 
         (subst (λ (l : CallLog). IsUntouched (settled_marks l marks) (current l) target) (sym it.now_is)
         (untouched_settled after marks target (record { out = untouched.out; free = free; was = untouched.was })))
 
-module _ (told : SourceFacts) (dirty dirty_after : List Route) (marks : Marks) (log now : CallLog) (kept : IsKept told dirty marks log) (c : Copying) where
+module _ (told : Said) (dirty dirty_after : List Route) (marks : Marks) (log now : CallLog) (kept : IsKept told dirty marks log) (c : Copying) where
   abbrev up : Route
   up = folder_of c.target
 
@@ -175,7 +175,7 @@ module _ (told : SourceFacts) (dirty dirty_after : List Route) (marks : Marks) (
   leaves_same : (new : Copying) → new.folder ≡ c.folder → Leaves new → dirty_after ≡ dirty
   leaves_same new folder leaves = leaves ∙ (ap (λ f. moves_dirty (is_dirty c.folder) (is_dirty f) up dirty) folder ∙ same_dirty (is_dirty c.folder) up dirty)
 
-  cleaned_knows : (follows : Next) (after : SourceFacts) (m : Marks) (s : FileSystem) → after.part ≡ None → IsUntouched m s c.target
+  cleaned_knows : (follows : Next) (after : Said) (m : Marks) (s : FileSystem) → after.part ≡ None → IsUntouched m s c.target
       → StageKnows after m s GoesOn (record c { stage = after_clean follows }) (after_clean follows)
   cleaned_knows next.Begin after m s none untouched = (none, λ e. untouched)
   cleaned_knows next.Decided after m s none untouched = none
@@ -209,7 +209,7 @@ module _ (told : SourceFacts) (dirty dirty_after : List Route) (marks : Marks) (
       let e : (let o : Stage = Fill other_part other_said other_said.size in o) ≡ Fill part said said.size = sym other_stage ∙ stage in
       let p_is : other_part ≡ part = cc in
       let s_is : other_said ≡ said = cc in
-      let row = subst (λ (x : SaidOf). AllDone log (placing x.mode part c.target) (Some now)) s_is (subst (λ x. AllDone log (placing other_said.mode x c.target) (Some now)) p_is rows) in
+      let row = subst (λ (x : SourceFacts). AllDone log (placing x.mode part c.target) (Some now)) s_is (subst (λ x. AllDone log (placing other_said.mode x c.target) (Some now)) p_is rows) in
       let at_fill = subst (λ x. StageKnows told marks (current log) GoesOn c x) stage knows in
       with_routes (Placed path) GoesOn (Copy new) (leaves_same new (ap (λ (x : Copying). x.folder) new_is) leaves)
       (subst (λ (x : Copying). Comes told (said_after now (Placed path) (Copy c) told) dirty log now (KnowsAfter (Placed path) (said_after now (Placed path) (Copy c) told) dirty (current now) GoesOn (Copy x))) (sym new_is)

@@ -16,7 +16,7 @@ use Rattle.crash_law.proofs.Syncing.{unaltered_law}
 use Rattle.job_reports.specs.declared.report.Did.TheVariants.{Began}
 use Rattle.file_copy.specs.declared.stage.FolderState.{FolderState}
 use Rattle.file_copy.specs.declared.stage.FolderState.TheVariants.{Synced, Dirty}
-use Rattle.file_copy.specs.declared.stage.SourceFacts.{SourceFacts as SaidOf}
+use Rattle.file_copy.specs.declared.stage.SourceFacts.{SourceFacts}
 use Rattle.file_copy.specs.declared.stage.Stage.TheVariants.{Fill}
 use Rattle.file_copy.specs.CopyCalls.{making, next_bytes, part_mode, room_for, writing}
 use Rattle.file_copy.specs.Copying.{Copying, places_of, is_dirty}
@@ -31,19 +31,19 @@ use Rattle.copy_move.specs.declared.run.Course.TheVariants.{GoesOn}
 use Rattle.copy_move.specs.Settling.{NoneOwed, with_change as moves_dirty}
 use Rattle.history_laws.specs.Traces.{IsUnclaimed}
 use Rattle.history_laws.proofs.Calming.{written_known}
-use Rattle.history_laws.proofs.Knowing.{SourceFacts, IsKnown, IsKept, settled_marks}
+use Rattle.history_laws.proofs.Knowing.{Said, IsKnown, IsKept, settled_marks}
 use Rattle.history_laws.proofs.JobKnows.{HasName, HasPart, IsFilled, IsUntouched, WorkKnows, none_waits, part_settled, untouched_free}
 use Rattle.history_laws.proofs.MakingParts.{MakesPart, made_known, marks_new, new_node, off_part, part_leads, part_node, with_part}
 use Rattle.history_laws.proofs.PartNodes.{other_node, part_on, part_there, written_node}
 use Rattle.history_laws.proofs.Stepped.{Comes, comes_one, said_after}
 use Rattle.history_laws.proofs.DeletionSteps.{among_more, last_among}
 
-module _ (told : SourceFacts) (dirty dirty_after : List Route) (marks : Marks) (log now : CallLog) (kept : IsKept told dirty marks log) (c : Copying) where
+module _ (told : Said) (dirty dirty_after : List Route) (marks : Marks) (log now : CallLog) (kept : IsKept told dirty marks log) (c : Copying) where
   abbrev up : Route
   up = folder_of c.target
 
   -- what is known once the part was made
-  abbrev Begun : Route → SaidOf → Type 0
+  abbrev Begun : Route → SourceFacts → Type 0
   Begun part said =
       Comes told (said_after now (Began part) (Copy c) told) dirty_after log now
       (λ m. WorkKnows (said_after now (Began part) (Copy c) told) dirty_after m (current now) GoesOn (Copy (record c { stage = Fill part said 0; folder = Dirty })))
@@ -67,7 +67,7 @@ module _ (told : SourceFacts) (dirty dirty_after : List Route) (marks : Marks) (
       let same : dirty_after ≡ dirty ++ up ∷ [] = leaves ∙ ap (λ x. moves_dirty (is_dirty x) true up dirty) is in
       (subst (λ xs. Among xs up) (sym same) (last_among up dirty), λ q among. subst (λ xs. Among xs q) (sym same) (among_more up q dirty among))
 
-  module _ (said : SaidOf) (k : ℕ) (target_name : HasName c.target) (ready : IsReady (current log) (places_of c)) (is_said : AreFactsOf (current log) c.source said)
+  module _ (said : SourceFacts) (k : ℕ) (target_name : HasName c.target) (ready : IsReady (current log) (places_of c)) (is_said : AreFactsOf (current log) c.source said)
       (free : IsFirstFree (current log) IsUnclaimed (places_of c) k) (none : told.part ≡ None) (untouched : IsUntouched marks (current log) c.target)
       (d : IsDoneCall log (making (current log) (places_of c) k) now) (listed : Among dirty_after up) (more : (q : Route) → Among dirty q → Among dirty_after q) where
     abbrev name : List ℕ
@@ -158,7 +158,7 @@ module _ (told : SourceFacts) (dirty dirty_after : List Route) (marks : Marks) (
         (target_name, (λ e. listed), (refl, (n, part_settled after (marks_new marks part n) (with_part told part) c.target part n has, λ e. filled))))
 
   -- bytes are written behind the first
-  module _ (part : Route) (said : SaidOf) (done : ℕ) (listed : c.folder ≡ Dirty → Among dirty up) (target_name : HasName c.target) (i : ℕ) (has : HasPart told marks (current log) c.target part i)
+  module _ (part : Route) (said : SourceFacts) (done : ℕ) (listed : c.folder ≡ Dirty → Among dirty up) (target_name : HasName c.target) (i : ℕ) (has : HasPart told marks (current log) c.target part i)
       (filled : IsFilled (current log) c.source part said done i) (few : done + length (next_bytes (current log) c.source said done) ≤ said.size)
       (d : IsDoneCall log (writing (current log) (places_of c) part said done) now) (dirty_is : c.folder ≡ Dirty) where
     abbrev bytes : List ℕ

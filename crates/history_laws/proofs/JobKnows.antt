@@ -16,7 +16,7 @@ use Rattle.crash_law.specs.Guarded.{Marks}
 use Rattle.job_reports.specs.declared.report.Did.{Did}
 use Rattle.job_reports.specs.declared.report.Did.TheVariants.{Ended}
 use Rattle.file_copy.specs.declared.stage.FolderState.TheVariants.{Dirty}
-use Rattle.file_copy.specs.declared.stage.SourceFacts.{SourceFacts as SaidOf}
+use Rattle.file_copy.specs.declared.stage.SourceFacts.{SourceFacts}
 use Rattle.file_copy.specs.declared.stage.Stage.{Stage}
 use Rattle.file_copy.specs.declared.stage.Stage.TheVariants.{Begin, Fill, Clean, Left, Decided}
 use Rattle.file_copy.specs.CopyCalls.{part_mode}
@@ -30,7 +30,7 @@ use Rattle.copy_move.specs.declared.work.Work.{Work}
 use Rattle.copy_move.specs.declared.work.Work.TheVariants.{Copy, Delete}
 use Rattle.copy_move.specs.Settling.{NoneOwed}
 use Rattle.history_laws.specs.Doubt.{is_pending, is_unsettled}
-use Rattle.history_laws.proofs.Knowing.{SourceFacts, IsKnown, IsKept, settled_marks}
+use Rattle.history_laws.proofs.Knowing.{Said, IsKnown, IsKept, settled_marks}
 
 -- nothing was done at the target yet, and nothing stands there
 pub record IsUntouched (marks : Marks) (s : FileSystem) (target : Route) : Type 0 where
@@ -39,7 +39,7 @@ pub record IsUntouched (marks : Marks) (s : FileSystem) (target : Route) : Type 
   pub was : marks.was target ≡ None
 
 -- the part stands beside the target, and leads to this node
-pub record HasPart (said : SourceFacts) (marks : Marks) (s : FileSystem) (target part : Route) (i : ℕ) : Type 0 where
+pub record HasPart (said : Said) (marks : Marks) (s : FileSystem) (target part : Route) (i : ℕ) : Type 0 where
   pub part_is : said.part ≡ Some part
   pub leads : find s part ≡ Some i
   pub loose : marks.loose i ≡ true
@@ -52,7 +52,7 @@ pub record HasPart (said : SourceFacts) (marks : Marks) (s : FileSystem) (target
   pub untouched : IsUntouched marks s target
 
 -- the part holds the first bytes of the source
-pub record IsFilled (s : FileSystem) (source part : Route) (said : SaidOf) (done i : ℕ) : Type 0 where
+pub record IsFilled (s : FileSystem) (source part : Route) (said : SourceFacts) (done i : ℕ) : Type 0 where
   pub n : ℕ
   pub source_leads : find s source ≡ Some n
   pub apart : source ≡ part → ⊥
@@ -67,7 +67,7 @@ pub record HasName (path : Route) : Type 0 where
   pub name : List ℕ
   pub is : path ≡ name ∷ folder_of path
 
-abbrev pub StageKnows : SourceFacts → Marks → FileSystem → Course → Copying → Stage → Type 0
+abbrev pub StageKnows : Said → Marks → FileSystem → Course → Copying → Stage → Type 0
 StageKnows told marks s course c Begin = (told.part ≡ None) × (c.folder ≡ Dirty → IsUntouched marks s c.target)
 StageKnows told marks s course c (Fill part said done) =
     (c.folder ≡ Dirty) × ((i : ℕ) × HasPart told marks s c.target part i × (course ≡ GoesOn → IsFilled s c.source part said done i))
@@ -75,13 +75,13 @@ StageKnows told marks s course c (Clean part follows) = (c.folder ≡ Dirty) × 
 StageKnows told marks s course c (Left part) = (i : ℕ) × HasPart told marks s c.target part i
 StageKnows told marks s course c Decided = told.part ≡ None
 
-abbrev pub WorkKnows : SourceFacts → List Route → Marks → FileSystem → Course → Work → Type 0
+abbrev pub WorkKnows : Said → List Route → Marks → FileSystem → Course → Work → Type 0
 WorkKnows told dirty marks s course (Copy c) =
     HasName c.target × (c.folder ≡ Dirty → Among dirty (folder_of c.target)) × StageKnows told marks s course c c.stage
 WorkKnows told dirty marks s course (Delete d) = HasName d.path × (told.part ≡ None)
 
 -- a path at which nothing stands, and of whose name nothing waits
-pub untouched_free : (told : SourceFacts) (dirty : List Route) (marks : Marks) (log : CallLog) (p : Route) → IsKept told dirty marks log → is_unsettled log p ≡ false → find (current log) p ≡ None → IsUntouched marks (current log) p
+pub untouched_free : (told : Said) (dirty : List Route) (marks : Marks) (log : CallLog) (p : Route) → IsKept told dirty marks log → is_unsettled log p ≡ false → find (current log) p ≡ None → IsUntouched marks (current log) p
 untouched_free told dirty marks log p kept sure free =
     let out = not_aside (marks.aside p) refl in
     record { out = out; free = free; was = kept.was p out sure ∙ free }
@@ -94,7 +94,7 @@ untouched_free told dirty marks log p kept sure free =
     ]
 
 -- Where no dirty folder lies on the mount of this one, nothing waits in it.
-pub none_waits : (told : SourceFacts) (dirty : List Route) (marks : Marks) (log : CallLog) (up : Route) → IsKnown told dirty marks log → NoneOwed (current log) up dirty → (m : List ℕ) → is_unsettled log (m ∷ up) ≡ false
+pub none_waits : (told : Said) (dirty : List Route) (marks : Marks) (log : CallLog) (up : Route) → IsKnown told dirty marks log → NoneOwed (current log) up dirty → (m : List ℕ) → is_unsettled log (m ∷ up) ≡ false
 none_waits told dirty marks log up known none m = by (find (current log) up) refl
   where
     no_more : (f : ℕ) → find (current log) up ≡ Some f → (b : Bool) → is_pending f m log.changes ≡ b → b ≡ false
@@ -124,7 +124,7 @@ module _ (log : CallLog) (marks : Marks) where
       by true = u.was
       by false = u.free
 
-  pub part_settled : (told : SourceFacts) (target part : Route) (i : ℕ) → HasPart told marks (current log) target part i → HasPart told (settled_marks log marks) (current log) target part i
+  pub part_settled : (told : Said) (target part : Route) (i : ℕ) → HasPart told marks (current log) target part i → HasPart told (settled_marks log marks) (current log) target part i
   part_settled told target part i h = record {
     part_is = h.part_is;
     leads = h.leads;
@@ -138,30 +138,30 @@ module _ (log : CallLog) (marks : Marks) where
     untouched = untouched_settled target h.untouched;
   }
 
-  stage_settled : (told : SourceFacts) (course : Course) (c : Copying) (stage : Stage) → StageKnows told marks (current log) course c stage → StageKnows told (settled_marks log marks) (current log) course c stage
+  stage_settled : (told : Said) (course : Course) (c : Copying) (stage : Stage) → StageKnows told marks (current log) course c stage → StageKnows told (settled_marks log marks) (current log) course c stage
   stage_settled told course c Begin (none, untouched) = (none, λ dirty. untouched_settled c.target (untouched dirty))
   stage_settled told course c (Fill part said done) (dirty, (i, has, filled)) = (dirty, (i, part_settled told c.target part i has, filled))
   stage_settled told course c (Clean part follows) (dirty, (i, has)) = (dirty, (i, part_settled told c.target part i has))
   stage_settled told course c (Left part) (i, has) = (i, part_settled told c.target part i has)
   stage_settled told course c Decided none = none
 
-  pub work_settled : (told : SourceFacts) (dirty : List Route) (course : Course) (work : Work) → WorkKnows told dirty marks (current log) course work → WorkKnows told dirty (settled_marks log marks) (current log) course work
+  pub work_settled : (told : Said) (dirty : List Route) (course : Course) (work : Work) → WorkKnows told dirty marks (current log) course work → WorkKnows told dirty (settled_marks log marks) (current log) course work
   work_settled told dirty course (Copy c) (name, listed, stage) = (name, listed, stage_settled told course c c.stage stage)
   work_settled told dirty course (Delete d) k = k
 
 -- a job that goes on only where it went on knows what it knew
-pub stage_course : (told : SourceFacts) (marks : Marks) (s : FileSystem) (course other : Course) (c : Copying) (stage : Stage) → (other ≡ GoesOn → course ≡ GoesOn) → StageKnows told marks s course c stage → StageKnows told marks s other c stage
+pub stage_course : (told : Said) (marks : Marks) (s : FileSystem) (course other : Course) (c : Copying) (stage : Stage) → (other ≡ GoesOn → course ≡ GoesOn) → StageKnows told marks s course c stage → StageKnows told marks s other c stage
 stage_course told marks s course other c Begin on k = k
 stage_course told marks s course other c (Fill part said done) on (dirty, (i, has, filled)) = (dirty, (i, has, λ e. filled (on e)))
 stage_course told marks s course other c (Clean part follows) on k = k
 stage_course told marks s course other c (Left part) on k = k
 stage_course told marks s course other c Decided on k = k
 
-pub work_course : (told : SourceFacts) (dirty : List Route) (marks : Marks) (s : FileSystem) (course other : Course) (work : Work) → (other ≡ GoesOn → course ≡ GoesOn) → WorkKnows told dirty marks s course work → WorkKnows told dirty marks s other work
+pub work_course : (told : Said) (dirty : List Route) (marks : Marks) (s : FileSystem) (course other : Course) (work : Work) → (other ≡ GoesOn → course ≡ GoesOn) → WorkKnows told dirty marks s course work → WorkKnows told dirty marks s other work
 work_course told dirty marks s course other (Copy c) on (name, listed, stage) = (name, listed, stage_course told marks s course other c c.stage on stage)
 work_course told dirty marks s course other (Delete d) on k = k
 
 -- what is known after a report: of a job that has ended no part stands
-abbrev pub KnowsAfter : Did → SourceFacts → List Route → FileSystem → Course → Work → Marks → Type 0
+abbrev pub KnowsAfter : Did → Said → List Route → FileSystem → Course → Work → Marks → Type 0
 KnowsAfter (Ended ending part) told dirty s course work marks = told.part ≡ None
 KnowsAfter did told dirty s course work marks = WorkKnows told dirty marks s course work

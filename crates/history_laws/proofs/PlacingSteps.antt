@@ -22,7 +22,7 @@ use Rattle.crash_law.proofs.Syncing.{firm_law}
 use Rattle.job_reports.specs.declared.report.Cause.{Cause}
 use Rattle.job_reports.specs.declared.report.Cause.TheVariants as cause
 use Rattle.job_reports.specs.declared.report.Did.TheVariants.{Placed}
-use Rattle.file_copy.specs.declared.stage.SourceFacts.{SourceFacts as SaidOf}
+use Rattle.file_copy.specs.declared.stage.SourceFacts.{SourceFacts}
 use Rattle.job_reports.specs.CallRuns.{AllDone, StopsAt, RunStops}
 use Rattle.file_copy.specs.CopyCalls.{part_mode, placing}
 use Rattle.file_copy.specs.Copied.{copied}
@@ -33,18 +33,18 @@ use Rattle.file_copy.proofs.FilledParts.{Holds, holds_copy}
 use Rattle.copy_move.specs.declared.work.Work.TheVariants.{Copy}
 use Rattle.history_laws.proofs.Calming.{moded_known, nothing_known, synced_known, refused_is}
 use Rattle.history_laws.proofs.Deleted.{file_no_mount, put_at, put_off}
-use Rattle.history_laws.proofs.Knowing.{SourceFacts, IsKnown, IsKept, nowhere, settled_marks}
+use Rattle.history_laws.proofs.Knowing.{Said, IsKnown, IsKept, nowhere, settled_marks}
 use Rattle.history_laws.proofs.JobKnows.{HasPart, IsFilled, IsUntouched, part_settled}
 use Rattle.history_laws.proofs.PartNodes.{moded_node, part_on, part_there}
 use Rattle.history_laws.proofs.PlacingParts.{PlacesPart, firm_known, marks_firm, placed_known}
 use Rattle.history_laws.proofs.Stepped.{Comes, comes_none, comes_one, comes_then, said_after}
 
 -- the part that stands, in any tree: what its node holds, once it held these bytes with any mode
-abbrev Kept : SourceFacts → Route → Route → ℕ → FileSystem → FileSystem → ℕ → Marks → Type 0
+abbrev Kept : Said → Route → Route → ℕ → FileSystem → FileSystem → ℕ → Marks → Type 0
 Kept told target part i before now mode marks =
     HasPart told marks now target part i × ((bytes : List ℕ) → Holds (node before i) bytes mode → Holds (node now i) bytes mode)
 
-module _ (told : SourceFacts) (dirty : List Route) (target part : Route) (i : ℕ) where
+module _ (told : Said) (dirty : List Route) (target part : Route) (i : ℕ) where
   -- its mode is set
   pub mode_set : (marks : Marks) (log mid : CallLog) (mode : ℕ) → IsKept told dirty marks log → HasPart told marks (current log) target part i
       → Performs {A = Unit {0}} log (SetMode part mode) (Ok tt) (Some mid)
@@ -152,11 +152,11 @@ module _ (told : SourceFacts) (dirty : List Route) (target part : Route) (i : �
 one_name : (a b : List ℕ) (q : Route) → (a ∷ q) ≡ b ∷ q → a ≡ b
 one_name a b q e = cc
 
-module _ (told : SourceFacts) (dirty : List Route) (c : Copying) (tname : List ℕ) (target_is : c.target ≡ tname ∷ folder_of c.target) (part : Route) (i : ℕ) (listed : Among dirty (folder_of c.target)) where
+module _ (told : Said) (dirty : List Route) (c : Copying) (tname : List ℕ) (target_is : c.target ≡ tname ∷ folder_of c.target) (part : Route) (i : ℕ) (listed : Among dirty (folder_of c.target)) where
   abbrev up : Route
   up = folder_of c.target
 
-  abbrev after : CallLog → SourceFacts
+  abbrev after : CallLog → Said
   after now = said_after now (Placed c.target) (Copy c) told
 
   abbrev Placing : CallLog → CallLog → Type 0
@@ -276,7 +276,7 @@ module _ (told : SourceFacts) (dirty : List Route) (c : Copying) (tname : List �
       (subst (λ (l : CallLog). Performs {A = Unit {0}} mid (Rename part c.target) (Ok tt) (Some l)) (sym (some_log now last end)) moved))
 
   -- a full part is placed
-  module _ (marks : Marks) (log now : CallLog) (said : SaidOf) (kept : IsKept told dirty marks log) (has : HasPart told marks (current log) c.target part i)
+  module _ (marks : Marks) (log now : CallLog) (said : SourceFacts) (kept : IsKept told dirty marks log) (has : HasPart told marks (current log) c.target part i)
       (filled : IsFilled (current log) c.source part said said.size i) (done : AllDone log (placing said.mode part c.target) (Some now)) where
     abbrev from : Node
     from = node (current log) filled.n

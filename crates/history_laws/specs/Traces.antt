@@ -21,7 +21,6 @@ use Rattle.copy_move.specs.Settling.{NoneOwed, changed_folder}
 use Rattle.copy_move.specs.Steps.{LeavesDirty, SyncsFolder}
 use Rattle.session_history.specs.Entries.{is_closed}
 use Rattle.copy_move.specs.Told.{running}
-use Rattle.history_laws.specs.Traces.{IsUnclaimed}
 
 -- where a session stands: its live jobs, and the folders with a change of names that no sync has brought onto the disk
 pub record Stand : Type 0 where
