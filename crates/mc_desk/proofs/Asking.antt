@@ -20,7 +20,7 @@ use Rattle.mc_ui.specs.LiveJobs.{can_answer, takes_answer}
 use Rattle.mc_ui.specs.Refused.{has_fault}
 use Rattle.mc_ui.specs.Screens.{Answers, Begins, Ends, KeyLeads, Screen, WellAsked, is_request, settled, sight, with_ask}
 use Rattle.copy_move.specs.Jobs.{Running}
-use Rattle.mc_desk.specs.declared.granting.Confirmed.{Confirmed}
+use Rattle.mc_desk.specs.declared.confirmed.Confirmed.{Confirmed}
 use Rattle.mc_desk.specs.declared.granting.Deed.{Deed}
 use Rattle.mc_desk.specs.declared.granting.Deed.TheVariants as deed
 use Rattle.mc_desk.specs.Desks.{Seen, IsWritten, noted}
