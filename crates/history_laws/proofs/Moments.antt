@@ -12,7 +12,7 @@ use Rattle.crash_law.specs.Guarded.{Marks}
 use Rattle.crash_law.specs.Possible.{IsImage}
 use Rattle.session_history.specs.declared.history.Entry.{Entry}
 use Rattle.copy_move.specs.Jobs.{Running}
-use Rattle.history_laws.specs.LiveJobs.{LiveJob, IsLivePart, live_jobs}
+use Rattle.session_history.specs.LiveJobs.{LiveJob, IsLivePart, live_jobs}
 use Rattle.history_laws.specs.Replayed.{log_prefix, replayed_tree}
 use Rattle.session_history.specs.Entries.{IsMoment, calls_in}
 use Rattle.history_laws.specs.Safe.{IsSafe, ReplayLaw, SessionLaw}
@@ -22,6 +22,7 @@ use Rattle.history_laws.proofs.Histories.{IsEntered, IsReached, enters, traced_r
 use Rattle.history_laws.proofs.Knowing.{IsKept, Said, safe_path}
 use Rattle.history_laws.proofs.Reports.{HasLive, JobsKnow}
 use Rattle.history_laws.proofs.Stepped.{cut, mid_at, more}
+use Rattle.history_laws.proofs.Sources.{item_in}
 
 abbrev pub log_of : CallLog → List Change → CallLog
 log_of now xs = record now { changes = xs }
@@ -35,7 +36,7 @@ safe_told opening end g part dirty marks log image kept left path apart =
 -- the part that is known is that of a live job
 pub live_part : (jobs : List Running) (told : Said) (dirty : List Route) (marks : Marks) (s : FileSystem) (live : List LiveJob) (path : Route) → JobsKnow told dirty marks s jobs → HasLive live jobs told.part → told.part ≡ Some path → IsLivePart live path
 live_part [] told dirty marks s live path knows is part = absurd (let e : (let o : Option Route = None in o) ≡ Some path = sym knows ∙ part in cc)
-live_part (job ∷ []) told dirty marks s live path knows (w, is, source) part = subst (λ l. IsLivePart l path) (sym is) ((let l : LiveJob = record { id = job.id; work = w; part = told.part } in l), inl refl, part)
+live_part (job ∷ []) told dirty marks s live path knows is part = subst (λ l. IsLivePart l path) (sym is) ((let l : LiveJob = record { id = job.id; item = item_in job.work; part = told.part } in l), inl refl, part)
 live_part (job ∷ other ∷ jobs) told dirty marks s live path knows is part = absurd knows
 
 -- so many calls were made
