@@ -44,13 +44,13 @@ pub traced_count : (opening now : CallLog) (newest : List Entry) (stand : Stand)
 traced_count opening now [] stand traced = let same = ap (λ (l : CallLog). length l.changes) traced.1 in omega (arith, same)
 traced_count opening now (e ∷ older) stand traced = traced.3.counts
 
--- the log_prefix at the end of these entries is the log then
+-- the prefix at the end of these entries is the log then
 pub prefix_is : (opening end : CallLog) (calls : ℕ) (now : CallLog) (rest : List Change) → end ≡ more now rest → length opening.changes + calls ≡ length now.changes → log_prefix opening calls end ≡ now
 prefix_is opening end calls now rest end_is count =
     ap (λ (l : CallLog). log_of l (take (length opening.changes + calls) l.changes)) end_is
     ∙ ap (log_of now) (ap (λ n. take n (now.changes ++ rest)) count ∙ take-append_seam now.changes rest)
 
--- and before it a log_prefix of that log
+-- and before it a prefix of that log
 pub prefix_cut : (opening end : CallLog) (calls : ℕ) (now : CallLog) (rest : List Change) → end ≡ more now rest → length opening.changes + calls ≤ length now.changes
     → log_prefix opening calls end ≡ cut now (length opening.changes + calls)
 prefix_cut opening end calls now rest end_is few =
