@@ -1,8 +1,8 @@
 //! What the step of a job reports.
-ghost use Rattle.std.specs.Prelude.{◌≡◌, IfSome, Some};
+ghost use Rattle.std.specs.Prelude.{◌≡◌, IfOk, IfSome, Some};
 ghost use Rattle.job_reports.specs.Reports.{ends, path_of_trouble};
 
-use mc_text::{Kind, Path};
+use mc_text::{Kind, NoMemory, Path};
 use std::alloc::Global;
 use tree_trait::TreeError;
 
@@ -31,6 +31,29 @@ pub struct Trouble {
     pub cause: Cause,
     pub path: Option<Path>,
     pub barrier: bool,
+}
+
+impl Trouble {
+    /// The same once more.
+    pub fn copy(&self, alloc: Global) -> Result<Trouble, NoMemory>
+        ensures { IfOk result (λ copy. copy ≡ self.now) }
+    {
+        Ok(Trouble {
+            cause: self.cause,
+            path: copy_of(alloc, &self.path)?,
+            barrier: self.barrier,
+        })
+    }
+}
+
+/// A path once more, if there is one.
+fn copy_of(alloc: Global, path: &Option<Path>) -> Result<Option<Path>, NoMemory>
+    ensures { IfOk result (λ copy. copy ≡ path.now) }
+{
+    match path {
+        None => Ok(None),
+        Some(path) => Ok(Some(path.copy(alloc)?)),
+    }
 }
 
 /// How a job ended.

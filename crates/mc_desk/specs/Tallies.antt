@@ -62,7 +62,7 @@ abbrev pub due_in : List Entry → Option ℕ
 due_in [] = Some 0
 due_in (e ∷ older) = due_after e.what (live_job older) (due_in older)
 
--- a key was lost for want of memory
+-- a key was lost since memory ran out
 abbrev pub loses : Event → Bool
 loses (Key key now refusals lost) = lost
 loses (Look refusals) = false
@@ -85,7 +85,7 @@ faults_in opening (e ∷ older) = e.faults
 pub record Tally : Type 0 where
   pub job : Option Running
   pub last : ℕ
-  pub unseen : Bool
+  pub has_unseen_end : Bool
   pub closed : Bool
   pub due : Option ℕ
   pub lost : Bool
@@ -95,7 +95,7 @@ abbrev pub tally : List Entry → Tally
 tally newest = record {
   job = live_job newest;
   last = last_id newest;
-  unseen = end_unseen newest;
+  has_unseen_end = end_unseen newest;
   closed = is_closed newest;
   due = due_in newest;
   lost = has_lost newest;
@@ -107,7 +107,7 @@ abbrev pub after_entry : Entry → Tally → Tally
 after_entry e t = record {
   job = if_closed (closes e.what || t.closed) (after_event e.what t.job);
   last = id_after e.what t.last;
-  unseen = end_unseen_event e.what t.unseen;
+  has_unseen_end = end_unseen_event e.what t.has_unseen_end;
   closed = closes e.what || t.closed;
   due = due_after e.what t.job t.due;
   lost = loses e.what || t.lost;

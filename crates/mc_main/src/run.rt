@@ -36,7 +36,7 @@ pub trait Gate {
 /// Runs the file manager: reads the words, opens the session, works its keys and steps its jobs, and ends it.
 ///
 /// The status is 0 at the quit key or the end of the keys, 1 where the words can't be read, 2 where a folder is refused, 3
-/// where the keyboard failed, 4 where the screen did, and 5 for want of memory. For 1 and 2 one line is printed.
+/// where the keyboard failed, 4 where the screen did, and 5 where memory ran out. For 1 and 2 one line is printed.
 pub fn mc_run<N: Tag, T: Tree, K: Source, S: Sink, P: Spawner, C: Clock, G: Gate>(
     alloc: Global,
     words: &[Text],

@@ -16,7 +16,7 @@ pub struct Chosen {
 #[derive(Debug, Drop)]
 pub enum Dialog {
     Nothing,
-    /// Asks whether to delete this file.
+    /// ReadsTree whether to delete this file.
     Delete(Chosen),
     /// Shows which names of the source are copied, of a copy of this file.
     SourceMask(Chosen),

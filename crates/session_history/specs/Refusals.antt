@@ -15,10 +15,11 @@ abbrev pub IsPlanRefused : CallLog → PlanError → Type 0
 IsPlanRefused log (TargetThere path) = refusal_of (current log) (Stat path) ≡ None
 IsPlanRefused log TargetTooLong = ⊤
 
--- a refusal is one of this reading call at its path, or of a plan
+-- A refusal is one of this reading call at its path, or of a plan. That of a job's beginning has its cause in the history.
 abbrev pub HasCause : (Route → Call) → CallLog → Refusal → Type 0
 HasCause call log (refusal.Tree path e) = IsRefusedWith (current log) (call path) e
 HasCause call log (refusal.Plan error) = IsPlanRefused log error
+HasCause call log (refusal.Begin error) = ⊤
 
 -- each of these refusals has its cause in the tree
 abbrev pub AreRefused : (Route → Call) → CallLog → List Refusal → Type 0

@@ -12,6 +12,13 @@ pub enum PlanError {
     TargetTooLong,
 }
 
+/// Why a job could not be begun.
+#[derive(Clone, Copy, Debug, Drop, PartialEq, Eq)]
+pub enum BeginError {
+    /// All numbers of jobs were given: there are 2^32 - 1, and none is given twice.
+    NoMoreIds,
+}
+
 /// What a key or a look wanted and was refused.
 #[derive(Debug, Drop)]
 pub enum Refusal {
@@ -19,6 +26,8 @@ pub enum Refusal {
     Tree(Path, TreeError),
     /// This plan of a job.
     Plan(PlanError),
+    /// The beginning of a job.
+    Begin(BeginError),
 }
 
 /// The refusals of one key or look.

@@ -16,10 +16,10 @@ use super::{Due, Session};
 use crate::claims::NoClaims;
 use crate::replies::{Ended, StepReply};
 use crate::tag::Tag;
-use job_reports::{Did, Ending, StepResult, is_end, trouble_path};
-use session_history::{Entry, Event};
 use copy_move::Run;
+use job_reports::{Did, Ending, StepResult, is_end};
 use mc_text::Path;
+use session_history::{Entry, Event};
 use std::alloc::Global;
 use tree_trait::{Sink, Spawner, Tree};
 
@@ -46,6 +46,7 @@ impl<N: Tag, T: Tree, S: Sink, P: Spawner> Session<N, T, S, P> {
     /// Makes one step of the job, if it is ready: `Did` where an entry was added. Without memory for the entry no call of
     /// the tree is made, and the job ends by the entry for which room was kept.
     pub fn step(&mut self, alloc: Global, seat: u32) -> StepReply
+        requires main { seat ≡ 0 }
         ensures screen { self.new.screen ≡ self.old.screen }
         ensures keys { KeepsKeys self.old self.new }
         ensures dirty { MovesDirty self.old.job self.new.newest self.old.dirty self.new.dirty }
@@ -74,13 +75,12 @@ impl<N: Tag, T: Tree, S: Sink, P: Spawner> Session<N, T, S, P> {
                     did: ended_without_memory(job.give_up()),
                 },
             });
-            self.unseen = true;
+            self.has_unseen_end = true;
             return StepReply::Did;
         }
         let StepResult { did, calls } = job.step(alloc, &mut self.tree, &NoClaims, &mut self.dirty);
         self.calls = self.calls.saturating_add(calls);
         let ended = is_end(&did);
-        self.trouble_path = trouble_path(alloc, &did);
         self.log.note(Entry {
             seat,
             calls: self.calls,
@@ -88,7 +88,7 @@ impl<N: Tag, T: Tree, S: Sink, P: Spawner> Session<N, T, S, P> {
             shown: 0,
             what: Event::Step { job: id, did },
         });
-        self.unseen = either(ended, self.unseen);
+        self.has_unseen_end = end_waits(ended, self.has_unseen_end);
         self.job = left(job, ended, self.closed);
         StepReply::Did
     }
@@ -134,8 +134,7 @@ impl<N: Tag, T: Tree, S: Sink, P: Spawner> Session<N, T, S, P> {
             last_id: _,
             calls: _,
             shown: _,
-            unseen: _,
-            trouble_path: _,
+            has_unseen_end: _,
             due: _,
             closed: _,
             quit,
@@ -166,10 +165,11 @@ fn idle(is_closed: bool) -> StepReply
     }
 }
 
-fn either(one: bool, other: bool) -> bool
-    ensures { result ≡ (one || other) }
+/// Whether a job's end waits for a look. The prover keeps no branch of a call.
+fn end_waits(ended: bool, waited: bool) -> bool
+    ensures { result ≡ (ended || waited) }
 {
-    one || other
+    ended || waited
 }
 
 fn ended_without_memory(part: Option<Path>) -> Did
