@@ -40,7 +40,7 @@ use Rattle.copy_move.specs.Deletions as deletions
 use Rattle.copy_move.specs.Jobs.{Running, CallsOn, TellsOn, WorkTells, WorkWinds, WorkCalls, course_after, is_fresh, skipped}
 use Rattle.copy_move.specs.Ranks.{rank_on}
 use Rattle.copy_move.specs.Settling.{NoneOwed, after_try, changed_folder, is_dirty, with_change}
-use Rattle.copy_move.specs.Steps.{LeavesDirty, OwnStep, OwedSyncStep, SkipSteps, WindingStep, WorkSteps, WorkWindsUp}
+use Rattle.copy_move.specs.Steps.{LeavesDirty, OwnStep, OwedSyncStep, SkipSteps, WindingStep, WorkSteps, WorkWindsUp, step_made}
 use Rattle.copy_move.proofs.DeletionRuns.{counts_call, fault-cause, few_calls}
 use Rattle.copy_move.proofs.Falling.{passing_falls, trouble_falls, waiting_falls}
 use Rattle.copy_move.proofs.RunSteps.{run_ends, run_goes}
@@ -252,7 +252,7 @@ same_log log now contents known is =
 
 module _ (unclaimed : Route → Type 0) (did : Did) (calls : ℕ) (dirty dirty_after : List Route) (before after : Option CallLog) (f0 f1 : ℕ) where
   abbrev IsOwn : Running → Running → Type 0
-  IsOwn job new = OwnStep unclaimed job new did calls dirty dirty_after before after f0 f1
+  IsOwn job new = OwnStep unclaimed (step_made job new did calls dirty dirty_after before after f0 f1)
 
   -- a step after the first change
   pub worked_on : (id : ℕ) (old work : Work) (was course : Course) (job : Running) (folder : Route) (synced : Bool) → (let r : Running = record { id = id; work = old; course = was } in r) ≡ job → job.course ≡ GoesOn
@@ -291,7 +291,7 @@ module _ (unclaimed : Route → Type 0) (did : Did) (calls : ℕ) (dirty dirty_a
       }
 
   -- a last step
-  pub wound_up : (ending : Ending) (job new : Running) → job.course ≡ Ends ending → WindingStep ending job new did calls dirty dirty_after before after f0 f1 → IsOwn job new
+  pub wound_up : (ending : Ending) (job new : Running) → job.course ≡ Ends ending → WindingStep ending (step_made job new did calls dirty dirty_after before after f0 f1) → IsOwn job new
   wound_up ending job new ends w = record {
     own = run_ends unclaimed job new did calls before after f0 f1 ending job.work new.work w.left refl ends w.winds w.new_is;
     settled = λ goes fresh. absurd (ends_not ending (sym ends ∙ goes));
@@ -314,7 +314,7 @@ no_first_steps unclaimed work contents f fresh = record {
 module _ (unclaimed : Route → Type 0) (dirty : List Route) (contents : Option CallLog) (f : ℕ) where
   pub unmade_first : (id : ℕ) (old : Work) (was : Course) (job : Running) (did : Did) (calls : ℕ) (dirty_after : List Route) → (let r : Running = record { id = id; work = old; course = was } in r) ≡ job → job.course ≡ GoesOn → is_fresh job.work ≡ true
       → IfKnown contents (λ log. NoneOwed (current log) (changed_folder job.work) dirty) → did ≡ Troubled (out_of_memory_at false) → calls ≡ 0 → dirty_after ≡ dirty
-      → OwnStep unclaimed job (record { id = id; work = old; course = InTrouble Memory }) did calls dirty dirty_after contents contents f f
+      → OwnStep unclaimed (step_made job (record { id = id; work = old; course = InTrouble Memory }) did calls dirty dirty_after contents contents f f)
   unmade_first id old was job did calls dirty_after is goes fresh settled did_is calls_is same_dirty =
       let same : old ≡ job.work = ap (λ (j : Running). j.work) is in
       let number : id ≡ job.id = ap (λ (j : Running). j.id) is in
@@ -329,7 +329,7 @@ module _ (unclaimed : Route → Type 0) (dirty : List Route) (contents : Option 
       }
 
   -- the report of a skip, or that there is no memory for it
-  pub skipped_step : (cause : Cause) (job new : Running) (did : Did) (calls : ℕ) → job.course ≡ Skips cause → SkipSteps cause job new did calls → OwnStep unclaimed job new did calls dirty dirty contents contents f f
+  pub skipped_step : (cause : Cause) (job new : Running) (did : Did) (calls : ℕ) → job.course ≡ Skips cause → SkipSteps cause job new did calls → OwnStep unclaimed (step_made job new did calls dirty dirty contents contents f f)
   skipped_step cause job new did calls skips s = elim s.skips [
     | inl passed ↦
         let work_is : s.work ≡ skipped job.work = passed.1 in
@@ -342,7 +342,7 @@ module _ (unclaimed : Route → Type 0) (dirty : List Route) (contents : Option 
         built new_is (inr (waits.0, new_is)) (waiting_falls job.work) refl (λ fault. subst (λ d. IsFault d → ⊥) (sym waits.0) (λ h. absurd cc) fault)
   ]
     where
-      built : {to : Running} → new ≡ to → TellsOn (Skips cause) job did new → rank_on to.course to.work < 10 → is_dirty to.work ≡ is_dirty job.work → (IsFault did → ⊥) → OwnStep unclaimed job new did calls dirty dirty contents contents f f
+      built : {to : Running} → new ≡ to → TellsOn (Skips cause) job did new → rank_on to.course to.work < 10 → is_dirty to.work ≡ is_dirty job.work → (IsFault did → ⊥) → OwnStep unclaimed (step_made job new did calls dirty dirty contents contents f f)
       built {to} is tells low clean quiet = record {
         own = record {
           tells = subst (λ c. TellsOn c job did new) (sym skips) tells;
@@ -362,9 +362,9 @@ module _ (unclaimed : Route → Type 0) (dirty : List Route) (contents : Option 
 -- a last step of the work
 pub winding_step : (ending : Ending) (id : ℕ) (old work : Work) (course : Course) (job : Running) (did : Did) (calls : ℕ) (left : Option TreeError) (folder : Route) (dirty dirty_after : List Route) (before after : Option CallLog) (f0 f1 : ℕ)
     → (let r : Running = record { id = id; work = old; course = course } in r) ≡ job → WorkWindsUp ending old work did calls left before after f0 f1 → folder ≡ changed_folder work → dirty_after ≡ after_try did left folder dirty
-    → WindingStep ending job (record { id = id; work = work; course = course }) did calls dirty dirty_after before after f0 f1
+    → WindingStep ending (step_made job (record { id = id; work = work; course = course }) did calls dirty dirty_after before after f0 f1)
 winding_step ending id old work course job did calls left folder dirty dirty_after before after f0 f1 is winds folder_is after_is =
-    subst (λ j. WindingStep ending j (record { id = id; work = work; course = course }) did calls dirty dirty_after before after f0 f1) is record {
+    subst (λ j. WindingStep ending (step_made j (record { id = id; work = work; course = course }) did calls dirty dirty_after before after f0 f1)) is record {
       left = left;
       winds = winds;
       new_is = refl;
@@ -378,7 +378,7 @@ module _ (folder : Route) (dirty dirty_after : List Route) (job : Running) (goes
   counted answer calls is called log known now has = subst (λ n. HasMore log n now) (sym is) (counts_call log now (SyncFolder folder) answer after (called log known) has)
 
   pub settled_folder : (did : Did) (calls : ℕ) → did ≡ Barrier → calls ≡ 1 → dirty_after ≡ without folder dirty → IfKnown before (λ log. Performs {A = Unit {0}} log (SyncFolder folder) (Ok tt) after)
-      → OwedSyncStep job job did calls dirty dirty_after before after f0 f1
+      → OwedSyncStep (step_made job job did calls dirty dirty_after before after f0 f1)
   settled_folder did calls is count after_is called = record {
     goes = goes;
     fresh = fresh;
@@ -393,7 +393,7 @@ module _ (folder : Route) (dirty dirty_after : List Route) (job : Running) (goes
   }
 
   pub refused_folder : (e : TreeError) (did : Did) (calls : ℕ) (new : Running) → did ≡ Troubled (trouble_at e folder true) → calls ≡ calls_made_for (Err e) → new ≡ record job { course = OwedSyncFailed (cause_of e) } → dirty_after ≡ dirty
-      → IfKnown before (λ log. Performs {A = Unit {0}} log (SyncFolder folder) (Err e) after) → (e ≡ refused.Fault → HasRisen f0 f1) → OwedSyncStep job new did calls dirty dirty_after before after f0 f1
+      → IfKnown before (λ log. Performs {A = Unit {0}} log (SyncFolder folder) (Err e) after) → (e ≡ refused.Fault → HasRisen f0 f1) → OwedSyncStep (step_made job new did calls dirty dirty_after before after f0 f1)
   refused_folder e did calls new is count new_is after_is called risen = record {
     goes = goes;
     fresh = fresh;
@@ -412,8 +412,8 @@ risen_before : (f0 f1 f2 : ℕ) → f0 ≤ f1 → HasRisen f1 f2 → HasRisen f0
 risen_before f0 f1 f2 later risen = omega (arith, later, risen)
 
 pub own_later : (unclaimed : Route → Type 0) (job new : Running) (did : Did) (calls : ℕ) (dirty dirty_after : List Route) (first before after : Option CallLog) (f0 f1 f2 : ℕ) → before ≡ first → f0 ≤ f1
-    → OwnStep unclaimed job new did calls dirty dirty_after before after f1 f2 → OwnStep unclaimed job new did calls dirty dirty_after first after f0 f2
-own_later unclaimed job new did calls dirty dirty_after first before after f0 f1 f2 same later o = subst (λ b. OwnStep unclaimed job new did calls dirty dirty_after b after f0 f2) same record {
+    → OwnStep unclaimed (step_made job new did calls dirty dirty_after before after f1 f2) → OwnStep unclaimed (step_made job new did calls dirty dirty_after first after f0 f2)
+own_later unclaimed job new did calls dirty dirty_after first before after f0 f1 f2 same later o = subst (λ b. OwnStep unclaimed (step_made job new did calls dirty dirty_after b after f0 f2)) same record {
   own = record {
     tells = o.own.tells;
     called = o.own.called;
@@ -429,8 +429,8 @@ own_later unclaimed job new did calls dirty dirty_after first before after f0 f1
 }
 
 pub settling_later : (job new : Running) (did : Did) (calls : ℕ) (dirty dirty_after : List Route) (first before after : Option CallLog) (f0 f1 f2 : ℕ) → before ≡ first → f0 ≤ f1
-    → OwedSyncStep job new did calls dirty dirty_after before after f1 f2 → OwedSyncStep job new did calls dirty dirty_after first after f0 f2
-settling_later job new did calls dirty dirty_after first before after f0 f1 f2 same later s = subst (λ b. OwedSyncStep job new did calls dirty dirty_after b after f0 f2) same record {
+    → OwedSyncStep (step_made job new did calls dirty dirty_after before after f1 f2) → OwedSyncStep (step_made job new did calls dirty dirty_after first after f0 f2)
+settling_later job new did calls dirty dirty_after first before after f0 f1 f2 same later s = subst (λ b. OwedSyncStep (step_made job new did calls dirty dirty_after b after f0 f2)) same record {
   goes = s.goes;
   fresh = s.fresh;
   folder = s.folder;

@@ -41,11 +41,29 @@ LeavesDirty (Ends ending) old did new dirty dirty_after before after =
     (left : Option TreeError) × (dirty_after ≡ after_try did left (changed_folder old) dirty) × IfKnown before (λ log. TellsFolder old did left log after)
 LeavesDirty course old did new dirty dirty_after before after = dirty_after ≡ with_change (is_dirty old) (is_dirty new) (changed_folder old) dirty
 
+-- A step of a job as it was made: the job before and after it, its report, and how many changing calls it made; and how the
+-- dirty folders, the tree's log and its count of faults stood before and after.
+pub record StepMade : Type 0 where
+  pub old : Running
+  pub new : Running
+  pub did : Did
+  pub calls : ℕ
+  pub dirty : List Route
+  pub dirty_after : List Route
+  pub before : Option CallLog
+  pub after : Option CallLog
+  pub faults : ℕ
+  pub faults_after : ℕ
+
+abbrev pub step_made : Running → Running → Did → ℕ → List Route → List Route → Option CallLog → Option CallLog → ℕ → ℕ → StepMade
+step_made old new did calls dirty dirty_after before after faults faults_after =
+    record { old = old; new = new; did = did; calls = calls; dirty = dirty; dirty_after = dirty_after; before = before; after = after; faults = faults; faults_after = faults_after }
+
 -- A step of the job's own: one that may make its first change is made only where no dirty folder lies on that mount.
-pub record OwnStep (unclaimed : Route → Type 0) (old new : Running) (did : Did) (calls : ℕ) (dirty dirty_after : List Route) (before after : Option CallLog) (faults faults_after : ℕ) : Type 0 where
-  pub own : StepsOn unclaimed old new did calls before after faults faults_after
-  pub settled : old.course ≡ GoesOn → is_fresh old.work ≡ true → IfKnown before (λ log. NoneOwed (current log) (changed_folder old.work) dirty)
-  pub leaves : LeavesDirty old.course old.work did new.work dirty dirty_after before after
+pub record OwnStep (unclaimed : Route → Type 0) (step : StepMade) : Type 0 where
+  pub own : StepsOn unclaimed step.old step.new step.did step.calls step.before step.after step.faults step.faults_after
+  pub settled : step.old.course ≡ GoesOn → is_fresh step.old.work ≡ true → IfKnown step.before (λ log. NoneOwed (current log) (changed_folder step.old.work) step.dirty)
+  pub leaves : LeavesDirty step.old.course step.old.work step.did step.new.work step.dirty step.dirty_after step.before step.after
 
 -- a dirty folder was synced, and the job stands where it stood; or that was refused, and the job waits for an answer
 abbrev pub SyncsFolder : Running → Route → Did → Running → List Route → List Route → Option CallLog → Option CallLog → Type 0
@@ -55,22 +73,21 @@ SyncsFolder old folder did new dirty dirty_after before after =
     × IfKnown before (λ log. Performs {A = Unit {0}} log (SyncFolder folder) (Err e) after))
 
 -- A step of a job that has changed nothing yet, where an ended job left a dirty folder: that is synced first.
-pub record OwedSyncStep (old new : Running) (did : Did) (calls : ℕ) (dirty dirty_after : List Route) (before after : Option CallLog) (faults faults_after : ℕ) : Type 0 where
-  pub goes : old.course ≡ GoesOn
-  pub fresh : is_fresh old.work ≡ true
+pub record OwedSyncStep (step : StepMade) : Type 0 where
+  pub goes : step.old.course ≡ GoesOn
+  pub fresh : is_fresh step.old.work ≡ true
   pub folder : Route
-  pub owed : Among dirty folder
-  pub synced : SyncsFolder old folder did new dirty dirty_after before after
-  pub counted : IfKnown before (λ log. IfKnown after (HasMore log calls))
-  pub few : calls ≤ 1
-  pub unknown : before ≡ None → after ≡ None
-  pub later : faults ≤ faults_after
-  pub fault : IsFault did → HasRisen faults faults_after
+  pub owed : Among step.dirty folder
+  pub synced : SyncsFolder step.old folder step.did step.new step.dirty step.dirty_after step.before step.after
+  pub counted : IfKnown step.before (λ log. IfKnown step.after (HasMore log step.calls))
+  pub few : step.calls ≤ 1
+  pub unknown : step.before ≡ None → step.after ≡ None
+  pub later : step.faults ≤ step.faults_after
+  pub fault : IsFault step.did → HasRisen step.faults step.faults_after
 
-abbrev pub RunStep : (Route → Type 0) → Running → Running → Did → ℕ → List Route → List Route → Option CallLog → Option CallLog → ℕ → ℕ → Type 0
-RunStep unclaimed old new did calls dirty dirty_after before after faults faults_after =
-    OwnStep unclaimed old new did calls dirty dirty_after before after faults faults_after
-    ⊎ OwedSyncStep old new did calls dirty dirty_after before after faults faults_after
+-- what a step of a job may be: one of its own, or the sync of a folder that an ended job left
+abbrev pub RunStep : (Route → Type 0) → StepMade → Type 0
+RunStep unclaimed step = OwnStep unclaimed step ⊎ OwedSyncStep step
 
 -- A piece of work, likewise. Fewer steps are left then, and at most three where it is refused.
 pub record WorkSteps (unclaimed : Route → Type 0) (old new : Work) (did : Did) (calls : ℕ) (before after : Option CallLog) (faults faults_after : ℕ) : Type 0 where
@@ -108,8 +125,8 @@ pub record SkipSteps (cause : Cause) (old new : Running) (did : Did) (calls : �
   pub none : calls ≡ 0
 
 -- a last step of a job: one of its work, which leaves the folder among the dirty ones where the one try of its sync was refused
-pub record WindingStep (ending : Ending) (old new : Running) (did : Did) (calls : ℕ) (dirty dirty_after : List Route) (before after : Option CallLog) (faults faults_after : ℕ) : Type 0 where
+pub record WindingStep (ending : Ending) (step : StepMade) : Type 0 where
   pub left : Option TreeError
-  pub winds : WorkWindsUp ending old.work new.work did calls left before after faults faults_after
-  pub new_is : new ≡ record old { work = new.work }
-  pub leaves : dirty_after ≡ after_try did left (changed_folder old.work) dirty
+  pub winds : WorkWindsUp ending step.old.work step.new.work step.did step.calls left step.before step.after step.faults step.faults_after
+  pub new_is : step.new ≡ record step.old { work = step.new.work }
+  pub leaves : step.dirty_after ≡ after_try step.did left (changed_folder step.old.work) step.dirty

@@ -99,7 +99,7 @@ if_closed false job = job
 abbrev pub Reports : Running → Did → Type 0
 Reports job did = (old : Running) × (new : Running) × (told old ≡ job) × JobTells old did new
 
--- any job that waits for nothing may end for want of memory, and names the part that stands then
+-- any job that waits for nothing may end out of memory, and names the part that stands then
 abbrev pub EndsWithoutMemory : Running → Did → Type 0
 EndsWithoutMemory job did = (waits_on job.course ≡ false) × (did ≡ Ended NoMemory (part_of job.work))
 

@@ -142,8 +142,18 @@ impl Run {
         dirty: &mut Dirty,
     ) -> StepResult
         requires ready { waits_on self.old.course ≡ false }
-        ensures steps { RunStep (λ path. P.is_free parts.now path ≡ true) self.old self.new result.did result.calls dirty.old dirty.new
-            (T.contents tree.old) (T.contents tree.new) (T.fault_count tree.old) (T.fault_count tree.new) }
+        ensures steps { RunStep (λ path. P.is_free parts.now path ≡ true) (record {
+          old = self.old;
+          new = self.new;
+          did = result.did;
+          calls = result.calls;
+          dirty = dirty.old;
+          dirty_after = dirty.new;
+          before = T.contents tree.old;
+          after = T.contents tree.new;
+          faults = T.fault_count tree.old;
+          faults_after = T.fault_count tree.new;
+        }) }
     {
         match self.course {
             Course::GoesOn => self.go_on(alloc, tree, parts, dirty),
@@ -256,8 +266,18 @@ impl Run {
         dirty: &mut Dirty,
     ) -> StepResult
         requires course { self.old.course ≡ Course.GoesOn }
-        ensures steps { RunStep (λ path. P.is_free parts.now path ≡ true) self.old self.new result.did result.calls dirty.old dirty.new
-            (T.contents tree.old) (T.contents tree.new) (T.fault_count tree.old) (T.fault_count tree.new) }
+        ensures steps { RunStep (λ path. P.is_free parts.now path ≡ true) (record {
+          old = self.old;
+          new = self.new;
+          did = result.did;
+          calls = result.calls;
+          dirty = dirty.old;
+          dirty_after = dirty.new;
+          before = T.contents tree.old;
+          after = T.contents tree.new;
+          faults = T.fault_count tree.old;
+          faults_after = T.fault_count tree.new;
+        }) }
     {
         if self.work.is_fresh() {
             self.begin(alloc, tree, parts, dirty)
@@ -277,8 +297,18 @@ impl Run {
     ) -> StepResult
         requires course { self.old.course ≡ Course.GoesOn }
         requires fresh { is_fresh self.old.work ≡ true }
-        ensures steps { RunStep (λ path. P.is_free parts.now path ≡ true) self.old self.new result.did result.calls dirty.old dirty.new
-            (T.contents tree.old) (T.contents tree.new) (T.fault_count tree.old) (T.fault_count tree.new) }
+        ensures steps { RunStep (λ path. P.is_free parts.now path ≡ true) (record {
+          old = self.old;
+          new = self.new;
+          did = result.did;
+          calls = result.calls;
+          dirty = dirty.old;
+          dirty_after = dirty.new;
+          before = T.contents tree.old;
+          after = T.contents tree.new;
+          faults = T.fault_count tree.old;
+          faults_after = T.fault_count tree.new;
+        }) }
     {
         let Some(owed) = dirty.first_on_mount_of(alloc, tree, self.work.folder()) else {
             return self.change_first(alloc, tree, parts, dirty);
@@ -301,8 +331,18 @@ impl Run {
         requires course { self.old.course ≡ Course.GoesOn }
         requires fresh { is_fresh self.old.work ≡ true }
         requires owed { Among dirty.old folder }
-        ensures steps { OwedSyncStep self.old self.new result.did result.calls dirty.old dirty.new
-            (T.contents tree.old) (T.contents tree.new) (T.fault_count tree.old) (T.fault_count tree.new) }
+        ensures steps { OwedSyncStep (record {
+          old = self.old;
+          new = self.new;
+          did = result.did;
+          calls = result.calls;
+          dirty = dirty.old;
+          dirty_after = dirty.new;
+          before = T.contents tree.old;
+          after = T.contents tree.new;
+          faults = T.fault_count tree.old;
+          faults_after = T.fault_count tree.new;
+        }) }
     {
         match tree.sync_folder(alloc, &folder) {
             Ok(()) => {
@@ -328,8 +368,18 @@ impl Run {
         requires course { self.old.course ≡ Course.GoesOn }
         requires fresh { is_fresh self.old.work ≡ true }
         requires settled { IfKnown (T.contents tree.old) (λ log. NoneOwed (current log) (changed_folder self.old.work) dirty.old) }
-        ensures steps { OwnStep (λ path. P.is_free parts.now path ≡ true) self.old self.new result.did result.calls dirty.old dirty.new
-            (T.contents tree.old) (T.contents tree.new) (T.fault_count tree.old) (T.fault_count tree.new) }
+        ensures steps { OwnStep (λ path. P.is_free parts.now path ≡ true) (record {
+          old = self.old;
+          new = self.new;
+          did = result.did;
+          calls = result.calls;
+          dirty = dirty.old;
+          dirty_after = dirty.new;
+          before = T.contents tree.old;
+          after = T.contents tree.new;
+          faults = T.fault_count tree.old;
+          faults_after = T.fault_count tree.new;
+        }) }
     {
         let Ok(()) = dirty.add(alloc, self.work.folder()) else {
             self.course = Course::InTrouble(Cause::Memory);
@@ -351,8 +401,18 @@ impl Run {
     ) -> StepResult
         requires course { self.old.course ≡ Course.GoesOn }
         requires changed { is_fresh self.old.work ≡ false }
-        ensures steps { OwnStep (λ path. P.is_free parts.now path ≡ true) self.old self.new result.did result.calls dirty.old dirty.new
-            (T.contents tree.old) (T.contents tree.new) (T.fault_count tree.old) (T.fault_count tree.new) }
+        ensures steps { OwnStep (λ path. P.is_free parts.now path ≡ true) (record {
+          old = self.old;
+          new = self.new;
+          did = result.did;
+          calls = result.calls;
+          dirty = dirty.old;
+          dirty_after = dirty.new;
+          before = T.contents tree.old;
+          after = T.contents tree.new;
+          faults = T.fault_count tree.old;
+          faults_after = T.fault_count tree.new;
+        }) }
     {
         let was_dirty = self.work.is_dirty();
         let stepped = self.work.step(alloc, tree, parts);
@@ -383,8 +443,18 @@ impl Run {
         dirty: &mut Dirty,
     ) -> StepResult
         requires course { self.old.course ≡ Course.Ends ending }
-        ensures steps { WindingStep ending self.old self.new result.did result.calls dirty.old dirty.new
-            (T.contents tree.old) (T.contents tree.new) (T.fault_count tree.old) (T.fault_count tree.new) }
+        ensures steps { WindingStep ending (record {
+          old = self.old;
+          new = self.new;
+          did = result.did;
+          calls = result.calls;
+          dirty = dirty.old;
+          dirty_after = dirty.new;
+          before = T.contents tree.old;
+          after = T.contents tree.new;
+          faults = T.fault_count tree.old;
+          faults_after = T.fault_count tree.new;
+        }) }
     {
         let LastStepResult { did, calls, left } = self.work.wind_up(alloc, tree, ending);
         dirty.after_try(&did, left, self.work.folder());

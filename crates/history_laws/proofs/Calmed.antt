@@ -24,13 +24,13 @@ use Rattle.copy_move.specs.Settling.{changed_folder, is_dirty}
 use Rattle.copy_move.specs.Steps.{SyncsFolder}
 use Rattle.history_laws.specs.Calmed.{CalmLaw, HasBegun}
 use Rattle.history_laws.specs.Doubt.{is_unsettled}
-use Rattle.history_laws.specs.LiveJobs.{live_jobs, work_of}
+use Rattle.session_history.specs.LiveJobs.{live_jobs, live_item}
 use Rattle.history_laws.specs.Owed.{IsApart}
 use Rattle.session_history.specs.Named.{begins_change, has_changed, names_path}
 use Rattle.history_laws.specs.Replayed.{log_prefix}
 use Rattle.session_history.specs.Entries.{calls_in}
 use Rattle.history_laws.specs.Traces.{EventLeads, WorkLeads}
-use Rattle.history_laws.proofs.Done.{IsFound, found_moment, same_work}
+use Rattle.history_laws.proofs.Done.{IsFound, found_moment, same_item}
 use Rattle.history_laws.proofs.Finished.{AreTidy, IsTidyJob, traced_tidy}
 use Rattle.history_laws.proofs.Prefixes.{told_of}
 use Rattle.history_laws.proofs.Histories.{only_job, traced_reached}
@@ -118,8 +118,8 @@ module _ (opening : CallLog) (tree : IsTree (current opening)) (settled : all_se
           (subst (λ js. JobsKnow (told_of opening f.before older r.part) f.was.dirty r.marks (current f.before) js) jobs_is r.knows)
 
       folder_is : folder ≡ changed_folder job.work
-      folder_is = h.within ∙ same_work opening tree settled end e older job (live_jobs older) r.part h.work (subst (λ js. HasLive (live_jobs older) js r.part) jobs_is r.live)
-          (subst (λ n. work_of n (live_jobs older) ≡ Some h.work) (sym id_is) h.its)
+      folder_is = h.within ∙ same_item opening tree settled end e older job (live_jobs older) r.part h.item (subst (λ js. HasLive (live_jobs older) js r.part) jobs_is r.live)
+          (subst (λ n. live_item n (live_jobs older) ≡ Some h.item) (sym id_is) h.its)
 
       by : (named waited : Bool) → names_path e.what path ≡ named → is_unsettled f.before path ≡ waited → Calm
       by true waited named_is waited_is = inl named_is

@@ -12,14 +12,14 @@ use Rattle.tree_trait.specs.CrashImages.{Among, IsCrashImage, all_settled}
 use Rattle.job_reports.specs.declared.report.Ending.TheVariants.{Finished}
 use Rattle.job_reports.specs.declared.report.Did.TheVariants.{Ended}
 use Rattle.job_reports.specs.Paths.{folder_of}
+use Rattle.job_reports.specs.Jobs.{Item, folder_changed}
 use Rattle.session_history.specs.declared.history.Event.TheVariants.{Step}
 use Rattle.session_history.specs.declared.history.Entry.{Entry}
-use Rattle.copy_move.specs.declared.work.Work.{Work}
 use Rattle.copy_move.specs.Jobs.{JobTells, Running}
 use Rattle.copy_move.specs.Settling.{changed_folder}
 use Rattle.copy_move.specs.Steps.{SyncsFolder}
 use Rattle.history_laws.specs.Doubt.{is_unsettled}
-use Rattle.history_laws.specs.LiveJobs.{IsLivePart, LiveJob, after_event, after_report, live_jobs, work_of}
+use Rattle.session_history.specs.LiveJobs.{IsLivePart, LiveJob, after_event, after_report, live_jobs, live_item}
 use Rattle.session_history.specs.Named.{has_changed, named_after, named_parts, IsUnnamedSince, names_path}
 use Rattle.history_laws.specs.Replayed.{log_prefix, replayed_tree}
 use Rattle.session_history.specs.Entries.{IsMoment, calls_in}
@@ -31,7 +31,7 @@ use Rattle.history_laws.proofs.Histories.{enters, only_job, traced_reached}
 use Rattle.history_laws.proofs.Lasting.{finished_stays_law, replayed_since}
 use Rattle.history_laws.proofs.Moments.{IsShown, prefix_is, log_of, replay_law, session_law, shown_moment, traced_count}
 use Rattle.history_laws.proofs.Reports.{HasLive}
-use Rattle.history_laws.proofs.Sources.{folder_same}
+use Rattle.history_laws.proofs.Sources.{folder_is, item_in}
 use Rattle.history_laws.proofs.Staying.{event_part, stays_law}
 use Rattle.history_laws.proofs.Stepped.{more}
 
@@ -114,13 +114,13 @@ module _ (opening : CallLog) (tree : IsTree (current opening)) (settled : all_se
     pub tells : JobTells job (Ended Finished part) new
     pub within : folder ≡ changed_folder job.work
 
-  -- the work that the history tells of is that of the live job
-  pub same_work : (job : Running) (live : List LiveJob) (part : Option Route) (work : Work) → HasLive live (job ∷ []) part → work_of job.id live ≡ Some work → changed_folder work ≡ changed_folder job.work
-  same_work job live part work (w, is, paths) its =
-      let first : Some w ≡ Some work =
-      sym (ap (λ b. if b then Some w else None) (eq-eqb job.id job.id refl)) ∙ (sym (ap (work_of job.id) is) ∙ its) in
-      let same : w ≡ work = cc in
-      sym (ap changed_folder same) ∙ folder_same w job.work paths
+  -- the item that the history tells of is that of the live job
+  pub same_item : (job : Running) (live : List LiveJob) (part : Option Route) (item : Item) → HasLive live (job ∷ []) part → live_item job.id live ≡ Some item → folder_changed item ≡ changed_folder job.work
+  same_item job live part item is its =
+      let first : Some (item_in job.work) ≡ Some item =
+      sym (ap (λ b. if b then Some (item_in job.work) else None) (eq-eqb job.id job.id refl)) ∙ (sym (ap (live_item job.id) is) ∙ its) in
+      let same : item_in job.work ≡ item = cc in
+      sym (ap folder_changed same) ∙ folder_is job.work
 
   ender : (folder : Route) (h : HasFinished e older folder) (f : IsFound) → IsEnder f.was h.part h.id folder
   ender folder h f = by (subst (λ w. EventLeads f.was w f.after f.before f.now) h.ended f.leads)
@@ -135,7 +135,7 @@ module _ (opening : CallLog) (tree : IsTree (current opening)) (settled : all_se
             jobs_is = one.0;
             id_is = one.1;
             tells = tells;
-            within = h.within ∙ same_work job (live_jobs older) r.part h.work (subst (λ js. HasLive (live_jobs older) js r.part) one.0 r.live) (subst (λ n. work_of n (live_jobs older) ≡ Some h.work) (sym one.1) h.its);
+            within = h.within ∙ same_item job (live_jobs older) r.part h.item (subst (λ js. HasLive (live_jobs older) js r.part) one.0 r.live) (subst (λ n. live_item n (live_jobs older) ≡ Some h.item) (sym one.1) h.its);
           }
 
       by : EventLeads f.was (Step h.id (Ended Finished h.part)) f.after f.before f.now → IsEnder f.was h.part h.id folder
@@ -155,8 +155,8 @@ module _ (opening : CallLog) (tree : IsTree (current opening)) (settled : all_se
       ap (λ w. after_event w (live_jobs older)) h.ended ∙ gone (live_jobs older) i.job r.part i.id_is (subst (λ js. HasLive (live_jobs older) js r.part) i.jobs_is r.live)
     where
       gone : (live : List LiveJob) (job : Running) (part : Option Route) → job.id ≡ h.id → HasLive live (job ∷ []) part → after_report h.id (Ended Finished h.part) live ≡ []
-      gone live job part id_is (w, is, paths) =
-          ap (after_report h.id (Ended Finished h.part)) is ∙ ap (λ b. (let xs : List LiveJob = if b then [] else (let l : LiveJob = record { id = job.id; work = w; part = part } in l) ∷ [] in xs)) (eq-eqb job.id h.id id_is)
+      gone live job part id_is is =
+          ap (after_report h.id (Ended Finished h.part)) is ∙ ap (λ b. (let xs : List LiveJob = if b then [] else (let l : LiveJob = record { id = job.id; item = item_in job.work; part = part } in l) ∷ [] in xs)) (eq-eqb job.id h.id id_is)
 
 -- a path that no entry names is the part of a live job only if it was one
 live_since : (older g : List Entry) (path : Route) → IsUnnamedSince older path g → IsLivePart (live_jobs g) path → IsLivePart (live_jobs older) path

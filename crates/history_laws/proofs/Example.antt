@@ -26,7 +26,7 @@ use Rattle.copy_move.specs.declared.run.Course.TheVariants.{GoesOn, InTrouble, E
 use Rattle.job_reports.specs.Stops.{trouble_at, cause_of}
 use Rattle.copy_move.specs.Jobs.{Running}
 use Rattle.history_laws.specs.Doubt.{is_unsettled}
-use Rattle.history_laws.specs.LiveJobs.{IsLivePart, LiveJob, live_jobs}
+use Rattle.session_history.specs.LiveJobs.{IsLivePart, LiveJob, live_jobs}
 use Rattle.history_laws.specs.Replayed.{earlier_tree, log_prefix, replayed_tree}
 use Rattle.history_laws.specs.Traces.{IsTraced, Stand, nothing_live}
 use Rattle.history_laws.proofs.Moments.{session_law}

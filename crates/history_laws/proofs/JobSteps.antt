@@ -1,5 +1,5 @@
 -- Each step of a job keeps what is known: of its work, of its last steps, a skip, the sync of a folder that an ended job left,
--- and the end for want of memory.
+-- and the end out of memory.
 use Rattle.std.proofs.Common.{◌≡◌, ℕ, Bool, true, false, List, refl, sym, ◌∙◌, ap, subst, Option, Some, None, Ok}
 use Rattle.std.specs.Prelude.{not}
 use Rattle.std.specs.Option.{option_map_or}

@@ -12,7 +12,7 @@ use Rattle.crash_law.specs.Guarded.{Marks}
 use Rattle.crash_law.specs.Possible.{IsImage}
 use Rattle.session_history.specs.declared.history.Entry.{Entry}
 use Rattle.copy_move.specs.Jobs.{Running}
-use Rattle.history_laws.specs.LiveJobs.{LiveJob, IsLivePart, live_jobs}
+use Rattle.session_history.specs.LiveJobs.{LiveJob, IsLivePart, live_jobs}
 use Rattle.history_laws.specs.Replayed.{log_prefix, replayed_tree}
 use Rattle.session_history.specs.Entries.{IsMoment, calls_in}
 use Rattle.history_laws.specs.Safe.{IsSafe, ReplayLaw, SessionLaw}
@@ -22,6 +22,7 @@ use Rattle.history_laws.proofs.Histories.{IsEntered, IsReached, enters, traced_r
 use Rattle.history_laws.proofs.Knowing.{IsKept, Said, safe_path}
 use Rattle.history_laws.proofs.Reports.{HasLive, JobsKnow}
 use Rattle.history_laws.proofs.Stepped.{cut, mid_at, more}
+use Rattle.history_laws.proofs.Sources.{item_in}
 
 abbrev pub log_of : CallLog → List Change → CallLog
 log_of now xs = record now { changes = xs }
@@ -35,7 +36,7 @@ safe_told opening end g part dirty marks log image kept left path apart =
 -- the part that is known is that of a live job
 pub live_part : (jobs : List Running) (told : Said) (dirty : List Route) (marks : Marks) (s : FileSystem) (live : List LiveJob) (path : Route) → JobsKnow told dirty marks s jobs → HasLive live jobs told.part → told.part ≡ Some path → IsLivePart live path
 live_part [] told dirty marks s live path knows is part = absurd (let e : (let o : Option Route = None in o) ≡ Some path = sym knows ∙ part in cc)
-live_part (job ∷ []) told dirty marks s live path knows (w, is, source) part = subst (λ l. IsLivePart l path) (sym is) ((let l : LiveJob = record { id = job.id; work = w; part = told.part } in l), inl refl, part)
+live_part (job ∷ []) told dirty marks s live path knows is part = subst (λ l. IsLivePart l path) (sym is) ((let l : LiveJob = record { id = job.id; item = item_in job.work; part = told.part } in l), inl refl, part)
 live_part (job ∷ other ∷ jobs) told dirty marks s live path knows is part = absurd knows
 
 -- so many calls were made
@@ -43,13 +44,13 @@ pub traced_count : (opening now : CallLog) (newest : List Entry) (stand : Stand)
 traced_count opening now [] stand traced = let same = ap (λ (l : CallLog). length l.changes) traced.1 in omega (arith, same)
 traced_count opening now (e ∷ older) stand traced = traced.3.counts
 
--- the log_prefix at the end of these entries is the log then
+-- the prefix at the end of these entries is the log then
 pub prefix_is : (opening end : CallLog) (calls : ℕ) (now : CallLog) (rest : List Change) → end ≡ more now rest → length opening.changes + calls ≡ length now.changes → log_prefix opening calls end ≡ now
 prefix_is opening end calls now rest end_is count =
     ap (λ (l : CallLog). log_of l (take (length opening.changes + calls) l.changes)) end_is
     ∙ ap (log_of now) (ap (λ n. take n (now.changes ++ rest)) count ∙ take-append_seam now.changes rest)
 
--- and before it a log_prefix of that log
+-- and before it a prefix of that log
 pub prefix_cut : (opening end : CallLog) (calls : ℕ) (now : CallLog) (rest : List Change) → end ≡ more now rest → length opening.changes + calls ≤ length now.changes
     → log_prefix opening calls end ≡ cut now (length opening.changes + calls)
 prefix_cut opening end calls now rest end_is few =

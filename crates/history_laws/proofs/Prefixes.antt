@@ -6,7 +6,7 @@ use Rattle.tree_trait.specs.FileSystem.{View}
 use Rattle.tree_trait.specs.Change.{Change, CallLog}
 use Rattle.session_history.specs.declared.history.Event.{Event}
 use Rattle.session_history.specs.declared.history.Entry.{Entry}
-use Rattle.history_laws.specs.LiveJobs.{live_jobs}
+use Rattle.session_history.specs.LiveJobs.{live_jobs}
 use Rattle.history_laws.specs.Replayed.{earlier_event, earlier_tree, log_prefix, replayed_event, replayed_tree}
 use Rattle.session_history.specs.Named.{named_after, named_parts}
 use Rattle.history_laws.proofs.Knowing.{Said, anywhere}

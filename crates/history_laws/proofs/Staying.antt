@@ -9,6 +9,7 @@ use Rattle.tree_trait.specs.Shape.{IsTree}
 use Rattle.tree_trait.specs.Change.{Change, CallLog, current}
 use Rattle.tree_trait.specs.CrashImages.{all_settled}
 use Rattle.tree_trait.proofs.Visible.{same_path-self, same_path-true}
+use Rattle.job_reports.specs.Jobs.{Item, item_of}
 use Rattle.crash_law.specs.Guarded.{Marks}
 use Rattle.job_reports.specs.declared.report.Did.{Did}
 use Rattle.job_reports.specs.declared.report.Did.TheVariants.{Began, Chunk, Placed, Removed, Skipped, Cleaned, Barrier, Troubled, Ended}
@@ -22,9 +23,9 @@ use Rattle.session_history.specs.declared.history.Entry.{Entry}
 use Rattle.copy_move.specs.declared.run.Course.{Course}
 use Rattle.copy_move.specs.declared.work.Work.{Work}
 use Rattle.copy_move.specs.declared.work.Work.TheVariants.{Copy, Delete}
-use Rattle.copy_move.specs.Jobs.{Running, first_work}
+use Rattle.copy_move.specs.Jobs.{Running}
 use Rattle.history_laws.specs.Doubt.{is_unsettled}
-use Rattle.history_laws.specs.LiveJobs.{IsLivePart, LiveJob, after_event, after_report, live, live_jobs, part_after}
+use Rattle.session_history.specs.LiveJobs.{IsLivePart, LiveJob, after_event, after_report, live, live_jobs, part_after}
 use Rattle.history_laws.specs.Replayed.{log_prefix}
 use Rattle.session_history.specs.Entries.{IsMoment, calls_in}
 use Rattle.session_history.specs.Named.{IsUnnamedSince, names, names_path}
@@ -213,14 +214,14 @@ module _ (path : Route) where
   report_part id Barrier (job ∷ jobs) unnamed h = stepped_part (job.id == id) job Barrier jobs (after_report id Barrier jobs) unnamed (report_part id Barrier jobs unnamed) h
   report_part id (Troubled trouble) (job ∷ jobs) unnamed h = stepped_part (job.id == id) job (Troubled trouble) jobs (after_report id (Troubled trouble) jobs) unnamed (report_part id (Troubled trouble) jobs unnamed) h
 
-  begun_part : (id : ℕ) (jobs : List LiveJob) (o : Option Work) → IsLivePart (option_map_or (λ work. live id work ∷ jobs) o jobs) path → IsLivePart jobs path
+  begun_part : (id : ℕ) (jobs : List LiveJob) (o : Option Item) → IsLivePart (option_map_or (λ item. live id item ∷ jobs) o jobs) path → IsLivePart jobs path
   begun_part id jobs None h = h
-  begun_part id jobs (Some work) (found, inl same, is) = let e : (let o : Option Route = None in o) ≡ Some path = ap (λ (l : LiveJob). l.part) (sym same) ∙ is in absurd (let f : ⊥ = cc in f)
-  begun_part id jobs (Some work) (found, inr among, is) = (found, among, is)
+  begun_part id jobs (Some item) (found, inl same, is) = let e : (let o : Option Route = None in o) ≡ Some path = ap (λ (l : LiveJob). l.part) (sym same) ∙ is in absurd (let f : ⊥ = cc in f)
+  begun_part id jobs (Some item) (found, inr among, is) = (found, among, is)
 
   pub event_part : (what : Event) (jobs : List LiveJob) → names_path what path ≡ false → IsLivePart (after_event what jobs) path → IsLivePart jobs path
   event_part (Step id did) jobs unnamed h = report_part id did jobs unnamed h
-  event_part (event.Began id plan background) jobs unnamed h = begun_part id jobs (first_work id plan) h
+  event_part (event.Began id plan background) jobs unnamed h = begun_part id jobs (item_of plan) h
   event_part (Order id order) jobs unnamed h = h
   event_part (Key key time refusals lost) jobs unnamed h = h
   event_part (Look refusals) jobs unnamed h = h

@@ -9,10 +9,9 @@ use Rattle.job_reports.specs.declared.report.Did.{Did}
 use Rattle.job_reports.specs.Paths.{folder_of}
 use Rattle.session_history.specs.declared.history.Event.TheVariants.{Step}
 use Rattle.session_history.specs.declared.history.Entry.{Entry}
-use Rattle.copy_move.specs.declared.work.Work.{Work}
-use Rattle.copy_move.specs.Settling.{changed_folder}
+use Rattle.job_reports.specs.Jobs.{Item, folder_changed}
 use Rattle.history_laws.specs.Doubt.{is_unsettled}
-use Rattle.history_laws.specs.LiveJobs.{live_jobs, work_of}
+use Rattle.session_history.specs.LiveJobs.{live_jobs, live_item}
 use Rattle.history_laws.specs.Owed.{IsApart}
 use Rattle.session_history.specs.Named.{begins_change, has_changed, names_path}
 use Rattle.history_laws.specs.Replayed.{log_prefix}
@@ -23,12 +22,12 @@ use Rattle.history_laws.specs.Traces.{IsTraced, Stand}
 pub record HasBegun (e : Entry) (older : List Entry) (folder : Route) : Type 0 where
   pub id : ℕ
   pub did : Did
-  pub work : Work
+  pub item : Item
   pub reports : e.what ≡ Step id did
   pub begins : begins_change did ≡ true
   pub unchanged : has_changed id older ≡ false
-  pub its : work_of id (live_jobs older) ≡ Some work
-  pub within : folder ≡ changed_folder work
+  pub its : live_item id (live_jobs older) ≡ Some item
+  pub within : folder ≡ folder_changed item
 
 -- When such an entry has come to stand, a path of which a change isn't on the disk yet is one that this entry names, or its
 -- folder lies on another mount, or was removed.

@@ -1,6 +1,5 @@
 pub mod Calmed
 pub mod Doubt
-pub mod LiveJobs
 pub mod Owed
 pub mod Replayed
 pub mod Safe

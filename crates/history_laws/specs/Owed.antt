@@ -16,7 +16,7 @@ use Rattle.session_history.specs.Named.{has_changed}
 use Rattle.copy_move.specs.declared.run.Course.TheVariants.{GoesOn}
 use Rattle.copy_move.specs.Jobs.{JobTells, Running, is_fresh}
 use Rattle.copy_move.specs.Settling.{IsMountOf, changed_folder}
-use Rattle.copy_move.specs.Steps.{RunStep}
+use Rattle.copy_move.specs.Steps.{RunStep, step_made}
 use Rattle.history_laws.specs.Traces.{IsUnclaimed, IsTraced, Stand, StepLeads, WorkLeads, unless_ended}
 use Rattle.history_laws.specs.Doubt.{is_unsettled}
 
@@ -46,4 +46,4 @@ FinishedLaw = (opening now : CallLog) (newest : List Entry) (stand : Stand) (job
 -- The machine's own step is one of which such a history tells.
 abbrev pub StepLaw : Type 0
 StepLaw = (job new : Running) (did : Did) (calls : ℕ) (dirty dirty_after : List Route) (log now : CallLog) (faults faults_after : ℕ)
-    → RunStep IsUnclaimed job new did calls dirty dirty_after (Some log) (Some now) faults faults_after → StepLeads job did (unless_ended did new) dirty dirty_after log now
+    → RunStep IsUnclaimed (step_made job new did calls dirty dirty_after (Some log) (Some now) faults faults_after) → StepLeads job did (unless_ended did new) dirty dirty_after log now

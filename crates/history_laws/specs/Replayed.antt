@@ -12,36 +12,35 @@ use Rattle.session_history.specs.declared.history.Event.{Event}
 use Rattle.session_history.specs.declared.history.Event.TheVariants.{Key, Look, Order, Step, Closed}
 use Rattle.session_history.specs.declared.history.Event.TheVariants as event
 use Rattle.session_history.specs.declared.history.Entry.{Entry}
-use Rattle.copy_move.specs.declared.work.Work.{Work}
-use Rattle.copy_move.specs.declared.work.Work.TheVariants.{Copy, Delete}
-use Rattle.history_laws.specs.LiveJobs.{LiveJob, live_jobs, work_of}
+use Rattle.job_reports.specs.Jobs.{Item, Copies, Removes}
+use Rattle.session_history.specs.LiveJobs.{LiveJob, live_jobs, live_item}
 
 -- the log as it was when so many calls had been made since the opening
 abbrev pub log_prefix : CallLog → ℕ → CallLog → CallLog
 log_prefix opening calls now = record now { changes = take (length opening.changes + calls) now.changes }
 
 -- a file that is placed has at the target what stands at the source
-abbrev pub placed_by : Option Work → Route → View → View
-placed_by (Some (Copy c)) path v = put v path (option_map copied (v c.source).value)
-placed_by (Some (Delete d)) path v = v
+abbrev pub placed_by : Option Item → Route → View → View
+placed_by (Some (Copies source target)) path v = put v path (option_map copied (v source).value)
+placed_by (Some (Removes file)) path v = v
 placed_by None path v = v
 
 -- What a step makes of the tree, which has this log then: a removed path has nothing any more, and a part that an end
 -- names is from then on what it then is.
-abbrev pub replayed_step : CallLog → Did → Option Work → View → View
-replayed_step log (Removed path) work v = put v path None
-replayed_step log (Placed path) work v = placed_by work path v
-replayed_step log (Ended ending (Some part)) work v = put v part (value_at (current log) part)
-replayed_step log (Ended ending None) work v = v
-replayed_step log (Began part) work v = v
-replayed_step log (Chunk count) work v = v
-replayed_step log (Skipped path cause) work v = v
-replayed_step log (Cleaned part) work v = v
-replayed_step log Barrier work v = v
-replayed_step log (Troubled trouble) work v = v
+abbrev pub replayed_step : CallLog → Did → Option Item → View → View
+replayed_step log (Removed path) item v = put v path None
+replayed_step log (Placed path) item v = placed_by item path v
+replayed_step log (Ended ending (Some part)) item v = put v part (value_at (current log) part)
+replayed_step log (Ended ending None) item v = v
+replayed_step log (Began part) item v = v
+replayed_step log (Chunk count) item v = v
+replayed_step log (Skipped path cause) item v = v
+replayed_step log (Cleaned part) item v = v
+replayed_step log Barrier item v = v
+replayed_step log (Troubled trouble) item v = v
 
 abbrev pub replayed_event : CallLog → Event → List LiveJob → View → View
-replayed_event log (Step id did) jobs v = replayed_step log did (work_of id jobs) v
+replayed_event log (Step id did) jobs v = replayed_step log did (live_item id jobs) v
 replayed_event log (Key key now refusals lost) jobs v = v
 replayed_event log (Look refusals) jobs v = v
 replayed_event log (event.Began id plan background) jobs v = v

@@ -9,7 +9,7 @@ use Rattle.tree_trait.specs.CrashImages.{Among, all_settled, IsCrashImage}
 use Rattle.session_history.specs.declared.history.Entry.{Entry}
 use Rattle.session_history.specs.Entries.{IsMoment}
 use Rattle.history_laws.specs.Doubt.{is_unsettled}
-use Rattle.history_laws.specs.LiveJobs.{live_jobs, IsLivePart}
+use Rattle.session_history.specs.LiveJobs.{live_jobs, IsLivePart}
 use Rattle.history_laws.specs.Replayed.{earlier_tree, log_prefix, replayed_tree}
 use Rattle.session_history.specs.Named.{named_parts}
 use Rattle.history_laws.specs.Traces.{IsTraced, Stand}

@@ -12,11 +12,11 @@ use Rattle.job_reports.specs.declared.report.Ending.TheVariants.{Finished}
 use Rattle.job_reports.specs.Paths.{folder_of}
 use Rattle.session_history.specs.declared.history.Event.TheVariants.{Step}
 use Rattle.session_history.specs.declared.history.Entry.{Entry}
-use Rattle.copy_move.specs.declared.work.Work.{Work}
+use Rattle.job_reports.specs.Jobs.{Item, folder_changed}
 use Rattle.copy_move.specs.Jobs.{JobTells, Running}
 use Rattle.copy_move.specs.Settling.{changed_folder}
 use Rattle.history_laws.specs.Doubt.{is_unsettled}
-use Rattle.history_laws.specs.LiveJobs.{IsLivePart, live_jobs, work_of}
+use Rattle.session_history.specs.LiveJobs.{IsLivePart, live_jobs, live_item}
 use Rattle.session_history.specs.Named.{has_changed, named_parts, names_path, IsUnnamedSince}
 use Rattle.history_laws.specs.Replayed.{log_prefix, replayed_tree}
 use Rattle.session_history.specs.Entries.{IsMoment, calls_in}
@@ -46,11 +46,11 @@ FinishedStaysLaw = (opening now : CallLog) (newest older standing coming : List 
 pub record HasFinished (e : Entry) (older : List Entry) (folder : Route) : Type 0 where
   pub id : ℕ
   pub part : Option Route
-  pub work : Work
+  pub item : Item
   pub ended : e.what ≡ Step id (Ended Finished part)
   pub changed : has_changed id older ≡ true
-  pub its : work_of id (live_jobs older) ≡ Some work
-  pub within : folder ≡ changed_folder work
+  pub its : live_item id (live_jobs older) ≡ Some item
+  pub within : folder ≡ folder_changed item
 
 -- The same in the words of the history alone: once a job that has changed something has reported that it is finished, each
 -- path of its folder holds after a crash at any later moment, inside a call too, what the history said then, until an entry

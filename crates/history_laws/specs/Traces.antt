@@ -61,7 +61,7 @@ pub record SyncLeads (job : Running) (did : Did) (new : Running) (dirty dirty_af
   pub owed : Among dirty folder
   pub synced : SyncsFolder job folder did new dirty dirty_after (Some log) (Some now)
 
--- a job ends for want of memory for the entry, and makes no call
+-- a job ends out of memory for the entry, and makes no call
 pub record GivesUp (job : Running) (did : Did) (dirty dirty_after : List Route) (log now : CallLog) : Type 0 where
   pub did_is : did ≡ Ended NoMemory (part_of job.work)
   pub same : dirty_after ≡ dirty

@@ -20,7 +20,7 @@ ends (Cleaned part) = false
 ends Barrier = false
 ends (Troubled trouble) = false
 
--- the path at which a report says that a job is stuck
+-- the path of the trouble that a report tells
 abbrev pub path_of_trouble : Did → Option Route
 path_of_trouble (Troubled trouble) = trouble.path
 path_of_trouble (Began part) = None

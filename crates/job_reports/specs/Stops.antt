@@ -12,7 +12,7 @@ use Rattle.job_reports.specs.declared.report.Trouble.{Trouble}
 use Rattle.job_reports.specs.declared.stop.Stop.{Stop}
 use Rattle.job_reports.specs.CallRuns.{AllDone, RunStops, HasMore}
 
--- trouble for want of memory
+-- the trouble of a job that is out of memory
 abbrev pub out_of_memory_at : Bool → Trouble
 out_of_memory_at barrier = record { cause = Memory; path = None; barrier = barrier }
 
@@ -74,7 +74,7 @@ abbrev pub cause_of : TreeError → Cause
 cause_of refused.Memory = Memory
 cause_of e = Tree e
 
--- the path that a trouble names; for want of memory it names none
+-- the path that a trouble names; out of memory it names none
 abbrev pub named_path : TreeError → Route → Option Route
 named_path refused.Memory path = None
 named_path e path = Some path

@@ -111,7 +111,7 @@ pub fn is_end(did: &Did) -> bool
     matches!(did, Did::Ended { .. })
 }
 
-/// The path at which a report says that a job is stuck; none where there is no memory for it.
+/// The path of the trouble that a report tells; none where there is no memory for it.
 pub fn trouble_path(alloc: Global, did: &Did) -> Option<Path>
     ensures { IfSome result (λ path. path_of_trouble did.now ≡ Some path) }
 {

@@ -58,7 +58,7 @@ pub fn stopped_before(trouble: Trouble) -> Stop
     Stop { trouble, calls: 0 }
 }
 
-/// Trouble for want of memory.
+/// The trouble of a job that is out of memory.
 pub fn out_of_memory(barrier: bool) -> Trouble
     ensures { result ≡ out_of_memory_at barrier }
 {
@@ -69,7 +69,7 @@ pub fn out_of_memory(barrier: bool) -> Trouble
     }
 }
 
-/// A trouble away from a barrier with this cause, which names a path, or want of memory for the path's copy.
+/// A trouble away from a barrier with this cause, which names a path, or out of memory for the path's copy.
 pub fn trouble_with_path(alloc: Global, cause: Cause, path: &Path) -> Trouble
     ensures { IsTroubleWithPath cause path.now result }
 {

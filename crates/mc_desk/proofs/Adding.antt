@@ -27,7 +27,7 @@ use Rattle.copy_move.specs.Told.{after_step, if_closed, running, told}
 use Rattle.copy_move.specs.declared.work.Work.{Work}
 use Rattle.copy_move.specs.declared.run.Course.TheVariants.{OwedSyncFailed}
 use Rattle.job_reports.specs.Stops.{cause_of, trouble_at}
-use Rattle.copy_move.specs.Steps.{OwnStep, RunStep, OwedSyncStep, SyncsFolder}
+use Rattle.copy_move.specs.Steps.{OwnStep, RunStep, OwedSyncStep, SyncsFolder, step_made}
 use Rattle.session_history.specs.Refusals.{AreRefused}
 use Rattle.history_laws.specs.Traces.{IsUnclaimed, EventLeads, IsJob, Stand, StepLeads, before_others, begun, ordered, with_job}
 use Rattle.copy_move.proofs.StillTelling.{StillTells, performs_tells, step_tells}
@@ -288,7 +288,7 @@ module _ (contents contents_after : Option CallLog) (faults : ℕ) (old new : Se
       ap (λ j. let r : Tally = record t { job = j; has_unseen_end = has_unseen_end; calls = calls } in r) p ∙ ap (λ u. let r : Tally = record t { job = job'; has_unseen_end = u; calls = calls } in r) q
 
   -- what a step says of the tree, once that goes on telling
-  step_traced : (live stepped : Running) (did : Did) (made calls before after : ℕ) → old.job ≡ Some live → RunStep IsUnclaimed live stepped did made old.dirty new.dirty contents contents_after before after
+  step_traced : (live stepped : Running) (did : Did) (made calls before after : ℕ) → old.job ≡ Some live → RunStep IsUnclaimed (step_made live stepped did made old.dirty new.dirty contents contents_after before after)
       → calls ≡ old.tally.calls + made → new.job ≡ if_closed old.tally.closed (if ends did then None else Some stepped) → (counted : IfKnown contents (λ log. IfKnown contents_after (HasMore log made)))
       → ((log : CallLog) → contents ≡ Some log → StillTells contents_after) → Leads contents contents_after old new (entry seat calls count shown (Step live.id did))
   step_traced live stepped did made calls before after is run calls_is job counted tells log known =
@@ -299,15 +299,15 @@ module _ (contents contents_after : Option CallLog) (faults : ℕ) (old new : Se
         here.1,
         steps old new live did (if ends did then None else Some stepped) log here.0 is
             (step_law live stepped did made old.dirty new.dirty log here.0 before after
-            (subst (λ x. RunStep IsUnclaimed live stepped did made old.dirty new.dirty x (Some here.0) before after) known
-            (subst (λ x. RunStep IsUnclaimed live stepped did made old.dirty new.dirty contents x before after) here.1 run))),
+            (subst (λ x. RunStep IsUnclaimed (step_made live stepped did made old.dirty new.dirty x (Some here.0) before after)) known
+            (subst (λ x. RunStep IsUnclaimed (step_made live stepped did made old.dirty new.dirty contents x before after)) here.1 run))),
         job,
         omega (arith, more, calls_is),
       )
 
   -- a step of the job's own
   pub adds_step : (live stepped : Running) (did : Did) (made calls before after : ℕ) → old.job ≡ Some live → old.tally.job ≡ option_map told old.job
-      → OwnStep IsUnclaimed live stepped did made old.dirty new.dirty contents contents_after before after → calls ≡ old.tally.calls + made
+      → OwnStep IsUnclaimed (step_made live stepped did made old.dirty new.dirty contents contents_after before after) → calls ≡ old.tally.calls + made
       → new.newest ≡ entry seat calls count shown (Step live.id did) ∷ old.newest
       → new.job ≡ if_closed old.tally.closed (if ends did then None else Some stepped)
       → new.tally ≡ record old.tally { job = option_map told new.job; has_unseen_end = ends did || old.tally.has_unseen_end; calls = calls }
@@ -340,7 +340,7 @@ module _ (contents contents_after : Option CallLog) (faults : ℕ) (old new : Se
 
   -- the sync of a folder that an ended job left
   pub adds_settled : (live stepped : Running) (did : Did) (made calls before after : ℕ) → old.job ≡ Some live → old.tally.job ≡ option_map told old.job
-      → OwedSyncStep live stepped did made old.dirty new.dirty contents contents_after before after → calls ≡ old.tally.calls + made
+      → OwedSyncStep (step_made live stepped did made old.dirty new.dirty contents contents_after before after) → calls ≡ old.tally.calls + made
       → new.newest ≡ entry seat calls count shown (Step live.id did) ∷ old.newest
       → new.job ≡ if_closed old.tally.closed (if ends did then None else Some stepped)
       → new.tally ≡ record old.tally { job = option_map told new.job; has_unseen_end = ends did || old.tally.has_unseen_end; calls = calls }

@@ -20,11 +20,11 @@ use Rattle.mc_ui.specs.LiveJobs.{can_answer, takes_answer}
 use Rattle.mc_ui.specs.Refused.{has_fault}
 use Rattle.mc_ui.specs.Screens.{Answers, Begins, Ends, KeyLeads, Screen, WellAsked, is_request, settled, sight, with_ask}
 use Rattle.copy_move.specs.Jobs.{Running}
-use Rattle.mc_desk.specs.declared.granting.Confirmed.{Confirmed}
+use Rattle.mc_desk.specs.declared.confirmed.Confirmed.{Confirmed}
 use Rattle.mc_desk.specs.declared.granting.Deed.{Deed}
 use Rattle.mc_desk.specs.declared.granting.Deed.TheVariants as deed
-use Rattle.mc_desk.specs.Desks.{Seen, IsWritten, noted}
-use Rattle.mc_desk.specs.Granting.{CanBeWorked, IsGranted, no_more_ids, told_of}
+use Rattle.mc_desk.specs.Desks.{Seen, IsWritten, noted, with_end}
+use Rattle.mc_desk.specs.Granting.{IsGranted, no_more_ids, told_of}
 use Rattle.mc_desk.specs.LiveRows.{row_of, rows_of, rows_told, trouble_told}
 use Rattle.mc_desk.specs.Sessions.{KeyWorks}
 use Rattle.mc_desk.specs.Tallies.{next_id}
@@ -33,13 +33,6 @@ use Rattle.mc_desk.proofs.Adding.{unasked_screen}
 use Rattle.mc_desk.proofs.Answering.{none_of}
 use Rattle.mc_desk.proofs.Keeping.{before}
 use Rattle.mc_desk.proofs.Whole.{rows_are}
-
--- a job that is asked for can be worked
-pub can_be_worked : (rows : List JobRow) (asked : Ask) → WellAsked rows asked → CanBeWorked asked
-can_be_worked rows (ask.Begin plan background) well = well.1
-can_be_worked rows (ask.Answer answer) well = tt
-can_be_worked rows ask.Nothing well = tt
-can_be_worked rows ask.End well = tt
 
 -- what was asked, by what is done
 pub done_as : (next : Option ℕ) (asked : Ask) (own refusals : List Refusal) (done is : Deed) → done ≡ is → IsGranted next asked own done refusals → IsGranted next asked own is refusals
@@ -66,9 +59,12 @@ module _ (start : Option Start) (opening contents : Option CallLog) (faults : �
     granted_as : (is : Deed) → done ≡ is → IsGranted (next_id old.tally.last) asked own is refusals
     granted_as is same = done_as (next_id old.tally.last) asked own refusals done is same granted
 
+    unended : KeyWorks (before contents old) key refusals now → KeyWorks (before contents old) key refusals (with_end old.quit now)
+    unended works = subst (λ s. KeyWorks (before contents old) key refusals s) (sym (ap (λ b. with_end b now) unasked)) works
+
     -- it asked for nothing
-    pub works_nothing : done ≡ deed.Nothing → KeyWorks (before contents old) key refusals now
-    works_nothing same = let g = granted_as deed.Nothing same in inl (leads_to ask.Nothing refusals now g.0 g.1 (here deed.Nothing same))
+    pub works_nothing : done ≡ deed.Nothing → KeyWorks (before contents old) key refusals (with_end old.quit now)
+    works_nothing same = let g = granted_as deed.Nothing same in unended (inl (leads_to ask.Nothing refusals now g.0 g.1 (here deed.Nothing same)))
 
     -- it asked for the end
     pub works_end : done ≡ deed.End → KeyWorks (before contents old) key refusals (record now { planned = Some Ends })
@@ -91,19 +87,19 @@ module _ (start : Option Start) (opening contents : Option CallLog) (faults : �
         (ap (λ (s : Screen). let c : Screen = record s { planned = Some (Answers answer) } in c) (here (deed.Answer answer) same)))
 
     -- it asked for a job, and no number is left
-    pub works_refuse : done ≡ deed.Refuse → (is_request asked ≡ true → screen ≡ old.screen) → (is_request asked ≡ true → own ≡ []) → KeyWorks (before contents old) key refusals now
+    pub works_refuse : done ≡ deed.Refuse → (is_request asked ≡ true → screen ≡ old.screen) → (is_request asked ≡ true → own ≡ []) → KeyWorks (before contents old) key refusals (with_end old.quit now)
     works_refuse same stays alone =
         let g = granted_as deed.Refuse same in
         let request : is_request asked ≡ true = ap is_request g.2 in
         let stayed : screen ≡ noted old = stays request ∙ sym (unasked_screen old unasked) in
-        inr record {
+        unended (inr record {
           plan = g.0;
           background = g.1;
           asks = leads_to (ask.Begin g.0 g.1) [] (with_ask (ask.Begin g.0 g.1) (noted old)) g.2 (sym (alone request)) (ap (with_ask (ask.Begin g.0 g.1)) (sym stayed));
           none_left = g.3;
           refused = g.4;
           stays = here deed.Refuse same ∙ stayed;
-        }
+        })
 
 -- what is told of refusals: those of the key, or that no number is left
 told_refusals : (next : Option ℕ) (asked : Ask) (own refusals : List Refusal) (done : Deed) → IsGranted next asked own done refusals → (refusals ≡ own) ⊎ (refusals ≡ no_more_ids)

@@ -21,7 +21,7 @@ use Rattle.copy_move.specs.Deletions as deletions
 use Rattle.copy_move.specs.Jobs.{Running, TellsOn, WorkTells}
 use Rattle.copy_move.specs.Settling.{after_try, changed_folder, is_dirty, with_change}
 use Rattle.job_reports.specs.Paths.{without}
-use Rattle.copy_move.specs.Steps.{LeavesDirty, RunStep}
+use Rattle.copy_move.specs.Steps.{LeavesDirty, RunStep, step_made}
 use Rattle.copy_move.proofs.FolderSteps.{skipped_dirty}
 use Rattle.mc_desk.specs.Desks.{HasSynced, MovesDirty}
 use Rattle.mc_desk.proofs.Adding.{entry}
@@ -106,7 +106,7 @@ module _ (job : Option Running) (newest older : List Entry) (dirty dirty_after :
   tries folder refusal (Ended ending part) is left = inl left
 
   pub run_moves : (unclaimed : Route → Type 0) (live stepped : Running) (made : ℕ) (before after : Option CallLog) (f0 f1 : ℕ) → job ≡ Some live
-      → RunStep unclaimed live stepped did made dirty dirty_after before after f0 f1 → Moves
+      → RunStep unclaimed (step_made live stepped did made dirty dirty_after before after f0 f1) → Moves
   run_moves unclaimed live stepped made before after f0 f1 is (inr s) = elim s.synced [ inl h ↦ synced s.folder h.0 h.2 | inr h ↦ inl h.3 ]
   run_moves unclaimed live stepped made before after f0 f1 is (inl o) = by live.course o.own.tells o.leaves
     where

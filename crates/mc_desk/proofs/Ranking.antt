@@ -26,7 +26,7 @@ use Rattle.job_reports.specs.Reports.{ends}
 use Rattle.copy_move.specs.Ranks.{copy_rank, deletion_rank, last_deletion_steps, last_rank, rank, rank_on, rank_with, work_rank}
 use Rattle.copy_move.specs.Settling.{after_try, changed_folder, is_dirty, with_change}
 use Rattle.job_reports.specs.Paths.{without}
-use Rattle.copy_move.specs.Steps.{LeavesDirty, RunStep, OwedSyncStep, SyncsFolder}
+use Rattle.copy_move.specs.Steps.{LeavesDirty, RunStep, OwedSyncStep, SyncsFolder, step_made}
 use Rattle.copy_move.specs.Told.{if_closed}
 use Rattle.copy_move.proofs.Falling.{trouble_falls}
 
@@ -147,7 +147,7 @@ leaves_more (Skips cause) old new did dirty dirty_after before after h = subst (
 leaves_more (Ends ending) old new did dirty dirty_after before after h = subst (λ d. length d ≤ length dirty + 1) (sym h.1) (tried_more did h.0 (changed_folder old) dirty)
 
 -- the sync of a folder that an ended job left leaves the job where it stood, or waiting
-settled_falls : (closed : Bool) (job stepped : Running) (did : Did) (made : ℕ) (dirty dirty_after : List Route) (before after : Option CallLog) (f0 f1 : ℕ) → OwedSyncStep job stepped did made dirty dirty_after before after f0 f1
+settled_falls : (closed : Bool) (job stepped : Running) (did : Did) (made : ℕ) (dirty dirty_after : List Route) (before after : Option CallLog) (f0 f1 : ℕ) → OwedSyncStep (step_made job stepped did made dirty dirty_after before after f0 f1)
     → rank_with dirty_after (if_closed closed (if ends did then None else Some stepped)) < rank_with dirty (Some job)
 settled_falls closed job stepped did made dirty dirty_after before after f0 f1 s = go s.synced
   where
@@ -173,7 +173,7 @@ settled_falls closed job stepped did made dirty dirty_after before after f0 f1 s
         omega (arith, waits, goes, low, going, still, count)
 
 pub run_falls : (unclaimed : Route → Type 0) (closed : Bool) (job stepped : Running) (did : Did) (made : ℕ) (dirty dirty_after : List Route) (before after : Option CallLog) (f0 f1 : ℕ)
-    → RunStep unclaimed job stepped did made dirty dirty_after before after f0 f1 → rank_with dirty_after (if_closed closed (if ends did then None else Some stepped)) < rank_with dirty (Some job)
+    → RunStep unclaimed (step_made job stepped did made dirty dirty_after before after f0 f1) → rank_with dirty_after (if_closed closed (if ends did then None else Some stepped)) < rank_with dirty (Some job)
 run_falls unclaimed closed job stepped did made dirty dirty_after before after f0 f1 (inl o) =
     let low = rank_left closed job stepped did o.own.falls in
     let more = leaves_more job.course job.work stepped.work did dirty dirty_after before after o.leaves in

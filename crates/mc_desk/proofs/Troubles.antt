@@ -1,5 +1,5 @@
 -- The trouble in which a job waits is at a barrier exactly where nothing can be passed over, as its newest report tells it.
-use Rattle.std.proofs.Common.{◌≡◌, ℕ, Bool, true, false, ◌&&◌, List, [], ◌∷◌, refl, sym, ◌∙◌, ap, subst, inl, inr, Option, Some, None}
+use Rattle.std.proofs.Common.{◌≡◌, ℕ, Bool, true, false, ◌&&◌, List, [], ◌∷◌, refl, sym, ◌∙◌, ap, subst, inl, inr, Option, Some, None, Result, Err}
 use Rattle.std.specs.Prelude.{if◌then◌else◌, not, option_and_then, ⊤}
 use Rattle.std.specs.Option.{option_map, option_map_or}
 use Rattle.std.proofs.lemmas.Bool.{true≢false, false≢true}
@@ -7,6 +7,9 @@ use Rattle.mc_text.specs.Routes.{Route}
 use Rattle.tree_trait.specs.Change.{CallLog}
 use Rattle.job_reports.specs.declared.answer.Answer.{Answer}
 use Rattle.job_reports.specs.declared.answer.Answer.TheVariants.{Retry, Skip, SkipAll, Abort}
+use Rattle.job_reports.specs.declared.answer.AnswerError.{AnswerError}
+use Rattle.job_reports.specs.declared.answer.AnswerError.TheVariants.{NotAsked, WrongAnswer}
+use Rattle.job_reports.specs.Reports.{passes_over}
 use Rattle.job_reports.specs.declared.report.Did.{Did}
 use Rattle.job_reports.specs.declared.report.Did.TheVariants.{Began as BeganPart, Chunk, Placed, Removed, Skipped, Cleaned, Barrier, Troubled, Ended}
 use Rattle.job_reports.specs.declared.report.Ending.{Ending}
@@ -193,3 +196,9 @@ may_answer job t answer waits takes = go (waits_on job.course) refl takes
               sym (barred_told job.course job.work)
               ∙ (sym w.2 ∙ not_true w.0.barrier (sym (ap (λ b. if b then not w.0.barrier else true) passes) ∙ fit));
         }
+
+-- and then it isn't refused
+pub never_refused : (job : Running) (answer : Answer) (r : Result (Unit {0}) AnswerError) → MayAnswer job answer → (r ≡ Err NotAsked → waits_on job.course ≡ false)
+    → (r ≡ Err WrongAnswer → (passes_over answer ≡ true) × (is_barred job.course job.work ≡ true)) → (e : AnswerError) → r ≡ Err e → ⊥
+never_refused job answer r may not_asked wrong NotAsked is = true≢false (sym may.waits ∙ not_asked is)
+never_refused job answer r may not_asked wrong WrongAnswer is = let w = wrong is in true≢false (sym w.1 ∙ may.fits w.0)

@@ -27,7 +27,7 @@ use Rattle.job_reports.specs.Reports.{ends}
 use Rattle.history_laws.specs.ToldJob.{after_event, live_job}
 use Rattle.copy_move.specs.Told.{if_closed, running, told}
 use Rattle.session_history.specs.Entries.{is_closed}
-use Rattle.copy_move.specs.Steps.{RunStep}
+use Rattle.copy_move.specs.Steps.{RunStep, step_made}
 use Rattle.session_history.specs.Refusals.{AreRefused}
 use Rattle.history_laws.specs.Traces.{IsUnclaimed}
 use Rattle.mc_ui.specs.declared.asks.Ask.{Ask}
@@ -232,13 +232,13 @@ desk_looked start opening contents contents_after faults old new count shown ref
 
 -- a step makes at most three changing calls
 few_made : (live stepped : Running) (did : Did) (made : ℕ) (dirty dirty_after : List Route) (contents contents_after : Option CallLog) (before after : ℕ)
-    → RunStep IsUnclaimed live stepped did made dirty dirty_after contents contents_after before after → made ≤ 3
+    → RunStep IsUnclaimed (step_made live stepped did made dirty dirty_after contents contents_after before after) → made ≤ 3
 few_made live stepped did made dirty dirty_after contents contents_after before after (inl o) = o.own.few
 few_made live stepped did made dirty dirty_after contents contents_after before after (inr s) = let few = s.few in omega (arith, few)
 
 -- a step of the job, written down
 pub desk_stepped : (start : Option Start) (opening contents contents_after : Option CallLog) (faults : ℕ) (old new : Seen) (seat count made calls before after : ℕ) (live stepped : Running) (did : Did)
-    → seat ≡ 0 → IsDesk start opening contents faults old → old.job ≡ Some live → RunStep IsUnclaimed live stepped did made old.dirty new.dirty contents contents_after before after → length old.newest + 3 ≤ 2 ^ 56
+    → seat ≡ 0 → IsDesk start opening contents faults old → old.job ≡ Some live → RunStep IsUnclaimed (step_made live stepped did made old.dirty new.dirty contents contents_after before after) → length old.newest + 3 ≤ 2 ^ 56
     → calls ≡ min (old.tally.calls + made) (2 ^ 64 - 1) → faults_in faults old.newest ≤ before → after ≡ count
     → new.newest ≡ entry seat calls count 0 (Step live.id did) ∷ old.newest
     → new.job ≡ if_closed old.tally.closed (if ends did then None else Some stepped)

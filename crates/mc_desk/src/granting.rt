@@ -1,26 +1,16 @@
 //! What the desk does about what a key asks.
-ghost use Rattle.std.specs.Prelude.{◌≡◌, ◌∷◌, [], true, IfOk, OnErr, Some, option_map};
+ghost use Rattle.std.specs.Prelude.{◌≡◌, ◌∷◌, [], true, IfOk, OnErr, Some};
 ghost use Rattle.job_reports.specs.Jobs.{is_workable};
-ghost use Rattle.copy_move.specs.Jobs.{first_work};
-ghost use Rattle.copy_move.specs.Told.{running};
 ghost use Rattle.mc_ui.specs.Screens.{is_request};
 ghost use Rattle.mc_desk.specs.Granting.{CanBeWorked, IsGranted, told_of};
 
+use crate::confirmed::Confirmed;
 use copy_move::Run;
 use job_reports::{Answer, Job};
 use mc_text::NoMemory;
 use mc_ui::{Ask, KeyAct, Told};
 use session_history::{BeginError, Refusal, Refusals};
 use std::alloc::Global;
-
-/// A job that was confirmed: its plan, and the job as it starts.
-#[derive(Debug, Drop)]
-pub struct Confirmed {
-    pub plan: Job,
-    pub background: bool,
-    pub run: Run,
-    ghost started: { option_map (running run.id) (first_work run.id plan) ≡ Some run },
-}
 
 /// What is done.
 #[derive(Debug, Drop)]

@@ -2,6 +2,7 @@
 #![tactic(auto)]
 
 mod claims;
+mod confirmed;
 mod desk;
 mod granting;
 mod log;

@@ -6,7 +6,7 @@ use Rattle.tree_trait.specs.Refusals.{refusal_of}
 use Rattle.tree_trait.specs.Change.{CallLog, current}
 use Rattle.tree_trait.specs.Answers.{IfKnown, HasRisen}
 use Rattle.session_history.specs.declared.history.Entry.{Entry}
-use Rattle.history_laws.specs.LiveJobs.{IsLivePart, live_jobs}
+use Rattle.session_history.specs.LiveJobs.{IsLivePart, live_jobs}
 use Rattle.history_laws.specs.Traces.{IsTraced, IsTracedTo, at_rest}
 use Rattle.history_laws.proofs.Calmed.{calm_law}
 use Rattle.history_laws.proofs.Done.{done_law}

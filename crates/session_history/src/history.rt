@@ -14,7 +14,7 @@ pub enum JobOrder {
 /// What happened.
 #[derive(Debug, Drop)]
 pub enum Event {
-    /// A key was worked at this second of the clock. A lost one was not, for want of memory.
+    /// A key was worked at this second of the clock. A lost one was not: there was no memory for it.
     Key {
         key: Key,
         now: u64,

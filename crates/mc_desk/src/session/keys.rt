@@ -1,5 +1,5 @@
 //! Keys and looks: what a session does for its user.
-ghost use Rattle.std.specs.Prelude.{◌≡◌, ◌+◌, ◌≤◌, ◌∷◌, ◌++◌, [], ℕ, List, true, false, if◌then◌else◌, IsTrue, IfOk, OnOk, OnErr, Ok, Err, Some, None};
+ghost use Rattle.std.specs.Prelude.{◌≡◌, ◌+◌, ◌≤◌, ◌∷◌, ◌++◌, [], ℕ, List, true, false, if◌then◌else◌, IsTrue, IfErr, IfOk, OnOk, OnErr, Ok, Err, Some, None};
 ghost use Rattle.copy_move.specs.Told.{IsReady};
 ghost use Rattle.mc_ui.specs.Screens.{plain_base};
 ghost use Rattle.mc_desk.specs.Tallies.{can_step, keys_in, next_id as number_after};
@@ -7,7 +7,8 @@ ghost use Rattle.mc_desk.specs.Desks.{BlamesScreen, CountsByte, FailsClosed, fai
 
 use super::steps::{closed, closing};
 use super::{Due, Session};
-use crate::granting::{Confirmed, Deed, Granted, grant, told};
+use crate::confirmed::Confirmed;
+use crate::granting::{Deed, Granted, grant, told};
 use crate::replies::{DeskError, DeskReply};
 use crate::rows::rows_of;
 use crate::tag::Tag;

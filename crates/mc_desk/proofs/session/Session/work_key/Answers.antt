@@ -16,13 +16,11 @@ use Rattle.mc_desk.specs.Sessions.{KeyWorks}
 use Rattle.mc_desk.specs.Tallies.{Tally, next_id}
 use Rattle.mc_desk.specs.Desks.{Seen, Blames, awaited, with_end}
 use Rattle.mc_desk.proofs.Adding.{entry}
-use Rattle.mc_desk.proofs.Asking.{begins_idle, called_told, can_be_worked, done_as, fault_told, now_settled, takes_asked, works_answer, works_begin, works_end, works_nothing, works_refuse}
+use Rattle.mc_desk.proofs.Asking.{begins_idle, called_told, done_as, fault_told, now_settled, takes_asked, works_answer, works_begin, works_end, works_nothing, works_refuse}
 use Rattle.mc_desk.proofs.Blaming.{blames_drawn}
+use Rattle.mc_desk.proofs.Troubles.{never_refused}
 use Rattle.mc_desk.proofs.Whole.{answers_live, desk_began, desk_keyed, desk_ordered, unknown_plans_nothing}
 use Rattle.mc_desk.proofs.session.Session.work_key.Goals as goal
-
-pub grant-requires-workable : goal.grant-requires-workable
-grant-requires-workable g c = can_be_worked c.in-Ok.rows c.in-Ok-key.act.ask c.in-Ok-key.ensures.asked
 
 pub invariant_of-self-in-Nothing : goal.invariant_of-self-in-Nothing
 invariant_of-self-in-Nothing g c =
@@ -48,8 +46,8 @@ invariant_of-self-in-Nothing g c =
           (fault_told (next_id inside.last_id) act.ask act.refusals done.refusals done.deed _ _ granted (λ h. let risen = c.in-Ok-key.ensures.reads.fault h in omega (arith, counted, had, risen)))
           (called_told (next_id inside.last_id) act.ask act.refusals done.refusals done.deed (g.T.Tree.contents inside.tree) granted c.in-Ok-key.ensures.reads.called)
           (now_settled (told_of done.deed) c.key.new.self c.settle.new.self c.key.ensures.settled now_is) room
-          noted refl refl refl (subst (λ s. KeyWorks _ c.args.key done.refusals s) (sym (ap (λ b. with_end b c.settle.new.self) unasked)) (works_nothing g.N.Tag.start g.N.Tag.opening (g.T.Tree.contents inside.tree) g.N.Tag.tree_faults _ c.self.invariant.desk.written unasked c.args.key c.in-Ok.rows act.refusals act.ask c.key.new.self c.in-Ok.ensures c.in-Ok-key.ensures.leads
-          done.refusals c.settle.new.self done.deed granted now_is c.in-Nothing.is)) refl;
+          noted refl refl refl (works_nothing g.N.Tag.start g.N.Tag.opening (g.T.Tree.contents inside.tree) g.N.Tag.tree_faults _ c.self.invariant.desk.written unasked c.args.key c.in-Ok.rows act.refusals act.ask c.key.new.self c.in-Ok.ensures c.in-Ok-key.ensures.leads
+          done.refusals c.settle.new.self done.deed granted now_is c.in-Nothing.is) refl;
       counted = search rules;
       screen = subst (λ b. Blames b g.N.Tag.sink_faults (g.S.Sink.fault_count c.draw-drawn.new.screen)) (sym c.failed_by-self-inside.ensures)
           (blames_drawn inside.failed c.draw-drawn.result g.N.Tag.sink_faults (g.S.Sink.fault_count inside.screen) (g.S.Sink.fault_count c.draw-drawn.new.screen) c.self.invariant.screen c.draw-drawn.ensures.later c.draw-drawn.ensures.fault);
@@ -80,8 +78,8 @@ invariant_of-self-in-Refuse g c =
           (fault_told (next_id inside.last_id) act.ask act.refusals done.refusals done.deed _ _ granted (λ h. let risen = c.in-Ok-key.ensures.reads.fault h in omega (arith, counted, had, risen)))
           (called_told (next_id inside.last_id) act.ask act.refusals done.refusals done.deed (g.T.Tree.contents inside.tree) granted c.in-Ok-key.ensures.reads.called)
           (now_settled (told_of done.deed) c.key.new.self c.settle.new.self c.key.ensures.settled now_is) room
-          noted refl refl refl (subst (λ s. KeyWorks _ c.args.key done.refusals s) (sym (ap (λ b. with_end b c.settle.new.self) unasked)) (works_refuse g.N.Tag.start g.N.Tag.opening (g.T.Tree.contents inside.tree) g.N.Tag.tree_faults _ c.self.invariant.desk.written unasked c.args.key c.in-Ok.rows act.refusals act.ask c.key.new.self c.in-Ok.ensures c.in-Ok-key.ensures.leads
-          done.refusals c.settle.new.self done.deed granted now_is c.in-Refuse.is c.in-Ok-key.ensures.stays c.in-Ok-key.ensures.alone)) refl;
+          noted refl refl refl (works_refuse g.N.Tag.start g.N.Tag.opening (g.T.Tree.contents inside.tree) g.N.Tag.tree_faults _ c.self.invariant.desk.written unasked c.args.key c.in-Ok.rows act.refusals act.ask c.key.new.self c.in-Ok.ensures c.in-Ok-key.ensures.leads
+          done.refusals c.settle.new.self done.deed granted now_is c.in-Refuse.is c.in-Ok-key.ensures.stays c.in-Ok-key.ensures.alone) refl;
       counted = search rules;
       screen = subst (λ b. Blames b g.N.Tag.sink_faults (g.S.Sink.fault_count c.draw-drawn.new.screen)) (sym c.failed_by-self-inside.ensures)
           (blames_drawn inside.failed c.draw-drawn.result g.N.Tag.sink_faults (g.S.Sink.fault_count inside.screen) (g.S.Sink.fault_count c.draw-drawn.new.screen) c.self.invariant.screen c.draw-drawn.ensures.later c.draw-drawn.ensures.fault);
@@ -200,6 +198,18 @@ invariant_of-self-in-Answer g c =
       spawner = c.self.invariant.spawner;
     }
 
+pub unreachable-requires-in_default-answer : goal.unreachable-requires-in_default-answer
+unreachable-requires-in_default-answer g c =
+    let inside = c.self.inside in
+    let act = c.in-Ok-key.act in
+    let done = c.in-Ok-grant.granted in
+    let asked = done_as c.next_id-next.result act.ask act.refusals done.refusals done.deed (deed.Answer c.in-Answer.answer) c.in-Answer.is c.in-Ok-grant.ensures.granted in
+    let job : inside.job ≡ Some c.in-Some.job = sym c.take.ensures.value ∙ c.in-Some.is in
+    let takes = takes_asked c.in-Ok.rows act.ask c.in-Answer.answer inside.job c.in-Some.job inside.log.newest c.in-Ok-key.ensures.asked asked.0 c.in-Ok.ensures job in
+    let may : MayAnswer c.in-Some.job c.in-Answer.answer =
+    answers_live g.N.Tag.start g.N.Tag.opening (g.T.Tree.contents inside.tree) g.N.Tag.tree_faults _ c.in-Some.job c.in-Answer.answer c.self.invariant.desk.written job takes in
+    never_refused c.in-Some.job c.in-Answer.answer c.answer.result may c.answer.ensures.not_asked c.answer.ensures.wrong c.in_default-answer.field-0 c.in_default-answer.is
+
 pub returns-in-Begin-clause-looked : goal.returns-in-Begin-clause-looked
 returns-in-Begin-clause-looked g c = go c.finish-in-Begin.result
   where
@@ -209,8 +219,8 @@ returns-in-Begin-clause-looked g c = go c.finish-in-Begin.result
         c.in-Ok-key.ensures.leads (ap (λ (a : Ask). (with_ask a c.key.new.self).planned) (done_as c.next_id-next.result c.in-Ok-key.act.ask c.in-Ok-key.act.refusals c.in-Ok-grant.granted.refusals c.in-Ok-grant.granted.deed (deed.Begin c.in-Begin.confirmed) c.in-Begin.is c.in-Ok-grant.ensures.granted).0))
     go (Err error) = tt
 
-pub returns-in-Ok-answer-clause-looked : goal.returns-in-Ok-answer-clause-looked
-returns-in-Ok-answer-clause-looked g c = go c.finish-in-Answer.result
+pub returns-clause-looked : goal.returns-clause-looked
+returns-clause-looked g c = go c.finish-in-Answer.result
   where
     go : (r : Result DeskReply DeskError) → OnOk r (plain_base c.args.key ≡ Unknown → c.finish-in-Answer.new.self.tally.due ≡ None)
     go (Ok reply) = λ unknown.
