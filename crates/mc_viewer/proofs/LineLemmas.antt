@@ -1,13 +1,9 @@
 -- The first line of some bytes, by its newline.
-use Rattle.std.proofs.Common.{◌≡◌, ℕ, zero, suc, ◌+◌, ◌-◌, ◌<◌, ◌≤◌, ◌⊎◌, inl, inr, true, false, List, [], ◌∷◌, length, take, drop, get_or, refl, sym, ap, ◌∙◌, arith, ⊎_elim, subst, length-take, length-drop, drop-drop, min}
-use Rattle.std.specs.Str.{is_utf8}
-use Rattle.std.proofs.lemmas.Bool.{cases_Bool, cases_lt, both_ways, cond-true, cond-false, false_from_ne_true, eq-eqb, eqb-true, ne_eqb}
-use Rattle.std.proofs.lemmas.Str.{IsUtf8-from_is_utf8, is_utf8-from_IsUtf8, IsUtf8-take, IsCharBoundary-before_ascii}
-use Rattle.std.proofs.lemmas.List.{take-take, get_or-take, get_or-drop, length-take-le, drop_all}
+use Rattle.std.proofs.Common.{◌≡◌, ℕ, zero, suc, ◌+◌, ◌-◌, ◌<◌, ◌≤◌, ◌⊎◌, inl, inr, true, List, [], ◌∷◌, length, take, drop, get_or, refl, sym, ap, ◌∙◌, arith, ⊎_elim, subst, length-take, length-drop, drop-drop, min}
+use Rattle.std.proofs.lemmas.Bool.{cases_lt, cond-true, cond-false, false_from_ne_true, eq-eqb, eqb-true, ne_eqb}
+use Rattle.std.proofs.lemmas.List.{get_or-take, get_or-drop, drop_all}
 use Rattle.memchr.specs.Find.{is_byte}
-use Rattle.mc_viewer.specs.Units.{unit_length}
 use Rattle.mc_viewer.specs.Rows.{line_length, IsLineStart}
-use Rattle.mc_viewer.proofs.UnitLemmas.{unit_fits, unit_shortest}
 
 pub line_length-newline : (byte : ℕ) (rest : List ℕ) → byte ≡ 10 → line_length (byte ∷ rest) ≡ 1
 unfolding line_length
@@ -84,10 +80,10 @@ module _ (bytes piece : List ℕ) (size count end : ℕ) (piece_is : piece ≡ t
   line-goes_on next is nowhere =
       let len : length (take count (drop end bytes)) ≡ length piece = ap length (sym piece_is) in
       let over = line_length-over count (drop end bytes)
-          (λ k low here. nowhere k (omega arith) (ap (λ l. is_byte 10 (get_or l k 0)) piece_is ∙ here)) in
+      (λ k low here. nowhere k (omega arith) (ap (λ l. is_byte 10 (get_or l k 0)) piece_is ∙ here)) in
       let there : next ≡ end + length (take count (drop end bytes)) = omega (arith, piece_fits) in
       let rest : line_length (drop (length (take count (drop end bytes))) (drop end bytes)) ≡ line_length (drop next bytes) =
-          ap line_length (drop-drop (length (take count (drop end bytes))) end bytes ∙ ap (λ n. drop n bytes) (sym there)) in
+      ap line_length (drop-drop (length (take count (drop end bytes))) end bytes ∙ ap (λ n. drop n bytes) (sym there)) in
       omega arith
 
   -- a newline in a piece ends the line
@@ -97,8 +93,8 @@ module _ (bytes piece : List ℕ) (size count end : ℕ) (piece_is : piece ≡ t
   line-ends_at at next is low before here =
       let len : length (take count (drop end bytes)) ≡ length piece = ap length (sym piece_is) in
       let line = line_length-in count at (drop end bytes) (omega arith)
-          (λ k less there. before k less (ap (λ l. is_byte 10 (get_or l k 0)) piece_is ∙ there))
-          (ap (λ l. is_byte 10 (get_or l at 0)) (sym piece_is) ∙ here) in
+      (λ k less there. before k less (ap (λ l. is_byte 10 (get_or l k 0)) piece_is ∙ there))
+      (ap (λ l. is_byte 10 (get_or l at 0)) (sym piece_is) ∙ here) in
       omega (arith, piece_fits)
 
   -- there are bytes up to the end
@@ -120,6 +116,6 @@ line-begins bytes piece count start at piece_is low here =
     let len : length piece ≡ length (take count (drop start bytes)) = ap length piece_is in
     let short : at < count = omega (arith, length-take count (drop start bytes)) in
     let byte : get_or piece at 0 ≡ get_or bytes (start + at) 0 =
-        ap (λ l. get_or l at 0) piece_is ∙ get_or-take count (drop start bytes) at 0 short ∙ get_or-drop start bytes at 0 in
+    ap (λ l. get_or l at 0) piece_is ∙ get_or-take count (drop start bytes) at 0 short ∙ get_or-drop start bytes at 0 in
     subst (IsLineStart bytes) e
     (omega (arith, length-take count (drop start bytes), length-drop start bytes), sym byte ∙ eqb-true _ _ here)

@@ -1,9 +1,9 @@
 -- No unit reaches over the end of its line, so no row does, unless it ends with the newline.
-use Rattle.std.proofs.Common.{◌≡◌, ℕ, zero, suc, ◌+◌, ◌-◌, ◌<◌, ◌≤◌, ◌⊎◌, inl, inr, true, false, List, [], ◌∷◌, length, take, drop, get_or, min, refl, sym, ap, ◌∙◌, arith, ⊎_elim, subst, max, length-drop}
+use Rattle.std.proofs.Common.{◌≡◌, ℕ, zero, suc, ◌+◌, ◌-◌, ◌<◌, ◌≤◌, inl, inr, true, List, [], ◌∷◌, length, take, drop, get_or, min, refl, sym, ap, ◌∙◌, arith, ⊎_elim, subst, max, length-drop}
 use Rattle.std.proofs.Math.Seq.{drop-cons}
 use Rattle.std.specs.Prelude.{⊤}
 use Rattle.std.specs.Str.{is_utf8, IsUtf8}
-use Rattle.std.proofs.lemmas.Bool.{cases_Bool, cases_lt, both_ways}
+use Rattle.std.proofs.lemmas.Bool.{cases_lt, both_ways}
 use Rattle.std.proofs.lemmas.Str.{IsUtf8-from_is_utf8, is_utf8-from_IsUtf8, IsUtf8-take, IsCharBoundary-before_ascii}
 use Rattle.std.proofs.lemmas.List.{take-take, get_or-take, length-take-le}
 use Rattle.mc_viewer.specs.declared.layout.Shape.{Shape}
@@ -46,7 +46,7 @@ unit_in_line byte rest differs =
     let length_is : length (take u bytes) ≡ u = length-take-le u bytes within in
     let boundary = IsCharBoundary-before_ascii (take u bytes) k (omega arith) (omega arith) in
     let cut : is_utf8 (take k bytes) ≡ true =
-        ap is_utf8 (sym (take-take k u bytes (omega arith))) ∙ is_utf8-from_IsUtf8 _ (IsUtf8-take (take u bytes) k whole boundary) in
+    ap is_utf8 (sym (take-take k u bytes (omega arith))) ∙ is_utf8-from_IsUtf8 _ (IsUtf8-take (take u bytes) k whole boundary) in
     both_ways _ (unit_shortest bytes k later low) cut)
     (cases_lt k 1))
 

@@ -1,5 +1,5 @@
 -- A row sees no further than four bytes for each of its columns, and a few more.
-use Rattle.std.proofs.Common.{◌≡◌, ℕ, zero, suc, ◌+◌, ◌-◌, ◌*◌, ◌<◌, ◌≤◌, ◌⊎◌, inl, inr, true, false, List, [], ◌∷◌, length, take, drop, min, refl, sym, ap, ◌∙◌, arith, ⊎_elim, subst, length-drop}
+use Rattle.std.proofs.Common.{◌≡◌, ℕ, zero, suc, ◌+◌, ◌-◌, ◌*◌, ◌<◌, ◌≤◌, ◌⊎◌, inl, inr, List, [], ◌∷◌, take, refl, sym, ap, ◌∙◌, arith, ⊎_elim, subst}
 use Rattle.std.proofs.lemmas.Bool.{cases_lt}
 use Rattle.std.proofs.lemmas.List.{take-take}
 use Rattle.mc_viewer.specs.Units.{unit_length, first_unit, unit_columns}
@@ -43,7 +43,7 @@ wrapped-local columns column zero (suc n) (byte ∷ rest) wide enough =
     let one : 1 ≤ unit_length all = unit_some all in
     let four : unit_length all ≤ 4 = unit_short all in
     let left : (unit_length all - 1) + 4 * (columns - next) + 5 ≤ n =
-        ⊎_elim (λ (some : 0 < column). let fits = room some in omega arith) (λ (first : column ≤ 0). omega arith) (cases_lt 0 column) in
+    ⊎_elim (λ (some : 0 < column). let fits = room some in omega arith) (λ (first : column ≤ 0). omega arith) (cases_lt 0 column) in
     wrapped-taken columns column byte (take n rest) differs (λ some. subst (λ m. m ≤ columns) (sym next_is) (room some))
     ∙ ap (λ m. suc (wrapped_length columns m (unit_length few - 1) (take n rest))) next_is
     ∙ ap (λ u. suc (wrapped_length columns next (u - 1) (take n rest))) same_length

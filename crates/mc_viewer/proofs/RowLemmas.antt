@@ -1,14 +1,12 @@
 -- The length of a row, unit by unit.
-use Rattle.std.proofs.Common.{◌≡◌, ℕ, zero, suc, ◌+◌, ◌-◌, ◌*◌, ◌<◌, ◌≤◌, ◌⊎◌, inl, inr, true, false, List, [], ◌∷◌, length, take, drop, get_or, min, refl, sym, ap, ◌∙◌, arith, ⊎_elim, subst, length-drop, drop-drop}
+use Rattle.std.proofs.Common.{◌≡◌, ℕ, zero, suc, ◌+◌, ◌-◌, ◌<◌, ◌≤◌, true, false, List, [], ◌∷◌, length, drop, get_or, sym, ap, ◌∙◌, arith, ⊎_elim, subst, length-drop, drop-drop}
 use Rattle.std.specs.Prelude.{nat_le, ◌||◌, ◌==◌}
-use Rattle.std.proofs.lemmas.Bool.{cases_Bool, cases_lt, both_ways, cond-true, cond-false, eq-eqb, ne_eqb}
+use Rattle.std.proofs.lemmas.Bool.{cases_lt, cond-true, cond-false, eq-eqb, ne_eqb}
 use Rattle.std.proofs.lemmas.Bool.Decides.{nat_tests}
 use Rattle.std.proofs.lemmas.List.{drop_all}
 use Rattle.std.proofs.Math.Seq.{drop-cons}
-use Rattle.mc_viewer.specs.declared.layout.Shape.{Shape}
-use Rattle.mc_viewer.specs.declared.layout.Shape.TheVariants.{Wrapped, Unwrapped, Hex}
 use Rattle.mc_viewer.specs.Units.{unit_length, first_unit, unit_columns}
-use Rattle.mc_viewer.specs.Rows.{line_length, wrapped_length, row_length}
+use Rattle.mc_viewer.specs.Rows.{wrapped_length}
 
 -- bytes of a unit that was taken belong to the row
 pub wrapped-skip : (columns column skip : ℕ) (bytes : List ℕ) → skip ≤ length bytes
@@ -42,7 +40,7 @@ module _ (columns column : ℕ) (byte : ℕ) (rest : List ℕ) where
   unfolding wrapped_length
   wrapped-taken differs room =
       let test : (column == 0 || nat_le (column + unit_columns column (first_unit (byte ∷ rest))) columns) ≡ true =
-          ⊎_elim (λ (some : 0 < column). let fits = room some in grind (arith, nat_tests)) (λ (first : column ≤ 0). let e : column ≡ 0 = omega arith in grind (arith, nat_tests)) (cases_lt 0 column) in
+      ⊎_elim (λ (some : 0 < column). let fits = room some in grind (arith, nat_tests)) (λ (first : column ≤ 0). let e : column ≡ 0 = omega arith in grind (arith, nat_tests)) (cases_lt 0 column) in
       cond-false _ _ _ (ne_eqb _ _ differs) ∙ cond-true _ _ _ test
 
 -- what is left of a row behind a unit
@@ -62,9 +60,9 @@ wrapped-behind columns column at n next bytes inside differs is some within next
     let place : suc at + (n - 1) ≡ at + n = omega arith in
     let dropped : drop (n - 1) rest ≡ drop (at + n) bytes = drop-drop (n - 1) (suc at) bytes ∙ ap (λ m. drop m bytes) place in
     let one : wrapped_length columns column 0 (drop at bytes) ≡ suc (wrapped_length columns next (n - 1) rest) =
-        ap (wrapped_length columns column 0) split ∙ taken
-        ∙ ap (λ m. suc (wrapped_length columns m (unit_length (byte ∷ rest) - 1) rest)) (sym there)
-        ∙ ap (λ m. suc (wrapped_length columns next (m - 1) rest)) (sym len) in
+    ap (wrapped_length columns column 0) split ∙ taken
+    ∙ ap (λ m. suc (wrapped_length columns m (unit_length (byte ∷ rest) - 1) rest)) (sym there)
+    ∙ ap (λ m. suc (wrapped_length columns next (m - 1) rest)) (sym len) in
     let two : wrapped_length columns next 0 (drop (n - 1) rest) ≡ wrapped_length columns next 0 (drop (at + n) bytes) = ap (wrapped_length columns next 0) dropped in
     omega (arith, one, two, skipped)
 

@@ -1,12 +1,12 @@
 -- Where rows begin: each row behind the one before, each line, and each sixteen bytes in hexadecimal.
-use Rattle.std.proofs.Common.{◌≡◌, ℕ, zero, suc, ◌+◌, ◌-◌, ◌*◌, ◌<◌, ◌≤◌, ◌⊎◌, inl, inr, true, false, List, [], ◌∷◌, ◌++◌, length, take, drop, get_or, min, refl, sym, ap, ◌∙◌, arith, ⊎_elim, subst, append_assoc, length-drop, drop-drop, take-append-drop}
-use Rattle.std.specs.Prelude.{nat_le, nat_lt, ⊤}
-use Rattle.std.proofs.lemmas.Bool.{cases_lt, cond-true, cond-false}
+use Rattle.std.proofs.Common.{◌≡◌, ℕ, zero, suc, ◌+◌, ◌-◌, ◌*◌, ◌<◌, ◌≤◌, ◌⊎◌, true, false, List, [], ◌∷◌, ◌++◌, length, take, drop, get_or, refl, sym, ap, ◌∙◌, arith, ⊎_elim, subst, append_assoc, length-drop, drop-drop, take-append-drop}
+use Rattle.std.specs.Prelude.{nat_le, nat_lt}
+use Rattle.std.proofs.lemmas.Bool.{cond-true, cond-false}
 use Rattle.std.proofs.lemmas.Bool.Decides.{nat_tests}
 use Rattle.std.proofs.lemmas.List.{drop_all, length-take-le}
 use Rattle.std.proofs.Math.Seq.{drop-cons}
 use Rattle.mc_viewer.specs.declared.layout.Shape.{Shape}
-use Rattle.mc_viewer.specs.declared.layout.Shape.TheVariants.{Wrapped, Unwrapped, Hex}
+use Rattle.mc_viewer.specs.declared.layout.Shape.TheVariants.{Hex}
 use Rattle.mc_viewer.specs.Rows.{line_length, row_length, row_starts, all_rows, last_row_to, row_holding, rows_from, row_after, AllBelow, IsRow, IsLineStart}
 use Rattle.mc_viewer.proofs.LineLemmas.{is_ten, line_length-newline, line_length-other}
 use Rattle.mc_viewer.proofs.LineTextLemmas.{row_length-line, row_length-some}
@@ -233,7 +233,7 @@ module _ (shape : Shape) (columns : ℕ) (text : shape ≡ Hex → ⊥) where
   IsRow-line bytes zero start = IsRow-first shape columns bytes
   IsRow-line bytes (suc before) start =
       let split : bytes ≡ take before bytes ++ 10 ∷ drop (suc before) bytes =
-          sym (take-append-drop before bytes) ∙ ap (λ l. take before bytes ++ l) (drop-cons bytes before 0 start.0 ∙ ap (λ (b : ℕ). b ∷ drop (suc before) bytes) start.1) in
+      sym (take-append-drop before bytes) ∙ ap (λ l. take before bytes ++ l) (drop-cons bytes before 0 start.0 ∙ ap (λ (b : ℕ). b ∷ drop (suc before) bytes) start.1) in
       let length_is : length (take before bytes) ≡ before = length-take-le before bytes (omega (arith, start.0)) in
       let splits = line-splits 0 0 (take before bytes) (drop (suc before) bytes) (suc before) (omega arith) (omega arith) in
       record { before = splits.before; rows = ap (all_rows shape columns) split ∙ splits.rows; below = splits.below }

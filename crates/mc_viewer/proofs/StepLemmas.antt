@@ -1,6 +1,6 @@
 -- One row further, up or down, and one line further.
 use Rattle.std.proofs.Common.{◌≡◌, ℕ, zero, suc, ◌+◌, ◌-◌, ◌≤◌, List, [], ◌∷◌, ◌++◌, length, drop, take, map, refl, sym, ap, ◌∙◌, arith, append_assoc}
-use Rattle.std.proofs.lemmas.List.{append-nil}
+use Rattle.std.proofs.lemmas.List.{append-nil, take_all}
 use Rattle.mc_viewer.specs.Rows.{line_length, last_row_to, row_after, rows_down, rows_up, line_behind}
 use Rattle.mc_viewer.proofs.LineLemmas.{line-ends_file}
 
@@ -49,3 +49,10 @@ rows-further shown done text row left more rows rest one_more rows_is text_is =
 -- no more rows are wanted
 pub take-none : (shown : ℕ → List ℕ) (done : List (List ℕ)) (left : ℕ) (rows : List ℕ) → left ≡ 0 → done ≡ done ++ map shown (take left rows)
 take-none shown done left rows none = sym (append-nil done) ∙ ap (λ n. done ++ map shown (take n rows)) (sym none)
+
+-- no more rows are there
+pub take-empty : (shown : ℕ → List ℕ) (done : List (List ℕ)) (left : ℕ) (rows : List ℕ) → rows ≡ [] → done ≡ done ++ map shown (take left rows)
+take-empty shown done left rows none =
+    let nothing : take left [] ≡ [] = take_all {A = ℕ} left [] (omega arith) in
+    sym (append-nil done) ∙ ap (λ (l : List ℕ). done ++ map shown l) (sym nothing)
+    ∙ ap (λ (l : List ℕ). done ++ map shown (take left l)) (sym none)

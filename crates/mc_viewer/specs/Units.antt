@@ -1,5 +1,5 @@
 -- The units of a file, and what each shows: the characters of valid UTF-8, and each byte that belongs to none (own).
-use Rattle.std.specs.Prelude.{ℕ, ◌+◌, ◌-◌, ◌%◌, ◌==◌, nat_le, min, max, Bool, ◌&&◌, List, [], ◌∷◌, length, take, replicate, if◌then◌else◌}
+use Rattle.std.specs.Prelude.{ℕ, ◌+◌, ◌-◌, ◌%◌, ◌==◌, min, max, Bool, ◌&&◌, List, [], ◌∷◌, take, replicate, if◌then◌else◌}
 use Rattle.std.specs.Str.{bytes_eq, is_utf8}
 use Rattle.mc_text.specs.Fit.{cluster_columns}
 use Rattle.mc_text.specs.Drawn.{is_drawable}

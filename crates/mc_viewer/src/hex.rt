@@ -6,12 +6,7 @@ use mc_text::{NoMemory, Text};
 use std::alloc::Global;
 
 /// The row of at most sixteen bytes, cut at the columns of the screen.
-pub fn hex_row(
-    alloc: Global,
-    columns: usize,
-    offset: u64,
-    bytes: &[u8],
-) -> Result<Text, NoMemory>
+pub fn hex_row(alloc: Global, columns: usize, offset: u64, bytes: &[u8]) -> Result<Text, NoMemory>
     requires { length bytes.now ≤ 16 }
     ensures { IfOk result (λ text. text ≡ hex_row columns offset bytes.now) }
 {

@@ -51,7 +51,7 @@ fn rows_from<T: Tree>(
     requires wide { 1 ≤ layout.columns }
     ensures shown { IfHeld (T.contents tree.old) subject.now size (λ bytes. IfOk result (λ rows.
         rows ≡ map (shown_row layout bytes)
-            (take count (row_starts layout.shape layout.columns first 0 (drop first bytes))))) }
+        (take count (row_starts layout.shape layout.columns first 0 (drop first bytes))))) }
     ensures refused { IfKnown (T.contents tree.old) (λ log. IfErr result (AsTheTreeSays log subject.now)) }
     ensures kinds { IfErr result IsReadError }
     ensures same { T.contents tree.new ≡ T.contents tree.old }

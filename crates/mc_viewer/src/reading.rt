@@ -63,11 +63,7 @@ fn part(alloc: Global, bytes: &[u8], at: u64, count: usize) -> Result<Vec<u8>, A
 }
 
 /// How many bytes there are. It tries to read one, so that what can't be read is refused.
-pub fn size_of<T: Tree>(
-    alloc: Global,
-    tree: &mut T,
-    subject: &Subject,
-) -> Result<u64, ViewError>
+pub fn size_of<T: Tree>(alloc: Global, tree: &mut T, subject: &Subject) -> Result<u64, ViewError>
     ensures shown { IfKnown (held (T.contents tree.old) subject.now) (λ bytes.
         IfOk result (λ size. size ≡ length bytes)) }
     ensures small { IfOk result (λ size. size ≤ 2 ^ 63) }

@@ -44,12 +44,7 @@ pub fn row_text(alloc: Global, layout: Layout, at: u64, bytes: &[u8]) -> Result<
 }
 
 /// What is in sight of a line, up to its newline, from one column up to another.
-fn line_in_sight(
-    alloc: Global,
-    bytes: &[u8],
-    left: usize,
-    right: usize,
-) -> Result<Text, NoMemory>
+fn line_in_sight(alloc: Global, bytes: &[u8], left: usize, right: usize) -> Result<Text, NoMemory>
     requires small { length bytes.now < 2 ^ 60 }
     requires narrow { right < 2 ^ 60 }
     ensures { IfOk result (λ text. text ≡ line_in_sight left right 0 0 bytes.now) }

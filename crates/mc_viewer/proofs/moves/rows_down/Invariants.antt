@@ -1,7 +1,7 @@
 -- What is left of the way leads there; each place is a row.
 use Rattle.std.proofs.Common.{◌≡◌, ◌≤◌, ◌-◌}
 use Rattle.mc_viewer.specs.Viewing.{IfHeld}
-use Rattle.mc_viewer.specs.Rows.{all_rows, IsRow, rows_down, rows_up, line_behind}
+use Rattle.mc_viewer.specs.Rows.{all_rows, IsRow, rows_down}
 use Rattle.mc_viewer.proofs.moves.rows_down.Given as goal
 
 abbrev pub invariant-loop : goal.invariant-loop

@@ -7,8 +7,8 @@ use Rattle.mc_viewer.proofs.moves.rows_up.Goals as goal
 
 pub loop-preserved : goal.loop-preserved
 loop-preserved g c = record {
-  same = c.in_ok-row_holding.ensures.same ∙ c.loop.invariant.same;
-  later = omega (arith, c.in_ok-row_holding.ensures.cause.later, c.loop.invariant.later);
+  same = c.in_ok-row.ensures.same ∙ c.loop.invariant.same;
+  later = omega (arith, c.in_ok-row.ensures.cause.later, c.loop.invariant.later);
   way = λ bytes known size_is.
       let shape = c.args.layout.shape in
       let columns = c.args.layout.columns in
@@ -17,8 +17,8 @@ loop-preserved g c = record {
       let more = c.args.count - c.loop.counter in
       let one_more : more ≡ suc left = omega arith in
       let still = ap (λ t. held t c.args.subject.now) c.loop.invariant.same ∙ known in
-      up-further left more one_more rows c.loop.row c.in_ok-row_holding.field-0
-      (c.in_ok-row_holding.ensures.shown bytes still size_is ∙ ap (row_holding shape columns bytes) c.saturating_sub.ensures)
+      up-further left more one_more rows c.loop.row c.in_ok-row.row
+      (c.in_ok-row.ensures.shown bytes still size_is ∙ ap (row_holding shape columns bytes) c.saturating_sub.ensures)
       ∙ c.loop.invariant.way bytes known size_is;
 }
 

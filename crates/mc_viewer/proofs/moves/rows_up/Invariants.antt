@@ -1,7 +1,7 @@
 -- What is left of the way leads there.
 use Rattle.std.proofs.Common.{◌≡◌, ◌≤◌, ◌-◌}
 use Rattle.mc_viewer.specs.Viewing.{IfHeld}
-use Rattle.mc_viewer.specs.Rows.{all_rows, IsRow, rows_down, rows_up, line_behind}
+use Rattle.mc_viewer.specs.Rows.{all_rows, rows_up}
 use Rattle.mc_viewer.proofs.moves.rows_up.Given as goal
 
 abbrev pub invariant-loop : goal.invariant-loop

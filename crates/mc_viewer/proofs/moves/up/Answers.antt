@@ -1,9 +1,8 @@
 -- So many rows up from the top.
-use Rattle.std.proofs.Common.{◌≡◌, ℕ, ◌-◌, ap, sym, ◌∙◌, length}
+use Rattle.std.proofs.Common.{ℕ, ap, sym, ◌∙◌}
 use Rattle.mc_viewer.specs.declared.layout.Layout.{Layout}
 use Rattle.mc_viewer.specs.Viewing.{held}
-use Rattle.mc_viewer.specs.Rows.{all_rows, row_holding, rows_down, rows_up, line_behind}
-use Rattle.mc_viewer.specs.Steps.{page_lines}
+use Rattle.mc_viewer.specs.Rows.{all_rows, row_holding, rows_up}
 use Rattle.mc_viewer.proofs.moves.up.Goals as goal
 
 pub returns-clause-shown : goal.returns-clause-shown
@@ -13,7 +12,7 @@ returns-clause-shown g c = λ bytes known.
     let later = ap (λ t. held t c.args.subject.now) c.in_ok-top.ensures.same ∙ still in
     let layout = c.layout_of-layout.result in
     let top_is = c.in_ok-top.ensures.shown bytes still (sym size_is) in
-    let row_is = c.in_ok-row.ensures.shown bytes later (sym size_is) 
-        ∙ ap (rows_up c.args.count (all_rows layout.shape layout.columns bytes)) top_is
-        ∙ ap (λ (l : Layout). rows_up c.args.count (all_rows l.shape l.columns bytes) (row_holding l.shape l.columns bytes c.args.state.top)) c.layout_of-layout.ensures in
+    let row_is = c.in_ok-row.ensures.shown bytes later (sym size_is)
+    ∙ ap (rows_up c.args.count (all_rows layout.shape layout.columns bytes)) top_is
+    ∙ ap (λ (l : Layout). rows_up c.args.count (all_rows l.shape l.columns bytes) (row_holding l.shape l.columns bytes c.args.state.top)) c.layout_of-layout.ensures in
     c.with_top.ensures ∙ ap (λ (t : ℕ). record c.args.state { top = t }) row_is

@@ -1,5 +1,5 @@
 -- What the row shows rests on the bytes that were read.
-use Rattle.std.proofs.Common.{◌≡◌, ℕ, ◌-◌, min, List, ap, sym, ◌∙◌, take, drop, length, arith, length-drop}
+use Rattle.std.proofs.Common.{◌≡◌, min, ap, ◌∙◌, take, drop, length, arith, length-drop}
 use Rattle.std.proofs.lemmas.List.{take_min}
 use Rattle.mc_viewer.specs.Pages.{row_text}
 use Rattle.mc_viewer.specs.Windows.{window_of}

@@ -1,6 +1,6 @@
 -- The size that a tree says is that of the bytes that it holds.
 use Rattle.std.proofs.Common.{length, ap, sym, ◌∙◌}
-use Rattle.tree_trait.specs.Change.{current, found}
+use Rattle.tree_trait.specs.Change.{current}
 use Rattle.tree_trait.specs.Answers.{IsMeta}
 use Rattle.tree_trait.specs.declared.calls.Meta.{Meta}
 use Rattle.mc_viewer.proofs.ReadingLemmas.{known-file, refused-stat, refused-said}

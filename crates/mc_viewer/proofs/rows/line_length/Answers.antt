@@ -1,5 +1,5 @@
 -- The first newline ends the line.
-use Rattle.std.proofs.Common.{sym, arith, ◌∙◌}
+use Rattle.std.proofs.Common.{sym, arith}
 use Rattle.mc_viewer.proofs.LineLemmas.{line_length-at, line_length-none}
 use Rattle.mc_viewer.proofs.rows.line_length.Goals as goal
 

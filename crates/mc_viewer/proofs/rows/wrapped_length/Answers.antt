@@ -14,7 +14,7 @@ loop-at-preserved c =
     let count_is : count ≡ unit_length (drop at bytes) = c.unit_length-length.ensures.value ∙ ap unit_length rest_is in
     let front_is : c.front.result.now ≡ first_unit (drop at bytes) = c.front.ensures ∙ ap (take count) rest_is ∙ ap (λ n. take n (drop at bytes)) count_is in
     let next_is : column + c.unit_columns.result ≡ column + unit_columns column (first_unit (drop at bytes)) =
-        ap (λ n. column + n) (c.unit_columns.ensures.value ∙ ap (unit_columns column) front_is) in
+    ap (λ n. column + n) (c.unit_columns.ensures.value ∙ ap (unit_columns column) front_is) in
     let within : at + count ≤ length bytes = omega (arith, c.unit_length-length.ensures.within, ap length rest_is, length-drop at bytes, c.loop-at-test.true) in
     let room = λ (some : 0 < column). ⊎_elim (λ both. both.1) (λ none. absurd (omega arith)) c.else-column-gt0.either in
     record {

@@ -1,5 +1,5 @@
 -- Unit by unit.
-use Rattle.std.proofs.Common.{◌≡◌, ◌+◌, ◌≤◌, List, [], ℕ, ◌++◌, length, take, drop, string_bytes, arith, ap, sym, ◌∙◌, append_assoc, length-drop}
+use Rattle.std.proofs.Common.{◌≡◌, ◌+◌, ◌≤◌, List, ℕ, ◌++◌, length, take, drop, string_bytes, arith, ap, sym, ◌∙◌, append_assoc, length-drop}
 use Rattle.std.proofs.lemmas.List.{append-nil}
 use Rattle.mc_viewer.specs.Units.{unit_length, unit_columns, first_unit, piece_in_sight}
 use Rattle.mc_viewer.specs.Pages.{line_in_sight}
@@ -18,14 +18,14 @@ loop-at-preserved c =
     let rest_is = c.rest_from-rest.ensures in
     let count_is : count ≡ unit_length (drop at bytes) = c.unit_length-length.ensures.value ∙ ap unit_length rest_is in
     let front_is : c.front-unit.result.now ≡ first_unit (drop at bytes) = c.front-unit.ensures ∙ ap (take count) rest_is ∙ ap (λ n. take n (drop at bytes)) count_is in
-    let next = column + c.unit_columns.result in
+    let next = column + c.unit_columns-column.result in
     let next_is : next ≡ column + unit_columns column (first_unit (drop at bytes)) =
-        ap (λ n. column + n) (c.unit_columns.ensures.value ∙ ap (unit_columns column) front_is) in
+    ap (λ n. column + n) (c.unit_columns-column.ensures.value ∙ ap (unit_columns column) front_is) in
     let within : at + count ≤ length bytes = omega (arith, c.unit_length-length.ensures.within, ap length rest_is, length-drop at bytes, c.loop-at-test.true) in
     let more = line_in_sight left right next 0 (drop (at + count) bytes) in
     record {
       within = within;
-      narrow = omega (arith, c.unit_columns.ensures.bound, c.unit_length-length.ensures.some, c.loop-at.invariant.narrow);
+      narrow = omega (arith, c.unit_columns-column.ensures.bound, c.unit_length-length.ensures.some, c.loop-at.invariant.narrow);
       seen =
           ap (λ (s : List ℕ). s ++ more) (c.in_ok-push_piece.ensures ∙ ap (λ u. row ++ piece_in_sight left right column u) front_is)
           ∙ append_assoc row (piece_in_sight left right column (first_unit (drop at bytes))) more

@@ -1,5 +1,5 @@
 -- From a row before the byte on.
-use Rattle.std.proofs.Common.{ap, ◌∙◌, arith}
+use Rattle.std.proofs.Common.{ap, ◌∙◌}
 use Rattle.mc_viewer.specs.Viewing.{held}
 use Rattle.mc_viewer.proofs.StartLemmas.{IsRow-first, holding-empty}
 use Rattle.mc_viewer.proofs.walking.row_holding.Goals as goal
