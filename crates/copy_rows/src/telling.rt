@@ -3,7 +3,8 @@ ghost use Rattle.std.specs.Prelude.{◌≡◌, None, IfSome};
 ghost use Rattle.file_copy.specs.LastSteps.{left_at};
 
 use crate::scene::{FOLDER, SOURCE, TARGET};
-use file_copy::{Cause, Did, Ending, FileCopy, PartTest, Trouble};
+use file_copy::{FileCopy, PartTest};
+use job_reports::{Cause, Did, Ending, Trouble};
 use mc_text::Path;
 use row_page::Page;
 use std::alloc::Global;
