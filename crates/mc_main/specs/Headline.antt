@@ -1,5 +1,5 @@
 -- What a run of the file manager promises.
-use Rattle.std.specs.Prelude.{◌≡◌, ◌≢◌, ◌⊎◌, ℕ, ◌+◌, ◌≤◌, Bool, true, is_none, ⊤, if◌then◌else◌, List, [], ◌∷◌, length, take, drop, Option, Some, None, IsSome, Result, Ok, Err}
+use Rattle.std.specs.Prelude.{◌≡◌, ◌≢◌, ◌⊎◌, ℕ, ◌+◌, ◌≤◌, Bool, true, false, is_none, ⊤, if◌then◌else◌, List, [], ◌∷◌, length, take, drop, Option, Some, None, IsSome, Result, Ok, Err}
 use Rattle.std.specs.Option.{option_map}
 use Rattle.mc_text.specs.Routes.{Route, path_fault, route_of}
 use Rattle.tree_trait.specs.declared.file_system.FileSystem.{FileSystem}
@@ -147,7 +147,7 @@ IsComplete log None status failed = ⊤
 IsComplete log (Some start) status failed =
     refusal_of (current log) (ListFolder start.left) ≡ None → refusal_of (current log) (ListFolder start.right) ≡ None → (failed → ⊥) → (status ≡ 0) ⊎ (status ≡ 5)
 
--- The status of a session. A key that was lost makes it 5. Else it is 3 only where the keyboard failed, 4 only where the
+-- The status of a session. A key that was lost makes it 5. Else it is 3 exactly where the keyboard failed, 4 only where the
 -- screen did, and 0 only at the quit key or the end of the keys, where the screen never failed; so it is never 0 where the
 -- session failed.
 pub record IsStatusOf (end : SessionEnd) (screen_failed key_lost : Bool) (status : ℕ) : Type 0 where
@@ -155,6 +155,7 @@ pub record IsStatusOf (end : SessionEnd) (screen_failed key_lost : Bool) (status
   pub not_usage : status ≢ 1
   pub not_start : status ≢ 2
   pub keyboard : status ≡ 3 → end ≡ KeysFailed
+  pub keys : end ≡ KeysFailed → key_lost ≡ false → status ≡ 3
   pub screen : status ≡ 4 → screen_failed ≡ true
   pub told : screen_failed ≡ true → status ≢ 0
   pub done : status ≡ 0 → (end ≡ Quit) ⊎ (end ≡ KeysEnded)
