@@ -4,7 +4,8 @@ ghost use Rattle.file_copy.specs.LastSteps.{left_at};
 
 use crate::scene::{SOURCE, TARGET};
 use anyhow::{Result, bail};
-use file_copy::{Cause, Did, Ending, FileCopy, PartTest, Trouble};
+use file_copy::{FileCopy, PartTest};
+use job_reports::{Cause, Did, Ending, Trouble};
 use mc_text::Path;
 use std::alloc::Global;
 use std::convert::AsStr;

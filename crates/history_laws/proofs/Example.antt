@@ -1,7 +1,7 @@
 -- A small session, so the premises can be met: a deletion whose sync fails and that is aborted, its last sync failing too; then
 -- the file is in doubt. The next job syncs that folder first, after which no crash brings the file back; its first change leaves
 -- nothing else in doubt, and what it has finished stays done.
-use Rattle.std.proofs.Common.{◌≡◌, ◌⊎◌, ℕ, ◌+◌, pos, true, false, List, [], ◌∷◌, length, refl, sym, ◌∙◌, ap, inl, inr, true≢false, Option, Some, None, Ok, Err, arith}
+use Rattle.std.proofs.Common.{◌≡◌, ◌⊎◌, ℕ, ◌+◌, pos, true, false, List, [], ◌∷◌, length, refl, sym, ◌∙◌, ap, inl, inr, true≢false, Option, Some, None, Ok, Err}
 use Rattle.mc_text.specs.declared.kind.Kind.TheVariants.{File, Folder}
 use Rattle.mc_text.specs.Routes.{Route}
 use Rattle.tree_trait.specs.declared.file_system.Node.{Node}
@@ -13,27 +13,29 @@ use Rattle.tree_trait.specs.Change.{Change, Nothing, Makes, Removes, Syncs, Call
 use Rattle.tree_trait.specs.CrashImages.{IsCrashImage}
 use Rattle.tree_trait.proofs.BareRoot.{bare, bare_tree}
 use Rattle.tree_trait.proofs.Kept.{tree_made}
-use Rattle.file_copy.specs.declared.report.Ending.TheVariants.{Aborted, Finished}
-use Rattle.file_copy.specs.declared.report.Did.{Did}
-use Rattle.file_copy.specs.declared.report.Did.TheVariants.{Removed, Barrier, Troubled, Ended}
+use Rattle.job_reports.specs.declared.report.Ending.TheVariants.{Aborted, Finished}
+use Rattle.job_reports.specs.declared.report.Did.{Did}
+use Rattle.job_reports.specs.declared.report.Did.TheVariants.{Removed, Barrier, Troubled, Ended}
 use Rattle.copy_move.specs.declared.deletion.Stage.{Stage}
 use Rattle.copy_move.specs.declared.deletion.Stage.TheVariants.{Remove, Sync, Finish}
-use Rattle.copy_move.specs.declared.history.Event.{Event}
-use Rattle.copy_move.specs.declared.history.Event.TheVariants.{Began, Step, Closed}
-use Rattle.copy_move.specs.declared.history.Job.TheVariants as plan
-use Rattle.copy_move.specs.declared.history.Entry.{Entry}
+use Rattle.session_history.specs.declared.history.Event.{Event}
+use Rattle.session_history.specs.declared.history.Event.TheVariants.{Began, Step, Closed}
+use Rattle.job_reports.specs.declared.job.Job.TheVariants as plan
+use Rattle.session_history.specs.declared.history.Entry.{Entry}
 use Rattle.copy_move.specs.declared.work.Work.TheVariants.{Delete}
 use Rattle.copy_move.specs.declared.run.Course.{Course}
 use Rattle.copy_move.specs.declared.run.Course.TheVariants.{GoesOn, InTrouble, Ends}
-use Rattle.copy_move.specs.Deletions.{trouble_at, cause_of}
+use Rattle.job_reports.specs.Jobs as jobs
+use Rattle.job_reports.specs.Stops.{trouble_at, cause_of}
 use Rattle.copy_move.specs.Jobs.{Running}
-use Rattle.copy_move.specs.Told.{is_closed}
+use Rattle.session_history.specs.Entries.{is_closed}
 use Rattle.history_laws.specs.Calmed.{HasBegun}
 use Rattle.history_laws.specs.Doubt.{is_unsettled}
-use Rattle.history_laws.specs.LiveJobs.{IsLivePart, LiveJob, live_jobs}
+use Rattle.session_history.specs.LiveJobs.{IsLivePart, LiveJob, live_jobs}
 use Rattle.history_laws.specs.Owed.{IsApart}
-use Rattle.history_laws.specs.Replayed.{earlier_tree, front, replayed_tree}
-use Rattle.history_laws.specs.Staying.{HasFinished, IsUnnamedSince, names_path}
+use Rattle.history_laws.specs.Replayed.{earlier_tree, log_prefix, replayed_tree}
+use Rattle.session_history.specs.Named.{IsUnnamedSince, names_path}
+use Rattle.history_laws.specs.Staying.{HasFinished}
 use Rattle.history_laws.specs.Traces.{IsJob, IsTraced, Stand, WorkLeads, if_closed, nothing_live, unless_ended, with_job}
 use Rattle.history_laws.proofs.Calmed.{calm_law}
 use Rattle.history_laws.proofs.Done.{done_law}
@@ -264,7 +266,7 @@ first_change : HasBegun change settled_entries []
 first_change = record {
   id = 2;
   did = Removed another;
-  work = Delete (record { path = another; stage = Remove });
+  item = jobs.Removes another;
   reports = refl;
   begins = refl;
   unchanged = refl;
@@ -273,10 +275,10 @@ first_change = record {
 }
 
 -- then the first file is in doubt no more, as the law says
-calmed : is_unsettled (front (log []) 5 changed_log) the_file ≡ true → ⊥
+calmed : is_unsettled (log_prefix (log []) 5 changed_log) the_file ≡ true → ⊥
 calmed waits = by (calm_law (log []) changed_log changed_entries (stand (changed ∷ []) ([] ∷ [])) small_tree refl changed_traced change settled_entries [] the_file first_change (inl (refl, refl, refl)) waits)
   where
-    by : (names_path change.what the_file ≡ true) ⊎ IsApart (front (log []) 4 changed_log) [] [] → ⊥
+    by : (names_path change.what the_file ≡ true) ⊎ IsApart (log_prefix (log []) 4 changed_log) [] [] → ⊥
     by (inl named) = true≢false (sym named)
     by (inr (inl missing)) = cc
     by (inr (inr (number, here, elsewhere))) = elsewhere here
@@ -328,7 +330,7 @@ no_live_part : IsLivePart (live_jobs settled_entries) the_file → ⊥
 no_live_part (found, inl same, is) = let none : (let o : Option Route = None in o) ≡ Some the_file = ap (λ (l : LiveJob). l.part) (sym same) ∙ is in cc
 no_live_part (found, inr none, is) = none
 
-still_settled : is_unsettled (front (log []) 6 finished_log) the_file ≡ false
+still_settled : is_unsettled (log_prefix (log []) 6 finished_log) the_file ≡ false
 still_settled =
     stays_law (log []) finished_log ended_entries settled_entries ended_entries ended_entries (stand [] []) 6 the_file small_tree refl ended_traced (inl (refl, refl, refl)) since since
     refl no_live_part
@@ -341,7 +343,7 @@ has_finished : HasFinished end synced_entries []
 has_finished = record {
   id = 2;
   part = None;
-  work = Delete (record { path = another; stage = Remove });
+  item = jobs.Removes another;
   ended = refl;
   changed = refl;
   its = refl;
