@@ -1,6 +1,7 @@
 -- A small session, so the premises can be met: a deletion whose sync fails and that is aborted, its last sync failing too; then
--- the file is in doubt; and a next job that syncs that folder first, after which no crash brings the file back.
-use Rattle.std.proofs.Common.{◌≡◌, ◌⊎◌, ℕ, pos, true, false, List, [], ◌∷◌, refl, sym, ◌∙◌, ap, inl, inr, true≢false, Option, Some, None, Ok, Err}
+-- the file is in doubt. The next job syncs that folder first, after which no crash brings the file back; its first change leaves
+-- nothing else in doubt, and what it has finished stays done.
+use Rattle.std.proofs.Common.{◌≡◌, ◌⊎◌, ℕ, ◌+◌, pos, true, false, List, [], ◌∷◌, length, refl, sym, ◌∙◌, ap, inl, inr, true≢false, Option, Some, None, Ok, Err}
 use Rattle.mc_text.specs.declared.kind.Kind.TheVariants.{File, Folder}
 use Rattle.mc_text.specs.Routes.{Route}
 use Rattle.tree_trait.specs.declared.file_system.Node.{Node}
@@ -12,7 +13,8 @@ use Rattle.tree_trait.specs.Change.{Change, Nothing, Makes, Removes, Syncs, Call
 use Rattle.tree_trait.specs.CrashImages.{IsCrashImage}
 use Rattle.tree_trait.proofs.BareRoot.{bare, bare_tree}
 use Rattle.tree_trait.proofs.Kept.{tree_made}
-use Rattle.job_reports.specs.declared.report.Ending.TheVariants.{Aborted}
+use Rattle.job_reports.specs.declared.report.Ending.TheVariants.{Aborted, Finished}
+use Rattle.job_reports.specs.declared.report.Did.{Did}
 use Rattle.job_reports.specs.declared.report.Did.TheVariants.{Removed, Barrier, Troubled, Ended}
 use Rattle.copy_move.specs.declared.deletion.Stage.{Stage}
 use Rattle.copy_move.specs.declared.deletion.Stage.TheVariants.{Remove, Sync, Finish}
@@ -23,12 +25,20 @@ use Rattle.session_history.specs.declared.history.Entry.{Entry}
 use Rattle.copy_move.specs.declared.work.Work.TheVariants.{Delete}
 use Rattle.copy_move.specs.declared.run.Course.{Course}
 use Rattle.copy_move.specs.declared.run.Course.TheVariants.{GoesOn, InTrouble, Ends}
+use Rattle.job_reports.specs.Jobs as jobs
 use Rattle.job_reports.specs.Stops.{trouble_at, cause_of}
 use Rattle.copy_move.specs.Jobs.{Running}
+use Rattle.session_history.specs.Entries.{is_closed}
+use Rattle.history_laws.specs.Calmed.{HasBegun}
 use Rattle.history_laws.specs.Doubt.{is_unsettled}
 use Rattle.session_history.specs.LiveJobs.{IsLivePart, LiveJob, live_jobs}
+use Rattle.history_laws.specs.Owed.{IsApart}
 use Rattle.history_laws.specs.Replayed.{earlier_tree, log_prefix, replayed_tree}
-use Rattle.history_laws.specs.Traces.{IsTraced, Stand, nothing_live}
+use Rattle.session_history.specs.Named.{IsUnnamedSince, names_path}
+use Rattle.history_laws.specs.Staying.{HasFinished}
+use Rattle.history_laws.specs.Traces.{IsJob, IsTraced, Stand, WorkLeads, if_closed, nothing_live, unless_ended, with_job}
+use Rattle.history_laws.proofs.Calmed.{calm_law}
+use Rattle.history_laws.proofs.Done.{done_law}
 use Rattle.history_laws.proofs.Moments.{session_law}
 use Rattle.history_laws.proofs.Staying.{stays_law}
 
@@ -39,18 +49,22 @@ abbrev file : Node
 file = record { kind = File; bytes = 7 ∷ []; mode = 0o644; mtime = pos 0; unnamed = 0 }
 
 -- the root holds a file under the name 1
+abbrev smaller : FileSystem
+smaller = after_change bare (Makes 0 (1 ∷ []) file)
+
+-- and one under the name 2
 abbrev small : FileSystem
-small = after_change bare (Makes 0 (1 ∷ []) file)
+small = after_change smaller (Makes 0 (2 ∷ []) file)
 
 abbrev the_file : Route
 the_file = (1 ∷ []) ∷ []
 
--- the next job is to delete what isn't there
+-- the next job is to delete the other one
 abbrev another : Route
 another = (2 ∷ []) ∷ []
 
 small_tree : IsTree small
-small_tree = tree_made bare 0 (1 ∷ []) file bare_tree refl
+small_tree = tree_made smaller 0 (2 ∷ []) file (tree_made bare 0 (1 ∷ []) file bare_tree refl) refl
 
 abbrev log : List Change → CallLog
 log changes = record { opening = small; changes = changes }
@@ -71,6 +85,15 @@ first stage course = job 1 the_file stage course
 abbrev stand : List Running → List Route → Stand
 stand jobs dirty = record { jobs = jobs; dirty = dirty }
 
+-- a step of a job's own work
+own_step :
+    (id calls : ℕ) (did : Did) (older : List Entry) (was after : Stand) (before now : CallLog) (old new : Running)
+    → IsTraced (log []) older was before → IsJob id was.jobs old → WorkLeads old did new was.dirty after.dirty before now
+    → after.jobs ≡ with_job id (unless_ended did new) was.jobs → after ≡ if_closed (is_closed (entry calls (Step id did) ∷ older)) after
+    → length now.changes ≡ length (log []).changes + calls → IsTraced (log []) (entry calls (Step id did) ∷ older) after now
+own_step id calls did older was after before now old new traced its leads jobs closed counts =
+    (was, before, traced, record { after = after; leads = (old, its, (unless_ended did new, inl (new, inl leads, refl), jobs)); stand_is = closed; counts = counts })
+
 abbrev begun_entries : List Entry
 begun_entries = entry 0 (Began 1 (plan.Delete (the_file ∷ [])) false) ∷ []
 
@@ -82,34 +105,14 @@ abbrev removed_entries : List Entry
 removed_entries = entry 1 (Step 1 (Removed the_file)) ∷ begun_entries
 
 removed_traced : IsTraced (log []) removed_entries (stand (first Sync GoesOn ∷ []) ([] ∷ [])) (log (removal ∷ []))
-removed_traced = (
-  stand (first Remove GoesOn ∷ []) [],
-  log [],
-  begun_traced,
-  record {
-    after = stand (first Sync GoesOn ∷ []) ([] ∷ []);
-    leads = (
-      first Remove GoesOn,
-      inl (refl, refl),
-      (
-        Some (first Sync GoesOn),
-        inl (
-          first Sync GoesOn,
-          inl (record {
-            tells = (Delete (record { path = the_file; stage = Sync }), (refl, refl, refl), refl);
-            called = (refl, (pos 0, refl));
-            settled = λ goes fresh kept among. absurd among;
-            leaves = refl;
-          }),
-          refl,
-        ),
-        refl,
-      ),
-    );
-    stand_is = refl;
-    counts = refl;
-  },
-)
+removed_traced =
+    own_step 1 1 (Removed the_file) begun_entries (stand (first Remove GoesOn ∷ []) []) (stand (first Sync GoesOn ∷ []) ([] ∷ [])) (log []) (log (removal ∷ [])) (first Remove GoesOn) (first Sync GoesOn) begun_traced (inl (refl, refl))
+    (record {
+      tells = (Delete (record { path = the_file; stage = Sync }), (refl, refl, refl), refl);
+      called = (refl, (pos 0, refl));
+      settled = λ goes fresh kept among. absurd among;
+      leaves = refl;
+    }) refl refl refl
 
 -- the sync fails, the session closes, and the last sync fails too: the job is aborted
 abbrev troubled_entries : List Entry
@@ -131,34 +134,14 @@ abbrev waiting : Running
 waiting = first Sync (InTrouble (cause_of refused.Fault))
 
 troubled_traced : IsTraced (log []) troubled_entries (stand (waiting ∷ []) ([] ∷ [])) (log (removal ∷ Nothing ∷ []))
-troubled_traced = (
-  stand (first Sync GoesOn ∷ []) ([] ∷ []),
-  log (removal ∷ []),
-  removed_traced,
-  record {
-    after = stand (waiting ∷ []) ([] ∷ []);
-    leads = (
-      first Sync GoesOn,
-      inl (refl, refl),
-      (
-        Some waiting,
-        inl (
-          waiting,
-          inl (record {
-            tells = (Delete (record { path = the_file; stage = Sync }), ((refused.Fault, refl), refl), refl);
-            called = (refused.Fault, refl, (refl, ([], refl)));
-            settled = λ goes fresh. absurd (true≢false (sym fresh));
-            leaves = refl;
-          }),
-          refl,
-        ),
-        refl,
-      ),
-    );
-    stand_is = refl;
-    counts = refl;
-  },
-)
+troubled_traced =
+    own_step 1 2 (Troubled (trouble_at refused.Fault [] true)) removed_entries (stand (first Sync GoesOn ∷ []) ([] ∷ [])) (stand (waiting ∷ []) ([] ∷ [])) (log (removal ∷ [])) (log (removal ∷ Nothing ∷ [])) (first Sync GoesOn) waiting removed_traced (inl (refl, refl))
+    (record {
+      tells = (Delete (record { path = the_file; stage = Sync }), ((refused.Fault, refl), refl), refl);
+      called = (refused.Fault, refl, (refl, ([], refl)));
+      settled = λ goes fresh. absurd (true≢false (sym fresh));
+      leaves = refl;
+    }) refl refl refl
 
 closed_traced : IsTraced (log []) closed_entries (stand (first Sync (Ends Aborted) ∷ []) ([] ∷ [])) (log (removal ∷ Nothing ∷ []))
 closed_traced = (
@@ -172,64 +155,24 @@ some_log : (x y : CallLog) → (let o : Option CallLog = Some x in o) ≡ Some y
 some_log x y h = cc
 
 tried_traced : IsTraced (log []) tried_entries (stand (first Finish (Ends Aborted) ∷ []) ([] ∷ [])) aborted_log
-tried_traced = (
-  stand (first Sync (Ends Aborted) ∷ []) ([] ∷ []),
-  log (removal ∷ Nothing ∷ []),
-  closed_traced,
-  record {
-    after = stand (first Finish (Ends Aborted) ∷ []) ([] ∷ []);
-    leads = (
-      first Sync (Ends Aborted),
-      inl (refl, refl),
-      (
-        Some (first Finish (Ends Aborted)),
-        inl (
-          first Finish (Ends Aborted),
-          inl (record {
-            tells = (Delete (record { path = the_file; stage = Finish }), (refl, refl), refl);
-            called = (Err refused.Fault, (refl, ([], refl)));
-            settled = λ goes fresh. absurd (true≢false (sym fresh));
-            leaves = (Some refused.Fault, refl, λ known is. Rattle.std.proofs.Common.subst (λ (l : CallLog). Rattle.tree_trait.specs.Answers.Performs {A = Unit {0}} l (Rattle.tree_trait.specs.Calls.SyncFolder []) (Err refused.Fault) (Some aborted_log)) (some_log (log (removal ∷ Nothing ∷ [])) known is) (refl, ([], refl)));
-          }),
-          refl,
-        ),
-        refl,
-      ),
-    );
-    stand_is = refl;
-    counts = refl;
-  },
-)
+tried_traced =
+    own_step 1 3 Barrier closed_entries (stand (first Sync (Ends Aborted) ∷ []) ([] ∷ [])) (stand (first Finish (Ends Aborted) ∷ []) ([] ∷ [])) (log (removal ∷ Nothing ∷ [])) aborted_log (first Sync (Ends Aborted)) (first Finish (Ends Aborted)) closed_traced (inl (refl, refl))
+    (record {
+      tells = (Delete (record { path = the_file; stage = Finish }), (refl, refl), refl);
+      called = (Err refused.Fault, (refl, ([], refl)));
+      settled = λ goes fresh. absurd (true≢false (sym fresh));
+      leaves = (Some refused.Fault, refl, λ known is. Rattle.std.proofs.Common.subst (λ (l : CallLog). Rattle.tree_trait.specs.Answers.Performs {A = Unit {0}} l (Rattle.tree_trait.specs.Calls.SyncFolder []) (Err refused.Fault) (Some aborted_log)) (some_log (log (removal ∷ Nothing ∷ [])) known is) (refl, ([], refl)));
+    }) refl refl refl
 
 aborted_traced : IsTraced (log []) aborted_entries (stand [] ([] ∷ [])) aborted_log
-aborted_traced = (
-  stand (first Finish (Ends Aborted) ∷ []) ([] ∷ []),
-  aborted_log,
-  tried_traced,
-  record {
-    after = stand [] ([] ∷ []);
-    leads = (
-      first Finish (Ends Aborted),
-      inl (refl, refl),
-      (
-        None,
-        inl (
-          first Finish (Ends Aborted),
-          inl (record {
-            tells = (Delete (record { path = the_file; stage = Finish }), ((λ h. cc), refl, refl, refl), refl);
-            called = refl;
-            settled = λ goes fresh. absurd (true≢false (sym fresh));
-            leaves = (None, refl, λ known is. refl);
-          }),
-          refl,
-        ),
-        refl,
-      ),
-    );
-    stand_is = refl;
-    counts = refl;
-  },
-)
+aborted_traced =
+    own_step 1 3 (Ended Aborted None) tried_entries (stand (first Finish (Ends Aborted) ∷ []) ([] ∷ [])) (stand [] ([] ∷ [])) aborted_log aborted_log (first Finish (Ends Aborted)) (first Finish (Ends Aborted)) tried_traced (inl (refl, refl))
+    (record {
+      tells = (Delete (record { path = the_file; stage = Finish }), ((λ h. cc), refl, refl, refl), refl);
+      called = refl;
+      settled = λ goes fresh. absurd (true≢false (sym fresh));
+      leaves = (None, refl, λ known is. refl);
+    }) refl refl refl
 
 -- then the file is in doubt: the history tells that it is gone, and a crash may bring it back, as it was before
 in_doubt : (image : FileSystem) × IsCrashImage aborted_log 3 image × (is_unsettled aborted_log the_file ≡ true) × (value_at image the_file ≡ (earlier_tree (log []) aborted_log aborted_entries the_file).value)
@@ -296,18 +239,121 @@ stays_away image left =
     by (inl safe) = either (safe the_file (λ part. part.named))
     by (inr safe) = either (safe the_file (λ part. part.named))
 
--- The session closes. Of the file no change waits on, as the law says: it is settled since that sync.
-abbrev ended_entries : List Entry
-ended_entries = entry 4 Closed ∷ settled_entries
+-- its first change
+abbrev change : Entry
+change = entry 5 (Step 2 (Removed another))
 
-ended_traced : IsTraced (log []) ended_entries (stand (second ∷ []) []) settled_log
-ended_traced = (stand (second ∷ []) [], settled_log, settled_traced, record { after = stand (second ∷ []) []; leads = (refl, refl); stand_is = refl; counts = refl })
+abbrev changed_entries : List Entry
+changed_entries = change ∷ settled_entries
+
+abbrev changed_log : CallLog
+changed_log = log (removal ∷ Nothing ∷ Nothing ∷ Syncs 0 ∷ Removes 0 (2 ∷ []) 2 ∷ [])
+
+abbrev changed : Running
+changed = job 2 another Sync GoesOn
+
+changed_traced : IsTraced (log []) changed_entries (stand (changed ∷ []) ([] ∷ [])) changed_log
+changed_traced =
+    own_step 2 5 (Removed another) settled_entries (stand (second ∷ []) []) (stand (changed ∷ []) ([] ∷ [])) settled_log changed_log second changed settled_traced (inl (refl, refl))
+    (record {
+      tells = (Delete (record { path = another; stage = Sync }), (refl, refl, refl), refl);
+      called = (refl, (pos 0, refl));
+      settled = λ goes fresh kept among. absurd among;
+      leaves = refl;
+    }) refl refl refl
+
+first_change : HasBegun change settled_entries []
+first_change = record {
+  id = 2;
+  did = Removed another;
+  item = jobs.Removes another;
+  reports = refl;
+  begins = refl;
+  unchanged = refl;
+  its = refl;
+  within = refl;
+}
+
+-- then the first file is in doubt no more, as the law says
+calmed : is_unsettled (log_prefix (log []) 5 changed_log) the_file ≡ true → ⊥
+calmed waits = by (calm_law (log []) changed_log changed_entries (stand (changed ∷ []) ([] ∷ [])) small_tree refl changed_traced change settled_entries [] the_file first_change (inl (refl, refl, refl)) waits)
+  where
+    by : (names_path change.what the_file ≡ true) ⊎ IsApart (log_prefix (log []) 4 changed_log) [] [] → ⊥
+    by (inl named) = true≢false (sym named)
+    by (inr (inl missing)) = cc
+    by (inr (inr (number, here, elsewhere))) = elsewhere here
+
+-- its folder is synced, and it is finished
+abbrev synced_entries : List Entry
+synced_entries = entry 6 (Step 2 Barrier) ∷ changed_entries
+
+abbrev end : Entry
+end = entry 6 (Step 2 (Ended Finished None))
+
+abbrev finished_entries : List Entry
+finished_entries = end ∷ synced_entries
+
+abbrev finished_log : CallLog
+finished_log = log (removal ∷ Nothing ∷ Nothing ∷ Syncs 0 ∷ Removes 0 (2 ∷ []) 2 ∷ Syncs 0 ∷ [])
+
+abbrev synced : Running
+synced = job 2 another Finish GoesOn
+
+synced_traced : IsTraced (log []) synced_entries (stand (synced ∷ []) []) finished_log
+synced_traced =
+    own_step 2 6 Barrier changed_entries (stand (changed ∷ []) ([] ∷ [])) (stand (synced ∷ []) []) changed_log finished_log changed synced changed_traced (inl (refl, refl))
+    (record {
+      tells = (Delete (record { path = another; stage = Finish }), (refl, refl), refl);
+      called = (refl, (pos 0, refl));
+      settled = λ goes fresh. absurd (true≢false (sym fresh));
+      leaves = refl;
+    }) refl refl refl
+
+finished_traced : IsTraced (log []) finished_entries (stand [] []) finished_log
+finished_traced =
+    own_step 2 6 (Ended Finished None) synced_entries (stand (synced ∷ []) []) (stand [] []) finished_log finished_log synced synced synced_traced (inl (refl, refl))
+    (record {
+      tells = (Delete (record { path = another; stage = Finish }), (refl, refl, refl), refl);
+      called = refl;
+      settled = λ goes fresh. absurd (true≢false (sym fresh));
+      leaves = refl;
+    }) refl refl refl
+
+-- The session closes. Of the first file no change waits, as the law says: it is settled since that sync.
+abbrev ended_entries : List Entry
+ended_entries = entry 6 Closed ∷ finished_entries
+
+ended_traced : IsTraced (log []) ended_entries (stand [] []) finished_log
+ended_traced = (stand [] [], finished_log, finished_traced, record { after = stand [] []; leads = (refl, refl); stand_is = refl; counts = refl })
 
 no_live_part : IsLivePart (live_jobs settled_entries) the_file → ⊥
 no_live_part (found, inl same, is) = let none : (let o : Option Route = None in o) ≡ Some the_file = ap (λ (l : LiveJob). l.part) (sym same) ∙ is in cc
 no_live_part (found, inr none, is) = none
 
-still_settled : is_unsettled (log_prefix (log []) 4 settled_log) the_file ≡ false
+still_settled : is_unsettled (log_prefix (log []) 6 finished_log) the_file ≡ false
 still_settled =
-    stays_law (log []) settled_log ended_entries settled_entries ended_entries ended_entries (stand (second ∷ []) []) 4 the_file small_tree refl ended_traced (inl (refl, refl, refl)) (inr (refl, inl refl)) (inr (refl, inl refl))
+    stays_law (log []) finished_log ended_entries settled_entries ended_entries ended_entries (stand [] []) 6 the_file small_tree refl ended_traced (inl (refl, refl, refl)) since since
     refl no_live_part
+  where
+    since : IsUnnamedSince settled_entries the_file ended_entries
+    since = inr (refl, inr (refl, inr (refl, inr (refl, inl refl))))
+
+-- and the second stays gone
+has_finished : HasFinished end synced_entries []
+has_finished = record {
+  id = 2;
+  part = None;
+  item = jobs.Removes another;
+  ended = refl;
+  changed = refl;
+  its = refl;
+  within = refl;
+}
+
+stays_gone : (image : FileSystem) → IsCrashImage finished_log 6 image → value_at image another ≡ None
+stays_gone image left =
+    done_law (log []) finished_log ended_entries (stand [] []) small_tree refl ended_traced end synced_entries ended_entries ended_entries 6 another image has_finished (λ part. part.named) refl (inl (refl, refl, refl))
+    since since left
+  where
+    since : IsUnnamedSince finished_entries another ended_entries
+    since = inr (refl, inl refl)
