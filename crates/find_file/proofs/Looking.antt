@@ -1,0 +1,195 @@
+-- Steps at a task: what a look, a read or a listing brings, and what is told where it was refused.
+use Rattle.std.proofs.Common.{◌≡◌, ◌≢◌, ℕ, suc, ◌+◌, ◌*◌, ◌^◌, ◌<◌, ◌≤◌, Bool, true, false, not, cond, List, [], ◌∷◌, ◌++◌, length, map, flat_map, refl, sym, ap, subst, ◌∙◌, arith}
+use Rattle.std.specs.Prelude.{◌&&◌, Option, Some, None, Result, Ok, Err, IfOk, IfErr, IsErrOf}
+use Rattle.std.proofs.lemmas.List.Folds.{flat_map-map}
+use Rattle.mc_text.specs.declared.error.NoMemory.{NoMemory}
+use Rattle.mc_text.specs.declared.kind.Kind.{Kind}
+use Rattle.mc_text.specs.declared.kind.Kind.TheVariants as kinds
+use Rattle.mc_text.specs.Routes.{Route, spelled}
+use Rattle.tagging.specs.Patterns.{is_found}
+use Rattle.tree_trait.specs.declared.file_system.FileSystem.{FileSystem}
+use Rattle.tree_trait.specs.declared.calls.TreeError.{TreeError}
+use Rattle.tree_trait.specs.declared.calls.TreeError.TheVariants.{Missing, NotFolder, Denied, Exists, IsFolder, NotEmpty, IntoItself, Mounted, CrossMount, NoSpace, Special, Fault, Memory}
+use Rattle.tree_trait.specs.declared.calls.Children.{Children}
+use Rattle.tree_trait.specs.Calls.{Call, Stat, ListFolder, ReadAt}
+use Rattle.tree_trait.specs.FileSystem.{node}
+use Rattle.tree_trait.specs.Change.{CallLog, current, found}
+use Rattle.tree_trait.specs.Refusals.{refusal_of}
+use Rattle.tree_trait.specs.Answers.{Reads, HasCause, HasRisen, IsListing, IsAscending}
+use Rattle.find_file.specs.declared.found.Found.{Found}
+use Rattle.find_file.specs.declared.found.Found.TheVariants.{Path, Skipped, End}
+use Rattle.find_file.specs.declared.search.Search.{Search}
+use Rattle.find_file.specs.declared.walk.Walk.{Walk}
+use Rattle.find_file.specs.declared.walk.Task.{Task}
+use Rattle.find_file.specs.declared.walk.Task.TheVariants.{Look, List as ListTask}
+use Rattle.find_file.specs.FoundList.{is_by_name, holds, brings, path_if, read, by_kind, looked, child, names_in, listed, found_list}
+use Rattle.find_file.specs.Folders.{OpenFolder, child_of}
+use Rattle.find_file.specs.Walks.{bytes_left, weight, of_child, of_children, of_folder, of_folders, of_task, left_of, left_in, rank_of_folder, rank_of_folders, rank_of, rank}
+use Rattle.find_file.specs.Telling.{place_of, call_of, Advances, Steps, StandsAt, HasReason, Works, with_task, cause_at}
+use Rattle.find_file.proofs.InOrder.{listed_names}
+use Rattle.find_file.proofs.Levels.{found_list_is}
+use Rattle.find_file.proofs.Ranking.{rank-in}
+use Rattle.find_file.proofs.Standing.{left-at, rank-at}
+
+-- what a look at a thing brings, by its kind
+pub look-kind : (s : FileSystem) (search : Search) (is_named : Bool) (path : Route) (below : List Found) (kind : Kind)
+    → refusal_of s (Stat path) ≡ None → (node s (found s path)).kind ≡ kind → looked s search is_named path below ≡ by_kind kind s search is_named path below
+look-kind s search is_named path below kind stands is =
+    ap (λ o. brings o path (by_kind (node s (found s path)).kind s search is_named path below)) stands ∙ ap (λ k. by_kind k s search is_named path below) is
+
+module _ (s : FileSystem) (search : Search) (old : Walk) (none : old.task ≡ None) where
+  abbrev pub rest : List Found
+  rest = of_folder s search old.inner ++ of_folders s search old.around.nearest
+
+  left-old : (new : Walk) → new ≡ old → left_in s search new ≡ rest
+  left-old new same = ap (λ (w : Walk). left_in s search w) same ∙ ap (λ t. of_task s search t ++ rest) none
+
+  -- a refusal
+  skips : (task : Task) (call : Call) (e : TreeError) (all : List Found) → of_task s search (Some task) ≡ brings (refusal_of s call) (place_of task) all
+      → refusal_of s call ≡ Some e → of_task s search (Some task) ++ rest ≡ Skipped (place_of task) e ∷ left_in s search old
+  skips task call e all is refused =
+      ap (λ l. l ++ rest) (is ∙ ap (λ o. brings o (place_of task) all) refused) ∙ ap (λ l. Skipped (place_of task) e ∷ l) (sym (left-old old refl))
+
+module _ (log : CallLog) (search : Search) (old : Walk) (none : old.task ≡ None) where
+  refuses : (A : Type 0) (P : A → Type 0) (task : Task) (call : Call) (e : TreeError) (all : List Found)
+      → of_task (current log) search (Some task) ≡ brings (refusal_of (current log) call) (place_of task) all
+      → (refusal_of (current log) call ≡ None → refusal_of (current log) (call_of task) ≡ None)
+      → Reads {A = A} log call (Err e) P → e ≢ Memory
+      → Advances (current log) search (of_task (current log) search (Some task) ++ rest (current log) search old none) (Ok (Some (Skipped (place_of task) e))) (left_in (current log) search old)
+  refuses A P task call Fault all is allowed h some = record {
+    task = task;
+    place = refl;
+    allowed = allowed h;
+    missing = ap (λ l. of_task (current log) search (Some task) ++ l) (sym (left-old (current log) search old none old refl));
+  }
+  refuses A P task call Memory all is allowed h some = absurd (some refl)
+  refuses A P task call Missing all is allowed h some = skips (current log) search old none task call Missing all is h
+  refuses A P task call NotFolder all is allowed h some = skips (current log) search old none task call NotFolder all is h
+  refuses A P task call Denied all is allowed h some = skips (current log) search old none task call Denied all is h
+  refuses A P task call Exists all is allowed h some = skips (current log) search old none task call Exists all is h
+  refuses A P task call IsFolder all is allowed h some = skips (current log) search old none task call IsFolder all is h
+  refuses A P task call NotEmpty all is allowed h some = skips (current log) search old none task call NotEmpty all is h
+  refuses A P task call IntoItself all is allowed h some = skips (current log) search old none task call IntoItself all is h
+  refuses A P task call Mounted all is allowed h some = skips (current log) search old none task call Mounted all is h
+  refuses A P task call CrossMount all is allowed h some = skips (current log) search old none task call CrossMount all is h
+  refuses A P task call NoSpace all is allowed h some = skips (current log) search old none task call NoSpace all is h
+  refuses A P task call Special all is allowed h some = skips (current log) search old none task call Special all is h
+
+  pub refused : (A : Type 0) (P : A → Type 0) (task : Task) (call : Call) (e : TreeError) (all : List Found) (new : Walk) (r : Result (Option Found) NoMemory)
+      → of_task (current log) search (Some task) ≡ brings (refusal_of (current log) call) (place_of task) all
+      → (refusal_of (current log) call ≡ None → refusal_of (current log) (call_of task) ≡ None)
+      → Reads {A = A} log call (Err e) P
+      → IfOk r (λ told. (told ≡ Some (Skipped (place_of task) e)) × (e ≢ Memory) × (new ≡ old))
+      → IfErr r (λ _. (e ≡ Memory) × (new ≡ with_task old task))
+      → Steps (current log) search (with_task old task) r new
+  refused A P task call e all new (Ok told) is allowed h ok err =
+      subst (λ t. Advances (current log) search (left_in (current log) search (with_task old task)) (Ok t) (left_in (current log) search new)) (sym ok.0)
+      (subst (λ (w : Walk). Advances (current log) search (left_in (current log) search (with_task old task)) (Ok (Some (Skipped (place_of task) e))) (left_in (current log) search w)) (sym ok.2)
+      (refuses A P task call e all is allowed h ok.1))
+  refused A P task call e all new (Err x) is allowed h ok err = ap (λ (w : Walk). left_in (current log) search w) err.1
+
+-- ---- how many steps are left, and why a path was skipped
+
+module _ (task : Task) (old new : Walk) (before after : ℕ) where
+  pub works-silent : before ≤ after → rank new < rank (with_task old task) → Works task old new before after (Ok None)
+  works-silent later fewer = record {
+    falls = λ h. fewer;
+    reason = record { later = later; risen = λ h. absurd (cc); no_want = λ h. absurd (cc) };
+    not_end = λ h. absurd (cc);
+  }
+
+  pub works-waits : (e : NoMemory) → before ≤ after → Works task old new before after (Err e)
+  works-waits e later = record {
+    falls = λ h. absurd (cc);
+    reason = record { later = later; risen = λ h. absurd (cc); no_want = λ h. absurd (cc) };
+    not_end = λ h. absurd (cc);
+  }
+
+  pub works-refused : (A : Type 0) (e : TreeError) (r : Result (Option Found) NoMemory) → HasCause {T = A} Fault before after (Err e)
+      → IfOk r (λ told. (told ≡ Some (Skipped (place_of task) e)) × (e ≢ Memory) × (new ≡ old)) → Works task old new before after r
+  works-refused A e (Ok told) cause ok =
+      subst (λ t. Works task old new before after (Ok t)) (sym ok.0) (record {
+        falls = λ h. absurd (cc);
+        reason = record {
+          later = cause.later;
+          risen = λ h. cause.risen (let is : e ≡ Fault = cc in ap (λ x. let r : Result A TreeError = Err x in r) is);
+          no_want = λ h. ok.1 (let is : e ≡ Memory = cc in is);
+        };
+        not_end = λ h. absurd (cc);
+      })
+  works-refused A e (Err x) cause ok = works-waits x cause.later
+
+few_more : (a b c : ℕ) → a ≡ b → b < c → a < c
+few_more a b c same less = omega (arith, same, less)
+
+-- ---- a folder that was listed
+
+pub brings-children : (s : FileSystem) (search : Search) (folder : Route) (children : Children) → length (spelled folder) ≤ 4096
+    → refusal_of s (ListFolder folder) ≡ None → IsListing s (found s folder) children → IsAscending children.names
+    → found_list s search folder ≡ of_children s search folder (map (child_of search.name) children.names)
+brings-children s search folder children short stands listing up =
+    found_list_is s search folder short
+    ∙ (ap (λ o. brings o folder (flat_map (λ name. child s search (is_found search.name name) name folder (found_list s search (name ∷ folder))) (names_in s folder))) stands
+    ∙ (ap (λ names. flat_map (λ name. child s search (is_found search.name name) name folder (found_list s search (name ∷ folder))) names) (sym (listed_names s folder children up listing))
+    ∙ sym (flat_map-map (of_child s search folder) (child_of search.name) children.names)))
+
+module _ (search : Search) (old new : Walk) (folder : Route) (names : List (List ℕ)) where
+  abbrev pub Entered : Option Found → Type 0
+  Entered told = (told ≡ None) × StandsAt new None (record { path = folder; children = map (child_of search.name) names }) (old.inner ∷ old.around.nearest)
+
+  abbrev pub Waits : Type 0
+  Waits = StandsAt new (Some (ListTask folder)) old.inner old.around.nearest
+
+  pub enters : (s : FileSystem) (r : Result (Option Found) NoMemory) → found_list s search folder ≡ of_children s search folder (map (child_of search.name) names)
+      → IfOk r Entered → IfErr r (λ _. Waits) → Steps s search (with_task old (ListTask folder)) r new
+  enters s (Ok told) is ok err =
+      subst (λ t. Advances s search (left_in s search (with_task old (ListTask folder))) (Ok t) (left_in s search new)) (sym ok.0)
+      (left-at new None (record { path = folder; children = map (child_of search.name) names }) (old.inner ∷ old.around.nearest) s search ok.1
+      ∙ sym (ap (λ l. l ++ (of_folder s search old.inner ++ of_folders s search old.around.nearest)) is))
+  enters s (Err x) is ok err = left-at new (Some (ListTask folder)) old.inner old.around.nearest s search err
+
+  pub works-enters : (r : Result (Option Found) NoMemory) (before after : ℕ) → before ≤ after → IfOk r Entered
+      → IfOk r (λ _. length new.inner.children ≤ 2 ^ 64) → Works (ListTask folder) old new before after r
+  works-enters (Ok told) before after later ok few =
+      subst (λ t. Works (ListTask folder) old new before after (Ok t)) (sym ok.0)
+      (works-silent (ListTask folder) old new before after later
+      (few_more (rank new) (rank_of None (record { path = folder; children = map (child_of search.name) names }) (old.inner ∷ old.around.nearest)) (rank (with_task old (ListTask folder)))
+      (rank-at new None (record { path = folder; children = map (child_of search.name) names }) (old.inner ∷ old.around.nearest) ok.1)
+      (rank-in folder (length (map (child_of search.name) names)) (rank_of_folder old.inner + rank_of_folders old.around.nearest)
+      (subst (λ (f : OpenFolder). length f.children ≤ 2 ^ 64) ok.1.inner_is few))))
+  works-enters (Err x) before after later ok few = works-waits (ListTask folder) old new before after x later
+
+-- ---- each call of the tree
+
+module _ (log : CallLog) (search : Search) (old : Walk) (none : old.task ≡ None) (A : Type 0) (P : A → Type 0) (e : TreeError) (new : Walk) (r : Result (Option Found) NoMemory) where
+  pub list-refused : (folder : Route) → length (spelled folder) ≤ 4096 → Reads {A = A} log (ListFolder folder) (Err e) P
+      → IfOk r (λ told. (told ≡ Some (Skipped folder e)) × (e ≢ Memory) × (new ≡ old)) → IfErr r (λ _. (e ≡ Memory) × (new ≡ with_task old (ListTask folder)))
+      → Steps (current log) search (with_task old (ListTask folder)) r new
+  list-refused folder short h ok err =
+      refused log search old none A P (ListTask folder) (ListFolder folder) e
+      (flat_map (λ name. child (current log) search (is_found search.name name) name folder (found_list (current log) search (name ∷ folder))) (names_in (current log) folder))
+      new r (found_list_is (current log) search folder short) (λ allowed. allowed) h ok err
+
+  pub look-refused : (path : Route) (is_named : Bool) → Reads {A = A} log (Stat path) (Err e) P
+      → IfOk r (λ told. (told ≡ Some (Skipped path e)) × (e ≢ Memory) × (new ≡ old)) → IfErr r (λ _. (e ≡ Memory) × (new ≡ with_task old (Look path is_named)))
+      → Steps (current log) search (with_task old (Look path is_named)) r new
+  look-refused path is_named h ok err =
+      refused log search old none A P (Look path is_named) (Stat path) e
+      (by_kind (node (current log) (found (current log) path)).kind (current log) search is_named path (found_list (current log) search path))
+      new r refl (λ allowed. allowed) h ok err
+
+  pub read-refused : (path : Route) (is_named : Bool) → refusal_of (current log) (Stat path) ≡ None → (node (current log) (found (current log) path)).kind ≡ kinds.File
+      → (is_named && not (is_by_name search)) ≡ true → Reads {A = A} log (ReadAt path 0 0) (Err e) P
+      → IfOk r (λ told. (told ≡ Some (Skipped path e)) × (e ≢ Memory) × (new ≡ old)) → IfErr r (λ _. (e ≡ Memory) × (new ≡ with_task old (Look path is_named)))
+      → Steps (current log) search (with_task old (Look path is_named)) r new
+  read-refused path is_named stands kind asks h ok err =
+      refused log search old none A P (Look path is_named) (ReadAt path 0 0) e
+      (path_if (holds search.content (node (current log) (found (current log) path)).bytes) path) new r
+      (look-kind (current log) search is_named path (found_list (current log) search path) kinds.File stands kind ∙ ap (λ b. cond b (read (current log) search path) []) asks)
+      (λ allowed. stands) h ok err
+
+-- the tests of a reading
+pub asked : (is_named by_name : Bool) → is_named ≡ true → by_name ≡ false → (is_named && not by_name) ≡ true
+asked true true h k = cc
+asked true false h k = refl
+asked false by_name h k = cc

@@ -1,0 +1,92 @@
+-- What a search finds below a folder, as one list: each thing before what lies below it, a folder's children in byte order
+-- of their names. The order and what is skipped are own (find(1) leaves the order open; links aren't followed, as by its -P).
+use Rattle.std.specs.Prelude.{ℕ, zero, suc, ◌==◌, Bool, true, false, not, ◌&&◌, ◌||◌, nat_lt, if◌then◌else◌, List, [], ◌∷◌, ◌++◌, length, take, flat_map, Option, Some, None}
+use Rattle.std.specs.Str.{bytes_eq}
+use Rattle.mc_text.specs.declared.kind.Kind.{Kind}
+use Rattle.mc_text.specs.declared.kind.Kind.TheVariants as kinds
+use Rattle.mc_text.specs.Routes.{Route, spelled}
+use Rattle.tagging.specs.Patterns.{is_found}
+use Rattle.tree_trait.specs.declared.file_system.FileSystem.{FileSystem}
+use Rattle.tree_trait.specs.declared.file_system.Node.{Node}
+use Rattle.tree_trait.specs.declared.calls.TreeError.{TreeError}
+use Rattle.tree_trait.specs.Calls.{Call, Stat, ListFolder, ReadAt}
+use Rattle.tree_trait.specs.FileSystem.{node}
+use Rattle.tree_trait.specs.Change.{found}
+use Rattle.tree_trait.specs.Refusals.{refusal_of}
+use Rattle.tree_rules.specs.Listed.{gathered}
+use Rattle.find_file.specs.declared.search.Search.{Search}
+use Rattle.find_file.specs.declared.found.Found.{Found}
+use Rattle.find_file.specs.declared.found.Found.TheVariants.{Path, Skipped}
+
+-- the name alone decides: no content is asked for
+abbrev pub is_by_name : Search → Bool
+is_by_name search = length search.content == 0
+
+-- a name that begins with a dot
+abbrev pub is_hidden : List ℕ → Bool
+is_hidden [] = false
+is_hidden (byte ∷ rest) = byte == 46
+
+-- a name that the search leaves out
+abbrev pub leaves_out : Search → List ℕ → Bool
+leaves_out search name = not search.hidden && is_hidden name
+
+-- a thing that is passed over with all below it: its name is left out, or its path has more than 4,096 bytes
+abbrev pub is_passed_over : Search → List ℕ → Route → Bool
+is_passed_over search name folder = leaves_out search name || nat_lt 4096 (length (spelled (name ∷ folder)))
+
+-- the content stands somewhere among the bytes
+abbrev pub holds : List ℕ → List ℕ → Bool
+holds content [] = length content == 0
+holds content (byte ∷ bytes) = bytes_eq (take (length content) (byte ∷ bytes)) content || holds content bytes
+
+-- what a call at a path brings, where it isn't refused; else the path is skipped
+abbrev pub brings : Option TreeError → Route → List Found → List Found
+brings None path found = found
+brings (Some error) path found = Skipped path error ∷ []
+
+-- the path, where it is found
+abbrev pub path_if : Bool → Route → List Found
+path_if is path = if is then Path path ∷ [] else []
+
+-- what reading a file brings
+abbrev pub read : FileSystem → Search → Route → List Found
+read s search path = brings (refusal_of s (ReadAt path 0 0)) path (path_if (holds search.content (node s (found s path)).bytes) path)
+
+-- what a thing of a kind brings once it was looked at; `below` is what is found below it
+abbrev pub by_kind : Kind → FileSystem → Search → Bool → Route → List Found → List Found
+by_kind kinds.Folder s search is_named path below = if search.recursive then below else []
+by_kind kinds.File s search is_named path below = if is_named && not (is_by_name search) then read s search path else []
+by_kind kinds.Link s search is_named path below = []
+by_kind kinds.Other s search is_named path below = []
+
+-- what a look at a thing brings: a folder what lies below it; a file itself, where the pattern finds its name and its bytes hold
+-- the content that is looked for
+abbrev pub looked : FileSystem → Search → Bool → Route → List Found → List Found
+looked s search is_named path below =
+    brings (refusal_of s (Stat path)) path (by_kind (node s (found s path)).kind s search is_named path below)
+
+-- a child of a folder: it is found at once where the name alone decides; then it is looked at
+abbrev pub child : FileSystem → Search → Bool → List ℕ → Route → List Found → List Found
+child s search is_named name folder below =
+    if is_passed_over search name folder then [] else
+    path_if (is_named && is_by_name search) (name ∷ folder)
+    ++ looked s search is_named (name ∷ folder) below
+
+-- the names in a folder, in byte order
+abbrev pub names_in : FileSystem → Route → List (List ℕ)
+names_in s folder = gathered s (found s folder) s.names
+
+-- what a folder brings, where `below` says what is found below its children
+abbrev pub listed : FileSystem → Search → Route → (Route → List Found) → List Found
+listed s search folder below = brings (refusal_of s (ListFolder folder)) folder
+    (flat_map (λ name. child s search (is_found search.name name) name folder (below (name ∷ folder))) (names_in s folder))
+
+-- what is found below a folder, so many levels down
+unfoldable pub found_within : ℕ → FileSystem → Search → Route → List Found
+found_within zero s search folder = []
+found_within (suc levels) s search folder = listed s search folder (found_within levels s search)
+
+-- What is found below a folder. A path of at most 4,096 bytes has fewer than 4,097 names, so all levels are met.
+unfoldable pub found_list : FileSystem → Search → Route → List Found
+found_list s search start = found_within 4097 s search start

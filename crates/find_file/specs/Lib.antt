@@ -1,0 +1,4 @@
+pub mod FoundList
+pub mod Folders
+pub mod Walks
+pub mod Telling

@@ -1,0 +1,129 @@
+//! Whether a file holds some bytes.
+ghost use Rattle.std.specs.Prelude.{◌≡◌, ◌≤◌, ◌<◌, ◌-◌, ◌^◌, ◌++◌, length, drop, take, IfOk, IfSome, MatchOption};
+ghost use Rattle.tree_trait.specs.Calls.{ReadAt};
+ghost use Rattle.tree_trait.specs.FileSystem.{node};
+ghost use Rattle.tree_trait.specs.Change.{current, found};
+ghost use Rattle.tree_trait.specs.Answers.{HasCause, IfKnown, Reads};
+ghost use Rattle.find_file.specs.FoundList.{holds};
+
+use mc_text::Path;
+use memchr::memmem::Finder;
+use std::alloc::{AllocError, Global};
+use tree_trait::{Tree, TreeError};
+
+/// The most bytes that a file has.
+const FILE_BYTES: u64 = 1 << 63;
+
+/// The most bytes that a piece has.
+const PIECE_BYTES: usize = 65536;
+
+/// Whether a file holds these bytes, of which there are some. It is read piece by piece up to the first place, and as many
+/// bytes are kept from one piece to the next as may begin a place.
+pub fn file_holds<T: Tree>(
+    alloc: Global,
+    tree: &mut T,
+    path: &Path,
+    content: &[u8],
+) -> Result<bool, TreeError>
+    requires some { 1 ≤ length content.now }
+    ensures answer { IfKnown (T.contents tree.old) (λ log.
+        length (node (current log) (found (current log) path.now)).bytes ≤ 2 ^ 63
+        → Reads log (ReadAt path.now 0 0) result (λ is. is ≡ holds content.now (node (current log) (found (current log) path.now)).bytes)) }
+    ensures same { T.contents tree.new ≡ T.contents tree.old }
+    ensures cause { HasCause TreeError.Fault (T.fault_count tree.old) (T.fault_count tree.new) result }
+{
+    read_through(alloc, tree, path, &Finder::new(content), content.len())
+}
+
+/// Reads a file from its beginning to the first place where the finder's bytes stand, or to its end.
+fn read_through<T: Tree>(
+    alloc: Global,
+    tree: &mut T,
+    path: &Path,
+    finder: &Finder<'_>,
+    width: usize,
+) -> Result<bool, TreeError>
+    requires width { width ≡ length finder.now }
+    requires some { 1 ≤ length finder.now }
+    ensures answer { IfKnown (T.contents tree.old) (λ log.
+        length (node (current log) (found (current log) path.now)).bytes ≤ 2 ^ 63
+        → Reads log (ReadAt path.now 0 0) result (λ is. is ≡ holds finder.now (node (current log) (found (current log) path.now)).bytes)) }
+    ensures same { T.contents tree.new ≡ T.contents tree.old }
+    ensures cause { HasCause TreeError.Fault (T.fault_count tree.old) (T.fault_count tree.new) result }
+{
+    let mut kept = Vec::new(alloc);
+    let mut offset = 0;
+    while offset < FILE_BYTES {
+        let piece = match next_piece(alloc, tree, path, offset, PIECE_BYTES) {
+            Ok(Some(piece)) => piece,
+            Ok(None) => return Ok(false),
+            Err(error) => return Err(error),
+        };
+        let bytes = piece.as_slice();
+        let Ok(stretch) = joined(alloc, kept.as_slice(), bytes) else {
+            return Err(TreeError::Memory);
+        };
+        if is_in(finder, stretch.as_slice()) {
+            return Ok(true);
+        }
+        let Ok(last) = last_of(alloc, stretch.as_slice(), width - 1) else {
+            return Err(TreeError::Memory);
+        };
+        kept = last;
+        offset += bytes.len() as u64;
+    }
+    Ok(false)
+}
+
+/// The next piece of a file from an offset on, of at most so many bytes. At the file's end there is none.
+fn next_piece<T: Tree>(
+    alloc: Global,
+    tree: &mut T,
+    path: &Path,
+    offset: u64,
+    most: usize,
+) -> Result<Option<Vec<u8>>, TreeError>
+    requires { 1 ≤ most }
+    ensures answer { IfKnown (T.contents tree.old) (λ log. Reads log (ReadAt path.now 0 0) result (λ piece.
+        let file = (node (current log) (found (current log) path.now)).bytes in
+        MatchOption piece (length file ≤ offset) (λ bytes. bytes.items ≡ take (length bytes.items) (drop offset file)))) }
+    ensures some { IfOk result (λ piece. IfSome piece (λ bytes. 1 ≤ length bytes.items)) }
+    ensures same { T.contents tree.new ≡ T.contents tree.old }
+    ensures cause { HasCause TreeError.Fault (T.fault_count tree.old) (T.fault_count tree.new) result }
+{
+    let Ok(mut bytes) = vec![in alloc; 0u8; most] else {
+        return Err(TreeError::Memory);
+    };
+    match tree.read_at(alloc, path, offset, bytes.as_mut_slice()) {
+        Ok(0) => Ok(None),
+        Ok(count) => {
+            bytes.truncate(count);
+            Ok(Some(bytes))
+        }
+        Err(error) => Err(error),
+    }
+}
+
+/// The bytes that were kept, and a piece behind them.
+fn joined(alloc: Global, kept: &[u8], piece: &[u8]) -> Result<Vec<u8>, AllocError>
+    ensures { IfOk result (λ stretch. stretch.items ≡ kept.now ++ piece.now) }
+{
+    let mut stretch = Vec::from_slice(alloc, kept)?;
+    stretch.extend_from_slice(piece)?;
+    Ok(stretch)
+}
+
+/// The last of some bytes, at most so many.
+fn last_of(alloc: Global, bytes: &[u8], count: usize) -> Result<Vec<u8>, AllocError>
+    ensures { IfOk result (λ last. last.items ≡ drop (length bytes.now - count) bytes.now) }
+{
+    Vec::from_slice(alloc, &bytes[bytes.len().saturating_sub(count)..])
+}
+
+/// Whether the finder's bytes stand anywhere among these.
+fn is_in(finder: &Finder<'_>, bytes: &[u8]) -> bool
+    requires { 1 ≤ length finder.now }
+    ensures { result ≡ holds finder.now bytes.now }
+{
+    finder.find(bytes).is_some()
+}
