@@ -1,0 +1,6 @@
+pub mod ItemLemmas
+pub mod OrderLemmas
+pub mod ArrangeLemmas
+pub mod FormatLemmas
+pub mod RowLemmas
+pub mod ReadingLemmas

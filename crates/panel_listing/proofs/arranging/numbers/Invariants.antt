@@ -1,0 +1,6 @@
+-- The numbers so far.
+use Rattle.std.proofs.Common.{◌≡◌, map, take}
+use Rattle.panel_listing.proofs.arranging.numbers.Given as goal
+
+abbrev pub invariant-loop-row : goal.invariant-loop-row
+invariant-loop-row l = l.numbers.items ≡ map (λ row. row.number) (take l.row-index l.rows)
