@@ -9,5 +9,5 @@ use Rattle.op_plan.proofs.apart.paired.Goals as goal
 pub returns : goal.returns
 returns c =
     let end = YieldsList-end (YieldsList-from_zip (YieldsList-from_vec c.args.sources (cc) (cc)) (YieldsList-from_vec c.args.targets (cc) (cc)))
-    c.loop-source.yielded _ c.loop-source.yielded_by _ _ c.in-None.is c.next.ensures.steps in
+    c.loop-source.yielded c.loop-source.source-iterator c.loop-source.yielded_by c.next.result c.next.new.self c.in-None.is c.next.ensures.steps in
     c.loop-source.invariant ∙ paired-zip c.args.sources c.args.targets c.loop-source.yielded end.0
