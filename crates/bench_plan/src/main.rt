@@ -1,4 +1,5 @@
-//! Times the planning of many sources on real files. With no words it does nothing; bench/plan/run makes the files.
+//! Times the planning of many sources on real files, by the processor time that it takes. With no words it does nothing;
+//! bench/plan/run makes the files.
 #![tactic(auto)]
 
 use anyhow::{Result, bail};
@@ -7,7 +8,7 @@ use mc_text::{Path, Paths, Text};
 use op_plan::{Job, PlanError, Request, make_plan};
 use std::alloc::Global;
 use std::env;
-use std::time::Instant;
+use std::time::CpuClock;
 
 /// A prime, so that the sources come in another order than that of their names.
 const STRIDE: u64 = 7919;
@@ -32,9 +33,9 @@ fn time_copy(rt: &HostRuntime, folder: &str, count: u64) -> Result<()> {
         to: Text::from_str(alloc, "t")?,
     };
     let mut tree = HostTree::new(*rt);
-    let start = Instant::now(rt)?;
+    let start = rt.process_cpu_time()?;
     let answer = make_plan(alloc, &mut tree, request);
-    let micros = start.elapsed(rt)?.as_micros();
+    let micros = rt.process_cpu_time()?.saturating_sub(start).as_micros();
     match answer {
         Ok(Job::Copy(_pairs)) => println!(rt; "copy {micros}")?,
         Ok(_job) => bail!("another job"),
@@ -51,9 +52,9 @@ fn time_nested(rt: &HostRuntime, folder: &str, count: u64) -> Result<()> {
     paths.push(Path::parse(alloc, text.as_str())?)?;
     let sources = Paths(paths);
     let mut tree = HostTree::new(*rt);
-    let start = Instant::now(rt)?;
+    let start = rt.process_cpu_time()?;
     let answer = make_plan(alloc, &mut tree, Request::Delete { sources });
-    let micros = start.elapsed(rt)?.as_micros();
+    let micros = rt.process_cpu_time()?.saturating_sub(start).as_micros();
     match answer {
         Err(PlanError::Nested(_first, _second)) => println!(rt; "nested {micros}")?,
         Err(error) => bail!("refused otherwise: {error}"),

@@ -1,7 +1,7 @@
 -- The checks of a plan, from what the code finds.
 use Rattle.std.proofs.Common.{◌≡◌, ℕ, ◌+◌, ◌<◌, ◌≤◌, zero, suc, Bool, true, false, cond, List, [], ◌∷◌, ◌++◌, length, map, take, drop, get_or, Option, Some, None, Ok, Err, refl, sym, ap, ◌∙◌, subst, arith}
 use Rattle.std.specs.Prelude.{◌||◌, not, nat_lt, option_map, slice_get}
-use Rattle.std.specs.List.{list_any, find, position, position_or_len}
+use Rattle.std.specs.List.{list_any, find, position, position_or_len, zip}
 use Rattle.std.specs.Str.{bytes_eq}
 use Rattle.std.proofs.Math.Seq.{drop-cons}
 use Rattle.std.proofs.lemmas.Bool.{or_parts}
@@ -145,21 +145,18 @@ twice-some pairs i j a b found is_a is_b =
 
 -- ---- sources beside their targets
 
-paired-next : (sources targets : List Route) (n : ℕ) (source target : Route) → n < length sources → n < length targets
-    → source ≡ get_or sources n source → target ≡ get_or targets n target
-    → paired (take (suc n) sources) (take (suc n) targets) ≡ paired (take n sources) (take n targets) ++ pair source target ∷ []
-paired-next [] targets n source target a b is_s is_t = absurd (omega arith)
-paired-next (s ∷ sources) [] n source target a b is_s is_t = absurd (omega arith)
-paired-next (s ∷ sources) (t ∷ targets) zero source target a b is_s is_t = ap (λ (r : Route). pair r t ∷ []) (sym is_s) ∙ ap (λ (r : Route). pair source r ∷ []) (sym is_t)
-paired-next (s ∷ sources) (t ∷ targets) (suc n) source target a b is_s is_t =
-    ap (λ (l : List Pair). pair s t ∷ l) (paired-next sources targets n source target (omega arith) (omega arith) is_s is_t)
+zipped : (sources targets : List Route) → map (λ (p : Route × Route). pair p.0 p.1) (zip sources targets) ≡ paired sources targets
+zipped [] targets = refl
+zipped (s ∷ sources) [] = refl
+zipped (s ∷ sources) (t ∷ targets) = ap (λ (l : List Pair). pair s t ∷ l) (zipped sources targets)
 
-pub paired-more : (sources targets : List Route) (n : ℕ) (source target : Route) → n < length sources → n < length targets
-    → source ≡ get_or sources n source → target ≡ get_or targets n target
-    → paired (take (n + 1) sources) (take (n + 1) targets) ≡ paired (take n sources) (take n targets) ++ pair source target ∷ []
-paired-more sources targets n source target a b is_s is_t =
-    let next : n + 1 ≡ suc n = omega arith in
-    ap (λ (k : ℕ). paired (take k sources) (take k targets)) next ∙ paired-next sources targets n source target a b is_s is_t
+pub paired-zip : (sources targets : List Route) (yielded : List (Route × Route)) → map (λ (p : Route × Route). (p.0, p.1)) yielded ≡ zip sources targets
+    → map (λ (p : Route × Route). pair p.0 p.1) yielded ≡ paired sources targets
+paired-zip sources targets yielded e = same yielded ∙ (ap (map (λ (p : Route × Route). pair p.0 p.1)) e ∙ zipped sources targets)
+  where
+    same : (l : List (Route × Route)) → map (λ (p : Route × Route). pair p.0 p.1) l ≡ map (λ (p : Route × Route). pair p.0 p.1) (map (λ (p : Route × Route). (p.0, p.1)) l)
+    same [] = refl
+    same (p ∷ l) = ap (λ (rest : List Pair). pair p.0 p.1 ∷ rest) (same l)
 
 pub sources-paired : (sources targets : List Route) → length targets ≡ length sources → sources_in (paired sources targets) ≡ sources
 sources-paired [] targets h = refl

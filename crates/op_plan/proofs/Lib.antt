@@ -1,6 +1,8 @@
 pub mod Paths
 pub mod Sorted
 pub mod Twos
+mod Siblings
+mod ApartLemmas
 pub mod MaskLemmas
 pub mod CheckLemmas
 pub mod SplitLemmas

@@ -1,12 +1,14 @@
 -- Masks, read character by character, and filled piece by piece.
-use Rattle.std.proofs.Common.{◌≡◌, ◌≢◌, ℕ, ◌+◌, ◌<◌, ◌≤◌, suc, Bool, true, false, List, [], ◌∷◌, ◌++◌, length, drop, get_or, cond, refl, sym, ap, ◌∙◌, subst, append_assoc, arith}
-use Rattle.std.specs.Prelude.{◌==◌}
+use Rattle.std.proofs.Common.{◌≡◌, ◌≢◌, ℕ, ◌+◌, ◌<◌, ◌≤◌, suc, Bool, true, false, List, [], ◌∷◌, ◌++◌, length, drop, get_or, Option, Some, None, cond, refl, sym, ap, ◌∙◌, subst, append_assoc, arith}
+use Rattle.std.specs.Prelude.{◌==◌, option_and_then, encode_utf8, slice_get}
 use Rattle.std.proofs.Math.Seq.{drop-cons}
-use Rattle.std.proofs.lemmas.List.{drop_all, append-nil}
+use Rattle.std.proofs.lemmas.List.{drop_all, append-nil, length-drop}
+use Rattle.std.proofs.lemmas.Option.{slice_get_past, slice_get-get_or}
 use Rattle.std.proofs.lemmas.Bool.Decides.{nat_tests}
 use Rattle.op_plan.specs.declared.mask.MaskPiece.{MaskPiece}
-use Rattle.op_plan.specs.declared.mask.MaskPiece.TheVariants.{OpenBackslash}
-use Rattle.op_plan.specs.Masks.{pieces_behind, quoted_piece, plain_piece}
+use Rattle.op_plan.specs.declared.mask.MaskPiece.TheVariants.{Plain, Star, WholeName, Capture, OpenBackslash}
+use Rattle.op_plan.specs.Masks.{pieces_behind, quoted_piece, plain_piece, before, numbered, pieces_text, filled}
+use Rattle.op_plan.specs.Filling.{leaving, with_rest, filled_with}
 
 next-drop : {A : Type 0} (xs : List A) (n : ℕ) (x : A) → n < length xs → x ≡ get_or xs n x → drop n xs ≡ x ∷ drop (n + 1) xs
 next-drop {A} xs n x within is_x =
@@ -41,3 +43,35 @@ behind-end front text n all = ap (λ (l : List ℕ). front ++ pieces_behind fals
 
 pub behind-end_open : (front : List MaskPiece) (text : List ℕ) (n : ℕ) → length text ≤ n → front ++ pieces_behind true (drop n text) ≡ front ++ OpenBackslash ∷ []
 behind-end_open front text n all = ap (λ (l : List ℕ). front ++ pieces_behind true l) (drop_all n text all)
+
+-- ---- the star of a number takes what the wildcard of this number took
+
+numbered_from : (name : List ℕ) (captures : List (List ℕ)) (n : ℕ) (stars : List (List ℕ)) (pieces : List MaskPiece) → stars ≡ drop n captures
+    → filled_with name captures stars pieces ≡ pieces_text name captures (numbered n pieces)
+numbered_from name captures n stars [] h = refl
+numbered_from name captures n stars (Plain c ∷ pieces) h = ap (before (encode_utf8 c)) (numbered_from name captures n stars pieces h)
+numbered_from name captures n [] (Star ∷ pieces) h =
+    let size = length-drop n captures in
+    let none : length captures ≤ n = (let same = ap length h in omega (arith, same, size)) in
+    sym (ap (option_and_then (λ text. before text (pieces_text name captures (numbered (n + 1) pieces)))) (slice_get_past captures n none))
+numbered_from name captures n (capture ∷ stars) (Star ∷ pieces) h =
+    let size = length-drop n captures in
+    let within : n < length captures = (let same = ap length h in omega (arith, same, size)) in
+    let cut : capture ∷ stars ≡ get_or captures n capture ∷ drop (suc n) captures = h ∙ drop-cons captures n capture within in
+    let here : get_or captures n capture ≡ capture = cc in
+    let later : stars ≡ drop (suc n) captures = cc in
+    let next : suc n ≡ n + 1 = omega arith in
+    ap (before capture) (numbered_from name captures (n + 1) stars pieces (later ∙ ap (λ (k : ℕ). drop k captures) next))
+    ∙ sym (ap (option_and_then (λ text. before text (pieces_text name captures (numbered (n + 1) pieces))))
+    (slice_get-get_or captures n capture within ∙ ap (λ (x : List ℕ). Some x) here))
+numbered_from name captures n stars (WholeName ∷ pieces) h = ap (before name) (numbered_from name captures n stars pieces h)
+numbered_from name captures n stars (Capture place ∷ pieces) h = captured (slice_get captures place) (numbered_from name captures n stars pieces h)
+  where
+    captured : (o : Option (List ℕ)) → filled_with name captures stars pieces ≡ pieces_text name captures (numbered n pieces)
+        → with_rest (leaving stars o) (λ left. filled_with name captures left pieces) ≡ option_and_then (λ text. before text (pieces_text name captures (numbered n pieces))) o
+    captured None same = refl
+    captured (Some text) same = ap (before text) same
+numbered_from name captures n stars (OpenBackslash ∷ pieces) h = refl
+
+pub stars_numbered : (name : List ℕ) (captures : List (List ℕ)) (pieces : List MaskPiece) → filled_with name captures captures pieces ≡ filled name captures pieces
+stars_numbered name captures pieces = numbered_from name captures 0 captures pieces refl

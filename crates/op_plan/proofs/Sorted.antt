@@ -1,5 +1,5 @@
 -- Sorted paths: where two of them meet, two neighbours do.
-use Rattle.std.proofs.Common.{◌≡◌, ℕ, ◌+◌, ◌-◌, ◌<◌, ◌≤◌, zero, suc, Bool, true, false, List, [], ◌∷◌, length, reverse, get_or, refl, sym, ap, ◌∙◌, inl, inr, subst, ⊎_elim, arith}
+use Rattle.std.proofs.Common.{◌≡◌, ℕ, ◌+◌, ◌-◌, ◌<◌, ◌≤◌, zero, suc, Bool, true, false, List, [], ◌∷◌, length, map, reverse, get_or, refl, sym, ap, ◌∙◌, inl, inr, subst, ⊎_elim, arith}
 use Rattle.std.specs.Prelude.{◌||◌}
 use Rattle.std.specs.List.{list_any}
 use Rattle.std.specs.Str.{bytes_eq}
@@ -8,8 +8,8 @@ use Rattle.std.specs.Cmp.Lexicographic.{slice_cmp}
 use Rattle.std.specs.Ordering.{is_lt, is_eq, ordering_then, ordering_reverse}
 use Rattle.std.specs.declared.cmp.Ordering.{Ordering}
 use Rattle.std.specs.declared.cmp.Ordering.TheVariants.{Less, Equal, Greater}
-use Rattle.std.specs.List.Sorted.{IsSorted}
-use Rattle.std.proofs.lemmas.List.{get_or_default}
+use Rattle.std.specs.List.Sorted.{IsSorted, IsSortedBy}
+use Rattle.std.proofs.lemmas.List.{get_or_default, get_or-map, length-map}
 use Rattle.std.proofs.lemmas.Bool.{cases_lt, false≢true, or_cases, or_left, or_right, and_parts, and_from}
 use Rattle.std.proofs.lemmas.Cmp.{nat_list_cmp_total, lists_total, on_total}
 use Rattle.std.proofs.lemmas.List.Sorted.{ranks_by, sorted_far}
@@ -17,7 +17,7 @@ use Rattle.std.proofs.lemmas.Map.Text.{is_eq-slice_cmp}
 use Rattle.mc_text.specs.Routes.{Route, is_prefix}
 use Rattle.tree_trait.specs.Answers.{name_cmp}
 use Rattle.op_plan.specs.Meeting.{meet, has_two}
-use Rattle.op_plan.specs.Sorting.{route_cmp, neighbours_meet}
+use Rattle.op_plan.specs.Sorting.{route_cmp, has_neighbours, neighbours_meet}
 use Rattle.op_plan.proofs.Paths.{bool_same, begins, same_name, same_name-from, prefix-begins}
 
 pub route_total : IsTotalOrder route_cmp
@@ -125,52 +125,65 @@ neighbours-sorted paths up =
 
 -- ---- neighbours by their positions
 
-pub neighbours-none : (paths : List Route) → ((k : ℕ) (d : Route) → suc k < length paths → is_prefix (get_or paths k d) (get_or paths (suc k) d) ≡ false)
-    → neighbours_meet paths ≡ false
-neighbours-none [] h = refl
-neighbours-none (a ∷ []) h = refl
-neighbours-none (a ∷ b ∷ paths) h =
-    let first : is_prefix a b ≡ false = h 0 a (omega arith) in
-    rw first (neighbours-none (b ∷ paths) (λ k d below. h (suc k) d (omega arith)))
+module _ {X : Type 0} (test : X → X → Bool) where
+  pub neighbours-none : (xs : List X) → ((k : ℕ) (d : X) → suc k < length xs → test (get_or xs k d) (get_or xs (suc k) d) ≡ false) → has_neighbours test xs ≡ false
+  neighbours-none [] h = refl
+  neighbours-none (a ∷ []) h = refl
+  neighbours-none (a ∷ b ∷ xs) h =
+      let first : test a b ≡ false = h 0 a (omega arith) in
+      rw first (neighbours-none (b ∷ xs) (λ k d below. h (suc k) d (omega arith)))
 
-pub neighbours-some : (paths : List Route) (k : ℕ) (d : Route) → suc k < length paths → is_prefix (get_or paths k d) (get_or paths (suc k) d) ≡ true
-    → neighbours_meet paths ≡ true
-neighbours-some [] k d below h = absurd (omega arith)
-neighbours-some (a ∷ []) k d below h = absurd (omega arith)
-neighbours-some (a ∷ b ∷ paths) zero d below h = or_left (is_prefix a b) (neighbours_meet (b ∷ paths)) h
-neighbours-some (a ∷ b ∷ paths) (suc k) d below h = or_right (is_prefix a b) (neighbours_meet (b ∷ paths)) (neighbours-some (b ∷ paths) k d (omega arith) h)
+  neighbours-some : (xs : List X) (k : ℕ) (d : X) → suc k < length xs → test (get_or xs k d) (get_or xs (suc k) d) ≡ true → has_neighbours test xs ≡ true
+  neighbours-some [] k d below h = absurd (omega arith)
+  neighbours-some (a ∷ []) k d below h = absurd (omega arith)
+  neighbours-some (a ∷ b ∷ xs) zero d below h = or_left (test a b) (has_neighbours test (b ∷ xs)) h
+  neighbours-some (a ∷ b ∷ xs) (suc k) d below h = or_right (test a b) (has_neighbours test (b ∷ xs)) (neighbours-some (b ∷ xs) k d (omega arith) h)
 
--- the same, where the second of two is read at `at` and the first before it
-pub neighbours-at : (paths : List Route) (at : ℕ) (a b : Route) → 1 ≤ at → at < length paths → a ≡ get_or paths (at - 1) a → b ≡ get_or paths at b
-    → is_prefix a b ≡ true → neighbours_meet paths ≡ true
-neighbours-at paths zero a b some below is_a is_b h = absurd (omega arith)
-neighbours-at paths (suc k) a b some below is_a is_b h =
-    let before : suc k - 1 ≡ k = omega arith in
-    let first : a ≡ get_or paths k a = is_a ∙ ap (λ (i : ℕ). get_or paths i a) before in
-    let second : b ≡ get_or paths (suc k) a = is_b ∙ get_or_default paths (suc k) b a below in
-    let P : Route → Type 0 = λ r. is_prefix r (get_or paths (suc k) a) ≡ true in
-    let Q : Route → Type 0 = λ r. is_prefix a r ≡ true in
-    neighbours-some paths k a below (subst P first (subst Q second h))
+  -- the same, where the second of two is read at `at` and the first before it
+  pub neighbours-at : (xs : List X) (at : ℕ) (a b : X) → 1 ≤ at → at < length xs → a ≡ get_or xs (at - 1) a → b ≡ get_or xs at b
+      → test a b ≡ true → has_neighbours test xs ≡ true
+  neighbours-at xs zero a b some below is_a is_b h = absurd (omega arith)
+  neighbours-at xs (suc k) a b some below is_a is_b h =
+      let before : suc k - 1 ≡ k = omega arith in
+      let first : a ≡ get_or xs k a = is_a ∙ ap (λ (i : ℕ). get_or xs i a) before in
+      let second : b ≡ get_or xs (suc k) a = is_b ∙ get_or_default xs (suc k) b a below in
+      let P : X → Type 0 = λ r. test r (get_or xs (suc k) a) ≡ true in
+      let Q : X → Type 0 = λ r. test a r ≡ true in
+      neighbours-some xs k a below (subst P first (subst Q second h))
 
-pub neighbours-step : (paths : List Route) (at : ℕ) (a b : Route) → 1 ≤ at → at < length paths → a ≡ get_or paths (at - 1) a → b ≡ get_or paths at b
-    → is_prefix a b ≡ false → ((k : ℕ) (d : Route) → k + 1 < at → is_prefix (get_or paths k d) (get_or paths (k + 1) d) ≡ false)
-    → (k : ℕ) (d : Route) → k + 1 < at + 1 → is_prefix (get_or paths k d) (get_or paths (k + 1) d) ≡ false
-neighbours-step paths at a b some below is_a is_b h older k d near =
-    ⊎_elim
-    (λ (earlier : k + 1 < at). older k d earlier)
-    (λ (not_earlier : at ≤ k + 1).
-    let here : k + 1 ≡ at = omega arith in
-    let before : k ≡ at - 1 = omega arith in
-    let smaller : at - 1 < length paths = omega arith in
-    let first : get_or paths k d ≡ a = ap (λ (i : ℕ). get_or paths i d) before ∙ (get_or_default paths (at - 1) d a smaller ∙ sym is_a) in
-    let second : get_or paths (k + 1) d ≡ b = ap (λ (i : ℕ). get_or paths i d) here ∙ (get_or_default paths at d b below ∙ sym is_b) in
-    ap (λ (r : Route). is_prefix r (get_or paths (k + 1) d)) first ∙ (ap (λ (r : Route). is_prefix a r) second ∙ h))
-    (cases_lt (k + 1) at)
+  pub neighbours-step : (xs : List X) (at : ℕ) (a b : X) → 1 ≤ at → at < length xs → a ≡ get_or xs (at - 1) a → b ≡ get_or xs at b
+      → test a b ≡ false → ((k : ℕ) (d : X) → k + 1 < at → test (get_or xs k d) (get_or xs (k + 1) d) ≡ false)
+      → (k : ℕ) (d : X) → k + 1 < at + 1 → test (get_or xs k d) (get_or xs (k + 1) d) ≡ false
+  neighbours-step xs at a b some below is_a is_b h older k d near =
+      ⊎_elim
+      (λ (earlier : k + 1 < at). older k d earlier)
+      (λ (not_earlier : at ≤ k + 1).
+      let here : k + 1 ≡ at = omega arith in
+      let before : k ≡ at - 1 = omega arith in
+      let smaller : at - 1 < length xs = omega arith in
+      let first : get_or xs k d ≡ a = ap (λ (i : ℕ). get_or xs i d) before ∙ (get_or_default xs (at - 1) d a smaller ∙ sym is_a) in
+      let second : get_or xs (k + 1) d ≡ b = ap (λ (i : ℕ). get_or xs i d) here ∙ (get_or_default xs at d b below ∙ sym is_b) in
+      ap (λ (r : X). test r (get_or xs (k + 1) d)) first ∙ (ap (λ (r : X). test a r) second ∙ h))
+      (cases_lt (k + 1) at)
 
-pub neighbours-all : (paths : List Route) (end : ℕ) → length paths ≤ end
-    → ((k : ℕ) (d : Route) → k + 1 < end → is_prefix (get_or paths k d) (get_or paths (k + 1) d) ≡ false) → neighbours_meet paths ≡ false
-neighbours-all paths end all h =
-    neighbours-none paths (λ k d below.
-    let next : k + 1 ≡ suc k = omega arith in
-    let P : ℕ → Type 0 = λ i. is_prefix (get_or paths k d) (get_or paths i d) ≡ false in
-    subst P next (h k d (omega arith)))
+  pub neighbours-all : (xs : List X) (end : ℕ) → length xs ≤ end
+      → ((k : ℕ) (d : X) → k + 1 < end → test (get_or xs k d) (get_or xs (k + 1) d) ≡ false) → has_neighbours test xs ≡ false
+  neighbours-all xs end all h =
+      neighbours-none xs (λ k d below.
+      let next : k + 1 ≡ suc k = omega arith in
+      let P : ℕ → Type 0 = λ i. test (get_or xs k d) (get_or xs i d) ≡ false in
+      subst P next (h k d (omega arith)))
+
+-- the same of what the list's items have
+pub neighbours-map : {X Y : Type 0} (test : Y → Y → Bool) (f : X → Y) (xs : List X) → has_neighbours (λ a b. test (f a) (f b)) xs ≡ has_neighbours test (map f xs)
+neighbours-map test f [] = refl
+neighbours-map test f (a ∷ []) = refl
+neighbours-map test f (a ∷ b ∷ xs) = ap (λ (x : Bool). test (f a) (f b) || x) (neighbours-map test f (b ∷ xs))
+
+pub sorted-map : {X Y : Type 0} (lt : Y → Y → Bool) (f : X → Y) (xs : List X) → IsSortedBy (λ a b. lt (f a) (f b)) xs → IsSortedBy lt (map f xs)
+sorted-map {X} {Y} lt f [] up = λ k d low high. absurd (omega arith)
+sorted-map {X} {Y} lt f (x ∷ xs) up = λ k d low high.
+    let size : length (map f (x ∷ xs)) ≡ length (x ∷ xs) = length-map (x ∷ xs) f in
+    let within : k + 1 < length (x ∷ xs) = omega (arith, size, high) in
+    ap (λ (y : Y). lt y (get_or (map f (x ∷ xs)) k d)) (get_or-map f (x ∷ xs) (k + 1) x d within)
+    ∙ (ap (λ (y : Y). lt (f (get_or (x ∷ xs) (k + 1) x)) y) (get_or-map f (x ∷ xs) k x d (omega arith)) ∙ up k x low within)

@@ -11,7 +11,7 @@ use Rattle.op_plan.specs.declared.job.Pair.{Pair}
 use Rattle.op_plan.specs.declared.error.PlanError.{PlanError}
 use Rattle.op_plan.specs.declared.error.PlanError.TheVariants.{NoSelection, Nested, Source, Target, SameFile, IntoItself, TwoToOne}
 use Rattle.op_plan.specs.Meeting.{meet, first_two, first_across}
-use Rattle.op_plan.specs.Answering.{unless}
+use Rattle.op_plan.specs.Answering.{and_then, unless}
 
 abbrev pub pair : Route → Route → Pair
 pair source target = record { source = source; target = target }
@@ -70,6 +70,10 @@ into_itself (source, target) = IntoItself source target
 
 abbrev pub none_across : List Pair → Result (Unit {0}) PlanError
 none_across pairs = unless (option_map into_itself (first_across meet (sources_in pairs) (targets_from pairs)))
+
+-- no source is its own target, and none is, holds or lies in a target
+abbrev pub none_into : List Pair → Result (Unit {0}) PlanError
+none_into pairs = and_then (none_same pairs) (λ _. none_across pairs)
 
 -- no two sources have one target; targets lie in one folder, so two that meet are one
 abbrev pub two_to_one : Pair × Pair → PlanError

@@ -2,6 +2,7 @@ pub mod Meeting
 pub mod Sorting
 pub mod Claiming
 pub mod Masks
+pub mod Filling
 pub mod Destinations
 pub mod Naming
 pub mod Answering

@@ -1,8 +1,7 @@
 -- Masks of destinations (mc(1), "Copy, Rename, ..": masks). Texts of masks are lists of characters, and filled ones bytes.
 -- `*` is 42, a backslash 92, and the digits are from 48 to 57.
-use Rattle.std.specs.Prelude.{ℕ, ◌-◌, ◌&&◌, Bool, true, false, ◌==◌, nat_le, if◌then◌else◌, List, [], ◌∷◌, ◌++◌, Option, Some, None, option_map, encode_utf8, slice_get}
+use Rattle.std.specs.Prelude.{ℕ, ◌+◌, ◌-◌, ◌&&◌, Bool, true, false, ◌==◌, nat_le, if◌then◌else◌, List, [], ◌∷◌, ◌++◌, Option, Some, None, option_map, option_and_then, encode_utf8, slice_get}
 use Rattle.std.specs.List.{list_any}
-use Rattle.std.specs.Option.{option_map_or}
 use Rattle.op_plan.specs.declared.mask.MaskPiece.{MaskPiece}
 use Rattle.op_plan.specs.declared.mask.MaskPiece.TheVariants.{Plain, Star, WholeName, Capture, OpenBackslash}
 
@@ -41,35 +40,34 @@ keeps_name [] = false
 keeps_name (Star ∷ []) = true
 keeps_name (piece ∷ pieces) = false
 
--- a text of a piece, if it has one, with the captures that are left for later stars
-abbrev pub leaving : List (List ℕ) → Option (List ℕ) → Option (List ℕ × List (List ℕ))
-leaving stars None = None
-leaving stars (Some text) = Some (text, stars)
+-- Stars get numbers, from n on: the star of a number stands for what the wildcard of this number took, as `\1` to `\9` do by
+-- theirs. A capture's place counts from 0.
+abbrev pub numbered : ℕ → List MaskPiece → List MaskPiece
+numbered n [] = []
+numbered n (Plain c ∷ pieces) = Plain c ∷ numbered n pieces
+numbered n (Star ∷ pieces) = Capture n ∷ numbered (n + 1) pieces
+numbered n (WholeName ∷ pieces) = WholeName ∷ numbered n pieces
+numbered n (Capture place ∷ pieces) = Capture place ∷ numbered n pieces
+numbered n (OpenBackslash ∷ pieces) = OpenBackslash ∷ numbered n pieces
 
--- What a piece stands for, by the name, the captures, and those of them that no star has taken yet; and those that are left
--- for later stars. Nothing where it asks for one past the last, or is a backslash that ends the mask.
-abbrev pub taken : (name : List ℕ) (captures stars : List (List ℕ)) → MaskPiece → Option (List ℕ × List (List ℕ))
-taken name captures stars (Plain c) = Some (encode_utf8 c, stars)
-taken name captures stars WholeName = Some (name, stars)
-taken name captures stars (Capture place) = leaving stars (slice_get captures place)
-taken name captures [] Star = None
-taken name captures (capture ∷ stars) Star = Some (capture, stars)
-taken name captures stars OpenBackslash = None
-
--- the text that it adds
-abbrev pub added : (name : List ℕ) (captures stars : List (List ℕ)) → MaskPiece → List ℕ
-added name captures stars piece = option_map_or (λ (text, left). text) (taken name captures stars piece) []
+-- What a piece stands for, by the name and what the wildcards of the sources' mask took of it. Nothing where it asks for one past
+-- the last, has no number, or is a backslash that ends the mask.
+abbrev pub piece_text : (name : List ℕ) (captures : List (List ℕ)) → MaskPiece → Option (List ℕ)
+piece_text name captures (Plain c) = Some (encode_utf8 c)
+piece_text name captures Star = None
+piece_text name captures WholeName = Some name
+piece_text name captures (Capture place) = slice_get captures place
+piece_text name captures OpenBackslash = None
 
 -- a text before one that may be missing
 abbrev pub before : List ℕ → Option (List ℕ) → Option (List ℕ)
 before text = option_map (λ rest. text ++ rest)
 
--- the text of a piece before that of the others, which is made with the captures that it leaves
-abbrev pub with_rest : Option (List ℕ × List (List ℕ)) → (List (List ℕ) → Option (List ℕ)) → Option (List ℕ)
-with_rest None rest = None
-with_rest (Some (text, left)) rest = before text (rest left)
+-- what pieces stand for, one behind the other, if each stands for something
+abbrev pub pieces_text : (name : List ℕ) (captures : List (List ℕ)) → List MaskPiece → Option (List ℕ)
+pieces_text name captures [] = Some []
+pieces_text name captures (piece ∷ pieces) = option_and_then (λ text. before text (pieces_text name captures pieces)) (piece_text name captures piece)
 
--- the text that pieces make of a name and of the captures, if each stands for one
-abbrev pub filled : (name : List ℕ) (captures stars : List (List ℕ)) → List MaskPiece → Option (List ℕ)
-filled name captures stars [] = Some []
-filled name captures stars (piece ∷ pieces) = with_rest (taken name captures stars piece) (λ left. filled name captures left pieces)
+-- the text that a mask makes of a name and of the captures
+abbrev pub filled : (name : List ℕ) (captures : List (List ℕ)) → List MaskPiece → Option (List ℕ)
+filled name captures pieces = pieces_text name captures (numbered 0 pieces)

@@ -31,7 +31,7 @@ checked_name text = if is_none (name_fault text) then Some text else None
 abbrev pub target_text : List GlobPart → List MaskPiece → List ℕ → Option (List ℕ)
 target_text pattern mask name =
     if keeps_name mask then Some name else
-    option_and_then (λ captures. filled name captures captures mask) (captures_of pattern (chars name))
+    option_and_then (λ captures. filled name captures mask) (captures_of pattern (chars name))
 
 -- the name of a source's target
 abbrev pub target_name : List GlobPart → List MaskPiece → Route → Option (List ℕ)

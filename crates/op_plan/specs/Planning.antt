@@ -23,7 +23,7 @@ use Rattle.op_plan.specs.Masks.{pieces_of, asks}
 use Rattle.op_plan.specs.Naming.{pattern_in, chosen, checked_name, names_for}
 use Rattle.op_plan.specs.Destinations.{front_of, last_part, folder_there, folder_at}
 use Rattle.op_plan.specs.Answering.{and_then, or_bad_mask}
-use Rattle.op_plan.specs.Checks.{some_source, none_nested, all_there, target_in, targets_in, paired, none_same, none_across, none_twice}
+use Rattle.op_plan.specs.Checks.{some_source, none_nested, all_there, target_in, targets_in, paired, none_into, none_twice}
 
 -- the sources: at least one, of which none lies in another, and each is there
 abbrev pub sources_of : FileSystem → List Route → Result (List Route) PlanError
@@ -32,7 +32,7 @@ sources_of s sources =
 
 -- the sources, each with its target of this name in the folder, where none is or holds another
 abbrev pub apart : List Pair → Result (List Pair) PlanError
-apart pairs = and_then (none_same pairs) (λ _. and_then (none_across pairs) (λ _. and_then (none_twice pairs) (λ _. Ok pairs)))
+apart pairs = and_then (none_into pairs) (λ _. and_then (none_twice pairs) (λ _. Ok pairs))
 
 abbrev pub pairs_into : Route → List Route → List (List ℕ) → Result (List Pair) PlanError
 pairs_into folder sources names = and_then (targets_in folder names) (λ targets. apart (paired sources targets))

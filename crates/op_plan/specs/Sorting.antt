@@ -1,6 +1,6 @@
 -- Paths in an order in which each comes directly before all that lies below it: by their names from the root on, which are
 -- compared byte by byte.
-use Rattle.std.specs.Prelude.{◌≡◌, ℕ, ◌<◌, Bool, false, ◌||◌, List, [], ◌∷◌, length, take, reverse, Option, Some, None}
+use Rattle.std.specs.Prelude.{◌≡◌, ℕ, ◌<◌, Bool, false, ◌||◌, List, [], ◌∷◌, length, map, take, reverse, Option, Some, None}
 use Rattle.std.specs.List.{position, slice_get}
 use Rattle.std.specs.Cmp.Lexicographic.{slice_cmp}
 use Rattle.std.specs.declared.cmp.Ordering.{Ordering}
@@ -11,11 +11,15 @@ use Rattle.op_plan.specs.Meeting.{meet, has_two}
 abbrev pub route_cmp : Route → Route → Ordering
 route_cmp a b = slice_cmp name_cmp (reverse a) (reverse b)
 
+-- two neighbours pass the test
+abbrev pub has_neighbours : {X : Type 0} → (X → X → Bool) → List X → Bool
+has_neighbours test [] = false
+has_neighbours test (a ∷ []) = false
+has_neighbours test (a ∷ b ∷ xs) = test a b || has_neighbours test (b ∷ xs)
+
 -- a path begins with the one before it
 abbrev pub neighbours_meet : List Route → Bool
-neighbours_meet [] = false
-neighbours_meet (a ∷ []) = false
-neighbours_meet (a ∷ b ∷ paths) = is_prefix a b || neighbours_meet (b ∷ paths)
+neighbours_meet = has_neighbours is_prefix
 
 -- the last one of the shortest front in which two meet, and the first one that meets it, by their positions
 pub record AreFirst (paths : List Route) (first last : ℕ) : Type 0 where
@@ -27,3 +31,8 @@ pub record AreFirst (paths : List Route) (first last : ℕ) : Type 0 where
 abbrev pub IsFirstMeeting : List Route → Option (ℕ × ℕ) → Type 0
 IsFirstMeeting paths None = has_two meet paths ≡ false
 IsFirstMeeting paths (Some (first, last)) = AreFirst paths first last
+
+-- paths with these last names, all directly in one folder
+pub record AreSiblings (paths : List Route) (names : List (List ℕ)) : Type 0 where
+  pub folder : Route
+  pub paths_are : paths ≡ map (λ name. name ∷ folder) names

@@ -4,18 +4,18 @@ ghost use Rattle.std.specs.List.{list_any, position};
 ghost use Rattle.std.specs.Option.{option_map_or};
 ghost use Rattle.std.specs.Str.{bytes_eq};
 ghost use Rattle.std.specs.BTreeSet.{contains_text};
-ghost use Rattle.mc_text.specs.Routes.{is_prefix, same_path};
+ghost use Rattle.mc_text.specs.Routes.{Route, is_prefix, same_path};
 ghost use Rattle.op_plan.specs.declared.job.Pair.{Pair};
 ghost use Rattle.op_plan.specs.Answering.{Plans, is_fault, CarriesPlanCause};
 ghost use Rattle.op_plan.specs.Meeting.{meet, has_two};
-ghost use Rattle.op_plan.specs.Checks.{none_same, none_across, none_twice, is_too_long, targets_in, targets_from, sources_in, paired, child_above};
+ghost use Rattle.op_plan.specs.Checks.{none_same, none_across, none_into, none_twice, is_too_long, targets_in, targets_from, sources_in, paired, child_above};
 ghost use Rattle.op_plan.specs.Planning.{pairs_into};
 ghost use Rattle.op_plan.specs.Soundness.{ArePairsApart};
 
 use crate::claim::meet;
 use crate::error::PlanError;
 use crate::job::{Pair, Pairs};
-use crate::meeting::first_meeting;
+use crate::meeting::{any_twice, first_meeting};
 use mc_text::{Name, NoMemory, Path, PathError, Paths};
 use resolving::ResolveError;
 use std::alloc::Global;
@@ -25,24 +25,23 @@ use std::collections::BTreeSet;
 pub fn pairs_into(
     alloc: Global,
     folder: &Path,
-    sources: &[Path],
+    sources: Paths,
     names: &[Name],
 ) -> Result<Pairs, PlanError>
-    requires some { sources.now ≢ [] }
-    requires apart { has_two meet sources.now ≡ false }
-    requires named { length names.now ≡ length sources.now }
-    ensures answer { Plans (pairs_into folder.now sources.now names.now) result }
+    requires some { sources ≢ [] }
+    requires apart { has_two meet sources ≡ false }
+    requires named { length names.now ≡ length sources }
+    ensures answer { Plans (pairs_into folder.now sources names.now) result }
     ensures apart { IfOk result ArePairsApart }
-    ensures sources { IfOk result (λ pairs. sources_in pairs ≡ sources.now) }
+    ensures sources { IfOk result (λ pairs. sources_in pairs ≡ sources) }
     ensures placed { IfOk result (λ pairs. targets_from pairs ≡ map (λ name. name ∷ folder.now) names.now) }
     ensures no_fault { IfErr result (λ e. is_fault e ≡ false) }
     ensures carried { IfErr result CarriesPlanCause }
 {
     let targets = targets_in(alloc, folder, names)?;
-    let pairs = paired(alloc, sources, targets.as_slice())?;
-    refuse_same(alloc, pairs.as_slice())?;
-    refuse_across(alloc, folder, names, pairs.as_slice())?;
-    refuse_twice(alloc, pairs.as_slice())?;
+    let pairs = paired(alloc, sources, targets)?;
+    refuse_into(alloc, folder, names, pairs.as_slice())?;
+    refuse_twice(alloc, names, pairs.as_slice())?;
     Ok(pairs)
 }
 
@@ -80,18 +79,46 @@ pub fn target_in(alloc: Global, folder: &Path, name: &Name) -> Result<Path, Plan
 }
 
 /// Each source with its target.
-fn paired(alloc: Global, sources: &[Path], targets: &[Path]) -> Result<Pairs, NoMemory>
-    requires { length targets.now ≡ length sources.now }
-    ensures { IfOk result (λ pairs. pairs ≡ paired sources.now targets.now) }
+fn paired(alloc: Global, sources: Paths, targets: Paths) -> Result<Pairs, NoMemory>
+    requires { length targets ≡ length sources }
+    ensures { IfOk result (λ pairs. pairs ≡ paired sources targets) }
 {
-    let mut pairs = Vec::new(alloc);
-    for i in 0..sources.len() {
-        pairs.push(Pair {
-            source: sources[i].copy(alloc)?,
-            target: targets[i].copy(alloc)?,
-        })?;
+    let Paths(from) = sources;
+    let Paths(to) = targets;
+    let mut pairs = Vec::with_capacity(alloc, from.len())?;
+    for (source, target) in from.into_iter().zip(to) {
+        pairs.push(Pair { source, target })?;
     }
     Ok(Pairs(pairs))
+}
+
+/// Refuses a source that is its own target, or that is, holds or lies in one. The targets have these names in the folder, so
+/// where no source has to do with the folder, none has to do with a target.
+#[tactic(auto, using(crate::proofs::ApartLemmas::none_into_apart, crate::proofs::ApartLemmas::sources_apart))]
+fn refuse_into(
+    alloc: Global,
+    folder: &Path,
+    names: &[Name],
+    pairs: &[Pair],
+) -> Result<(), PlanError>
+    requires { targets_from pairs.now ≡ map (λ name. name ∷ folder.now) names.now }
+    ensures answer { Plans (none_into pairs.now) result }
+    ensures apart { OnOk result (list_any (λ source. list_any (meet source) (targets_from pairs.now)) (sources_in pairs.now) ≡ false) }
+    ensures no_fault { IfErr result (λ e. is_fault e ≡ false) }
+    ensures carried { IfErr result CarriesPlanCause }
+{
+    if !any_source_meets(folder, pairs) {
+        return Ok(());
+    }
+    refuse_same(alloc, pairs)?;
+    refuse_across(alloc, folder, names, pairs)
+}
+
+/// Whether a source is, holds or lies in the folder.
+fn any_source_meets(folder: &Path, pairs: &[Pair]) -> bool
+    ensures { result ≡ list_any (λ (pair : Pair). meet pair.source folder.now) pairs.now }
+{
+    pairs.iter().any(|pair| meet(&pair.source, folder))
 }
 
 /// Refuses a source that is its own target.
@@ -186,8 +213,34 @@ fn first_target(pairs: &[Pair], path: &Path) -> Option<usize>
     pairs.iter().position(|pair| meet(path, &pair.target))
 }
 
-/// Refuses two sources with one target.
-fn refuse_twice(alloc: Global, pairs: &[Pair]) -> Result<(), PlanError>
+/// Refuses two sources with one target. The targets have these names in one folder.
+#[tactic(auto, using(crate::proofs::Siblings::targets_apart, crate::proofs::Siblings::none_twice_apart))]
+fn refuse_twice(alloc: Global, names: &[Name], pairs: &[Pair]) -> Result<(), PlanError>
+    requires { (folder : Route) × (targets_from pairs.now ≡ map (λ name. name ∷ folder) names.now) }
+    ensures answer { Plans (none_twice pairs.now) result }
+    ensures apart { OnOk result (has_two meet (targets_from pairs.now) ≡ false) }
+    ensures no_fault { IfErr result (λ e. is_fault e ≡ false) }
+    ensures carried { IfErr result CarriesPlanCause }
+{
+    if !any_twice(texts_of(alloc, names)?) {
+        return Ok(());
+    }
+    refuse_meeting_targets(alloc, pairs)
+}
+
+/// The texts of names.
+fn texts_of<'a>(alloc: Global, names: &'a [Name]) -> Result<Vec<&'a str>, NoMemory>
+    ensures { IfOk result (λ texts. map (λ text. text.now) texts.items ≡ names.now) }
+{
+    let mut texts = Vec::with_capacity(alloc, names.len())?;
+    for name in names {
+        texts.push(name.text())?;
+    }
+    Ok(texts)
+}
+
+/// Refuses two sources of which the target of one is or holds that of the other.
+fn refuse_meeting_targets(alloc: Global, pairs: &[Pair]) -> Result<(), PlanError>
     ensures answer { Plans (none_twice pairs.now) result }
     ensures apart { OnOk result (has_two meet (targets_from pairs.now) ≡ false) }
     ensures no_fault { IfErr result (λ e. is_fault e ≡ false) }

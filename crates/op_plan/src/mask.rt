@@ -2,7 +2,8 @@
 ghost use Rattle.std.specs.Prelude.{◌≡◌, ◌≢◌, false, [], ◌∷◌, ◌++◌, IfOk, IfErr, OnOk, chars, Some, None};
 ghost use Rattle.std.specs.String.{string_bytes};
 ghost use Rattle.op_plan.specs.Answering.{is_fault, CarriesPlanCause};
-ghost use Rattle.op_plan.specs.Masks.{pieces_of, quoted_piece, plain_piece, is_asking, asks, keeps_name, taken, added, filled};
+ghost use Rattle.op_plan.specs.Masks.{pieces_of, quoted_piece, plain_piece, is_asking, asks, keeps_name};
+ghost use Rattle.op_plan.specs.Filling.{taken, added, filled_with};
 
 use crate::error::PlanError;
 use mc_text::{NoMemory, Text};
@@ -102,9 +103,9 @@ impl Mask {
     /// The text that the mask makes of a name and of what the wildcards of the source's mask took of it. `BadMask` where it
     /// asks for more than was taken, and where it ends in a backslash.
     pub fn fill(&self, alloc: Global, name: &str, captures: &[Text]) -> Result<Text, PlanError>
-        ensures filled { IfOk result (λ text. filled name.now captures.now captures.now self.now ≡ Some text) }
+        ensures filled { IfOk result (λ text. filled_with name.now captures.now captures.now self.now ≡ Some text) }
         ensures bad { IfErr result (λ e. e ≢ PlanError.Memory
-            → (e ≡ PlanError.BadMask) × (filled name.now captures.now captures.now self.now ≡ None)) }
+            → (e ≡ PlanError.BadMask) × (filled_with name.now captures.now captures.now self.now ≡ None)) }
         ensures no_fault { IfErr result (λ e. is_fault e ≡ false) }
         ensures carried { IfErr result CarriesPlanCause }
     {

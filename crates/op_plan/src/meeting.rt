@@ -1,14 +1,15 @@
 //! Paths of which one is the other or lies below it, found by sorting: the number of paths is never squared.
-ghost use Rattle.std.specs.Prelude.{◌≡◌, ◌+◌, ◌<◌, true, false, IfOk, take, length};
+ghost use Rattle.std.specs.Prelude.{◌≡◌, ◌+◌, ◌<◌, ◌∷◌, true, false, IfOk, IfSome, map, take, length};
 ghost use Rattle.std.specs.List.{position};
 ghost use Rattle.std.specs.Cmp.Lexicographic.{slice_cmp};
 ghost use Rattle.std.specs.List.Sorted.{IsPermutation, IsSorted};
 ghost use Rattle.tree_trait.specs.Answers.{name_cmp};
 ghost use Rattle.op_plan.specs.Meeting.{meet, has_two};
-ghost use Rattle.op_plan.specs.Sorting.{route_cmp, neighbours_meet, IsFirstMeeting};
+ghost use Rattle.std.specs.Str.{bytes_eq};
+ghost use Rattle.op_plan.specs.Sorting.{route_cmp, has_neighbours, neighbours_meet, IsFirstMeeting, AreSiblings};
 
 use crate::claim::meet;
-use mc_text::{Name, NoMemory, Path, Paths};
+use mc_text::{Name, NoMemory, Path};
 use std::alloc::Global;
 use std::cmp::Ordering;
 
@@ -27,25 +28,103 @@ pub fn first_meeting(alloc: Global, paths: &[Path]) -> Result<Option<(usize, usi
     }
 }
 
-/// Whether two of the paths meet. Once they are sorted, two neighbours do then.
+/// Whether two of the paths meet. In one folder two meet where their names are one. Else they are sorted: two neighbours meet
+/// then.
+#[tactic(auto, using(crate::proofs::Siblings::siblings_meet))]
 fn any_meet(alloc: Global, paths: &[Path]) -> Result<bool, NoMemory>
+    ensures { IfOk result (λ found. found ≡ has_two meet paths.now) }
+{
+    match names_in_one_folder(alloc, paths)? {
+        Some(names) => Ok(any_twice(names)),
+        None => sorted_meet(alloc, paths),
+    }
+}
+
+/// Whether two of the paths meet, found by sorting them.
+fn sorted_meet(alloc: Global, paths: &[Path]) -> Result<bool, NoMemory>
     ensures { IfOk result (λ found. found ≡ has_two meet paths.now) }
 {
     let sorted = sorted(alloc, paths)?;
     Ok(neighbours_meet(sorted.as_slice()))
 }
 
-/// The paths in their order by names.
-fn sorted(alloc: Global, paths: &[Path]) -> Result<Paths, NoMemory>
-    ensures permutation { IfOk result (λ sorted. IsPermutation paths.now sorted) }
-    ensures sorted { IfOk result (λ sorted. IsSorted route_cmp sorted) }
+/// The last names of the paths, if all of them lie directly in one folder.
+fn names_in_one_folder<'a>(
+    alloc: Global,
+    paths: &'a [Path],
+) -> Result<Option<Vec<&'a str>>, NoMemory>
+    ensures { IfOk result (λ found. IfSome found (λ names. AreSiblings paths.now (map (λ name. name.now) names.items))) }
 {
-    let mut copies = Vec::new(alloc);
-    for path in paths {
-        copies.push(path.copy(alloc)?)?;
+    let Some(first) = paths.first() else {
+        return Ok(None);
+    };
+    match first.parent(alloc)? {
+        Some(folder) => names_in(alloc, &folder, paths),
+        None => Ok(None),
     }
-    copies.sort_by(|mine, theirs| order(mine, theirs))?;
-    Ok(Paths(copies))
+}
+
+/// The last names of the paths, if all of them lie directly in the folder.
+fn names_in<'a>(
+    alloc: Global,
+    folder: &Path,
+    paths: &'a [Path],
+) -> Result<Option<Vec<&'a str>>, NoMemory>
+    ensures { IfOk result (λ found. IfSome found (λ names. AreSiblings paths.now (map (λ name. name.now) names.items))) }
+{
+    let mut names = Vec::with_capacity(alloc, paths.len())?;
+    for path in paths {
+        match child_name(folder, path) {
+            Some(name) => names.push(name)?,
+            None => return Ok(None),
+        }
+    }
+    Ok(Some(names))
+}
+
+/// The last name of a path, if it lies directly in the folder.
+fn child_name<'a>(folder: &Path, path: &'a Path) -> Option<&'a str>
+    ensures { IfSome result (λ name. path.now ≡ name.now ∷ folder.now) }
+{
+    if path.names().len() == folder.names().len() + 1 && folder.is_prefix_of(path) {
+        path.last()
+    } else {
+        None
+    }
+}
+
+/// Whether two of the names are one. Once they are sorted, two neighbours are then.
+pub fn any_twice(names: Vec<&str>) -> bool
+    ensures { result ≡ has_two bytes_eq (map (λ name. name.now) names.entry.items) }
+{
+    let mut sorted = names;
+    sorted.sort_unstable();
+    neighbours_same(sorted.as_slice())
+}
+
+/// Whether a name is the one before it.
+fn neighbours_same(sorted: &[&str]) -> bool
+    ensures { result ≡ has_neighbours bytes_eq (map (λ name. name.now) sorted.now) }
+{
+    for i in 1..sorted.len() {
+        if sorted[i - 1] == sorted[i] {
+            return true;
+        }
+    }
+    false
+}
+
+/// The paths in their order by names.
+fn sorted<'a>(alloc: Global, paths: &'a [Path]) -> Result<Vec<&'a Path>, NoMemory>
+    ensures permutation { IfOk result (λ sorted. IsPermutation paths.now (map (λ path. path.now) sorted.items)) }
+    ensures sorted { IfOk result (λ sorted. IsSorted route_cmp (map (λ path. path.now) sorted.items)) }
+{
+    let mut sorted = Vec::with_capacity(alloc, paths.len())?;
+    for path in paths {
+        sorted.push(path)?;
+    }
+    sorted.sort_unstable_by(|mine, theirs| order(mine, theirs));
+    Ok(sorted)
 }
 
 /// How two paths stand in the order of their names, from the root on. A path comes directly before all that lies below it.
@@ -77,11 +156,11 @@ fn names_order(mine: &[Name], theirs: &[Name]) -> Ordering
 }
 
 /// Whether a path begins with the one before it.
-fn neighbours_meet(sorted: &[Path]) -> bool
-    ensures { result ≡ neighbours_meet sorted.now }
+fn neighbours_meet(sorted: &[&Path]) -> bool
+    ensures { result ≡ neighbours_meet (map (λ path. path.now) sorted.now) }
 {
     for i in 1..sorted.len() {
-        if sorted[i - 1].is_prefix_of(&sorted[i]) {
+        if sorted[i - 1].is_prefix_of(sorted[i]) {
             return true;
         }
     }

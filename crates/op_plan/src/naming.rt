@@ -130,6 +130,7 @@ pub fn name_in(alloc: Global, text: &str) -> Result<Name, PlanError>
 }
 
 /// What the mask makes of a name.
+#[tactic(auto, using(crate::proofs::MaskLemmas::stars_numbered))]
 fn target_text(
     alloc: Global,
     pattern: &ShellPattern,

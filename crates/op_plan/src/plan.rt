@@ -162,16 +162,8 @@ fn plan_pairs<T: Tree>(
     let (front, last) = split_last(to);
     let mask = Mask::parse(alloc, last)?;
     match folder_for(alloc, tree, &mask, from, to)? {
-        Some(folder) => plan_into(alloc, &pattern, sources.as_slice(), &folder),
-        None => plan_masked(
-            alloc,
-            tree,
-            &pattern,
-            sources.as_slice(),
-            &mask,
-            from,
-            front,
-        ),
+        Some(folder) => plan_into(alloc, &pattern, sources, &folder),
+        None => plan_masked(alloc, tree, &pattern, sources, &mask, from, front),
     }
 }
 
@@ -198,19 +190,19 @@ fn folder_for<T: Tree>(
 fn plan_into(
     alloc: Global,
     pattern: &Option<ShellPattern>,
-    sources: &[Path],
+    sources: Paths,
     folder: &Path,
 ) -> Result<Pairs, PlanError>
-    requires { AreApart sources.now }
-    ensures answer { Plans (placed_there pattern.now sources.now folder.now) result }
+    requires { AreApart sources }
+    ensures answer { Plans (placed_there pattern.now sources folder.now) result }
     ensures apart { IfOk result ArePairsApart }
-    ensures sources { IfOk result (λ pairs. sources_in pairs ≡ sources.now) }
+    ensures sources { IfOk result (λ pairs. sources_in pairs ≡ sources) }
     ensures placed { IfOk result (ArePlaced pattern.now (MaskPiece.Star ∷ [])) }
     ensures no_fault { IfErr result (λ e. is_fault e ≡ false) }
     ensures carried { IfErr result CarriesPlanCause }
 {
     let star = Mask::star(alloc)?;
-    let names = names_for(alloc, pattern, &star, sources)?;
+    let names = names_for(alloc, pattern, &star, sources.as_slice())?;
     pairs_into(alloc, folder, sources, names.as_slice())
 }
 
@@ -220,20 +212,20 @@ fn plan_masked<T: Tree>(
     alloc: Global,
     tree: &mut T,
     pattern: &Option<ShellPattern>,
-    sources: &[Path],
+    sources: Paths,
     mask: &Mask,
     from: &Path,
     front: &str,
 ) -> Result<Pairs, PlanError>
-    requires { AreApart sources.now }
-    ensures answer { IfKnown (T.contents tree.old) (λ log. Plans (placed_masked (current log) pattern.now sources.now mask.now from.now front.now) result) }
+    requires { AreApart sources }
+    ensures answer { IfKnown (T.contents tree.old) (λ log. Plans (placed_masked (current log) pattern.now sources mask.now from.now front.now) result) }
     ensures same { T.contents tree.new ≡ T.contents tree.old }
     ensures cause { HasPlanCause (T.fault_count tree.old) (T.fault_count tree.new) result }
     ensures apart { IfOk result ArePairsApart }
-    ensures sources { IfOk result (λ pairs. sources_in pairs ≡ sources.now) }
+    ensures sources { IfOk result (λ pairs. sources_in pairs ≡ sources) }
     ensures placed { IfOk result (ArePlaced pattern.now mask.now) }
 {
-    let names = names_for(alloc, pattern, mask, sources)?;
+    let names = names_for(alloc, pattern, mask, sources.as_slice())?;
     let folder = folder_at(alloc, tree, from, front)?;
     pairs_into(alloc, &folder, sources, names.as_slice())
 }

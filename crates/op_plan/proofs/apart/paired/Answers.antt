@@ -1,20 +1,13 @@
--- One source more beside its target.
-use Rattle.std.proofs.Common.{◌≡◌, ◌<◌, ◌++◌, [], ◌∷◌, ◌∙◌, sym, ap, length, List, arith}
-use Rattle.mc_text.specs.Routes.{Route}
-use Rattle.op_plan.specs.declared.job.Pair.{Pair}
-use Rattle.op_plan.specs.Checks.{pair}
-use Rattle.op_plan.proofs.CheckLemmas.{paired-more}
+-- at the end both lists were yielded, side by side
+use Rattle.std.proofs.Common.{◌∙◌}
+use Rattle.std.proofs.lemmas.Iterator.{YieldsList-from_zip}
+use Rattle.std.proofs.lemmas.Iterator.Adapters.{YieldsList-from_vec}
+use Rattle.std.proofs.lemmas.Iterator.Consumers.{YieldsList-end}
+use Rattle.op_plan.proofs.CheckLemmas.{paired-zip}
 use Rattle.op_plan.proofs.apart.paired.Goals as goal
 
-pub loop-i-preserved : goal.loop-i-preserved
-loop-i-preserved c =
-    let source = c.index-sources-i.result in
-    let target = c.index-targets-i.result in
-    let same : c.in_ok-copy.field-0 ≡ source = c.in_ok-copy.ensures in
-    let same_target : c.in_ok-copy-2.field-0 ≡ target = c.in_ok-copy-2.ensures in
-    let below : c.loop-i.i < length c.args.targets.now = omega (arith, c.requires, c.loop-i-test.true) in
-    c.in_ok-push.ensures.items
-    ∙ (ap (λ (r : Route). c.loop-i.pairs.items ++ pair r c.in_ok-copy-2.field-0 ∷ []) same
-    ∙ (ap (λ (r : Route). c.loop-i.pairs.items ++ pair source r ∷ []) same_target
-    ∙ (ap (λ (l : List Pair). l ++ pair source target ∷ []) c.loop-i.invariant
-    ∙ sym (paired-more c.args.sources.now c.args.targets.now c.loop-i.i source target c.loop-i-test.true below c.index-sources-i.is c.index-targets-i.is))))
+pub returns : goal.returns
+returns c =
+    let end = YieldsList-end (YieldsList-from_zip (YieldsList-from_vec c.args.sources (cc) (cc)) (YieldsList-from_vec c.args.targets (cc) (cc)))
+    c.loop-source.yielded c.loop-source.source-iterator c.loop-source.yielded_by c.next.result c.next.new.self c.in-None.is c.next.ensures.steps in
+    c.loop-source.invariant ∙ paired-zip c.args.sources c.args.targets c.loop-source.yielded end.0

@@ -6,7 +6,7 @@ use Rattle.op_plan.specs.declared.error.PlanError.TheVariants.{TwoToOne}
 use Rattle.op_plan.specs.Checks.{targets_from}
 use Rattle.op_plan.specs.Sorting.{AreFirst, IsFirstMeeting}
 use Rattle.op_plan.proofs.CheckLemmas.{twice-none, twice-some}
-use Rattle.op_plan.proofs.apart.refuse_twice.Goals as goal
+use Rattle.op_plan.proofs.apart.refuse_meeting_targets.Goals as goal
 
 pub returns-in-None-clause-answer : goal.returns-in-None-clause-answer
 returns-in-None-clause-answer c =
