@@ -6,15 +6,15 @@ use Rattle.tree_trait.specs.declared.calls.TreeError.TheVariants as refused
 use Rattle.tree_trait.specs.Calls.{Call, RemoveFile, SyncFolder}
 use Rattle.tree_trait.specs.Change.{Change, CallLog, with_change}
 use Rattle.tree_trait.specs.Answers.{IfKnown, HasRisen, Performs}
-use Rattle.file_copy.specs.declared.report.Cause.TheVariants.{Tree}
-use Rattle.file_copy.specs.declared.report.Trouble.{Trouble}
-use Rattle.file_copy.specs.declared.report.Ending.{Ending}
-use Rattle.file_copy.specs.declared.report.Did.{Did}
-use Rattle.file_copy.specs.declared.report.Did.TheVariants.{Removed, Barrier, Troubled}
-use Rattle.file_copy.specs.CallRuns.{HasMore}
-use Rattle.file_copy.specs.LastSteps.{refusal_in, sync_answer}
+use Rattle.job_reports.specs.declared.report.Cause.TheVariants.{Tree}
+use Rattle.job_reports.specs.declared.report.Trouble.{Trouble}
+use Rattle.job_reports.specs.declared.report.Ending.{Ending}
+use Rattle.job_reports.specs.declared.report.Did.{Did}
+use Rattle.job_reports.specs.declared.report.Did.TheVariants.{Removed, Barrier, Troubled}
+use Rattle.job_reports.specs.CallRuns.{HasMore}
+use Rattle.job_reports.specs.Stops.{refusal_in, sync_answer, calls_made_for, cause_of, trouble_at}
 use Rattle.copy_move.specs.declared.deletion.Stage.TheVariants.{Remove, Sync, Finish}
-use Rattle.copy_move.specs.Deletions.{Deleting, Answers, IsTroubleAt, calls_for, call_of, cause_of, trouble_at}
+use Rattle.copy_move.specs.Deletions.{Deleting, Answers, IsTroubleAt, call_of}
 use Rattle.copy_move.specs.DeletionSteps.{DeletionStep, LastDeletionStep}
 
 -- only a fault is called one
@@ -52,13 +52,13 @@ no_more : (log now : CallLog) → (let o : Option CallLog = Some log in o) ≡ S
 no_more log now h = let is : log ≡ now = cc in let same = ap (λ (l : CallLog). length l.changes) (sym is) in omega (arith, same)
 
 pub counts_call : (log now : CallLog) (call : Call) (answer : Result (Unit {0}) TreeError) (after : Option CallLog) → Performs {A = Unit {0}} log call answer after → after ≡ Some now
-    → HasMore log (calls_for answer) now
+    → HasMore log (calls_made_for answer) now
 counts_call log now call (Ok done) after h is = one_more log _ now (sym h.1.1 ∙ is)
 counts_call log now call (Err refused.Memory) after h is = no_more log now (sym h ∙ is)
 counts_call log now call (Err refused.Fault) after h is = one_more log _ now (sym h.1.1 ∙ is)
 counts_call log now call (Err e) after h is = one_more log _ now (sym h.1 ∙ is)
 
-pub few_calls : (answer : Result (Unit {0}) TreeError) → calls_for answer ≤ 1
+pub few_calls : (answer : Result (Unit {0}) TreeError) → calls_made_for answer ≤ 1
 few_calls (Ok done) = omega arith
 few_calls (Err refused.Memory) = omega arith
 few_calls (Err e) = omega arith
@@ -73,7 +73,7 @@ module _ (old new : Deleting) (before after : Option CallLog) (faults faults_aft
   abbrev Called : Call → Result (Unit {0}) TreeError → Type 0
   Called call answer = IfKnown before (λ log. Performs {A = Unit {0}} log call answer after)
 
-  counted : (call : Call) (answer : Result (Unit {0}) TreeError) (calls : ℕ) → calls ≡ calls_for answer → Called call answer → IfKnown before (λ log. IfKnown after (HasMore log calls))
+  counted : (call : Call) (answer : Result (Unit {0}) TreeError) (calls : ℕ) → calls ≡ calls_made_for answer → Called call answer → IfKnown before (λ log. IfKnown after (HasMore log calls))
   counted call answer calls count called log known now is = subst (λ n. HasMore log n now) (sym count) (counts_call log now call answer after (called log known) is)
 
   -- no call was made
@@ -111,7 +111,7 @@ module _ (old new : Deleting) (before after : Option CallLog) (faults faults_aft
       }
 
   -- the last sync was tried
-  pub steps_tried : (ending : Ending) (did : Did) (calls : ℕ) (left : Option TreeError) (folder : Route) (answer : Result (Unit {0}) TreeError) → did ≡ Barrier → calls ≡ calls_for answer
+  pub steps_tried : (ending : Ending) (did : Did) (calls : ℕ) (left : Option TreeError) (folder : Route) (answer : Result (Unit {0}) TreeError) → did ≡ Barrier → calls ≡ calls_made_for answer
       → left ≡ refusal_in answer → old.stage ≡ Sync → parent_of old.path ≡ Some folder → new ≡ record old { stage = Finish } → Called (SyncFolder folder) answer → (before ≡ None → after ≡ None) → faults ≤ faults_after
       → LastDeletionStep ending old new did calls left before after faults faults_after
   steps_tried ending did calls left folder answer is count left_is stage within new_is called unknown later =
@@ -130,7 +130,7 @@ module _ (old new : Deleting) (before after : Option CallLog) (faults faults_aft
   module _ (did : Did) (calls : ℕ) (t : Trouble) (is : did ≡ Troubled t) (at : IsTroubleAt old.stage old.path t) (new_is : new ≡ old)
       (unknown : before ≡ None → after ≡ None) (later : faults ≤ faults_after) (fault : t.cause ≡ Tree refused.Fault → HasRisen faults faults_after) where
     -- the call was refused
-    pub steps_refused : (call : Call) (e : TreeError) → calls ≡ calls_for (Err e) → call_of old.stage old.path ≡ Some call → t.cause ≡ cause_of e → Called call (Err e)
+    pub steps_refused : (call : Call) (e : TreeError) → calls ≡ calls_made_for (Err e) → call_of old.stage old.path ≡ Some call → t.cause ≡ cause_of e → Called call (Err e)
         → DeletionStep old new did calls before after faults faults_after
     steps_refused call e count next cause called =
         subst (λ d. DeletionStep old new d calls before after faults faults_after) (sym is) record {

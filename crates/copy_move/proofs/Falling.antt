@@ -2,10 +2,10 @@
 use Rattle.std.proofs.Common.{◌≡◌, ℕ, ◌+◌, ◌-◌, ◌<◌, ◌≤◌, false, sym, subst, arith}
 use Rattle.std.specs.Prelude.{◌^◌}
 use Rattle.mc_text.specs.Routes.{Route}
-use Rattle.file_copy.specs.declared.report.Ending.{Ending}
-use Rattle.file_copy.specs.declared.report.Ending.TheVariants.{Finished, Aborted, Killed, NoMemory}
-use Rattle.file_copy.specs.declared.report.Did.{Did}
-use Rattle.file_copy.specs.declared.report.Did.TheVariants.{Began, Chunk, Placed, Removed, Skipped, Cleaned, Barrier, Troubled, Ended}
+use Rattle.job_reports.specs.declared.report.Ending.{Ending}
+use Rattle.job_reports.specs.declared.report.Ending.TheVariants.{Finished, Aborted, Killed, NoMemory}
+use Rattle.job_reports.specs.declared.report.Did.{Did}
+use Rattle.job_reports.specs.declared.report.Did.TheVariants.{Began, Chunk, Placed, Removed, Skipped, Cleaned, Barrier, Troubled, Ended}
 use Rattle.file_copy.specs.declared.stage.Stage.{Stage}
 use Rattle.file_copy.specs.declared.stage.Stage.TheVariants.{Begin, Fill, Clean, Left, Decided}
 use Rattle.file_copy.specs.declared.stage.Next.TheVariants as next
@@ -20,7 +20,8 @@ use Rattle.copy_move.specs.declared.work.Work.{Work}
 use Rattle.copy_move.specs.declared.work.Work.TheVariants.{Copy, Delete}
 use Rattle.copy_move.specs.Deletions.{Deleting}
 use Rattle.copy_move.specs.Deletions as deletions
-use Rattle.copy_move.specs.Jobs.{course_after, ends, skipped}
+use Rattle.copy_move.specs.Jobs.{course_after, skipped}
+use Rattle.job_reports.specs.Reports.{ends}
 use Rattle.copy_move.specs.Ranks.{copy_rank, deletion_rank, last_deletion_steps, last_rank, rank_on, work_rank}
 
 begins_below : (most size : ℕ) → size ≤ most → (size - 0) + 7 < most + 8
@@ -37,7 +38,7 @@ one_less most = omega arith
 
 -- the last steps of a copy are at most three
 few_last : (stage : Stage) (folder : FolderState) → last_steps stage folder ≤ 3
-few_last (Fill part said done) folder = omega arith
+few_last (Fill part facts done) folder = omega arith
 few_last (Clean part follows) folder = omega arith
 few_last Begin Dirty = omega arith
 few_last Begin Synced = omega arith
@@ -49,7 +50,7 @@ few_last Decided Synced = omega arith
 -- and a copy that goes on has more
 more_left : (stage : Stage) (folder : FolderState) → 3 < copy_rank stage folder
 more_left Begin folder = some_more (2 ^ 63)
-more_left (Fill part said done) folder = omega arith
+more_left (Fill part facts done) folder = omega arith
 more_left (Clean part next.Begin) folder = some_more_yet (2 ^ 63)
 more_left (Clean part next.Decided) folder = omega arith
 more_left (Left part) folder = omega arith
@@ -73,13 +74,13 @@ cleaned_below part next.Decided folder = let low = decided_low folder in omega (
 
 pub copy_falls : (old new : Copying) (did : Did) → Tells old did new → IsSound new.stage new.folder → ends did ≡ false → rank_on (course_after did) (Copy new) < work_rank (Copy old)
 copy_falls old new (Began part) t sound h =
-    let said = t.1.0 in
+    let facts = t.1.0 in
     let range = subst (λ (n : Copying). IsSound n.stage n.folder) t.1.1 sound in
-    below old new Begin (record old { stage = Fill part said 0; folder = Dirty }) t.0 t.1.1 (begins_below (2 ^ 63) said.size range.1)
-copy_falls old new (Chunk count) (part, said, done, at, some, few, within, is) sound h =
-    below old new (Fill part said done) (record old { stage = Fill part said (done + count) }) at is (omega (arith, some, within))
-copy_falls old new (Placed path) (part, said, at, target, is) sound h =
-    below old new (Fill part said said.size) (record old { stage = Decided }) at is (let low = decided_low old.folder in omega (arith, low))
+    below old new Begin (record old { stage = Fill part facts 0; folder = Dirty }) t.0 t.1.1 (begins_below (2 ^ 63) facts.size range.1)
+copy_falls old new (Chunk count) (part, facts, done, at, some, few, within, is) sound h =
+    below old new (Fill part facts done) (record old { stage = Fill part facts (done + count) }) at is (omega (arith, some, within))
+copy_falls old new (Placed path) (part, facts, at, target, is) sound h =
+    below old new (Fill part facts facts.size) (record old { stage = Decided }) at is (let low = decided_low old.folder in omega (arith, low))
 copy_falls old new (Cleaned part) (follows, at, is) sound h =
     below old new (Clean part follows) (record old { stage = after_clean follows }) at is (cleaned_below part follows old.folder)
 copy_falls old new Barrier (at, dirty, is) sound h =
@@ -153,7 +154,7 @@ passing_falls (Copy c) = few_skipped c.stage c.folder
   where
     few_skipped : (stage : Stage) (folder : FolderState) → copy_rank (copying.skipped stage) folder < 10
     few_skipped Begin folder = let low = decided_low folder in omega (arith, low)
-    few_skipped (Fill part said done) folder = omega arith
+    few_skipped (Fill part facts done) folder = omega arith
     few_skipped (Clean part follows) folder = omega arith
     few_skipped (Left part) folder = omega arith
     few_skipped Decided folder = let low = decided_low folder in omega (arith, low)

@@ -1,9 +1,9 @@
 -- What the steps of a job make of the dirty folders.
 use Rattle.std.proofs.Common.{◌≡◌, ℕ, ◌+◌, ◌-◌, ◌<◌, ◌≤◌, ◌&&◌, not, Bool, true, false, List, [], ◌∷◌, ◌++◌, length, take, refl, sym, ◌∙◌, ap, subst, inl, inr, Option, Some, None, Result, Ok, Err, arith}
-use Rattle.std.specs.Prelude.{if◌then◌else◌}
 use Rattle.std.proofs.lemmas.Bool.{true≢false, false≢true}
 use Rattle.std.proofs.lemmas.List.{length-append}
 use Rattle.std.proofs.Math.Seq.{take-append_seam}
+use Rattle.std.specs.Prelude.{if◌then◌else◌}
 use Rattle.mc_text.specs.Routes.{Route}
 use Rattle.tree_trait.specs.declared.calls.TreeError.{TreeError}
 use Rattle.tree_trait.specs.declared.calls.TreeError.TheVariants as refused
@@ -11,35 +11,36 @@ use Rattle.tree_trait.specs.Calls.{SyncFolder}
 use Rattle.tree_trait.specs.Change.{CallLog, current}
 use Rattle.tree_trait.specs.Answers.{IfKnown, HasRisen, Performs}
 use Rattle.tree_trait.specs.CrashImages.{Among}
-use Rattle.file_copy.specs.declared.report.Cause.{Cause}
-use Rattle.file_copy.specs.declared.report.Cause.TheVariants.{Memory}
-use Rattle.file_copy.specs.declared.report.Ending.{Ending}
-use Rattle.file_copy.specs.declared.report.Ending.TheVariants.{Finished, Aborted, Killed, NoMemory}
-use Rattle.file_copy.specs.declared.report.Did.{Did}
-use Rattle.file_copy.specs.declared.report.Did.TheVariants.{Began, Chunk, Placed, Removed, Skipped, Cleaned, Barrier, Troubled, Ended}
+use Rattle.job_reports.specs.declared.report.Cause.{Cause}
+use Rattle.job_reports.specs.declared.report.Cause.TheVariants.{Memory}
+use Rattle.job_reports.specs.declared.report.Ending.{Ending}
+use Rattle.job_reports.specs.declared.report.Ending.TheVariants.{Finished, Aborted, Killed, NoMemory}
+use Rattle.job_reports.specs.declared.report.Did.{Did}
+use Rattle.job_reports.specs.declared.report.Did.TheVariants.{Began, Chunk, Placed, Removed, Skipped, Cleaned, Barrier, Troubled, Ended}
 use Rattle.file_copy.specs.declared.stage.Stage.{Stage}
 use Rattle.file_copy.specs.declared.stage.Stage.TheVariants as at
 use Rattle.file_copy.specs.declared.stage.FolderState.{FolderState}
 use Rattle.file_copy.specs.declared.stage.FolderState.TheVariants.{Synced, Dirty}
-use Rattle.file_copy.specs.CallRuns.{HasMore}
+use Rattle.job_reports.specs.CallRuns.{HasMore}
 use Rattle.file_copy.specs.CopyCalls.{CopyCalls}
-use Rattle.file_copy.specs.CopySteps.{IsFault}
-use Rattle.file_copy.specs.Copying.{Copying, Tells, folder_of}
+use Rattle.job_reports.specs.Reports.{IsFault, ends}
+use Rattle.file_copy.specs.Copying.{Copying, Tells}
+use Rattle.job_reports.specs.Paths.{folder_of, without}
 use Rattle.file_copy.specs.Copying as copying
 use Rattle.file_copy.specs.LastSteps.{Winds}
-use Rattle.file_copy.specs.Stops.{no_memory_of}
+use Rattle.job_reports.specs.Stops.{out_of_memory_at, calls_made_for, cause_of, trouble_at}
 use Rattle.copy_move.specs.declared.deletion.Stage.TheVariants as deletion
 use Rattle.copy_move.specs.declared.deletion.Stage.{Stage as DeletionStage}
 use Rattle.copy_move.specs.declared.work.Work.{Work}
 use Rattle.copy_move.specs.declared.work.Work.TheVariants.{Copy, Delete}
 use Rattle.copy_move.specs.declared.run.Course.{Course}
-use Rattle.copy_move.specs.declared.run.Course.TheVariants.{GoesOn, InTrouble, Unsettled, Skips, Ends}
-use Rattle.copy_move.specs.Deletions.{Deleting, DeletionCalls, calls_for, cause_of, trouble_at}
+use Rattle.copy_move.specs.declared.run.Course.TheVariants.{GoesOn, InTrouble, OwedSyncFailed, Skips, Ends}
+use Rattle.copy_move.specs.Deletions.{Deleting, DeletionCalls}
 use Rattle.copy_move.specs.Deletions as deletions
 use Rattle.copy_move.specs.Jobs.{Running, CallsOn, TellsOn, WorkTells, WorkWinds, WorkCalls, course_after, is_fresh, skipped}
 use Rattle.copy_move.specs.Ranks.{rank_on}
-use Rattle.copy_move.specs.Settling.{NoneOwed, after_try, changed_folder, is_dirty, with_change, without}
-use Rattle.copy_move.specs.Steps.{LeavesDirty, OwnStep, SettlingStep, SkipSteps, WindingStep, WorkSteps, WorkWindsUp}
+use Rattle.copy_move.specs.Settling.{NoneOwed, after_try, changed_folder, is_dirty, with_change}
+use Rattle.copy_move.specs.Steps.{LeavesDirty, OwnStep, OwedSyncStep, SkipSteps, WindingStep, WorkSteps, WorkWindsUp, step_made}
 use Rattle.copy_move.proofs.DeletionRuns.{counts_call, fault-cause, few_calls}
 use Rattle.copy_move.proofs.Falling.{passing_falls, trouble_falls, waiting_falls}
 use Rattle.copy_move.proofs.RunSteps.{run_ends, run_goes}
@@ -47,8 +48,8 @@ use Rattle.copy_move.proofs.RunSteps.{run_ends, run_goes}
 -- a copy stays at its target
 copy_stays : (c new : Copying) (did : Did) → Tells c did new → new.target ≡ c.target
 copy_stays c new (Began part) t = ap (λ (n : Copying). n.target) t.1.1
-copy_stays c new (Chunk count) (part, said, done, at, some, few, within, is) = ap (λ (n : Copying). n.target) is
-copy_stays c new (Placed path) (part, said, at, target, is) = ap (λ (n : Copying). n.target) is
+copy_stays c new (Chunk count) (part, facts, done, at, some, few, within, is) = ap (λ (n : Copying). n.target) is
+copy_stays c new (Placed path) (part, facts, at, target, is) = ap (λ (n : Copying). n.target) is
 copy_stays c new (Cleaned part) (follows, at, is) = ap (λ (n : Copying). n.target) is
 copy_stays c new Barrier (at, dirty, is) = ap (λ (n : Copying). n.target) is
 copy_stays c new (Troubled trouble) t = ap (λ (n : Copying). n.target) t.1
@@ -112,8 +113,8 @@ winds_there ending (Delete d) (Delete new) did w = ap folder_of (deletion_winds_
 -- a folder that a job changed before, and that is synced, isn't changed again
 clean_copy : (c new : Copying) (did : Did) → Tells c did new → copying.is_fresh c.stage c.folder ≡ false → copying.is_dirty c.folder ≡ false → copying.is_dirty new.folder ≡ false
 clean_copy c new (Began part) t changed clean = absurd (true≢false (sym (ap not clean) ∙ (sym (ap (λ s. copying.is_fresh s c.folder) t.0) ∙ changed)))
-clean_copy c new (Chunk count) (part, said, done, at, some, few, within, is) changed clean = ap (λ (n : Copying). copying.is_dirty n.folder) is ∙ clean
-clean_copy c new (Placed path) (part, said, at, target, is) changed clean = ap (λ (n : Copying). copying.is_dirty n.folder) is ∙ clean
+clean_copy c new (Chunk count) (part, facts, done, at, some, few, within, is) changed clean = ap (λ (n : Copying). copying.is_dirty n.folder) is ∙ clean
+clean_copy c new (Placed path) (part, facts, at, target, is) changed clean = ap (λ (n : Copying). copying.is_dirty n.folder) is ∙ clean
 clean_copy c new (Cleaned part) (follows, at, is) changed clean = ap (λ (n : Copying). copying.is_dirty n.folder) is ∙ clean
 clean_copy c new Barrier (at, dirty, is) changed clean = ap (λ (n : Copying). copying.is_dirty n.folder) is
 clean_copy c new (Troubled trouble) t changed clean = ap (λ (n : Copying). copying.is_dirty n.folder) t.1 ∙ clean
@@ -148,7 +149,7 @@ stays_clean (Delete d) (Delete new) did t changed clean = clean_deletion d new d
 fresh_copy : (stage : Stage) (folder : FolderState) → copying.is_fresh stage folder ≡ true → copying.is_dirty folder ≡ false
 fresh_copy at.Begin Dirty h = absurd (false≢true h)
 fresh_copy at.Begin Synced h = refl
-fresh_copy (at.Fill part said done) folder h = absurd (false≢true h)
+fresh_copy (at.Fill part facts done) folder h = absurd (false≢true h)
 fresh_copy (at.Clean part follows) folder h = absurd (false≢true h)
 fresh_copy (at.Left part) folder h = absurd (false≢true h)
 fresh_copy at.Decided folder h = absurd (false≢true h)
@@ -209,35 +210,35 @@ skips_not : (cause : Cause) → Skips cause ≡ GoesOn → ⊥
 skips_not cause h = cc
 
 -- there was no memory for the first change: no call was made
-no_first : (work : Work) → is_fresh work ≡ true → WorkTells work (Troubled (no_memory_of false)) work
+no_first : (work : Work) → is_fresh work ≡ true → WorkTells work (Troubled (out_of_memory_at false)) work
 no_first (Copy c) h = go c.stage c.folder refl h
   where
-    go : (stage : Stage) (folder : FolderState) → c.stage ≡ stage → copying.is_fresh stage folder ≡ true → Tells c (Troubled (no_memory_of false)) c
+    go : (stage : Stage) (folder : FolderState) → c.stage ≡ stage → copying.is_fresh stage folder ≡ true → Tells c (Troubled (out_of_memory_at false)) c
     go at.Begin folder is h = rw is (refl, refl)
-    go (at.Fill part said done) folder is h = absurd (false≢true h)
+    go (at.Fill part facts done) folder is h = absurd (false≢true h)
     go (at.Clean part follows) folder is h = absurd (false≢true h)
     go (at.Left part) folder is h = absurd (false≢true h)
     go at.Decided folder is h = absurd (false≢true h)
 no_first (Delete d) h = go d.stage refl h
   where
-    go : (stage : DeletionStage) → d.stage ≡ stage → deletions.is_fresh stage ≡ true → deletions.Tells d (Troubled (no_memory_of false)) d
+    go : (stage : DeletionStage) → d.stage ≡ stage → deletions.is_fresh stage ≡ true → deletions.Tells d (Troubled (out_of_memory_at false)) d
     go deletion.Remove is h = rw is ((refused.Memory, refl), refl)
     go deletion.Sync is h = absurd (false≢true h)
     go deletion.Finish is h = absurd (false≢true h)
     go deletion.PassedOver is h = absurd (false≢true h)
 
-none_called : (unclaimed : Route → Type 0) (work : Work) (log : CallLog) → is_fresh work ≡ true → WorkCalls unclaimed work (Troubled (no_memory_of false)) work log (Some log)
+none_called : (unclaimed : Route → Type 0) (work : Work) (log : CallLog) → is_fresh work ≡ true → WorkCalls unclaimed work (Troubled (out_of_memory_at false)) work log (Some log)
 none_called unclaimed (Copy c) log h = go c.stage c.folder refl h
   where
-    go : (stage : Stage) (folder : FolderState) → c.stage ≡ stage → copying.is_fresh stage folder ≡ true → CopyCalls unclaimed c (Troubled (no_memory_of false)) c log (Some log)
+    go : (stage : Stage) (folder : FolderState) → c.stage ≡ stage → copying.is_fresh stage folder ≡ true → CopyCalls unclaimed c (Troubled (out_of_memory_at false)) c log (Some log)
     go at.Begin folder is h = rw is (inl (refl, refl))
-    go (at.Fill part said done) folder is h = absurd (false≢true h)
+    go (at.Fill part facts done) folder is h = absurd (false≢true h)
     go (at.Clean part follows) folder is h = absurd (false≢true h)
     go (at.Left part) folder is h = absurd (false≢true h)
     go at.Decided folder is h = absurd (false≢true h)
 none_called unclaimed (Delete d) log h = go d.stage refl h
   where
-    go : (stage : DeletionStage) → d.stage ≡ stage → deletions.is_fresh stage ≡ true → DeletionCalls d (Troubled (no_memory_of false)) log (Some log)
+    go : (stage : DeletionStage) → d.stage ≡ stage → deletions.is_fresh stage ≡ true → DeletionCalls d (Troubled (out_of_memory_at false)) log (Some log)
     go deletion.Remove is h = rw is (refused.Memory, refl, refl)
     go deletion.Sync is h = absurd (false≢true h)
     go deletion.Finish is h = absurd (false≢true h)
@@ -251,7 +252,7 @@ same_log log now contents known is =
 
 module _ (unclaimed : Route → Type 0) (did : Did) (calls : ℕ) (dirty dirty_after : List Route) (before after : Option CallLog) (f0 f1 : ℕ) where
   abbrev IsOwn : Running → Running → Type 0
-  IsOwn job new = OwnStep unclaimed job new did calls dirty dirty_after before after f0 f1
+  IsOwn job new = OwnStep unclaimed (step_made job new did calls dirty dirty_after before after f0 f1)
 
   -- a step after the first change
   pub worked_on : (id : ℕ) (old work : Work) (was course : Course) (job : Running) (folder : Route) (synced : Bool) → (let r : Running = record { id = id; work = old; course = was } in r) ≡ job → job.course ≡ GoesOn
@@ -290,7 +291,7 @@ module _ (unclaimed : Route → Type 0) (did : Did) (calls : ℕ) (dirty dirty_a
       }
 
   -- a last step
-  pub wound_up : (ending : Ending) (job new : Running) → job.course ≡ Ends ending → WindingStep ending job new did calls dirty dirty_after before after f0 f1 → IsOwn job new
+  pub wound_up : (ending : Ending) (job new : Running) → job.course ≡ Ends ending → WindingStep ending (step_made job new did calls dirty dirty_after before after f0 f1) → IsOwn job new
   wound_up ending job new ends w = record {
     own = run_ends unclaimed job new did calls before after f0 f1 ending job.work new.work w.left refl ends w.winds w.new_is;
     settled = λ goes fresh. absurd (ends_not ending (sym ends ∙ goes));
@@ -298,10 +299,10 @@ module _ (unclaimed : Route → Type 0) (did : Did) (calls : ℕ) (dirty dirty_a
   }
 
 -- there was no memory for the first change
-no_first_steps : (unclaimed : Route → Type 0) (work : Work) (contents : Option CallLog) (f : ℕ) → is_fresh work ≡ true → WorkSteps unclaimed work work (Troubled (no_memory_of false)) 0 contents contents f f
+no_first_steps : (unclaimed : Route → Type 0) (work : Work) (contents : Option CallLog) (f : ℕ) → is_fresh work ≡ true → WorkSteps unclaimed work work (Troubled (out_of_memory_at false)) 0 contents contents f f
 no_first_steps unclaimed work contents f fresh = record {
   tells = no_first work fresh;
-  called = λ log known. subst (WorkCalls unclaimed work (Troubled (no_memory_of false)) work log) (sym known) (none_called unclaimed work log fresh);
+  called = λ log known. subst (WorkCalls unclaimed work (Troubled (out_of_memory_at false)) work log) (sym known) (none_called unclaimed work log fresh);
   counted = λ log known now is. same_log log now contents known is;
   few = omega arith;
   unknown = λ h. h;
@@ -312,13 +313,13 @@ no_first_steps unclaimed work contents f fresh = record {
 
 module _ (unclaimed : Route → Type 0) (dirty : List Route) (contents : Option CallLog) (f : ℕ) where
   pub unmade_first : (id : ℕ) (old : Work) (was : Course) (job : Running) (did : Did) (calls : ℕ) (dirty_after : List Route) → (let r : Running = record { id = id; work = old; course = was } in r) ≡ job → job.course ≡ GoesOn → is_fresh job.work ≡ true
-      → IfKnown contents (λ log. NoneOwed (current log) (changed_folder job.work) dirty) → did ≡ Troubled (no_memory_of false) → calls ≡ 0 → dirty_after ≡ dirty
-      → OwnStep unclaimed job (record { id = id; work = old; course = InTrouble Memory }) did calls dirty dirty_after contents contents f f
+      → IfKnown contents (λ log. NoneOwed (current log) (changed_folder job.work) dirty) → did ≡ Troubled (out_of_memory_at false) → calls ≡ 0 → dirty_after ≡ dirty
+      → OwnStep unclaimed (step_made job (record { id = id; work = old; course = InTrouble Memory }) did calls dirty dirty_after contents contents f f)
   unmade_first id old was job did calls dirty_after is goes fresh settled did_is calls_is same_dirty =
       let same : old ≡ job.work = ap (λ (j : Running). j.work) is in
       let number : id ≡ job.id = ap (λ (j : Running). j.id) is in
       let steps = subst (λ d. WorkSteps unclaimed old old d calls contents contents f f) (sym did_is)
-      (subst (λ n. WorkSteps unclaimed old old (Troubled (no_memory_of false)) n contents contents f f) (sym calls_is) (no_first_steps unclaimed old contents f (ap is_fresh same ∙ fresh))) in
+      (subst (λ n. WorkSteps unclaimed old old (Troubled (out_of_memory_at false)) n contents contents f f) (sym calls_is) (no_first_steps unclaimed old contents f (ap is_fresh same ∙ fresh))) in
       record {
         own = run_goes unclaimed job (record { id = id; work = old; course = InTrouble Memory }) did calls contents contents f f old old same goes steps
             (ap (λ n. let r : Running = record { id = n; work = old; course = InTrouble Memory } in r) number ∙ ap (λ d. let r : Running = record job { work = old; course = course_after d } in r) (sym did_is));
@@ -328,7 +329,7 @@ module _ (unclaimed : Route → Type 0) (dirty : List Route) (contents : Option 
       }
 
   -- the report of a skip, or that there is no memory for it
-  pub skipped_step : (cause : Cause) (job new : Running) (did : Did) (calls : ℕ) → job.course ≡ Skips cause → SkipSteps cause job new did calls → OwnStep unclaimed job new did calls dirty dirty contents contents f f
+  pub skipped_step : (cause : Cause) (job new : Running) (did : Did) (calls : ℕ) → job.course ≡ Skips cause → SkipSteps cause job new did calls → OwnStep unclaimed (step_made job new did calls dirty dirty contents contents f f)
   skipped_step cause job new did calls skips s = elim s.skips [
     | inl passed ↦
         let work_is : s.work ≡ skipped job.work = passed.1 in
@@ -341,7 +342,7 @@ module _ (unclaimed : Route → Type 0) (dirty : List Route) (contents : Option 
         built new_is (inr (waits.0, new_is)) (waiting_falls job.work) refl (λ fault. subst (λ d. IsFault d → ⊥) (sym waits.0) (λ h. absurd cc) fault)
   ]
     where
-      built : {to : Running} → new ≡ to → TellsOn (Skips cause) job did new → rank_on to.course to.work < 10 → is_dirty to.work ≡ is_dirty job.work → (IsFault did → ⊥) → OwnStep unclaimed job new did calls dirty dirty contents contents f f
+      built : {to : Running} → new ≡ to → TellsOn (Skips cause) job did new → rank_on to.course to.work < 10 → is_dirty to.work ≡ is_dirty job.work → (IsFault did → ⊥) → OwnStep unclaimed (step_made job new did calls dirty dirty contents contents f f)
       built {to} is tells low clean quiet = record {
         own = record {
           tells = subst (λ c. TellsOn c job did new) (sym skips) tells;
@@ -361,9 +362,9 @@ module _ (unclaimed : Route → Type 0) (dirty : List Route) (contents : Option 
 -- a last step of the work
 pub winding_step : (ending : Ending) (id : ℕ) (old work : Work) (course : Course) (job : Running) (did : Did) (calls : ℕ) (left : Option TreeError) (folder : Route) (dirty dirty_after : List Route) (before after : Option CallLog) (f0 f1 : ℕ)
     → (let r : Running = record { id = id; work = old; course = course } in r) ≡ job → WorkWindsUp ending old work did calls left before after f0 f1 → folder ≡ changed_folder work → dirty_after ≡ after_try did left folder dirty
-    → WindingStep ending job (record { id = id; work = work; course = course }) did calls dirty dirty_after before after f0 f1
+    → WindingStep ending (step_made job (record { id = id; work = work; course = course }) did calls dirty dirty_after before after f0 f1)
 winding_step ending id old work course job did calls left folder dirty dirty_after before after f0 f1 is winds folder_is after_is =
-    subst (λ j. WindingStep ending j (record { id = id; work = work; course = course }) did calls dirty dirty_after before after f0 f1) is record {
+    subst (λ j. WindingStep ending (step_made j (record { id = id; work = work; course = course }) did calls dirty dirty_after before after f0 f1)) is record {
       left = left;
       winds = winds;
       new_is = refl;
@@ -373,11 +374,11 @@ winding_step ending id old work course job did calls left folder dirty dirty_aft
 -- The sync of a folder that an ended job left.
 module _ (folder : Route) (dirty dirty_after : List Route) (job : Running) (goes : job.course ≡ GoesOn) (fresh : is_fresh job.work ≡ true) (owed : Among dirty folder) (before after : Option CallLog) (f0 f1 : ℕ)
     (unknown : before ≡ None → after ≡ None) (later : f0 ≤ f1) where
-  counted : (answer : Result (Unit {0}) TreeError) (calls : ℕ) → calls ≡ calls_for answer → IfKnown before (λ log. Performs {A = Unit {0}} log (SyncFolder folder) answer after) → IfKnown before (λ log. IfKnown after (HasMore log calls))
+  counted : (answer : Result (Unit {0}) TreeError) (calls : ℕ) → calls ≡ calls_made_for answer → IfKnown before (λ log. Performs {A = Unit {0}} log (SyncFolder folder) answer after) → IfKnown before (λ log. IfKnown after (HasMore log calls))
   counted answer calls is called log known now has = subst (λ n. HasMore log n now) (sym is) (counts_call log now (SyncFolder folder) answer after (called log known) has)
 
   pub settled_folder : (did : Did) (calls : ℕ) → did ≡ Barrier → calls ≡ 1 → dirty_after ≡ without folder dirty → IfKnown before (λ log. Performs {A = Unit {0}} log (SyncFolder folder) (Ok tt) after)
-      → SettlingStep job job did calls dirty dirty_after before after f0 f1
+      → OwedSyncStep (step_made job job did calls dirty dirty_after before after f0 f1)
   settled_folder did calls is count after_is called = record {
     goes = goes;
     fresh = fresh;
@@ -391,8 +392,8 @@ module _ (folder : Route) (dirty dirty_after : List Route) (job : Running) (goes
     fault = λ h. absurd (subst IsFault is h);
   }
 
-  pub refused_folder : (e : TreeError) (did : Did) (calls : ℕ) (new : Running) → did ≡ Troubled (trouble_at e folder true) → calls ≡ calls_for (Err e) → new ≡ record job { course = Unsettled (cause_of e) } → dirty_after ≡ dirty
-      → IfKnown before (λ log. Performs {A = Unit {0}} log (SyncFolder folder) (Err e) after) → (e ≡ refused.Fault → HasRisen f0 f1) → SettlingStep job new did calls dirty dirty_after before after f0 f1
+  pub refused_folder : (e : TreeError) (did : Did) (calls : ℕ) (new : Running) → did ≡ Troubled (trouble_at e folder true) → calls ≡ calls_made_for (Err e) → new ≡ record job { course = OwedSyncFailed (cause_of e) } → dirty_after ≡ dirty
+      → IfKnown before (λ log. Performs {A = Unit {0}} log (SyncFolder folder) (Err e) after) → (e ≡ refused.Fault → HasRisen f0 f1) → OwedSyncStep (step_made job new did calls dirty dirty_after before after f0 f1)
   refused_folder e did calls new is count new_is after_is called risen = record {
     goes = goes;
     fresh = fresh;
@@ -411,8 +412,8 @@ risen_before : (f0 f1 f2 : ℕ) → f0 ≤ f1 → HasRisen f1 f2 → HasRisen f0
 risen_before f0 f1 f2 later risen = omega (arith, later, risen)
 
 pub own_later : (unclaimed : Route → Type 0) (job new : Running) (did : Did) (calls : ℕ) (dirty dirty_after : List Route) (first before after : Option CallLog) (f0 f1 f2 : ℕ) → before ≡ first → f0 ≤ f1
-    → OwnStep unclaimed job new did calls dirty dirty_after before after f1 f2 → OwnStep unclaimed job new did calls dirty dirty_after first after f0 f2
-own_later unclaimed job new did calls dirty dirty_after first before after f0 f1 f2 same later o = subst (λ b. OwnStep unclaimed job new did calls dirty dirty_after b after f0 f2) same record {
+    → OwnStep unclaimed (step_made job new did calls dirty dirty_after before after f1 f2) → OwnStep unclaimed (step_made job new did calls dirty dirty_after first after f0 f2)
+own_later unclaimed job new did calls dirty dirty_after first before after f0 f1 f2 same later o = subst (λ b. OwnStep unclaimed (step_made job new did calls dirty dirty_after b after f0 f2)) same record {
   own = record {
     tells = o.own.tells;
     called = o.own.called;
@@ -428,8 +429,8 @@ own_later unclaimed job new did calls dirty dirty_after first before after f0 f1
 }
 
 pub settling_later : (job new : Running) (did : Did) (calls : ℕ) (dirty dirty_after : List Route) (first before after : Option CallLog) (f0 f1 f2 : ℕ) → before ≡ first → f0 ≤ f1
-    → SettlingStep job new did calls dirty dirty_after before after f1 f2 → SettlingStep job new did calls dirty dirty_after first after f0 f2
-settling_later job new did calls dirty dirty_after first before after f0 f1 f2 same later s = subst (λ b. SettlingStep job new did calls dirty dirty_after b after f0 f2) same record {
+    → OwedSyncStep (step_made job new did calls dirty dirty_after before after f1 f2) → OwedSyncStep (step_made job new did calls dirty dirty_after first after f0 f2)
+settling_later job new did calls dirty dirty_after first before after f0 f1 f2 same later s = subst (λ b. OwedSyncStep (step_made job new did calls dirty dirty_after b after f0 f2)) same record {
   goes = s.goes;
   fresh = s.fresh;
   folder = s.folder;

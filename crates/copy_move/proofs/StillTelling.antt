@@ -6,22 +6,23 @@ use Rattle.tree_trait.specs.declared.calls.TreeError.TheVariants as refused
 use Rattle.tree_trait.specs.Calls.{Call, RemoveFile, SyncFolder}
 use Rattle.tree_trait.specs.Change.{CallLog, current}
 use Rattle.tree_trait.specs.Answers.{Performs}
-use Rattle.file_copy.specs.declared.report.Cause.{Cause}
-use Rattle.file_copy.specs.declared.report.Cause.TheVariants.{Tree, TargetKind, SpecialSource, PartTaken, TooLong, Changed, Memory}
-use Rattle.file_copy.specs.declared.report.Did.{Did}
-use Rattle.file_copy.specs.declared.report.Did.TheVariants.{Began, Chunk, Placed, Removed, Skipped, Cleaned, Barrier, Troubled, Ended}
+use Rattle.job_reports.specs.declared.report.Cause.{Cause}
+use Rattle.job_reports.specs.declared.report.Cause.TheVariants.{Tree, TargetKind, SpecialSource, PartTaken, TooLong, Changed, Memory}
+use Rattle.job_reports.specs.declared.report.Did.{Did}
+use Rattle.job_reports.specs.declared.report.Did.TheVariants.{Began, Chunk, Placed, Removed, Skipped, Cleaned, Barrier, Troubled, Ended}
 use Rattle.file_copy.specs.declared.stage.Stage.{Stage}
 use Rattle.file_copy.specs.declared.stage.Stage.TheVariants.{Begin, Fill, Clean, Left, Decided}
-use Rattle.file_copy.specs.CallRuns.{RunStops, StopsAt}
-use Rattle.file_copy.specs.Copying.{Copying, Places, folder_of, places_of}
+use Rattle.job_reports.specs.CallRuns.{RunStops, StopsAt}
+use Rattle.file_copy.specs.Copying.{Copying, Places, places_of}
+use Rattle.job_reports.specs.Paths.{folder_of}
 use Rattle.file_copy.specs.CopyCalls.{CopyCalls, CopyStops, making, placing, writing}
 use Rattle.file_copy.specs.LastSteps.{SyncTried, WindCalls, removable}
-use Rattle.file_copy.proofs.Runs.{all_some}
+use Rattle.job_reports.proofs.Runs.{all_some}
 use Rattle.copy_move.specs.declared.deletion.Stage.TheVariants.{Sync}
 use Rattle.copy_move.specs.declared.work.Work.{Work}
 use Rattle.copy_move.specs.declared.work.Work.TheVariants.{Copy, Delete}
 use Rattle.copy_move.specs.declared.run.Course.{Course}
-use Rattle.copy_move.specs.declared.run.Course.TheVariants.{GoesOn, InTrouble, Unsettled, Skips, Ends}
+use Rattle.copy_move.specs.declared.run.Course.TheVariants.{GoesOn, InTrouble, OwedSyncFailed, Skips, Ends}
 use Rattle.copy_move.specs.Deletions.{Answers, Deleting, DeletionCalls, LastCalls, call_of}
 use Rattle.copy_move.specs.Jobs.{CallsOn, JobCalls, Running, WorkCalls, WorkLastCalls}
 
@@ -82,9 +83,9 @@ trouble_tells : (unclaimed : Route → Type 0) (p : Places) (stage : Stage) (cau
 trouble_tells unclaimed p Begin cause path log after (inl looks) = (log, looks.1)
 trouble_tells unclaimed p Begin cause path log after (inr (inl names)) = (log, names.2)
 trouble_tells unclaimed p Begin cause path log after (inr (inr made)) = run_tells (making (current log) p made.0 ∷ []) cause path log after made.3
-trouble_tells unclaimed p (Fill part said done) cause path log after (inl (fewer, inl read)) = (log, read.1)
-trouble_tells unclaimed p (Fill part said done) cause path log after (inl (fewer, inr write)) = run_tells (writing (current log) p part said done ∷ []) cause path log after write
-trouble_tells unclaimed p (Fill part said done) cause path log after (inr full) = run_tells (placing said.mode part p.target) cause path log after full.1
+trouble_tells unclaimed p (Fill part facts done) cause path log after (inl (fewer, inl read)) = (log, read.1)
+trouble_tells unclaimed p (Fill part facts done) cause path log after (inl (fewer, inr write)) = run_tells (writing (current log) p part facts done ∷ []) cause path log after write
+trouble_tells unclaimed p (Fill part facts done) cause path log after (inr full) = run_tells (placing facts.mode part p.target) cause path log after full.1
 trouble_tells unclaimed p (Clean part follows) cause path log after h = run_tells (RemoveFile part ∷ []) cause path log after h
 trouble_tells unclaimed p (Left part) cause path log after h = absurd h
 trouble_tells unclaimed p Decided cause path log after h = run_tells (SyncFolder (folder_of p.target) ∷ []) cause path log after h
@@ -128,7 +129,7 @@ last_work_tells (Delete d) did log after h = last_tells d did log after h
 calls_tell : (unclaimed : Route → Type 0) (course : Course) (job : Running) (did : Did) (new : Running) (log : CallLog) (after : Option CallLog) → CallsOn unclaimed course job did new log after → StillTells after
 calls_tell unclaimed GoesOn job did new log after h = work_tells unclaimed job.work did new.work log after h
 calls_tell unclaimed (InTrouble cause) job did new log after h = absurd h
-calls_tell unclaimed (Unsettled cause) job did new log after h = absurd h
+calls_tell unclaimed (OwedSyncFailed cause) job did new log after h = absurd h
 calls_tell unclaimed (Skips cause) job did new log after h = (log, h)
 calls_tell unclaimed (Ends ending) job did new log after h = last_work_tells job.work did log after h
 

@@ -1,16 +1,16 @@
 -- What a history tells of a job follows each thing that the job does.
 use Rattle.std.proofs.Common.{◌≡◌, ℕ, Bool, true, false, [], ◌∷◌, refl, sym, ap, ◌∙◌, ◌⊎◌, inl, inr, Option, Some, None}
-use Rattle.std.specs.Prelude.{if◌then◌else◌, is_some, ◌&&◌}
+use Rattle.std.specs.Prelude.{is_some, ◌&&◌, if◌then◌else◌}
 use Rattle.std.specs.Option.{option_map}
 use Rattle.mc_text.specs.Routes.{Route, parent_of}
 use Rattle.tree_trait.specs.declared.calls.TreeError.{TreeError}
 use Rattle.std.proofs.lemmas.Bool.{false≢true}
-use Rattle.file_copy.specs.declared.report.Cause.TheVariants.{Memory}
-use Rattle.file_copy.specs.declared.report.Trouble.{Trouble}
-use Rattle.file_copy.specs.declared.report.Ending.{Ending}
-use Rattle.file_copy.specs.declared.report.Ending.TheVariants.{Finished, Aborted, Killed, NoMemory}
-use Rattle.file_copy.specs.declared.report.Did.{Did}
-use Rattle.file_copy.specs.declared.report.Did.TheVariants.{Began, Chunk, Placed, Removed, Skipped, Cleaned, Barrier, Troubled, Ended}
+use Rattle.job_reports.specs.declared.report.Cause.TheVariants.{Memory}
+use Rattle.job_reports.specs.declared.report.Trouble.{Trouble}
+use Rattle.job_reports.specs.declared.report.Ending.{Ending}
+use Rattle.job_reports.specs.declared.report.Ending.TheVariants.{Finished, Aborted, Killed, NoMemory}
+use Rattle.job_reports.specs.declared.report.Did.{Did}
+use Rattle.job_reports.specs.declared.report.Did.TheVariants.{Began, Chunk, Placed, Removed, Skipped, Cleaned, Barrier, Troubled, Ended}
 use Rattle.file_copy.specs.declared.stage.Next.{Next}
 use Rattle.file_copy.specs.declared.stage.Next.TheVariants as next
 use Rattle.file_copy.specs.declared.stage.Stage.{Stage}
@@ -20,20 +20,21 @@ use Rattle.file_copy.specs.declared.stage.FolderState.TheVariants.{Synced, Dirty
 use Rattle.file_copy.specs.Copying.{Copying, Tells, after_clean}
 use Rattle.file_copy.specs.Copying as copying
 use Rattle.file_copy.specs.LastSteps.{Winds, given_up}
-use Rattle.file_copy.specs.Stops.{no_memory_of}
-use Rattle.copy_move.specs.declared.history.Job.{Job}
-use Rattle.copy_move.specs.declared.history.Job.TheVariants as plan
-use Rattle.copy_move.specs.declared.history.Answer.{Answer}
-use Rattle.copy_move.specs.declared.history.Answer.TheVariants.{Retry, Skip, SkipAll, Abort}
+use Rattle.job_reports.specs.Stops.{out_of_memory_at, cause_of, trouble_at}
+use Rattle.job_reports.specs.declared.job.Job.{Job}
+use Rattle.job_reports.specs.declared.job.Job.TheVariants as plan
+use Rattle.job_reports.specs.declared.answer.Answer.{Answer}
+use Rattle.job_reports.specs.declared.answer.Answer.TheVariants.{Retry, Skip, SkipAll, Abort}
 use Rattle.copy_move.specs.declared.work.Work.{Work}
 use Rattle.copy_move.specs.declared.work.Work.TheVariants.{Copy, Delete}
 use Rattle.copy_move.specs.declared.run.Course.{Course}
-use Rattle.copy_move.specs.declared.run.Course.TheVariants.{GoesOn, InTrouble, Unsettled, Skips, Ends}
+use Rattle.copy_move.specs.declared.run.Course.TheVariants.{GoesOn, InTrouble, OwedSyncFailed, Skips, Ends}
 use Rattle.copy_move.specs.declared.deletion.Stage.{Stage as DeletionStage}
 use Rattle.copy_move.specs.declared.deletion.Stage.TheVariants as deletion
-use Rattle.copy_move.specs.Deletions.{Deleting, cause_of, trouble_at}
+use Rattle.copy_move.specs.Deletions.{Deleting}
 use Rattle.copy_move.specs.Deletions as deletions
-use Rattle.copy_move.specs.Jobs.{Running, JobTells, TellsOn, WorkTells, WorkWinds, answered, answered_on, at_barrier, copies, course_after, deletes, ends, first_work, is_fresh, skipped, taken_anew}
+use Rattle.copy_move.specs.Jobs.{Running, JobTells, TellsOn, WorkTells, WorkWinds, answered, answered_on, at_barrier, copies, course_after, deletes, first_work, is_fresh, skipped, taken_anew}
+use Rattle.job_reports.specs.Reports.{ends}
 use Rattle.copy_move.specs.Told.{after_step, course_told, if_closed, running, stage_told, synced, told, work_told}
 
 -- a job, by its parts
@@ -41,14 +42,14 @@ abbrev job_of : ℕ → Work → Course → Running
 job_of id work course = record { id = id; work = work; course = course }
 
 given_up_told : (stage : Stage) → given_up (stage_told stage) ≡ stage_told (given_up stage)
-given_up_told (at.Fill part said done) = refl
+given_up_told (at.Fill part facts done) = refl
 given_up_told at.Begin = refl
 given_up_told (at.Clean part follows) = refl
 given_up_told (at.Left part) = refl
 given_up_told at.Decided = refl
 
 skipped_stage_told : (stage : Stage) → copying.skipped (stage_told stage) ≡ stage_told (copying.skipped stage)
-skipped_stage_told (at.Fill part said done) = refl
+skipped_stage_told (at.Fill part facts done) = refl
 skipped_stage_told at.Begin = refl
 skipped_stage_told (at.Clean part follows) = refl
 skipped_stage_told (at.Left part) = refl
@@ -59,7 +60,7 @@ skipped_told (Copy c) = ap (λ stage. Copy (record c { stage = stage })) (skippe
 skipped_told (Delete d) = refl
 
 anew_stage_told : (stage : Stage) → copying.taken_anew (stage_told stage) ≡ stage_told (copying.taken_anew stage)
-anew_stage_told (at.Fill part said done) = refl
+anew_stage_told (at.Fill part facts done) = refl
 anew_stage_told at.Begin = refl
 anew_stage_told (at.Clean part follows) = refl
 anew_stage_told (at.Left part) = refl
@@ -73,7 +74,7 @@ anew_told (Delete d) = refl
 copy_bars : (stage : Stage) (folder : FolderState) (barrier : Bool) → barrier ≡ copying.at_barrier stage → (copying.is_fresh stage folder && barrier) ≡ false
 copy_bars at.Begin Dirty barrier h = refl
 copy_bars at.Begin Synced barrier h = h
-copy_bars (at.Fill part said done) folder barrier h = refl
+copy_bars (at.Fill part facts done) folder barrier h = refl
 copy_bars (at.Clean part follows) folder barrier h = refl
 copy_bars (at.Left part) folder barrier h = refl
 copy_bars at.Decided folder barrier h = refl
@@ -93,7 +94,7 @@ trouble_bars deletion.Finish path trouble h = absurd h
 trouble_bars deletion.PassedOver path trouble h = absurd h
 
 fresh_stage_told : (stage : Stage) (folder : FolderState) → copying.is_fresh (stage_told stage) folder ≡ copying.is_fresh stage folder
-fresh_stage_told (at.Fill part said done) folder = refl
+fresh_stage_told (at.Fill part facts done) folder = refl
 fresh_stage_told at.Begin folder = refl
 fresh_stage_told (at.Clean part follows) folder = refl
 fresh_stage_told (at.Left part) folder = refl
@@ -105,8 +106,8 @@ fresh_told (Delete d) = refl
 
 -- then the job is in trouble, as its history tells it
 in_trouble : (work : Work) (trouble : Trouble) → (is_fresh work && trouble.barrier) ≡ false → course_told (work_told work) trouble ≡ InTrouble trouble.cause
-in_trouble work trouble h = ap (λ b. if b && trouble.barrier then Unsettled trouble.cause else InTrouble trouble.cause) (fresh_told work)
-    ∙ ap (λ b. if b then Unsettled trouble.cause else InTrouble trouble.cause) h
+in_trouble work trouble h = ap (λ b. if b && trouble.barrier then OwedSyncFailed trouble.cause else InTrouble trouble.cause) (fresh_told work)
+    ∙ ap (λ b. if b then OwedSyncFailed trouble.cause else InTrouble trouble.cause) h
 
 pub deletion_in_trouble : (d : Deleting) (trouble : Trouble) → deletions.IsTroubleAt d.stage d.path trouble → course_told (Delete d) trouble ≡ InTrouble trouble.cause
 deletion_in_trouble d trouble h = in_trouble (Delete d) trouble (deletion_bars d.stage trouble.barrier (trouble_bars d.stage d.path trouble h))
@@ -115,8 +116,8 @@ skip_bars : (work : Work) → (is_fresh work && at_barrier work) ≡ false
 skip_bars (Copy c) = copy_bars c.stage c.folder (copying.at_barrier c.stage) refl
 skip_bars (Delete d) = deletion_bars d.stage (deletions.at_barrier d.stage) refl
 
-pub skip_in_trouble : (work : Work) → course_told (work_told work) (no_memory_of (at_barrier work)) ≡ InTrouble Memory
-skip_in_trouble work = in_trouble work (no_memory_of (at_barrier work)) (skip_bars work)
+pub skip_in_trouble : (work : Work) → course_told (work_told work) (out_of_memory_at (at_barrier work)) ≡ InTrouble Memory
+skip_in_trouble work = in_trouble work (out_of_memory_at (at_barrier work)) (skip_bars work)
 
 cleaned_told : (id : ℕ) (c : Copying) (part : Route) (follows : Next) → after_step (Cleaned part) (told (job_of id (Copy (record c { stage = at.Clean part follows })) GoesOn))
     ≡ Some (told (job_of id (Copy (record c { stage = after_clean follows })) GoesOn))
@@ -126,9 +127,9 @@ cleaned_told id c part next.Decided = refl
 -- a copy that goes on, step by step
 copy_told : (id : ℕ) (old new : Copying) (did : Did) → Tells old did new → ends did ≡ false
     → after_step did (told (job_of id (Copy old) GoesOn)) ≡ Some (told (job_of id (Copy new) (course_after did)))
-copy_told id old new (Began part) (from, (said, is)) h = rw is refl
-copy_told id old new (Chunk count) (part, said, done, from, some, few, within, is) h = rw is (rw from refl)
-copy_told id old new (Placed path) (part, said, from, target, is) h = rw is refl
+copy_told id old new (Began part) (from, (facts, is)) h = rw is refl
+copy_told id old new (Chunk count) (part, facts, done, from, some, few, within, is) h = rw is (rw from refl)
+copy_told id old new (Placed path) (part, facts, from, target, is) h = rw is refl
 copy_told id old new (Cleaned part) (follows, from, is) h = rw is (rw from (cleaned_told id old part follows))
 copy_told id old new Barrier (from, dirty, is) h = rw is (rw from refl)
 copy_told id old new (Troubled trouble) (barrier, is) h =
@@ -199,7 +200,7 @@ told_on : (course : Course) (id : ℕ) (work : Work) (new : Running) (did : Did)
     → after_step did (told (job_of id work course)) ≡ Some (told new)
 told_on GoesOn id work new did (after, tells, is) h = rw is (goes_told id work after did tells h)
 told_on (InTrouble cause) id work new did t h = absurd t
-told_on (Unsettled cause) id work new did t h = absurd t
+told_on (OwedSyncFailed cause) id work new did t h = absurd t
 told_on (Skips cause) id work new did (inl skips) h = rw (skips.0, skips.1) (ap (λ w. Some (job_of id w GoesOn)) (skipped_told work))
 told_on (Skips cause) id work new did (inr waits) h = rw (waits.0, waits.1) (ap (λ course. Some (job_of id (work_told work) course)) (skip_in_trouble work))
 told_on (Ends ending) id work new did (after, tells, is) h = rw is (winds_told id ending work after did tells h)
@@ -229,10 +230,10 @@ answered_told answer job = answers job.course answer
     answers (InTrouble cause) Skip = refl
     answers (InTrouble cause) SkipAll = refl
     answers (InTrouble cause) Abort = refl
-    answers (Unsettled cause) Retry = ap (λ w. job_of job.id w GoesOn) (sym (anew_told job.work))
-    answers (Unsettled cause) Skip = refl
-    answers (Unsettled cause) SkipAll = refl
-    answers (Unsettled cause) Abort = refl
+    answers (OwedSyncFailed cause) Retry = ap (λ w. job_of job.id w GoesOn) (sym (anew_told job.work))
+    answers (OwedSyncFailed cause) Skip = refl
+    answers (OwedSyncFailed cause) SkipAll = refl
+    answers (OwedSyncFailed cause) Abort = refl
     answers GoesOn answer = refl
     answers (Skips cause) answer = refl
     answers (Ends ending) answer = refl
@@ -253,7 +254,7 @@ began_told id (plan.Copy (pair ∷ more ∷ pairs)) = refl
 synced_copy : (c : Copying) (stage : Stage) (folder : FolderState) → copying.is_fresh stage folder ≡ true → synced (work_told (Copy (record c { stage = stage; folder = folder }))) ≡ work_told (Copy (record c { stage = stage; folder = folder }))
 synced_copy c at.Begin Synced h = refl
 synced_copy c at.Begin Dirty h = absurd (false≢true h)
-synced_copy c (at.Fill part said done) folder h = absurd (false≢true h)
+synced_copy c (at.Fill part facts done) folder h = absurd (false≢true h)
 synced_copy c (at.Clean part follows) folder h = absurd (false≢true h)
 synced_copy c (at.Left part) folder h = absurd (false≢true h)
 synced_copy c at.Decided folder h = absurd (false≢true h)
@@ -268,14 +269,14 @@ fresh_synced : (work : Work) → is_fresh work ≡ true → synced (work_told wo
 fresh_synced (Copy c) h = synced_copy c c.stage c.folder h
 fresh_synced (Delete d) h = synced_deletion d d.stage h
 
-fresh_unsettled : (work : Work) (trouble : Trouble) → is_fresh work ≡ true → trouble.barrier ≡ true → course_told (work_told work) trouble ≡ Unsettled trouble.cause
+fresh_unsettled : (work : Work) (trouble : Trouble) → is_fresh work ≡ true → trouble.barrier ≡ true → course_told (work_told work) trouble ≡ OwedSyncFailed trouble.cause
 fresh_unsettled work trouble fresh barrier =
-    ap (λ b. if b && trouble.barrier then Unsettled trouble.cause else InTrouble trouble.cause) (fresh_told work ∙ fresh)
-    ∙ ap (λ b. if b then Unsettled trouble.cause else InTrouble trouble.cause) barrier
+    ap (λ b. if b && trouble.barrier then OwedSyncFailed trouble.cause else InTrouble trouble.cause) (fresh_told work ∙ fresh)
+    ∙ ap (λ b. if b then OwedSyncFailed trouble.cause else InTrouble trouble.cause) barrier
 
 -- what is told of a job follows the sync of a folder that an ended job left, or its refusal
 pub sync_told : (job : Running) (folder : Route) (did : Did) (after : Option Running) → is_fresh job.work ≡ true
-    → ((did ≡ Barrier) × (after ≡ Some job)) ⊎ ((e : TreeError) × (did ≡ Troubled (trouble_at e folder true)) × (after ≡ Some (record job { course = Unsettled (cause_of e) })))
+    → ((did ≡ Barrier) × (after ≡ Some job)) ⊎ ((e : TreeError) × (did ≡ Troubled (trouble_at e folder true)) × (after ≡ Some (record job { course = OwedSyncFailed (cause_of e) })))
     → option_map told after ≡ after_step did (told job)
 sync_told job folder did after fresh (inl h) = rw (h.0, h.1) (ap (λ w. Some (job_of job.id w job.course)) (sym (fresh_synced job.work fresh)))
 sync_told job folder did after fresh (inr h) = rw (h.1, h.2) (ap (λ course. Some (job_of job.id (work_told job.work) course)) (sym (fresh_unsettled job.work (trouble_at h.0 folder true) fresh refl)))

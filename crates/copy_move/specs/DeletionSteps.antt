@@ -4,13 +4,13 @@ use Rattle.std.specs.Prelude.{◌≡◌, ◌⊎◌, ℕ, ◌≤◌, Option, None
 use Rattle.tree_trait.specs.declared.calls.TreeError.{TreeError}
 use Rattle.tree_trait.specs.Change.{CallLog}
 use Rattle.tree_trait.specs.Answers.{IfKnown, HasRisen}
-use Rattle.file_copy.specs.declared.report.Cause.{Cause}
-use Rattle.file_copy.specs.declared.report.Ending.{Ending}
-use Rattle.file_copy.specs.declared.report.Did.{Did}
-use Rattle.file_copy.specs.declared.report.Did.TheVariants.{Skipped, Troubled}
-use Rattle.file_copy.specs.CallRuns.{HasMore}
-use Rattle.file_copy.specs.CopySteps.{IsFault}
-use Rattle.file_copy.specs.Stops.{no_memory_of}
+use Rattle.job_reports.specs.declared.report.Cause.{Cause}
+use Rattle.job_reports.specs.declared.report.Ending.{Ending}
+use Rattle.job_reports.specs.declared.report.Did.{Did}
+use Rattle.job_reports.specs.declared.report.Did.TheVariants.{Skipped, Troubled}
+use Rattle.job_reports.specs.CallRuns.{HasMore}
+use Rattle.job_reports.specs.Reports.{IsFault}
+use Rattle.job_reports.specs.Stops.{out_of_memory_at}
 use Rattle.copy_move.specs.Deletions.{Deleting, Tells, Winds, DeletionCalls, DeletionLeaves, LastCalls, at_barrier, skipped}
 
 -- A step: what it reports is allowed, the deletion is then as it says, it is the call of the tree that it says, and it
@@ -38,4 +38,4 @@ pub record LastDeletionStep (ending : Ending) (old new : Deleting) (did : Did) (
 abbrev pub DeletionSkips : Cause → Deleting → Did → Deleting → Type 0
 DeletionSkips cause old did new =
     ((did ≡ Skipped old.path cause) × (new ≡ record old { stage = skipped old.stage }))
-    ⊎ ((did ≡ Troubled (no_memory_of (at_barrier old.stage))) × (new ≡ old))
+    ⊎ ((did ≡ Troubled (out_of_memory_at (at_barrier old.stage))) × (new ≡ old))

@@ -6,15 +6,12 @@ use Rattle.tree_trait.specs.Calls.{Call, RemoveFile, SyncFolder}
 use Rattle.tree_trait.specs.Change.{CallLog}
 use Rattle.tree_trait.specs.Answers.{Performs}
 use Rattle.tree_trait.specs.declared.calls.TreeError.{TreeError}
-use Rattle.tree_trait.specs.declared.calls.TreeError.TheVariants as refused
-use Rattle.file_copy.specs.declared.report.Cause.{Cause}
-use Rattle.file_copy.specs.declared.report.Cause.TheVariants.{Tree, Memory}
-use Rattle.file_copy.specs.declared.report.Trouble.{Trouble}
-use Rattle.file_copy.specs.declared.report.Ending.{Ending}
-use Rattle.file_copy.specs.declared.report.Ending.TheVariants.{Finished}
-use Rattle.file_copy.specs.declared.report.Did.{Did}
-use Rattle.file_copy.specs.declared.report.Did.TheVariants.{Began, Chunk, Placed, Removed, Skipped, Cleaned, Barrier, Troubled, Ended}
-use Rattle.file_copy.specs.LastSteps.{sync_answer}
+use Rattle.job_reports.specs.declared.report.Trouble.{Trouble}
+use Rattle.job_reports.specs.declared.report.Ending.{Ending}
+use Rattle.job_reports.specs.declared.report.Ending.TheVariants.{Finished}
+use Rattle.job_reports.specs.declared.report.Did.{Did}
+use Rattle.job_reports.specs.declared.report.Did.TheVariants.{Began, Chunk, Placed, Removed, Skipped, Cleaned, Barrier, Troubled, Ended}
+use Rattle.job_reports.specs.Stops.{sync_answer, cause_of, trouble_at}
 use Rattle.copy_move.specs.declared.deletion.Stage.{Stage}
 use Rattle.copy_move.specs.declared.deletion.Stage.TheVariants.{Remove, Sync, Finish, PassedOver}
 
@@ -72,20 +69,6 @@ call_of Sync [] = None
 call_of Sync (name ∷ folder) = Some (SyncFolder folder)
 call_of Finish path = None
 call_of PassedOver path = None
-
--- the cause of a trouble where a call was refused
-abbrev pub cause_of : TreeError → Cause
-cause_of refused.Memory = Memory
-cause_of e = Tree e
-
--- the path that a trouble names; for want of memory it names none
-abbrev pub named_path : TreeError → Route → Option Route
-named_path refused.Memory path = None
-named_path e path = Some path
-
--- trouble at a path: a call on it was refused, or there was no memory
-abbrev pub trouble_at : TreeError → Route → Bool → Trouble
-trouble_at e path barrier = record { cause = cause_of e; path = named_path e path; barrier = barrier }
 
 -- Trouble is at the path of the stage's call. That of the sync stands at a barrier.
 abbrev pub IsTroubleAt : Stage → Route → Trouble → Type 0
@@ -154,9 +137,3 @@ LastCalls d (Troubled trouble) log after = ⊥
 abbrev pub DeletionLeaves : Deleting → Did → Option TreeError → CallLog → Option CallLog → Type 0
 DeletionLeaves d Barrier left log after = Answers log (call_of Sync d.path) (sync_answer left) after
 DeletionLeaves d did left log after = left ≡ None
-
--- how many changing calls were made for an answer: none where there was no memory
-abbrev pub calls_for : Result (Unit {0}) TreeError → ℕ
-calls_for (Ok done) = 1
-calls_for (Err refused.Memory) = 0
-calls_for (Err e) = 1

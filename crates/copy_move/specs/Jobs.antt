@@ -1,28 +1,29 @@
 -- A live job: what it does, how far it is, and whether it goes on; what a step of it may report, and what that says of the
 -- tree's calls.
-use Rattle.std.specs.Prelude.{◌≡◌, ◌⊎◌, ℕ, ⊤, Bool, true, false, ◌&&◌, is_some, if◌then◌else◌, [], ◌∷◌, Option, Some, None}
+use Rattle.std.specs.Prelude.{◌≡◌, ◌⊎◌, ℕ, ⊤, Bool, true, false, ◌&&◌, is_some, [], ◌∷◌, Option, Some, None, if◌then◌else◌}
 use Rattle.mc_text.specs.Routes.{Route, parent_of}
 use Rattle.tree_trait.specs.Change.{CallLog}
-use Rattle.file_copy.specs.declared.report.Cause.TheVariants.{Memory}
-use Rattle.file_copy.specs.declared.report.Trouble.{Trouble}
-use Rattle.file_copy.specs.declared.report.Ending.{Ending}
-use Rattle.file_copy.specs.declared.report.Ending.TheVariants.{Aborted}
-use Rattle.file_copy.specs.declared.report.Did.{Did}
-use Rattle.file_copy.specs.declared.report.Did.TheVariants.{Began, Chunk, Placed, Removed, Skipped, Cleaned, Barrier, Troubled, Ended}
+use Rattle.job_reports.specs.declared.report.Cause.TheVariants.{Memory}
+use Rattle.job_reports.specs.declared.report.Trouble.{Trouble}
+use Rattle.job_reports.specs.declared.report.Ending.{Ending}
+use Rattle.job_reports.specs.declared.report.Ending.TheVariants.{Aborted}
+use Rattle.job_reports.specs.declared.report.Did.{Did}
+use Rattle.job_reports.specs.declared.report.Did.TheVariants.{Began, Chunk, Placed, Removed, Skipped, Cleaned, Barrier, Troubled, Ended}
+use Rattle.job_reports.specs.Reports.{passes_over}
 use Rattle.file_copy.specs.Copying.{begun}
 use Rattle.file_copy.specs.Copying as copying
 use Rattle.file_copy.specs.CopyCalls.{CopyCalls}
 use Rattle.file_copy.specs.LastSteps as last
-use Rattle.file_copy.specs.Stops.{no_memory_of}
-use Rattle.copy_move.specs.declared.history.Job.{Job}
-use Rattle.copy_move.specs.declared.history.Job.TheVariants as plan
-use Rattle.copy_move.specs.declared.history.Answer.{Answer}
-use Rattle.copy_move.specs.declared.history.Answer.TheVariants.{Retry, Skip, SkipAll, Abort}
+use Rattle.job_reports.specs.Stops.{out_of_memory_at}
+use Rattle.job_reports.specs.declared.job.Job.{Job}
+use Rattle.job_reports.specs.declared.job.Job.TheVariants as plan
+use Rattle.job_reports.specs.declared.answer.Answer.{Answer}
+use Rattle.job_reports.specs.declared.answer.Answer.TheVariants.{Retry, Skip, SkipAll, Abort}
 use Rattle.copy_move.specs.declared.deletion.Stage.TheVariants.{Remove}
 use Rattle.copy_move.specs.declared.work.Work.{Work}
 use Rattle.copy_move.specs.declared.work.Work.TheVariants.{Copy, Delete}
 use Rattle.copy_move.specs.declared.run.Course.{Course}
-use Rattle.copy_move.specs.declared.run.Course.TheVariants.{GoesOn, InTrouble, Unsettled, Skips, Ends}
+use Rattle.copy_move.specs.declared.run.Course.TheVariants.{GoesOn, InTrouble, OwedSyncFailed, Skips, Ends}
 use Rattle.copy_move.specs.Deletions.{DeletionCalls, LastCalls}
 use Rattle.copy_move.specs.Deletions as deletions
 
@@ -51,30 +52,6 @@ first_work id (plan.Copy (pair ∷ [])) =
     if is_some (parent_of pair.source) && is_some (parent_of pair.target) then Some (copies id pair.source pair.target) else None
 first_work id (plan.Copy (pair ∷ more ∷ pairs)) = None
 
--- the report is that of an end
-abbrev pub ends : Did → Bool
-ends (Ended ending part) = true
-ends (Began part) = false
-ends (Chunk count) = false
-ends (Placed path) = false
-ends (Removed path) = false
-ends (Skipped path cause) = false
-ends (Cleaned part) = false
-ends Barrier = false
-ends (Troubled trouble) = false
-
--- the path at which a report says that a job is stuck
-abbrev pub stuck_path : Did → Option Route
-stuck_path (Troubled trouble) = trouble.path
-stuck_path (Began part) = None
-stuck_path (Chunk count) = None
-stuck_path (Placed path) = None
-stuck_path (Removed path) = None
-stuck_path (Skipped path cause) = None
-stuck_path (Cleaned part) = None
-stuck_path Barrier = None
-stuck_path (Ended ending part) = None
-
 -- what a job works on: the file that is copied or deleted
 abbrev pub file_of : Work → Route
 file_of (Copy c) = c.source
@@ -92,7 +69,7 @@ is_fresh (Delete d) = deletions.is_fresh d.stage
 
 -- nothing can be skipped: the next call is at a barrier, or the trouble is a folder that an ended job left
 abbrev pub is_barred : Course → Work → Bool
-is_barred (Unsettled cause) work = true
+is_barred (OwedSyncFailed cause) work = true
 is_barred GoesOn work = at_barrier work
 is_barred (InTrouble cause) work = at_barrier work
 is_barred (Skips cause) work = at_barrier work
@@ -122,7 +99,7 @@ IsGoing (Delete d) = ⊤
 abbrev pub IsSound : Course → Work → Type 0
 IsSound GoesOn work = IsGoing work
 IsSound (InTrouble cause) work = IsGoing work
-IsSound (Unsettled cause) work = IsGoing work
+IsSound (OwedSyncFailed cause) work = IsGoing work
 IsSound (Skips cause) work = IsGoing work
 IsSound (Ends ending) work = ⊤
 
@@ -157,10 +134,10 @@ course_after (Ended ending part) = GoesOn
 abbrev pub TellsOn : Course → Running → Did → Running → Type 0
 TellsOn GoesOn job did new = (work : Work) × WorkTells job.work did work × (new ≡ record job { work = work; course = course_after did })
 TellsOn (InTrouble cause) job did new = ⊥
-TellsOn (Unsettled cause) job did new = ⊥
+TellsOn (OwedSyncFailed cause) job did new = ⊥
 TellsOn (Skips cause) job did new =
     ((did ≡ Skipped (file_of job.work) cause) × (new ≡ record job { work = skipped job.work; course = GoesOn }))
-    ⊎ ((did ≡ Troubled (no_memory_of (at_barrier job.work))) × (new ≡ record job { course = InTrouble Memory }))
+    ⊎ ((did ≡ Troubled (out_of_memory_at (at_barrier job.work))) × (new ≡ record job { course = InTrouble Memory }))
 TellsOn (Ends ending) job did new = (work : Work) × WorkWinds ending job.work did work × (new ≡ record job { work = work })
 
 abbrev pub JobTells : Running → Did → Running → Type 0
@@ -181,7 +158,7 @@ WorkLastCalls (Delete d) did log after = LastCalls d did log after
 abbrev pub CallsOn : (Route → Type 0) → Course → Running → Did → Running → CallLog → Option CallLog → Type 0
 CallsOn unclaimed GoesOn job did new log after = WorkCalls unclaimed job.work did new.work log after
 CallsOn unclaimed (InTrouble cause) job did new log after = ⊥
-CallsOn unclaimed (Unsettled cause) job did new log after = ⊥
+CallsOn unclaimed (OwedSyncFailed cause) job did new log after = ⊥
 CallsOn unclaimed (Skips cause) job did new log after = after ≡ Some log
 CallsOn unclaimed (Ends ending) job did new log after = WorkLastCalls job.work did log after
 
@@ -194,10 +171,10 @@ answered_on (InTrouble cause) Retry job = record job { work = taken_anew job.wor
 answered_on (InTrouble cause) Skip job = record job { course = Skips cause }
 answered_on (InTrouble cause) SkipAll job = record job { course = Skips cause }
 answered_on (InTrouble cause) Abort job = record job { course = Ends Aborted }
-answered_on (Unsettled cause) Retry job = record job { work = taken_anew job.work; course = GoesOn }
-answered_on (Unsettled cause) Skip job = job
-answered_on (Unsettled cause) SkipAll job = job
-answered_on (Unsettled cause) Abort job = record job { course = Ends Aborted }
+answered_on (OwedSyncFailed cause) Retry job = record job { work = taken_anew job.work; course = GoesOn }
+answered_on (OwedSyncFailed cause) Skip job = job
+answered_on (OwedSyncFailed cause) SkipAll job = job
+answered_on (OwedSyncFailed cause) Abort job = record job { course = Ends Aborted }
 answered_on GoesOn answer job = job
 answered_on (Skips cause) answer job = job
 answered_on (Ends ending) answer job = job
@@ -205,17 +182,10 @@ answered_on (Ends ending) answer job = job
 abbrev pub answered : Answer → Running → Running
 answered answer job = answered_on job.course answer job
 
--- these pass over what is in trouble
-abbrev pub passes_over : Answer → Bool
-passes_over Skip = true
-passes_over SkipAll = true
-passes_over Retry = false
-passes_over Abort = false
-
 -- a job waits for an answer
 abbrev pub waits_on : Course → Bool
 waits_on (InTrouble cause) = true
-waits_on (Unsettled cause) = true
+waits_on (OwedSyncFailed cause) = true
 waits_on GoesOn = false
 waits_on (Skips cause) = false
 waits_on (Ends ending) = false
@@ -223,7 +193,7 @@ waits_on (Ends ending) = false
 -- the trouble of a job that waits
 abbrev pub trouble_on : Course → Work → Option Route → Option Trouble
 trouble_on (InTrouble cause) work path = Some (record { cause = cause; path = path; barrier = at_barrier work })
-trouble_on (Unsettled cause) work path = Some (record { cause = cause; path = path; barrier = true })
+trouble_on (OwedSyncFailed cause) work path = Some (record { cause = cause; path = path; barrier = true })
 trouble_on GoesOn work path = None
 trouble_on (Skips cause) work path = None
 trouble_on (Ends ending) work path = None
@@ -237,7 +207,7 @@ pub record MayAnswer (job : Running) (answer : Answer) : Type 0 where
 abbrev pub ended_course : Ending → Course → Course
 ended_course ending GoesOn = Ends ending
 ended_course ending (InTrouble cause) = Ends ending
-ended_course ending (Unsettled cause) = Ends ending
+ended_course ending (OwedSyncFailed cause) = Ends ending
 ended_course ending (Skips cause) = Ends ending
 ended_course ending (Ends first) = Ends first
 
@@ -245,7 +215,7 @@ ended_course ending (Ends first) = Ends first
 abbrev pub closed_course : Course → Course
 closed_course GoesOn = GoesOn
 closed_course (InTrouble cause) = Ends Aborted
-closed_course (Unsettled cause) = Ends Aborted
+closed_course (OwedSyncFailed cause) = Ends Aborted
 closed_course (Skips cause) = Skips cause
 closed_course (Ends ending) = Ends ending
 

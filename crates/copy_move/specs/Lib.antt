@@ -5,4 +5,3 @@ pub mod Ranks
 pub mod Settling
 pub mod Steps
 pub mod Told
-pub mod Traces

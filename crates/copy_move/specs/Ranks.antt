@@ -12,14 +12,14 @@ use Rattle.copy_move.specs.declared.deletion.Stage.TheVariants as deletion
 use Rattle.copy_move.specs.declared.work.Work.{Work}
 use Rattle.copy_move.specs.declared.work.Work.TheVariants.{Copy, Delete}
 use Rattle.copy_move.specs.declared.run.Course.{Course}
-use Rattle.copy_move.specs.declared.run.Course.TheVariants.{GoesOn, InTrouble, Unsettled, Skips, Ends}
+use Rattle.copy_move.specs.declared.run.Course.TheVariants.{GoesOn, InTrouble, OwedSyncFailed, Skips, Ends}
 use Rattle.copy_move.specs.Jobs.{Running}
 
 -- of a copy that goes on: a file has at most 2^63 bytes, and each chunk at least one; at last three steps more, if it is
 -- aborted
 abbrev pub copy_rank : Stage → FolderState → ℕ
 copy_rank Begin folder = 2 ^ 63 + 8
-copy_rank (Fill part said done) folder = (said.size - done) + 7
+copy_rank (Fill part facts done) folder = (facts.size - done) + 7
 copy_rank (Clean part next.Begin) folder = 2 ^ 63 + 9
 copy_rank (Clean part next.Decided) folder = 6
 copy_rank (Left part) folder = 4
@@ -52,7 +52,7 @@ last_rank (Delete d) = last_deletion_steps d.stage
 abbrev pub rank_on : Course → Work → ℕ
 rank_on GoesOn work = work_rank work
 rank_on (InTrouble cause) work = last_rank work
-rank_on (Unsettled cause) work = last_rank work
+rank_on (OwedSyncFailed cause) work = last_rank work
 rank_on (Skips cause) work = 10
 rank_on (Ends ending) work = last_rank work
 

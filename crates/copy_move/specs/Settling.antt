@@ -1,7 +1,7 @@
 -- Folders in which jobs changed names and that no sync has brought onto the disk yet: what jobs leave there, and how a later
 -- job syncs them before it changes anything on that mount.
-use Rattle.std.specs.Prelude.{◌≡◌, ◌⊎◌, ℕ, Bool, true, false, not, List, filter, [], ◌∷◌, ◌++◌, Option, Some, None}
-use Rattle.mc_text.specs.Routes.{Route, same_path}
+use Rattle.std.specs.Prelude.{◌≡◌, ◌⊎◌, ℕ, Bool, true, false, List, [], ◌∷◌, ◌++◌, Option, Some, None}
+use Rattle.mc_text.specs.Routes.{Route}
 use Rattle.tree_trait.specs.declared.file_system.FileSystem.{FileSystem}
 use Rattle.tree_trait.specs.declared.calls.TreeError.{TreeError}
 use Rattle.tree_trait.specs.declared.calls.TreeError.TheVariants.{Missing}
@@ -10,8 +10,9 @@ use Rattle.tree_trait.specs.Change.{CallLog}
 use Rattle.tree_trait.specs.Answers.{mount_number}
 use Rattle.tree_trait.specs.Refusals.{refusal_of, mount_of}
 use Rattle.tree_trait.specs.CrashImages.{Among}
-use Rattle.file_copy.specs.declared.report.Did.{Did}
-use Rattle.file_copy.specs.declared.report.Did.TheVariants.{Barrier}
+use Rattle.job_reports.specs.declared.report.Did.{Did}
+use Rattle.job_reports.specs.declared.report.Did.TheVariants.{Barrier}
+use Rattle.job_reports.specs.Paths.{folder_of, without}
 use Rattle.file_copy.specs.Copying as copying
 use Rattle.file_copy.specs.LastSteps as last
 use Rattle.copy_move.specs.declared.work.Work.{Work}
@@ -21,17 +22,13 @@ use Rattle.copy_move.specs.Deletions as deletions
 
 -- the folder in which a job changes names
 abbrev pub changed_folder : Work → Route
-changed_folder (Copy c) = copying.folder_of c.target
-changed_folder (Delete d) = copying.folder_of d.path
+changed_folder (Copy c) = folder_of c.target
+changed_folder (Delete d) = folder_of d.path
 
 -- it has a change of names that no sync has brought onto the disk, as far as the job's own work goes
 abbrev pub is_dirty : Work → Bool
 is_dirty (Copy c) = copying.is_dirty c.folder
 is_dirty (Delete d) = deletions.is_dirty d.stage
-
--- dirty folders, once one of them was synced
-abbrev pub without : Route → List Route → List Route
-without folder dirty = filter (λ kept. not (same_path kept folder)) dirty
 
 -- a job's folder joins the dirty ones with its first change, and leaves them with its sync
 abbrev pub with_change : Bool → Bool → Route → List Route → List Route

@@ -6,19 +6,19 @@ use Rattle.tree_trait.specs.Calls.{SyncFolder}
 use Rattle.tree_trait.specs.Change.{CallLog, current}
 use Rattle.tree_trait.specs.Answers.{IfKnown, HasRisen, Performs}
 use Rattle.tree_trait.specs.CrashImages.{Among}
-use Rattle.file_copy.specs.declared.report.Did.{Did}
-use Rattle.file_copy.specs.declared.report.Ending.{Ending}
-use Rattle.file_copy.specs.CallRuns.{HasMore}
-use Rattle.file_copy.specs.CopySteps.{IsFault}
-use Rattle.file_copy.specs.declared.report.Cause.{Cause}
-use Rattle.file_copy.specs.declared.report.Did.TheVariants.{Barrier, Skipped, Troubled}
-use Rattle.file_copy.specs.Stops.{no_memory_of}
+use Rattle.job_reports.specs.declared.report.Did.{Did}
+use Rattle.job_reports.specs.declared.report.Ending.{Ending}
+use Rattle.job_reports.specs.CallRuns.{HasMore}
+use Rattle.job_reports.specs.Reports.{IsFault, ends}
+use Rattle.job_reports.specs.declared.report.Cause.{Cause}
+use Rattle.job_reports.specs.declared.report.Did.TheVariants.{Barrier, Skipped, Troubled}
+use Rattle.job_reports.specs.Stops.{out_of_memory_at, cause_of, trouble_at}
 use Rattle.copy_move.specs.declared.work.Work.{Work}
 use Rattle.copy_move.specs.declared.run.Course.{Course}
-use Rattle.copy_move.specs.declared.run.Course.TheVariants.{GoesOn, Unsettled, Ends}
-use Rattle.copy_move.specs.Deletions.{cause_of, trouble_at}
-use Rattle.copy_move.specs.Jobs.{Running, JobTells, JobCalls, WorkTells, WorkCalls, WorkWinds, WorkLastCalls, at_barrier, course_after, ends, file_of, is_fresh, skipped}
-use Rattle.copy_move.specs.Settling.{NoneOwed, TellsFolder, after_try, changed_folder, is_dirty, with_change, without}
+use Rattle.copy_move.specs.declared.run.Course.TheVariants.{GoesOn, OwedSyncFailed, Ends}
+use Rattle.copy_move.specs.Jobs.{Running, JobTells, JobCalls, WorkTells, WorkCalls, WorkWinds, WorkLastCalls, at_barrier, course_after, file_of, is_fresh, skipped}
+use Rattle.copy_move.specs.Settling.{NoneOwed, TellsFolder, after_try, changed_folder, is_dirty, with_change}
+use Rattle.job_reports.specs.Paths.{without}
 use Rattle.copy_move.specs.Ranks.{rank, rank_on, work_rank, last_rank}
 
 -- A step of a job: what it reports is allowed, the job is then as it says, it made the calls of the tree that it says, at
@@ -41,36 +41,53 @@ LeavesDirty (Ends ending) old did new dirty dirty_after before after =
     (left : Option TreeError) × (dirty_after ≡ after_try did left (changed_folder old) dirty) × IfKnown before (λ log. TellsFolder old did left log after)
 LeavesDirty course old did new dirty dirty_after before after = dirty_after ≡ with_change (is_dirty old) (is_dirty new) (changed_folder old) dirty
 
+-- A step of a job as it was made: the job before and after it, its report, and how many changing calls it made; and how the
+-- dirty folders, the tree's log and its count of faults stood before and after.
+pub record StepMade : Type 0 where
+  pub old : Running
+  pub new : Running
+  pub did : Did
+  pub calls : ℕ
+  pub dirty : List Route
+  pub dirty_after : List Route
+  pub before : Option CallLog
+  pub after : Option CallLog
+  pub faults : ℕ
+  pub faults_after : ℕ
+
+abbrev pub step_made : Running → Running → Did → ℕ → List Route → List Route → Option CallLog → Option CallLog → ℕ → ℕ → StepMade
+step_made old new did calls dirty dirty_after before after faults faults_after =
+    record { old = old; new = new; did = did; calls = calls; dirty = dirty; dirty_after = dirty_after; before = before; after = after; faults = faults; faults_after = faults_after }
+
 -- A step of the job's own: one that may make its first change is made only where no dirty folder lies on that mount.
-pub record OwnStep (unclaimed : Route → Type 0) (old new : Running) (did : Did) (calls : ℕ) (dirty dirty_after : List Route) (before after : Option CallLog) (faults faults_after : ℕ) : Type 0 where
-  pub own : StepsOn unclaimed old new did calls before after faults faults_after
-  pub settled : old.course ≡ GoesOn → is_fresh old.work ≡ true → IfKnown before (λ log. NoneOwed (current log) (changed_folder old.work) dirty)
-  pub leaves : LeavesDirty old.course old.work did new.work dirty dirty_after before after
+pub record OwnStep (unclaimed : Route → Type 0) (step : StepMade) : Type 0 where
+  pub own : StepsOn unclaimed step.old step.new step.did step.calls step.before step.after step.faults step.faults_after
+  pub settled : step.old.course ≡ GoesOn → is_fresh step.old.work ≡ true → IfKnown step.before (λ log. NoneOwed (current log) (changed_folder step.old.work) step.dirty)
+  pub leaves : LeavesDirty step.old.course step.old.work step.did step.new.work step.dirty step.dirty_after step.before step.after
 
 -- a dirty folder was synced, and the job stands where it stood; or that was refused, and the job waits for an answer
 abbrev pub SyncsFolder : Running → Route → Did → Running → List Route → List Route → Option CallLog → Option CallLog → Type 0
 SyncsFolder old folder did new dirty dirty_after before after =
     ((did ≡ Barrier) × (new ≡ old) × (dirty_after ≡ without folder dirty) × IfKnown before (λ log. Performs {A = Unit {0}} log (SyncFolder folder) (Ok tt) after))
-    ⊎ ((e : TreeError) × (did ≡ Troubled (trouble_at e folder true)) × (new ≡ record old { course = Unsettled (cause_of e) }) × (dirty_after ≡ dirty)
+    ⊎ ((e : TreeError) × (did ≡ Troubled (trouble_at e folder true)) × (new ≡ record old { course = OwedSyncFailed (cause_of e) }) × (dirty_after ≡ dirty)
     × IfKnown before (λ log. Performs {A = Unit {0}} log (SyncFolder folder) (Err e) after))
 
 -- A step of a job that has changed nothing yet, where an ended job left a dirty folder: that is synced first.
-pub record SettlingStep (old new : Running) (did : Did) (calls : ℕ) (dirty dirty_after : List Route) (before after : Option CallLog) (faults faults_after : ℕ) : Type 0 where
-  pub goes : old.course ≡ GoesOn
-  pub fresh : is_fresh old.work ≡ true
+pub record OwedSyncStep (step : StepMade) : Type 0 where
+  pub goes : step.old.course ≡ GoesOn
+  pub fresh : is_fresh step.old.work ≡ true
   pub folder : Route
-  pub owed : Among dirty folder
-  pub synced : SyncsFolder old folder did new dirty dirty_after before after
-  pub counted : IfKnown before (λ log. IfKnown after (HasMore log calls))
-  pub few : calls ≤ 1
-  pub unknown : before ≡ None → after ≡ None
-  pub later : faults ≤ faults_after
-  pub fault : IsFault did → HasRisen faults faults_after
+  pub owed : Among step.dirty folder
+  pub synced : SyncsFolder step.old folder step.did step.new step.dirty step.dirty_after step.before step.after
+  pub counted : IfKnown step.before (λ log. IfKnown step.after (HasMore log step.calls))
+  pub few : step.calls ≤ 1
+  pub unknown : step.before ≡ None → step.after ≡ None
+  pub later : step.faults ≤ step.faults_after
+  pub fault : IsFault step.did → HasRisen step.faults step.faults_after
 
-abbrev pub RunStep : (Route → Type 0) → Running → Running → Did → ℕ → List Route → List Route → Option CallLog → Option CallLog → ℕ → ℕ → Type 0
-RunStep unclaimed old new did calls dirty dirty_after before after faults faults_after =
-    OwnStep unclaimed old new did calls dirty dirty_after before after faults faults_after
-    ⊎ SettlingStep old new did calls dirty dirty_after before after faults faults_after
+-- what a step of a job may be: one of its own, or the sync of a folder that an ended job left
+abbrev pub RunStep : (Route → Type 0) → StepMade → Type 0
+RunStep unclaimed step = OwnStep unclaimed step ⊎ OwedSyncStep step
 
 -- A piece of work, likewise. Fewer steps are left then, and at most three where it is refused.
 pub record WorkSteps (unclaimed : Route → Type 0) (old new : Work) (did : Did) (calls : ℕ) (before after : Option CallLog) (faults faults_after : ℕ) : Type 0 where
@@ -98,7 +115,7 @@ pub record WorkWindsUp (ending : Ending) (old new : Work) (did : Did) (calls : �
 abbrev pub WorkSkips : Cause → Work → Did → Work → Type 0
 WorkSkips cause old did new =
     ((did ≡ Skipped (file_of old) cause) × (new ≡ skipped old))
-    ⊎ ((did ≡ Troubled (no_memory_of (at_barrier old))) × (new ≡ old))
+    ⊎ ((did ≡ Troubled (out_of_memory_at (at_barrier old))) × (new ≡ old))
 
 -- the step of a job that passes over its file: it makes no call
 pub record SkipSteps (cause : Cause) (old new : Running) (did : Did) (calls : ℕ) : Type 0 where
@@ -108,8 +125,8 @@ pub record SkipSteps (cause : Cause) (old new : Running) (did : Did) (calls : �
   pub none : calls ≡ 0
 
 -- a last step of a job: one of its work, which leaves the folder among the dirty ones where the one try of its sync was refused
-pub record WindingStep (ending : Ending) (old new : Running) (did : Did) (calls : ℕ) (dirty dirty_after : List Route) (before after : Option CallLog) (faults faults_after : ℕ) : Type 0 where
+pub record WindingStep (ending : Ending) (step : StepMade) : Type 0 where
   pub left : Option TreeError
-  pub winds : WorkWindsUp ending old.work new.work did calls left before after faults faults_after
-  pub new_is : new ≡ record old { work = new.work }
-  pub leaves : dirty_after ≡ after_try did left (changed_folder old.work) dirty
+  pub winds : WorkWindsUp ending step.old.work step.new.work step.did step.calls left step.before step.after step.faults step.faults_after
+  pub new_is : step.new ≡ record step.old { work = step.new.work }
+  pub leaves : step.dirty_after ≡ after_try step.did left (changed_folder step.old.work) step.dirty

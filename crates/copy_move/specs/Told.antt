@@ -1,38 +1,33 @@
 -- What a history tells of its jobs: the live one, but for the size and the mode that a copy's source was said to have and
 -- how many of its bytes were copied. Histories stand newest first here.
-use Rattle.std.specs.Prelude.{◌≡◌, ◌⊎◌, ℕ, Bool, true, false, ◌||◌, ◌&&◌, if◌then◌else◌, List, [], ◌∷◌, Option, Some, None, option_and_then}
+use Rattle.std.specs.Prelude.{◌≡◌, ◌⊎◌, ℕ, Bool, true, false, ◌||◌, ◌&&◌, [], ◌∷◌, Option, Some, None, if◌then◌else◌}
 use Rattle.std.specs.Option.{option_map}
 use Rattle.mc_text.specs.Routes.{Route}
-use Rattle.file_copy.specs.declared.report.Trouble.{Trouble}
-use Rattle.file_copy.specs.declared.report.Ending.TheVariants.{NoMemory}
-use Rattle.file_copy.specs.declared.report.Did.{Did}
-use Rattle.file_copy.specs.declared.report.Did.TheVariants.{Began, Chunk, Placed, Removed, Skipped, Cleaned, Barrier, Troubled, Ended}
-use Rattle.file_copy.specs.declared.stage.Said.{Said}
+use Rattle.job_reports.specs.declared.report.Trouble.{Trouble}
+use Rattle.job_reports.specs.declared.report.Ending.TheVariants.{NoMemory}
+use Rattle.job_reports.specs.declared.report.Did.{Did}
+use Rattle.job_reports.specs.declared.report.Did.TheVariants.{Began, Chunk, Placed, Removed, Skipped, Cleaned, Barrier, Troubled, Ended}
+use Rattle.file_copy.specs.declared.stage.SourceFacts.{SourceFacts}
 use Rattle.file_copy.specs.declared.stage.Stage.{Stage}
 use Rattle.file_copy.specs.declared.stage.Stage.TheVariants as at
 use Rattle.file_copy.specs.declared.stage.FolderState.TheVariants.{Synced, Dirty}
 use Rattle.file_copy.specs.Copying.{after_clean}
 use Rattle.file_copy.specs.LastSteps.{given_up}
-use Rattle.copy_move.specs.declared.history.Event.{Event}
-use Rattle.copy_move.specs.declared.history.Event.TheVariants.{Key, Look, Order, Step, Closed}
-use Rattle.copy_move.specs.declared.history.Event.TheVariants as event
-use Rattle.copy_move.specs.declared.history.JobOrder.TheVariants.{Answered}
-use Rattle.copy_move.specs.declared.history.Entry.{Entry}
 use Rattle.copy_move.specs.declared.deletion.Stage.TheVariants as deletion
 use Rattle.copy_move.specs.declared.work.Work.{Work}
 use Rattle.copy_move.specs.declared.work.Work.TheVariants.{Copy, Delete}
 use Rattle.copy_move.specs.declared.run.Course.{Course}
-use Rattle.copy_move.specs.declared.run.Course.TheVariants.{GoesOn, InTrouble, Unsettled}
+use Rattle.copy_move.specs.declared.run.Course.TheVariants.{GoesOn, InTrouble, OwedSyncFailed}
 use Rattle.copy_move.specs.Deletions.{after_sync}
-use Rattle.copy_move.specs.Jobs.{Running, JobTells, answered, closed_job, first_work, is_fresh, part_of, skipped, waits_on}
+use Rattle.copy_move.specs.Jobs.{Running, JobTells, closed_job, is_fresh, part_of, skipped, waits_on}
 
 -- what no history tells
-abbrev pub unsaid : Said
-unsaid = record { size = 0; mode = 0 }
+abbrev pub untold_facts : SourceFacts
+untold_facts = record { size = 0; mode = 0 }
 
 -- a copy's place in its work, as its history tells it
 abbrev pub stage_told : Stage → Stage
-stage_told (at.Fill part said done) = at.Fill part unsaid 0
+stage_told (at.Fill part facts done) = at.Fill part untold_facts 0
 stage_told at.Begin = at.Begin
 stage_told (at.Clean part follows) = at.Clean part follows
 stage_told (at.Left part) = at.Left part
@@ -48,7 +43,7 @@ told job = record job { work = work_told job.work }
 
 -- the work once a part stands
 abbrev pub with_part : Route → Work → Work
-with_part part (Copy c) = Copy (record c { stage = at.Fill part unsaid 0; folder = Dirty })
+with_part part (Copy c) = Copy (record c { stage = at.Fill part untold_facts 0; folder = Dirty })
 with_part part (Delete d) = Delete d
 
 -- the work once its file was placed
@@ -78,7 +73,7 @@ synced (Delete d) = Delete (record d { stage = after_sync d.stage })
 
 -- a trouble at a barrier before the first change is that of a folder which an ended job left
 abbrev pub course_told : Work → Trouble → Course
-course_told work trouble = if is_fresh work && trouble.barrier then Unsettled trouble.cause else InTrouble trouble.cause
+course_told work trouble = if is_fresh work && trouble.barrier then OwedSyncFailed trouble.cause else InTrouble trouble.cause
 
 -- the job after a step
 abbrev pub after_step : Did → Running → Option Running
@@ -96,55 +91,15 @@ after_step (Ended ending part) job = None
 abbrev pub running : ℕ → Work → Running
 running id work = record { id = id; work = work; course = GoesOn }
 
--- the live job after an event
-abbrev pub after_event : Event → Option Running → Option Running
-after_event (event.Began id plan background) job = option_map (running id) (first_work id plan)
-after_event (Order id (Answered answer)) job = option_map (answered answer) job
-after_event (Step id did) job = option_and_then (after_step did) job
-after_event Closed job = job
-after_event (Key key now refusals lost) job = job
-after_event (Look refusals) job = job
-
-abbrev pub closes : Event → Bool
-closes Closed = true
-closes (Key key now refusals lost) = false
-closes (Look refusals) = false
-closes (event.Began id plan background) = false
-closes (Order id order) = false
-closes (Step id did) = false
-
 abbrev pub if_closed : Bool → Option Running → Option Running
 if_closed true job = option_map closed_job job
 if_closed false job = job
-
--- the session is closed after these entries
-abbrev pub is_closed : List Entry → Bool
-is_closed [] = false
-is_closed (e ∷ older) = closes e.what || is_closed older
-
--- the live job after these entries
-abbrev pub live_job : List Entry → Option Running
-live_job [] = None
-live_job (e ∷ older) = if_closed (is_closed (e ∷ older)) (after_event e.what (live_job older))
-
-abbrev pub id_after : Event → ℕ → ℕ
-id_after (event.Began id plan background) before = id
-id_after (Key key now refusals lost) before = before
-id_after (Look refusals) before = before
-id_after (Order id order) before = before
-id_after (Step id did) before = before
-id_after Closed before = before
-
--- the number of the job that these entries began last, or 0
-abbrev pub last_id : List Entry → ℕ
-last_id [] = 0
-last_id (e ∷ older) = id_after e.what (last_id older)
 
 -- some job of which the history tells this much may report it
 abbrev pub Reports : Running → Did → Type 0
 Reports job did = (old : Running) × (new : Running) × (told old ≡ job) × JobTells old did new
 
--- any job that waits for nothing may end for want of memory, and names the part that stands then
+-- any job that waits for nothing may end out of memory, and names the part that stands then
 abbrev pub EndsWithoutMemory : Running → Did → Type 0
 EndsWithoutMemory job did = (waits_on job.course ≡ false) × (did ≡ Ended NoMemory (part_of job.work))
 

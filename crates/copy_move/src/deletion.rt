@@ -2,13 +2,12 @@
 //! then is it finished, so that a finished deletion is on the disk.
 ghost use Rattle.std.specs.Prelude.{◌≡◌, Err, None, Some};
 ghost use Rattle.mc_text.specs.Routes.{parent_of};
-ghost use Rattle.file_copy.specs.Stops.{no_memory_of};
-ghost use Rattle.copy_move.specs.Deletions.{at_barrier, calls_for, cause_of, is_dirty, is_fresh, skipped as skipped_to, trouble_at};
-ghost use Rattle.file_copy.specs.LastSteps.{refusal_in};
-ghost use Rattle.file_copy.specs.Copying.{folder_of};
+ghost use Rattle.job_reports.specs.Stops.{calls_made_for, cause_of, refusal_in, trouble_at};
+ghost use Rattle.copy_move.specs.Deletions.{at_barrier, is_dirty, is_fresh, skipped as skipped_to};
+ghost use Rattle.job_reports.specs.Paths.{folder_of};
 ghost use Rattle.copy_move.specs.DeletionSteps.{DeletionSkips, DeletionStep, LastDeletionStep};
 
-use file_copy::{Cause, Did, Ending, LastStepped, Stepped, Trouble};
+use job_reports::{Cause, Did, Ending, LastStepResult, StepResult, Trouble, out_of_memory};
 use mc_text::Path;
 use std::alloc::Global;
 use std::marker::Model;
@@ -61,7 +60,7 @@ impl Deletion {
     }
 
     /// Does the next piece of work, which is at most one call of the tree.
-    pub fn step<T: Tree>(&mut self, alloc: Global, tree: &mut T) -> Stepped
+    pub fn step<T: Tree>(&mut self, alloc: Global, tree: &mut T) -> StepResult
         ensures { DeletionStep self.old self.new result.did result.calls (T.contents tree.old)
             (T.contents tree.new) (T.fault_count tree.old) (T.fault_count tree.new) }
     {
@@ -77,14 +76,19 @@ impl Deletion {
         ensures { DeletionSkips cause self.old result self.new }
     {
         let Ok(path) = self.path.copy(alloc) else {
-            return Did::Troubled(no_memory(self.is_at_barrier()));
+            return Did::Troubled(out_of_memory(self.is_at_barrier()));
         };
         self.stage = skipped(self.stage);
         Did::Skipped(path, cause)
     }
 
     /// Makes the next of the last steps of a job that is to end so: a sync that is owed is tried once.
-    pub fn wind_up<T: Tree>(&mut self, alloc: Global, tree: &mut T, ending: Ending) -> LastStepped
+    pub fn wind_up<T: Tree>(
+        &mut self,
+        alloc: Global,
+        tree: &mut T,
+        ending: Ending,
+    ) -> LastStepResult
         ensures { LastDeletionStep ending self.old self.new result.did result.calls result.left (T.contents tree.old)
             (T.contents tree.new) (T.fault_count tree.old) (T.fault_count tree.new) }
     {
@@ -134,14 +138,14 @@ impl Deletion {
 }
 
 impl Deletion {
-    fn remove<T: Tree>(&mut self, alloc: Global, tree: &mut T) -> Stepped
+    fn remove<T: Tree>(&mut self, alloc: Global, tree: &mut T) -> StepResult
         requires stage { self.old.stage ≡ Stage.Remove }
         ensures { DeletionStep self.old self.new result.did result.calls (T.contents tree.old)
             (T.contents tree.new) (T.fault_count tree.old) (T.fault_count tree.new) }
     {
         // The path of the report comes first: after the call it is too late to find no memory.
         let Ok(path) = self.path.copy(alloc) else {
-            return without_call(Did::Troubled(no_memory(false)));
+            return without_call(Did::Troubled(out_of_memory(false)));
         };
         match tree.remove_file(alloc, &self.path) {
             Ok(()) => {
@@ -152,14 +156,14 @@ impl Deletion {
         }
     }
 
-    fn sync<T: Tree>(&mut self, alloc: Global, tree: &mut T) -> Stepped
+    fn sync<T: Tree>(&mut self, alloc: Global, tree: &mut T) -> StepResult
         requires stage { self.old.stage ≡ Stage.Sync }
         ensures { DeletionStep self.old self.new result.did result.calls (T.contents tree.old)
             (T.contents tree.new) (T.fault_count tree.old) (T.fault_count tree.new) }
     {
         let owed = self.folder();
         let Ok(folder) = owed.copy(alloc) else {
-            return without_call(Did::Troubled(no_memory(true)));
+            return without_call(Did::Troubled(out_of_memory(true)));
         };
         match tree.sync_folder(alloc, owed) {
             Ok(()) => {
@@ -171,7 +175,7 @@ impl Deletion {
     }
 
     /// The one try of a job that is to end.
-    fn try_sync<T: Tree>(&mut self, alloc: Global, tree: &mut T, ending: Ending) -> LastStepped
+    fn try_sync<T: Tree>(&mut self, alloc: Global, tree: &mut T, ending: Ending) -> LastStepResult
         requires stage { self.old.stage ≡ Stage.Sync }
         ensures { LastDeletionStep ending self.old self.new result.did result.calls result.left (T.contents tree.old)
             (T.contents tree.new) (T.fault_count tree.old) (T.fault_count tree.new) }
@@ -196,19 +200,19 @@ fn skipped(stage: Stage) -> Stage
 }
 
 /// A sync that was tried, whatever it answered. One that found no memory was not made.
-fn tried(answer: Result<(), TreeError>) -> LastStepped
+fn tried(answer: Result<(), TreeError>) -> LastStepResult
     ensures did { result.did ≡ Did.Barrier }
-    ensures calls { result.calls ≡ calls_for answer }
+    ensures calls { result.calls ≡ calls_made_for answer }
     ensures left { result.left ≡ refusal_in answer }
 {
     match answer {
-        Ok(()) => LastStepped {
+        Ok(()) => LastStepResult {
             did: Did::Barrier,
             calls: 1,
             left: None,
         },
         Err(TreeError::Memory) => last(Did::Barrier, Some(TreeError::Memory)),
-        Err(error) => LastStepped {
+        Err(error) => LastStepResult {
             did: Did::Barrier,
             calls: 1,
             left: Some(error),
@@ -217,26 +221,26 @@ fn tried(answer: Result<(), TreeError>) -> LastStepped
 }
 
 /// A last step that made no call.
-fn last(did: Did, left: Option<TreeError>) -> LastStepped
+fn last(did: Did, left: Option<TreeError>) -> LastStepResult
     ensures { result ≡ record { did = did; calls = 0; left = left } }
 {
-    LastStepped {
+    LastStepResult {
         did,
         calls: 0,
         left,
     }
 }
 
-pub(crate) fn without_call(did: Did) -> Stepped
+pub(crate) fn without_call(did: Did) -> StepResult
     ensures { result ≡ record { did = did; calls = 0 } }
 {
-    Stepped { did, calls: 0 }
+    StepResult { did, calls: 0 }
 }
 
-pub(crate) fn with_call(did: Did) -> Stepped
+pub(crate) fn with_call(did: Did) -> StepResult
     ensures { result ≡ record { did = did; calls = 1 } }
 {
-    Stepped { did, calls: 1 }
+    StepResult { did, calls: 1 }
 }
 
 fn ended(ending: Ending) -> Did
@@ -245,24 +249,13 @@ fn ended(ending: Ending) -> Did
     Did::Ended { ending, part: None }
 }
 
-/// Trouble for want of memory.
-pub(crate) fn no_memory(barrier: bool) -> Trouble
-    ensures { result ≡ no_memory_of barrier }
-{
-    Trouble {
-        cause: Cause::Memory,
-        path: None,
-        barrier,
-    }
-}
-
 /// The report of a refused call. One that found no memory was not made.
-pub(crate) fn refused(error: TreeError, path: Path, barrier: bool) -> Stepped
+pub(crate) fn refused(error: TreeError, path: Path, barrier: bool) -> StepResult
     ensures did { result.did ≡ Did.Troubled (trouble_at error path barrier) }
-    ensures calls { result.calls ≡ calls_for (Err error) }
+    ensures calls { result.calls ≡ calls_made_for (Err error) }
 {
     match error {
-        TreeError::Memory => without_call(Did::Troubled(no_memory(barrier))),
+        TreeError::Memory => without_call(Did::Troubled(out_of_memory(barrier))),
         error => with_call(Did::Troubled(Trouble {
             cause: Cause::Tree(error),
             path: Some(path),

@@ -1,13 +1,14 @@
 //! Folders with a change of names that no sync has brought onto the disk. A job's folder joins them before its first change
 //! there, and leaves them with its sync; that of a job that ended without one stays, until a later job syncs it.
-ghost use Rattle.std.specs.Prelude.{◌≡◌, ◌≤◌, ◌-◌, ◌∷◌, ◌++◌, ◌==◌, [], length, take, false, true, if◌then◌else◌, IfSome, IfNone, IfOk, OnOk, OnErr};
+ghost use Rattle.std.specs.Prelude.{◌≡◌, ◌≤◌, ◌-◌, ◌∷◌, ◌++◌, ◌==◌, [], length, take, false, true, IfSome, IfNone, OnOk, OnErr, if◌then◌else◌};
 ghost use Rattle.std.specs.Option.{option_map_or};
 ghost use Rattle.tree_trait.specs.Change.{current};
 ghost use Rattle.tree_trait.specs.Answers.{IfKnown};
 ghost use Rattle.tree_trait.specs.CrashImages.{Among};
-ghost use Rattle.copy_move.specs.Settling.{IsElsewhere, IsMountOf, NoneOwed, after_try, without};
+ghost use Rattle.copy_move.specs.Settling.{IsElsewhere, IsMountOf, NoneOwed, after_try};
+ghost use Rattle.job_reports.specs.Paths.{without};
 
-use file_copy::Did;
+use job_reports::Did;
 use mc_text::{NoMemory, Path};
 use std::alloc::Global;
 use std::marker::Model;
@@ -92,7 +93,7 @@ impl Dirty {
 
     /// The first of them that lies on the mount of this folder, as far as the tree can be asked. One at which nothing stands
     /// any more was removed.
-    pub(crate) fn first_beside<T: Tree>(
+    pub(crate) fn first_on_mount_of<T: Tree>(
         &self,
         alloc: Global,
         tree: &mut T,

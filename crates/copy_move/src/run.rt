@@ -1,20 +1,25 @@
 //! A job that is worked, step by step: it does its work, waits in a trouble for an answer, and makes its last steps where it
 //! is to end early.
-ghost use Rattle.std.specs.Prelude.{◌≡◌, ◌&&◌, Err, IfErr, IfOk, IsSome, OnErr, OnOk, Some, false, option_map, true};
+ghost use Rattle.std.specs.Prelude.{◌≡◌, ◌&&◌, not, Err, IfErr, IfOk, OnErr, OnOk, Some, false, option_map, true};
 ghost use Rattle.tree_trait.specs.Change.{current};
 ghost use Rattle.tree_trait.specs.Answers.{IfKnown};
 ghost use Rattle.tree_trait.specs.CrashImages.{Among};
-ghost use Rattle.copy_move.specs.Jobs.{MayAnswer, answered, closed_job, course_after, ended_course, first_work, is_barred, is_fresh, part_of, passes_over, trouble_on, waits_on};
+ghost use Rattle.job_reports.specs.Jobs.{is_workable};
+ghost use Rattle.copy_move.specs.Jobs.{MayAnswer, answered, closed_job, course_after, ended_course, first_work, is_barred, is_fresh, part_of, trouble_on, waits_on};
+ghost use Rattle.job_reports.specs.Reports.{passes_over};
 ghost use Rattle.copy_move.specs.Settling.{NoneOwed, changed_folder};
-ghost use Rattle.copy_move.specs.Steps.{OwnStep, RunStep, SettlingStep, SkipSteps, WindingStep};
+ghost use Rattle.copy_move.specs.Steps.{OwedSyncStep, OwnStep, RunStep, SkipSteps, WindingStep};
 ghost use Rattle.copy_move.specs.Told.{running};
 
-use crate::deletion::{cause_of, no_memory, refused, with_call, without_call};
+use crate::deletion::{cause_of, refused, with_call, without_call};
 use crate::dirty::Dirty;
-use crate::history::{Answer, AnswerError, Job};
 use crate::starting::{copy_of, deletion_of};
 use crate::work::Work;
-use file_copy::{Cause, Did, Ending, LastStepped, PartTest, Stepped, Trouble};
+use file_copy::PartTest;
+use job_reports::{
+    Answer, AnswerError, Cause, Did, Ending, Job, LastStepResult, StepResult, Trouble,
+    out_of_memory,
+};
 use mc_text::{NoMemory, Path};
 use std::alloc::Global;
 use std::marker::Model;
@@ -27,7 +32,7 @@ pub enum Course {
     /// A call was refused, or there was no memory. The job waits for an answer.
     InTrouble(Cause),
     /// A folder that an ended job left could not be synced. The job has changed nothing yet, and waits for an answer.
-    Unsettled(Cause),
+    OwedSyncFailed(Cause),
     /// Its file is to be left as it is, since this stood in the way.
     Skips(Cause),
     /// It makes its last steps, and then it ends so.
@@ -43,6 +48,7 @@ pub struct Run {
 }
 
 impl Model for Run {
+    ghost use Rattle.job_reports.specs.Jobs.{is_workable};
     ghost use Rattle.copy_move.specs.Jobs.{Running, IsSound};
 
     ghost Value = { Running };
@@ -55,7 +61,7 @@ impl Model for Run {
 impl Run {
     /// Starts a job of one file, which isn't the root.
     pub fn start(alloc: Global, job: &Job, id: u32) -> Result<Run, NoMemory>
-        requires sound { IsSome (first_work id job.now) }
+        requires sound { is_workable job.now ≡ true }
         ensures id { IfOk result (λ run. run.id ≡ id) }
         ensures started { IfOk result (λ run. option_map (running id) (first_work id job.now) ≡ Some run) }
     {
@@ -82,7 +88,7 @@ impl Run {
         ensures { result ≡ waits_on self.now.course }
     {
         match self.course {
-            Course::InTrouble(_) | Course::Unsettled(_) => true,
+            Course::InTrouble(_) | Course::OwedSyncFailed(_) => true,
             Course::GoesOn | Course::Skips(_) | Course::Ends(_) => false,
         }
     }
@@ -92,7 +98,7 @@ impl Run {
         ensures { result ≡ is_barred self.now.course self.now.work }
     {
         match self.course {
-            Course::Unsettled(_) => true,
+            Course::OwedSyncFailed(_) => true,
             Course::GoesOn | Course::InTrouble(_) | Course::Skips(_) | Course::Ends(_) => {
                 self.work.is_at_barrier()
             }
@@ -109,7 +115,7 @@ impl Run {
                 path,
                 barrier: self.work.is_at_barrier(),
             }),
-            Course::Unsettled(cause) => Some(Trouble {
+            Course::OwedSyncFailed(cause) => Some(Trouble {
                 cause,
                 path,
                 barrier: true,
@@ -134,16 +140,26 @@ impl Run {
         tree: &mut T,
         parts: &P,
         dirty: &mut Dirty,
-    ) -> Stepped
+    ) -> StepResult
         requires ready { waits_on self.old.course ≡ false }
-        ensures steps { RunStep (λ path. P.is_free parts.now path ≡ true) self.old self.new result.did result.calls dirty.old dirty.new
-            (T.contents tree.old) (T.contents tree.new) (T.fault_count tree.old) (T.fault_count tree.new) }
+        ensures steps { RunStep (λ path. P.is_free parts.now path ≡ true) (record {
+          old = self.old;
+          new = self.new;
+          did = result.did;
+          calls = result.calls;
+          dirty = dirty.old;
+          dirty_after = dirty.new;
+          before = T.contents tree.old;
+          after = T.contents tree.new;
+          faults = T.fault_count tree.old;
+          faults_after = T.fault_count tree.new;
+        }) }
     {
         match self.course {
             Course::GoesOn => self.go_on(alloc, tree, parts, dirty),
             Course::Skips(cause) => self.skip(alloc, cause),
             Course::Ends(ending) => self.wind_up(alloc, tree, ending, dirty),
-            Course::InTrouble(_) | Course::Unsettled(_) => unreachable!(),
+            Course::InTrouble(_) | Course::OwedSyncFailed(_) => unreachable!(),
         }
     }
 
@@ -158,7 +174,7 @@ impl Run {
     {
         match self.course {
             Course::InTrouble(cause) => self.answer_trouble(cause, answer),
-            Course::Unsettled(_) => self.answer_unsettled(answer),
+            Course::OwedSyncFailed(_) => self.answer_owed_sync(answer),
             Course::GoesOn | Course::Skips(_) | Course::Ends(_) => Err(AnswerError::NotAsked),
         }
     }
@@ -223,8 +239,8 @@ impl Run {
     }
 
     /// An answer where a folder that an ended job left couldn't be synced.
-    fn answer_unsettled(&mut self, answer: Answer) -> Result<(), AnswerError>
-        requires course { (cause : Cause) × (self.old.course ≡ Course.Unsettled cause) }
+    fn answer_owed_sync(&mut self, answer: Answer) -> Result<(), AnswerError>
+        requires course { (cause : Cause) × (self.old.course ≡ Course.OwedSyncFailed cause) }
         ensures taken { OnOk result (self.new ≡ answered answer self.old) }
         ensures fits { OnOk result (MayAnswer self.old answer) }
         ensures wrong { IfErr result (λ e. (e ≡ AnswerError.WrongAnswer) × (passes_over answer ≡ true) × (is_barred self.old.course self.old.work ≡ true)) }
@@ -248,10 +264,20 @@ impl Run {
         tree: &mut T,
         parts: &P,
         dirty: &mut Dirty,
-    ) -> Stepped
+    ) -> StepResult
         requires course { self.old.course ≡ Course.GoesOn }
-        ensures steps { RunStep (λ path. P.is_free parts.now path ≡ true) self.old self.new result.did result.calls dirty.old dirty.new
-            (T.contents tree.old) (T.contents tree.new) (T.fault_count tree.old) (T.fault_count tree.new) }
+        ensures steps { RunStep (λ path. P.is_free parts.now path ≡ true) (record {
+          old = self.old;
+          new = self.new;
+          did = result.did;
+          calls = result.calls;
+          dirty = dirty.old;
+          dirty_after = dirty.new;
+          before = T.contents tree.old;
+          after = T.contents tree.new;
+          faults = T.fault_count tree.old;
+          faults_after = T.fault_count tree.new;
+        }) }
     {
         if self.work.is_fresh() {
             self.begin(alloc, tree, parts, dirty)
@@ -268,35 +294,55 @@ impl Run {
         tree: &mut T,
         parts: &P,
         dirty: &mut Dirty,
-    ) -> Stepped
+    ) -> StepResult
         requires course { self.old.course ≡ Course.GoesOn }
         requires fresh { is_fresh self.old.work ≡ true }
-        ensures steps { RunStep (λ path. P.is_free parts.now path ≡ true) self.old self.new result.did result.calls dirty.old dirty.new
-            (T.contents tree.old) (T.contents tree.new) (T.fault_count tree.old) (T.fault_count tree.new) }
+        ensures steps { RunStep (λ path. P.is_free parts.now path ≡ true) (record {
+          old = self.old;
+          new = self.new;
+          did = result.did;
+          calls = result.calls;
+          dirty = dirty.old;
+          dirty_after = dirty.new;
+          before = T.contents tree.old;
+          after = T.contents tree.new;
+          faults = T.fault_count tree.old;
+          faults_after = T.fault_count tree.new;
+        }) }
     {
-        let Some(owed) = dirty.first_beside(alloc, tree, self.work.folder()) else {
+        let Some(owed) = dirty.first_on_mount_of(alloc, tree, self.work.folder()) else {
             return self.change_first(alloc, tree, parts, dirty);
         };
         let Ok(folder) = owed.copy(alloc) else {
-            self.course = Course::Unsettled(Cause::Memory);
-            return without_call(Did::Troubled(no_memory(true)));
+            self.course = Course::OwedSyncFailed(Cause::Memory);
+            return without_call(Did::Troubled(out_of_memory(true)));
         };
-        self.settle(alloc, tree, dirty, folder)
+        self.sync_owed_folder(alloc, tree, dirty, folder)
     }
 
     /// Syncs a folder that an ended job left.
-    fn settle<T: Tree>(
+    fn sync_owed_folder<T: Tree>(
         &mut self,
         alloc: Global,
         tree: &mut T,
         dirty: &mut Dirty,
         folder: Path,
-    ) -> Stepped
+    ) -> StepResult
         requires course { self.old.course ≡ Course.GoesOn }
         requires fresh { is_fresh self.old.work ≡ true }
         requires owed { Among dirty.old folder }
-        ensures steps { SettlingStep self.old self.new result.did result.calls dirty.old dirty.new
-            (T.contents tree.old) (T.contents tree.new) (T.fault_count tree.old) (T.fault_count tree.new) }
+        ensures steps { OwedSyncStep (record {
+          old = self.old;
+          new = self.new;
+          did = result.did;
+          calls = result.calls;
+          dirty = dirty.old;
+          dirty_after = dirty.new;
+          before = T.contents tree.old;
+          after = T.contents tree.new;
+          faults = T.fault_count tree.old;
+          faults_after = T.fault_count tree.new;
+        }) }
     {
         match tree.sync_folder(alloc, &folder) {
             Ok(()) => {
@@ -304,7 +350,7 @@ impl Run {
                 with_call(Did::Barrier)
             }
             Err(error) => {
-                self.course = Course::Unsettled(cause_of(error));
+                self.course = Course::OwedSyncFailed(cause_of(error));
                 refused(error, folder, true)
             }
         }
@@ -318,16 +364,26 @@ impl Run {
         tree: &mut T,
         parts: &P,
         dirty: &mut Dirty,
-    ) -> Stepped
+    ) -> StepResult
         requires course { self.old.course ≡ Course.GoesOn }
         requires fresh { is_fresh self.old.work ≡ true }
         requires settled { IfKnown (T.contents tree.old) (λ log. NoneOwed (current log) (changed_folder self.old.work) dirty.old) }
-        ensures steps { OwnStep (λ path. P.is_free parts.now path ≡ true) self.old self.new result.did result.calls dirty.old dirty.new
-            (T.contents tree.old) (T.contents tree.new) (T.fault_count tree.old) (T.fault_count tree.new) }
+        ensures steps { OwnStep (λ path. P.is_free parts.now path ≡ true) (record {
+          old = self.old;
+          new = self.new;
+          did = result.did;
+          calls = result.calls;
+          dirty = dirty.old;
+          dirty_after = dirty.new;
+          before = T.contents tree.old;
+          after = T.contents tree.new;
+          faults = T.fault_count tree.old;
+          faults_after = T.fault_count tree.new;
+        }) }
     {
         let Ok(()) = dirty.add(alloc, self.work.folder()) else {
             self.course = Course::InTrouble(Cause::Memory);
-            return without_call(Did::Troubled(no_memory(false)));
+            return without_call(Did::Troubled(out_of_memory(false)));
         };
         let stepped = self.work.step(alloc, tree, parts);
         dirty.keep_last_if(self.work.is_dirty());
@@ -342,27 +398,40 @@ impl Run {
         tree: &mut T,
         parts: &P,
         dirty: &mut Dirty,
-    ) -> Stepped
+    ) -> StepResult
         requires course { self.old.course ≡ Course.GoesOn }
         requires changed { is_fresh self.old.work ≡ false }
-        ensures steps { OwnStep (λ path. P.is_free parts.now path ≡ true) self.old self.new result.did result.calls dirty.old dirty.new
-            (T.contents tree.old) (T.contents tree.new) (T.fault_count tree.old) (T.fault_count tree.new) }
+        ensures steps { OwnStep (λ path. P.is_free parts.now path ≡ true) (record {
+          old = self.old;
+          new = self.new;
+          did = result.did;
+          calls = result.calls;
+          dirty = dirty.old;
+          dirty_after = dirty.new;
+          before = T.contents tree.old;
+          after = T.contents tree.new;
+          faults = T.fault_count tree.old;
+          faults_after = T.fault_count tree.new;
+        }) }
     {
         let was_dirty = self.work.is_dirty();
         let stepped = self.work.step(alloc, tree, parts);
-        dirty.remove_if(both(was_dirty, !self.work.is_dirty()), self.work.folder());
+        dirty.remove_if(
+            became_clean(was_dirty, self.work.is_dirty()),
+            self.work.folder(),
+        );
         self.course = after_report(&stepped.did);
         stepped
     }
 
     /// Reports that the file is left as it is.
-    fn skip(&mut self, alloc: Global, cause: Cause) -> Stepped
+    fn skip(&mut self, alloc: Global, cause: Cause) -> StepResult
         requires course { self.old.course ≡ Course.Skips cause }
         ensures skips { SkipSteps cause self.old self.new result.did result.calls }
     {
         let did = self.work.skip(alloc, cause);
         self.course = after_report(&did);
-        Stepped { did, calls: 0 }
+        StepResult { did, calls: 0 }
     }
 
     /// One of the last steps.
@@ -372,14 +441,24 @@ impl Run {
         tree: &mut T,
         ending: Ending,
         dirty: &mut Dirty,
-    ) -> Stepped
+    ) -> StepResult
         requires course { self.old.course ≡ Course.Ends ending }
-        ensures steps { WindingStep ending self.old self.new result.did result.calls dirty.old dirty.new
-            (T.contents tree.old) (T.contents tree.new) (T.fault_count tree.old) (T.fault_count tree.new) }
+        ensures steps { WindingStep ending (record {
+          old = self.old;
+          new = self.new;
+          did = result.did;
+          calls = result.calls;
+          dirty = dirty.old;
+          dirty_after = dirty.new;
+          before = T.contents tree.old;
+          after = T.contents tree.new;
+          faults = T.fault_count tree.old;
+          faults_after = T.fault_count tree.new;
+        }) }
     {
-        let LastStepped { did, calls, left } = self.work.wind_up(alloc, tree, ending);
+        let LastStepResult { did, calls, left } = self.work.wind_up(alloc, tree, ending);
         dirty.after_try(&did, left, self.work.folder());
-        Stepped { did, calls }
+        StepResult { did, calls }
     }
 
     fn end_as(&mut self, ending: Ending)
@@ -387,7 +466,7 @@ impl Run {
     {
         self.course = match self.course {
             Course::Ends(first) => Course::Ends(first),
-            Course::GoesOn | Course::InTrouble(_) | Course::Unsettled(_) | Course::Skips(_) =>
+            Course::GoesOn | Course::InTrouble(_) | Course::OwedSyncFailed(_) | Course::Skips(_) =>
                 Course::Ends(ending),
         };
     }
@@ -403,8 +482,9 @@ fn after_report(did: &Did) -> Course
     }
 }
 
-fn both(one: bool, other: bool) -> bool
-    ensures { result ≡ (one && other) }
+/// Whether a folder that was dirty no longer is.
+fn became_clean(was_dirty: bool, is_dirty: bool) -> bool
+    ensures { result ≡ (was_dirty && not is_dirty) }
 {
-    one && other
+    was_dirty && !is_dirty
 }

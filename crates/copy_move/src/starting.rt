@@ -1,18 +1,19 @@
 //! The work of a job that starts.
-ghost use Rattle.std.specs.Prelude.{◌≡◌, IfOk, IsSome, Some};
-ghost use Rattle.copy_move.specs.declared.history.Job.{Job};
+ghost use Rattle.std.specs.Prelude.{◌≡◌, IfOk, Some, true};
+ghost use Rattle.job_reports.specs.declared.job.Job.{Job};
+ghost use Rattle.job_reports.specs.Jobs.{is_workable};
 ghost use Rattle.copy_move.specs.Jobs.{IsGoing, first_work};
 
 use crate::deletion::Deletion;
-use crate::history::Pairs;
 use crate::work::Work;
 use file_copy::FileCopy;
+use job_reports::Pairs;
 use mc_text::{NoMemory, Paths};
 use std::alloc::Global;
 
 /// The copy of one file.
 pub(crate) fn copy_of(alloc: Global, pairs: &Pairs, id: u32) -> Result<Work, NoMemory>
-    requires { IsSome (first_work id (Job.Copy pairs.now)) }
+    requires { is_workable (Job.Copy pairs.now) ≡ true }
     ensures { IfOk result (λ work. (first_work id (Job.Copy pairs.now) ≡ Some work) × IsGoing work) }
 {
     let [pair] = pairs.0.as_slice() else {
@@ -31,7 +32,7 @@ pub(crate) fn copy_of(alloc: Global, pairs: &Pairs, id: u32) -> Result<Work, NoM
 
 /// The deletion of one file.
 pub(crate) fn deletion_of(alloc: Global, paths: &Paths) -> Result<Work, NoMemory>
-    requires { IsSome (first_work 0 (Job.Delete paths.now)) }
+    requires { is_workable (Job.Delete paths.now) ≡ true }
     ensures { IfOk result (λ work. (first_work 0 (Job.Delete paths.now) ≡ Some work) × IsGoing work) }
 {
     let [path] = paths.as_slice() else {

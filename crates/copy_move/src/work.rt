@@ -5,7 +5,8 @@ ghost use Rattle.copy_move.specs.Settling.{changed_folder, is_dirty};
 ghost use Rattle.copy_move.specs.Steps.{WorkSkips, WorkSteps, WorkWindsUp};
 
 use crate::deletion::Deletion;
-use file_copy::{Cause, Did, Ending, FileCopy, LastStepped, PartTest, Stepped};
+use file_copy::{FileCopy, PartTest};
+use job_reports::{Cause, Did, Ending, LastStepResult, StepResult};
 use mc_text::Path;
 use std::alloc::Global;
 use tree_trait::Tree;
@@ -24,7 +25,7 @@ impl Work {
         alloc: Global,
         tree: &mut T,
         parts: &P,
-    ) -> Stepped
+    ) -> StepResult
         requires going { IsGoing self.old }
         ensures steps { WorkSteps (λ path. P.is_free parts.now path ≡ true) self.old self.new result.did result.calls
             (T.contents tree.old) (T.contents tree.new) (T.fault_count tree.old) (T.fault_count tree.new) }
@@ -66,7 +67,7 @@ impl Work {
         alloc: Global,
         tree: &mut T,
         ending: Ending,
-    ) -> LastStepped
+    ) -> LastStepResult
         ensures { WorkWindsUp ending self.old self.new result.did result.calls result.left
             (T.contents tree.old) (T.contents tree.new) (T.fault_count tree.old) (T.fault_count tree.new) }
     {

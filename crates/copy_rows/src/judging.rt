@@ -1,11 +1,9 @@
 //! Whether a tree is safe: the target is missing or whole, the source is as it was, and nothing else stands in the target's
 //! folder but parts of the job.
 use crate::scene::{FOLDER, Original, SOURCE, TARGET};
-use anyhow::{Result, bail};
 use mc_text::{Kind, Name, Path};
-use std::alloc::Global;
-use std::convert::AsStr;
-use tree_trait::{Meta, Tree, TreeError};
+use row_page::Page;
+use tree_trait::{Children, Meta, Tree, TreeError};
 
 /// What stands at a path.
 #[derive(Clone, Copy, Debug)]
@@ -26,13 +24,13 @@ pub enum Verdict {
 }
 
 /// Looks at the folder, the source and the target.
-pub fn judge<T: Tree>(alloc: Global, tree: &mut T, original: &Original) -> Result<Verdict> {
-    if has_stranger(alloc, tree)? {
-        return Ok(Verdict::Unsafe("something else stands in the folder"));
+pub fn judge<T: Tree>(page: &mut Page, tree: &mut T, original: &Original) -> Verdict {
+    let source = what_stands(page, tree, SOURCE, original);
+    let target = what_stands(page, tree, TARGET, original);
+    if has_stranger(page, tree) {
+        return Verdict::Unsafe("something else stands in the folder");
     }
-    let source = what_stands(alloc, tree, SOURCE, original)?;
-    let target = what_stands(alloc, tree, TARGET, original)?;
-    Ok(safe_or_not(source, target))
+    safe_or_not(source, target)
 }
 
 fn safe_or_not(source: Standing, target: Standing) -> Verdict {
@@ -46,47 +44,73 @@ fn safe_or_not(source: Standing, target: Standing) -> Verdict {
 
 /// What stands at a path.
 pub fn what_stands<T: Tree>(
-    alloc: Global,
+    page: &mut Page,
     tree: &mut T,
     path: &str,
     original: &Original,
-) -> Result<Standing> {
-    let path = Path::parse(alloc, path)?;
-    match tree.stat(alloc, &path) {
-        Err(TreeError::Missing) => Ok(Standing::Missing),
-        Err(error) => bail!("{error}"),
-        Ok(meta) => compared(alloc, tree, &path, meta, original),
+) -> Standing {
+    let Ok(path) = Path::parse(page.alloc(), path) else {
+        return Standing::Torn;
+    };
+    match tree.stat(page.alloc(), &path) {
+        Err(TreeError::Missing) => Standing::Missing,
+        Err(_error) => Standing::Torn,
+        Ok(meta) => compared(page, tree, &path, meta, original),
     }
 }
 
 fn compared<T: Tree>(
-    alloc: Global,
+    page: &mut Page,
     tree: &mut T,
     path: &Path,
     meta: Meta,
     original: &Original,
-) -> Result<Standing> {
+) -> Standing {
     let bytes = original.bytes.as_slice();
     if meta.kind != Kind::File || meta.size != bytes.len() as u64 || meta.mode != original.mode {
-        return Ok(Standing::Torn);
+        return Standing::Torn;
     }
-    let mut room = vec![in alloc; 0u8; bytes.len()]?;
-    let count = tree.read_at(alloc, path, 0, room.as_mut_slice())?;
-    if room.get(..count) == Some(bytes) {
-        Ok(Standing::Whole)
-    } else {
-        Ok(Standing::Torn)
+    match Vec::from_slice(page.alloc(), bytes) {
+        Ok(room) => read_over(page, tree, path, room, bytes),
+        Err(_error) => Standing::Torn,
+    }
+}
+
+/// Whether a file holds these bytes. The room that it is read into is as long.
+fn read_over<T: Tree>(
+    page: &mut Page,
+    tree: &mut T,
+    path: &Path,
+    room: Vec<u8>,
+    bytes: &[u8],
+) -> Standing {
+    let mut room = room;
+    room.as_mut_slice().fill(0);
+    match tree.read_at(page.alloc(), path, 0, room.as_mut_slice()) {
+        Ok(count) if room.get(..count) == Some(bytes) => Standing::Whole,
+        _ => Standing::Torn,
     }
 }
 
 /// Whether the folder holds more than the target and parts of job 1.
-fn has_stranger<T: Tree>(alloc: Global, tree: &mut T) -> Result<bool> {
-    let folder = Path::parse(alloc, FOLDER)?;
-    let children = tree.list(alloc, &folder)?;
-    Ok(children.unnamed != 0 || children.names.as_slice().iter().any(is_stranger))
+fn has_stranger<T: Tree>(page: &mut Page, tree: &mut T) -> bool {
+    match children_of_folder(page, tree) {
+        Some(children) => holds_stranger(&children),
+        None => true,
+    }
+}
+
+fn holds_stranger(children: &Children) -> bool {
+    children.unnamed != 0 || children.names.as_slice().iter().any(is_stranger)
 }
 
 fn is_stranger(name: &Name) -> bool {
     let text = name.text();
     text != "e" && !(text.starts_with(".mc.1.") && text.ends_with(".part"))
+}
+
+/// What the target's folder holds, if it can be seen.
+pub fn children_of_folder<T: Tree>(page: &mut Page, tree: &mut T) -> Option<Children> {
+    let folder = Path::parse(page.alloc(), FOLDER).ok()?;
+    tree.list(page.alloc(), &folder).ok()
 }

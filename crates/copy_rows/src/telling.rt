@@ -1,11 +1,12 @@
 //! Runs a copy, and tells its steps, a line for each.
-ghost use Rattle.std.specs.Prelude.{◌≡◌, None, IfOk};
+ghost use Rattle.std.specs.Prelude.{◌≡◌, None, IfSome};
 ghost use Rattle.file_copy.specs.LastSteps.{left_at};
 
-use crate::scene::{SOURCE, TARGET};
-use anyhow::{Result, bail};
-use file_copy::{Cause, Did, Ending, FileCopy, PartTest, Trouble};
+use crate::scene::{FOLDER, SOURCE, TARGET};
+use file_copy::{FileCopy, PartTest};
+use job_reports::{Cause, Did, Ending, Trouble};
 use mc_text::Path;
+use row_page::Page;
 use std::alloc::Global;
 use std::convert::AsStr;
 use tree_trait::Tree;
@@ -38,6 +39,7 @@ pub enum Answer {
 }
 
 /// How a copy goes on after a step.
+#[derive(Clone, Copy)]
 enum Then {
     Step,
     WindUp,
@@ -45,52 +47,47 @@ enum Then {
 }
 
 /// The steps of a copy by job 1, a line for each.
-pub fn copy_lines<T: Tree>(alloc: Global, tree: &mut T, answer: Answer) -> Result<Vec<String>> {
-    let mut copy = begin(alloc)?;
-    let mut lines = Vec::new(alloc);
-    for _ in 0..MOST_STEPS {
-        match step(alloc, tree, &mut copy, answer, &mut lines)? {
-            Then::Step => {}
-            Then::WindUp => {
-                wind_up(alloc, tree, copy, &mut lines)?;
-                return Ok(lines);
-            }
-            Then::Nothing => return Ok(lines),
-        }
+pub fn tell_steps<T: Tree>(page: &mut Page, tree: &mut T, answer: Answer) {
+    match begin(page.alloc()) {
+        Some(copy) => step_through(page, tree, copy, answer),
+        None => page.fail(),
     }
-    bail!("the copy does not end");
 }
 
-fn begin(alloc: Global) -> Result<FileCopy>
-    ensures ready { IfOk result (λ copy. left_at copy.stage ≡ None) }
+fn begin(alloc: Global) -> Option<FileCopy>
+    ensures ready { IfSome result (λ copy. left_at copy.stage ≡ None) }
 {
-    let source = Path::parse(alloc, SOURCE)?;
-    let target = Path::parse(alloc, TARGET)?;
-    let Some(source_folder) = source.parent(alloc)? else {
-        bail!("no folder holds the source");
-    };
-    let Some(folder) = target.parent(alloc)? else {
-        bail!("no folder holds the target");
-    };
-    Ok(FileCopy::new(1, source, source_folder, target, folder))
+    let source = Path::parse(alloc, SOURCE).ok()?;
+    let source_folder = Path::parse(alloc, "/s").ok()?;
+    let target = Path::parse(alloc, TARGET).ok()?;
+    let folder = Path::parse(alloc, FOLDER).ok()?;
+    Some(FileCopy::new(1, source, source_folder, target, folder))
+}
+
+fn step_through<T: Tree>(page: &mut Page, tree: &mut T, copy: FileCopy, answer: Answer)
+    requires ready { left_at copy.stage ≡ None }
+{
+    let mut copy = copy;
+    for _ in 0..MOST_STEPS {
+        match step(page, tree, &mut copy, answer) {
+            Then::Step => {}
+            Then::WindUp => return wind_up(page, tree, &mut copy),
+            Then::Nothing => return,
+        }
+    }
+    page.fail();
 }
 
 /// Makes a step, and answers its trouble.
-fn step<T: Tree>(
-    alloc: Global,
-    tree: &mut T,
-    copy: &mut FileCopy,
-    answer: Answer,
-    lines: &mut Vec<String>,
-) -> Result<Then>
+fn step<T: Tree>(page: &mut Page, tree: &mut T, copy: &mut FileCopy, answer: Answer) -> Then
     requires ready { left_at copy.old.stage ≡ None }
     ensures ready { left_at copy.new.stage ≡ None }
 {
-    let stepped = copy.step(alloc, tree, &AllFree);
-    lines.push(step_line(alloc, &stepped.did, stepped.calls)?)?;
+    let stepped = copy.step(page.alloc(), tree, &AllFree);
+    tell_step(page, &stepped.did, stepped.calls);
     match cause_of(&stepped.did) {
-        Some(cause) => answer_trouble(alloc, copy, cause, answer, lines),
-        None => Ok(after(&stepped.did, answer)),
+        Some(cause) => answer_trouble(page, copy, cause, answer),
+        None => after(&stepped.did, answer),
     }
 }
 
@@ -111,92 +108,92 @@ fn after(did: &Did, answer: Answer) -> Then {
     }
 }
 
-fn answer_trouble(
-    alloc: Global,
-    copy: &mut FileCopy,
-    cause: Cause,
-    answer: Answer,
-    lines: &mut Vec<String>,
-) -> Result<Then>
+fn answer_trouble(page: &mut Page, copy: &mut FileCopy, cause: Cause, answer: Answer) -> Then
     requires ready { left_at copy.old.stage ≡ None }
     ensures ready { left_at copy.new.stage ≡ None }
 {
     match answer {
         Answer::Skip => {
-            let did = copy.skip(alloc, cause);
-            lines.push(format!(in alloc; "  skip: {}", told(alloc, &did)?)?)?;
-            Ok(Then::Step)
+            let did = copy.skip(page.alloc(), cause);
+            page.put("  skip: ");
+            tell(page, &did);
+            page.put("\n");
+            Then::Step
         }
         Answer::Retry => {
             copy.retry();
-            lines.push(String::from_str(alloc, "  retry")?)?;
-            Ok(Then::Step)
+            page.put("  retry\n");
+            Then::Step
         }
-        Answer::Abort => Ok(Then::WindUp),
+        Answer::Abort => Then::WindUp,
     }
 }
 
 /// Makes the last steps of a copy that is aborted.
-fn wind_up<T: Tree>(
-    alloc: Global,
-    tree: &mut T,
-    copy: FileCopy,
-    lines: &mut Vec<String>,
-) -> Result<()> {
-    let mut copy = copy;
+fn wind_up<T: Tree>(page: &mut Page, tree: &mut T, copy: &mut FileCopy) {
     for _ in 0..3 {
-        let stepped = copy.wind_up(alloc, tree, Ending::Aborted);
-        lines.push(step_line(alloc, &stepped.did, stepped.calls)?)?;
-        if let Did::Ended { .. } = stepped.did {
-            return Ok(());
+        if has_wound_up(page, tree, copy) {
+            return;
         }
     }
-    bail!("more than three last steps");
+    page.fail();
+}
+
+/// Makes a last step; whether it was the end.
+fn has_wound_up<T: Tree>(page: &mut Page, tree: &mut T, copy: &mut FileCopy) -> bool {
+    let stepped = copy.wind_up(page.alloc(), tree, Ending::Aborted);
+    tell_step(page, &stepped.did, stepped.calls);
+    matches!(&stepped.did, Did::Ended { .. })
 }
 
 /// What a step did, and how many changing calls it made.
-fn step_line(alloc: Global, did: &Did, calls: u64) -> Result<String> {
-    let did = told(alloc, did)?;
-    Ok(format!(in alloc; "  {did}, calls {calls}")?)
+fn tell_step(page: &mut Page, did: &Did, calls: u64) {
+    page.put("  ");
+    tell(page, did);
+    page.tell(format_args!(", calls {calls}\n"));
 }
 
 /// What was done, in words.
-fn told(alloc: Global, did: &Did) -> Result<String> {
+fn tell(page: &mut Page, did: &Did) {
     match did {
-        Did::Began(part) => with_path(alloc, "Began", part),
-        Did::Chunk(count) => Ok(format!(in alloc; "Chunk {count}")?),
-        Did::Placed(target) => with_path(alloc, "Placed", target),
-        Did::Removed(path) => with_path(alloc, "Removed", path),
+        Did::Began(part) => tell_path(page, "Began", part),
+        Did::Chunk(count) => page.tell(format_args!("Chunk {count}")),
+        Did::Placed(target) => tell_path(page, "Placed", target),
+        Did::Removed(path) => tell_path(page, "Removed", path),
         Did::Skipped(source, cause) => {
-            Ok(format!(in alloc; "{}, {cause:?}", with_path(alloc, "Skipped", source)?)?)
+            tell_path(page, "Skipped", source);
+            page.tell(format_args!(", {cause:?}"));
         }
-        Did::Cleaned(part) => with_path(alloc, "Cleaned", part),
-        Did::Barrier => Ok(String::from_str(alloc, "Barrier")?),
-        Did::Troubled(trouble) => trouble_told(alloc, trouble),
-        Did::Ended { ending, part } => end_told(alloc, *ending, part),
+        Did::Cleaned(part) => tell_path(page, "Cleaned", part),
+        Did::Barrier => page.put("Barrier"),
+        Did::Troubled(trouble) => tell_trouble(page, trouble),
+        Did::Ended { ending, part } => tell_end(page, *ending, part),
     }
 }
 
-fn trouble_told(alloc: Global, trouble: &Trouble) -> Result<String> {
-    let place = if trouble.barrier { " at a barrier" } else { "" };
-    let cause = format!(in alloc; "Troubled{place} {:?}", trouble.cause)?;
-    match &trouble.path {
-        Some(path) => with_path(alloc, cause.as_str(), path),
-        None => Ok(cause),
+fn tell_trouble(page: &mut Page, trouble: &Trouble) {
+    page.put("Troubled");
+    if trouble.barrier {
+        page.put(" at a barrier");
+    }
+    page.tell(format_args!(" {:?}", trouble.cause));
+    if let Some(path) = &trouble.path {
+        tell_path(page, "", path);
     }
 }
 
-fn end_told(alloc: Global, ending: Ending, part: &Option<Path>) -> Result<String> {
-    let end = format!(in alloc; "Ended {ending:?}")?;
-    match part {
-        Some(part) => {
-            let left = with_path(alloc, "and left", part)?;
-            Ok(format!(in alloc; "{end} {left}")?)
-        }
-        None => Ok(end),
+fn tell_end(page: &mut Page, ending: Ending, part: &Option<Path>) {
+    page.tell(format_args!("Ended {ending:?}"));
+    if let Some(part) = part {
+        tell_path(page, " and left", part);
     }
 }
 
-fn with_path(alloc: Global, word: &str, path: &Path) -> Result<String> {
-    Ok(format!(in alloc; "{word} {}", path.text(alloc)?.as_str())?)
+fn tell_path(page: &mut Page, word: &str, path: &Path) {
+    page.put(word);
+    page.put(" ");
+    match path.text(page.alloc()) {
+        Ok(text) => page.put(text.as_str()),
+        Err(_error) => page.fail(),
+    }
 }

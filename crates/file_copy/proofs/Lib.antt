@@ -1,10 +1,7 @@
-pub mod CopyAnswers
 pub mod FilledParts
 pub mod LooksInOrder
 pub mod Naming
 pub mod Peeking
-pub mod PermittedCalls
 pub mod Placing
-pub mod Runs
 pub mod Stepping
 pub mod Tries

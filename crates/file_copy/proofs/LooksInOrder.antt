@@ -5,10 +5,12 @@ use Rattle.tree_trait.specs.declared.file_system.FileSystem.{FileSystem}
 use Rattle.tree_trait.specs.declared.calls.Meta.{Meta}
 use Rattle.tree_trait.specs.Calls.{Stat}
 use Rattle.tree_trait.specs.Refusals.{refusal_of}
-use Rattle.file_copy.specs.declared.report.Cause.{Cause}
-use Rattle.file_copy.specs.declared.report.Cause.TheVariants.{Tree, TargetKind, SpecialSource, PartTaken, TooLong, Changed, Memory}
-use Rattle.file_copy.specs.Copying.{Places, folder_of}
-use Rattle.file_copy.specs.Looking.{IsThere, LookStops, Passes, StatStops, TargetStops}
+use Rattle.job_reports.specs.declared.report.Cause.{Cause}
+use Rattle.job_reports.specs.declared.report.Cause.TheVariants.{Tree, TargetKind, SpecialSource, PartTaken, TooLong, Changed, Memory}
+use Rattle.file_copy.specs.Copying.{Places}
+use Rattle.job_reports.specs.Paths.{folder_of}
+use Rattle.file_copy.specs.Looking.{IsThere, LookStops, Passes}
+use Rattle.job_reports.specs.Reading.{StatStops, TargetStops}
 
 must_be : {P : Type 0} → (let b = false in b) ≡ true → P
 must_be h = absurd cc

@@ -7,12 +7,12 @@ use Rattle.tree_trait.specs.declared.calls.TreeError.TheVariants as refused
 use Rattle.tree_trait.specs.Calls.{Stat}
 use Rattle.tree_trait.specs.Refusals.{refusal_of}
 use Rattle.tree_trait.proofs.Visible.{same_path-true, same_path-self}
-use Rattle.file_copy.specs.declared.report.Cause.{Cause}
-use Rattle.file_copy.specs.declared.report.Cause.TheVariants.{Tree, TargetKind, SpecialSource, PartTaken, TooLong, Changed, Memory}
-use Rattle.file_copy.specs.declared.report.Trouble.{Trouble}
+use Rattle.job_reports.specs.declared.report.Cause.{Cause}
+use Rattle.job_reports.specs.declared.report.Cause.TheVariants.{Tree, TargetKind, SpecialSource, PartTaken, TooLong, Changed, Memory}
+use Rattle.job_reports.specs.declared.report.Trouble.{Trouble}
 use Rattle.file_copy.specs.Copying.{Places}
 use Rattle.file_copy.specs.PartNames.{IsFree, IsShort, NameStops, NoneFree, TryStops, part_path}
-use Rattle.file_copy.specs.Stops.{IsNamed}
+use Rattle.job_reports.specs.Stops.{IsTroubleWithPath}
 
 one_of : (a b f : Bool) → (a || b || not f) ≡ true → (a ≡ true) ⊎ ((b ≡ true) ⊎ (f ≡ false))
 one_of true b f h = inl refl
@@ -54,7 +54,7 @@ module _ (s : FileSystem) (is_free : Route → Bool) (p : Places) (path : Route)
 
 module _ (s : FileSystem) (claims_none : Route → Type 0) (p : Places) (k : ℕ) where
   -- a path that is too long may be taken, but for its length
-  pub long_stops : (t : Trouble) → IsNamed TooLong p.source t → IsShort p.source → IsShort p.target → (IsShort (part_path p k) → ⊥) → TryStops s claims_none p k t.cause t.path
+  pub long_stops : (t : Trouble) → IsTroubleWithPath TooLong p.source t → IsShort p.source → IsShort p.target → (IsShort (part_path p k) → ⊥) → TryStops s claims_none p k t.cause t.path
   long_stops t (inl is) source target long =
       subst (λ (u : Trouble). TryStops s claims_none p k u.cause u.path) (sym is) (
         refl,
@@ -79,6 +79,6 @@ module _ (s : FileSystem) (claims_none : Route → Type 0) (p : Places) (k : ℕ
   try_stops few none (Changed said got) path h = absurd h
 
 -- all names are taken
-pub all_taken : (s : FileSystem) (claims_none : Route → Type 0) (p : Places) (target : Route) (t : Trouble) → target ≡ p.target → NoneFree s claims_none p 1000 → IsNamed PartTaken target t → NameStops s claims_none p t.cause t.path
+pub all_taken : (s : FileSystem) (claims_none : Route → Type 0) (p : Places) (target : Route) (t : Trouble) → target ≡ p.target → NoneFree s claims_none p 1000 → IsTroubleWithPath PartTaken target t → NameStops s claims_none p t.cause t.path
 all_taken s claims_none p target t is none (inl told) = subst (λ (u : Trouble). NameStops s claims_none p u.cause u.path) (sym told) (ap Some is, none)
 all_taken s claims_none p target t is none (inr told) = subst (λ (u : Trouble). NameStops s claims_none p u.cause u.path) (sym told) refl

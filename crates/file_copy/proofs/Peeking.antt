@@ -1,88 +1,28 @@
--- The trouble that a refused look comes to, and the looks one behind the other.
-use Rattle.std.proofs.Common.{◌≡◌, ℕ, false, refl, sym, subst, inl, inr, Option, Some, None, Ok, Err}
+-- The trouble that a refused reading comes to.
+use Rattle.std.proofs.Common.{◌≡◌, ℕ, refl, sym, subst, Err}
 use Rattle.mc_text.specs.Routes.{Route}
 use Rattle.tree_trait.specs.declared.calls.TreeError.{TreeError}
 use Rattle.tree_trait.specs.declared.calls.TreeError.TheVariants as refused
-use Rattle.tree_trait.specs.Calls.{Stat, ReadAt}
+use Rattle.tree_trait.specs.Calls.{ReadAt}
 use Rattle.tree_trait.specs.Change.{CallLog, current}
-use Rattle.tree_trait.specs.Refusals.{refusal_of}
-use Rattle.tree_trait.specs.Answers.{HasCause, Reads}
-use Rattle.file_copy.specs.declared.report.Cause.{Cause}
-use Rattle.file_copy.specs.declared.report.Cause.TheVariants.{Tree, Memory}
-use Rattle.file_copy.specs.declared.report.Trouble.{Trouble}
-use Rattle.file_copy.specs.declared.stage.Said.{Said}
+use Rattle.tree_trait.specs.Answers.{Reads}
+use Rattle.job_reports.specs.declared.report.Cause.TheVariants.{Tree}
+use Rattle.job_reports.specs.declared.report.Trouble.{Trouble}
+use Rattle.job_reports.specs.Stops.{IsReadingTrouble}
+use Rattle.job_reports.proofs.Reading.{told}
+use Rattle.file_copy.specs.declared.stage.SourceFacts.{SourceFacts}
 use Rattle.file_copy.specs.CopyCalls.{ReadStops, room_for}
-use Rattle.file_copy.specs.Looking.{Peeks, StatStops, TargetStops}
-use Rattle.file_copy.specs.Stops.{IsAbsent, IsNamed, IsTold}
-
--- a trouble that is told has one of two forms
-told : (P : Trouble → Type 0) (cause : Cause) (path : Route) (t : Trouble) → IsNamed cause path t
-    → P (record { cause = cause; path = Some path; barrier = false }) → P (record { cause = Memory; path = None; barrier = false }) → P t
-told P cause path t (inl is) named none = subst P (sym is) named
-told P cause path t (inr is) named none = subst P (sym is) none
-
--- the refusal of a look
-pub stat_stops : {A : Type 0} (P : A → Type 0) (log : CallLog) (look : Route) (e : TreeError) (t : Trouble)
-    → Reads {A = A} log (Stat look) (Err e) P → IsTold e look t → StatStops (current log) look t.cause t.path
-stat_stops P log look refused.Memory t h is = subst (λ (u : Trouble). StatStops (current log) look u.cause u.path) (sym is) refl
-stat_stops P log look e t h is = told (λ u. StatStops (current log) look u.cause u.path) (Tree e) look t is (refl, h) refl
-
--- a refusal with another error than that nothing is there
-pub not_missing : (look : Route) (e : TreeError) (t : Trouble) → (e ≡ refused.Missing → ⊥) → IsTold e look t → t.cause ≡ Tree refused.Missing → ⊥
-not_missing look refused.Memory t other is = subst (λ (u : Trouble). u.cause ≡ Tree refused.Missing → ⊥) (sym is) (λ h. cc)
-not_missing look e t other is = told (λ u. u.cause ≡ Tree refused.Missing → ⊥) (Tree e) look t is (λ h. other cc) (λ h. cc)
 
 -- the refusal of a reading
-read_told : {A : Type 0} (P : A → Type 0) (log : CallLog) (source : Route) (said : Said) (done : ℕ) (e : TreeError) (t : Trouble)
-    → Reads {A = A} log (ReadAt source done (room_for said done)) (Err e) P → IsTold e source t → ReadStops (current log) source said done t.cause t.path
-read_told P log source said done refused.Memory t h is = subst (λ (u : Trouble). ReadStops (current log) source said done u.cause u.path) (sym is) refl
-read_told P log source said done e t h is = told (λ u. ReadStops (current log) source said done u.cause u.path) (Tree e) source t is (refl, h) refl
+read_told : {A : Type 0} (P : A → Type 0) (log : CallLog) (source : Route) (facts : SourceFacts) (done : ℕ) (e : TreeError) (t : Trouble)
+    → Reads {A = A} log (ReadAt source done (room_for facts done)) (Err e) P → IsReadingTrouble e source t → ReadStops (current log) source facts done t.cause t.path
+read_told P log source facts done refused.Memory t h is = subst (λ (u : Trouble). ReadStops (current log) source facts done u.cause u.path) (sym is) refl
+read_told P log source facts done e t h is = told (λ u. ReadStops (current log) source facts done u.cause u.path) (Tree e) source t is (refl, h) refl
 
-pub read_stops : {A : Type 0} (P : A → Type 0) (log : CallLog) (from of source : Route) (said : Said) (done count : ℕ) (e : TreeError) (t : Trouble)
-    → from ≡ source → of ≡ source → count ≡ room_for said done
-    → Reads {A = A} log (ReadAt from done count) (Err e) P → IsTold e of t → ReadStops (current log) source said done t.cause t.path
-read_stops {A = A} P log from of source said done count e t from_is of_is count_is h is =
-    read_told P log source said done e t
+pub read_stops : {A : Type 0} (P : A → Type 0) (log : CallLog) (from of source : Route) (facts : SourceFacts) (done count : ℕ) (e : TreeError) (t : Trouble)
+    → from ≡ source → of ≡ source → count ≡ room_for facts done
+    → Reads {A = A} log (ReadAt from done count) (Err e) P → IsReadingTrouble e of t → ReadStops (current log) source facts done t.cause t.path
+read_stops {A = A} P log from of source facts done count e t from_is of_is count_is h is =
+    read_told P log source facts done e t
     (subst (λ n. Reads {A = A} log (ReadAt source done n) (Err e) P) count_is (subst (λ q. Reads {A = A} log (ReadAt q done count) (Err e) P) from_is h))
-    (subst (λ q. IsTold e q t) of_is is)
-
--- a fault that is told was answered
-pub fault_told : (look : Route) (e : TreeError) (t : Trouble) → IsTold e look t → t.cause ≡ Tree refused.Fault → e ≡ refused.Fault
-fault_told look refused.Memory t is = subst (λ (u : Trouble). u.cause ≡ Tree refused.Fault → refused.Memory ≡ refused.Fault) (sym is) (λ h. absurd cc)
-fault_told look e t is = told (λ u. u.cause ≡ Tree refused.Fault → e ≡ refused.Fault) (Tree e) look t is (λ h. cc) (λ h. absurd cc)
-
--- what is told is no trouble at a barrier
-pub told_apart : (look : Route) (e : TreeError) (t : Trouble) → IsTold e look t → t.barrier ≡ false
-told_apart look refused.Memory t is = subst (λ (u : Trouble). u.barrier ≡ false) (sym is) refl
-told_apart look e t is = told (λ u. u.barrier ≡ false) (Tree e) look t is refl refl
-
--- a refused look at a thing
-pub peeks_told : {A B : Type 0} (look : Route) (e : TreeError) (t : Trouble) (before after : Option CallLog) (f0 f1 : ℕ)
-    → IsTold e look t → after ≡ before → HasCause {T = B} refused.Fault f0 f1 (Err e) → Peeks {A = A} (Err t) before after f0 f1
-peeks_told look e t before after f0 f1 is same cause = record {
-  same = same;
-  later = cause.later;
-  fault = λ h. cause.risen (let f = fault_told look e t is h in cc);
-  apart = told_apart look e t is;
-}
-
--- a look at what may be missing was refused otherwise
-pub absent_told : (look : Route) (e : TreeError) (t : Trouble) → IsAbsent e look (Err t) → (e ≡ refused.Missing → ⊥) × IsTold e look t
-absent_told look refused.Missing t h = absurd h
-absent_told look e t h = ((λ is. cc), h)
-
-pub absent_stops : {A : Type 0} (P : A → Type 0) (log : CallLog) (look : Route) (e : TreeError) (t : Trouble)
-    → Reads {A = A} log (Stat look) (Err e) P → IsAbsent e look (Err t) → TargetStops (current log) look t.cause t.path
-absent_stops P log look e t h is =
-    let split = absent_told look e t is in
-    (stat_stops P log look e t h split.1, not_missing look e t split.0 split.1)
-
-pub peeks_absent : {A B : Type 0} (look : Route) (e : TreeError) (t : Trouble) (before after : Option CallLog) (f0 f1 : ℕ)
-    → IsAbsent e look (Err t) → after ≡ before → HasCause {T = B} refused.Fault f0 f1 (Err e) → Peeks {A = A} (Err t) before after f0 f1
-peeks_absent look e t before after f0 f1 is = peeks_told look e t before after f0 f1 (absent_told look e t is).1
-
--- nothing is there
-pub absent_missing : {A : Type 0} (P : A → Type 0) (log : CallLog) (look : Route) (e : TreeError) (done : Unit {0})
-    → Reads {A = A} log (Stat look) (Err e) P → IsAbsent e look (Ok done) → refusal_of (current log) (Stat look) ≡ Some refused.Missing
-absent_missing P log look refused.Missing done h is = h
-absent_missing P log look e done h is = absurd is
+    (subst (λ q. IsReadingTrouble e q t) of_is is)

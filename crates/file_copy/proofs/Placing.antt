@@ -6,9 +6,9 @@ use Rattle.std.proofs.lemmas.Nat.{or_lt}
 use Rattle.mc_text.specs.Routes.{Route}
 use Rattle.tree_trait.specs.Calls.{SetMode}
 use Rattle.tree_trait.specs.Change.{CallLog}
-use Rattle.file_copy.specs.declared.stop.Stop.{Stop}
+use Rattle.job_reports.specs.declared.stop.Stop.{Stop}
 use Rattle.file_copy.specs.CopyCalls.{moding, part_mode}
-use Rattle.file_copy.specs.Stops.{Ran}
+use Rattle.job_reports.specs.Stops.{Ran}
 
 -- a part that was made with another mode is given the source's
 moding_other : (part : Route) (mode : ℕ) → (part_mode mode ≡ mode → ⊥) → moding part mode ≡ SetMode part mode ∷ []

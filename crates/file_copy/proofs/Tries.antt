@@ -6,28 +6,30 @@ use Rattle.tree_trait.specs.declared.calls.TreeError.TheVariants as refused
 use Rattle.tree_trait.specs.Calls.{Call, RemoveFile, SyncFolder}
 use Rattle.tree_trait.specs.Change.{CallLog}
 use Rattle.tree_trait.specs.Answers.{IfKnown, HasCause, Performs}
-use Rattle.file_copy.specs.declared.report.Ending.{Ending}
-use Rattle.file_copy.specs.declared.report.Did.{Did}
-use Rattle.file_copy.specs.declared.report.Did.TheVariants.{Began, Chunk, Placed, Removed, Skipped, Cleaned, Barrier, Troubled, Ended}
+use Rattle.job_reports.specs.declared.report.Ending.{Ending}
+use Rattle.job_reports.specs.declared.report.Did.{Did}
+use Rattle.job_reports.specs.declared.report.Did.TheVariants.{Began, Chunk, Placed, Removed, Skipped, Cleaned, Barrier, Troubled, Ended}
 use Rattle.file_copy.specs.declared.stage.Stage.{Stage}
 use Rattle.file_copy.specs.declared.stage.Stage.TheVariants.{Begin, Fill, Clean, Left, Decided}
 use Rattle.file_copy.specs.declared.stage.FolderState.{FolderState}
 use Rattle.file_copy.specs.declared.stage.FolderState.TheVariants.{Synced, Dirty}
-use Rattle.file_copy.specs.declared.winding.Wound.{Wound}
-use Rattle.file_copy.specs.CallRuns.{HasMore}
-use Rattle.file_copy.specs.Copying.{Copying, IsSound, Places, copying, folder_of}
-use Rattle.file_copy.specs.LastSteps.{Leaves, SyncAnswers, SyncTried, WindMoves, Winds, WindsOn, given_up, last_steps, let_go, refusal_in, removable, sync_answer, tries_of}
-use Rattle.file_copy.proofs.Runs.{one_more, no_more, ran_one}
+use Rattle.file_copy.specs.declared.winding.AfterLastStep.{AfterLastStep}
+use Rattle.job_reports.specs.CallRuns.{HasMore}
+use Rattle.file_copy.specs.Copying.{Copying, IsSound, Places, copying}
+use Rattle.job_reports.specs.Paths.{folder_of}
+use Rattle.file_copy.specs.LastSteps.{Leaves, SyncAnswers, SyncTried, WindMoves, Winds, WindsOn, given_up, last_steps, let_go, removable}
+use Rattle.job_reports.specs.Stops.{refusal_in, sync_answer, calls_made_for}
+use Rattle.job_reports.proofs.Runs.{one_more, no_more, ran_one}
 
 -- a call that was tried counts
 counts_try : (call : Call) (answer : Result (Unit {0}) TreeError) (log now : CallLog) (after : Option CallLog)
-    → Performs {A = Unit {0}} log call answer after → after ≡ Some now → HasMore log (tries_of answer) now
+    → Performs {A = Unit {0}} log call answer after → after ≡ Some now → HasMore log (calls_made_for answer) now
 counts_try call (Ok done) log now after h is = one_more log _ now (sym h.1.1 ∙ is)
 counts_try call (Err refused.Memory) log now after h is = no_more log now (sym h ∙ is)
 counts_try call (Err refused.Fault) log now after h is = one_more log _ now (sym h.1.1 ∙ is)
 counts_try call (Err e) log now after h is = one_more log _ now (sym h.1 ∙ is)
 
-tries_few : (answer : Result (Unit {0}) TreeError) → tries_of answer ≤ 1
+tries_few : (answer : Result (Unit {0}) TreeError) → calls_made_for answer ≤ 1
 tries_few (Ok done) = omega arith
 tries_few (Err refused.Memory) = omega arith
 tries_few (Err e) = omega arith
@@ -46,14 +48,14 @@ answered (Err e) left is = subst (λ l. Err e ≡ sync_answer l) (sym is) refl
 -- with no part to be removed
 settled_same : (stage : Stage) → removable stage ≡ None → given_up stage ≡ stage
 settled_same Begin h = refl
-settled_same (Fill part said done) h = absurd cc
+settled_same (Fill part facts done) h = absurd cc
 settled_same (Clean part follows) h = absurd cc
 settled_same (Left part) h = refl
 settled_same Decided h = refl
 
 settled_fewer : (stage : Stage) → removable stage ≡ None → last_steps stage Synced < last_steps stage Dirty
 settled_fewer Begin h = omega arith
-settled_fewer (Fill part said done) h = absurd cc
+settled_fewer (Fill part facts done) h = absurd cc
 settled_fewer (Clean part follows) h = absurd cc
 settled_fewer (Left part) h = omega arith
 settled_fewer Decided h = omega arith
@@ -61,14 +63,14 @@ settled_fewer Decided h = omega arith
 -- with a part to be removed
 left_after : (stage : Stage) (part : Route) → removable stage ≡ Some part → given_up stage ≡ Left part
 left_after Begin part h = absurd cc
-left_after (Fill q said done) part h = let same : q ≡ part = cc in ap Left same
+left_after (Fill q facts done) part h = let same : q ≡ part = cc in ap Left same
 left_after (Clean q follows) part h = let same : q ≡ part = cc in ap Left same
 left_after (Left q) part h = absurd cc
 left_after Decided part h = absurd cc
 
 three_left : (stage : Stage) (part : Route) → removable stage ≡ Some part → last_steps stage Dirty ≡ 3
 three_left Begin part h = absurd cc
-three_left (Fill q said done) part h = refl
+three_left (Fill q facts done) part h = refl
 three_left (Clean q follows) part h = refl
 three_left (Left q) part h = absurd cc
 three_left Decided part h = absurd cc
@@ -76,7 +78,7 @@ three_left Decided part h = absurd cc
 module _ (ending : Ending) (p : Places) (stage : Stage) (before after : Option CallLog) where
   -- the sync of the folder was tried
   pub winds_tried : (folder : FolderState) (at : Route) (answer : Result (Unit {0}) TreeError) (calls : ℕ) (left : Option TreeError) (f0 f1 : ℕ) → removable stage ≡ None → folder ≡ Dirty → at ≡ folder_of p.target
-      → calls ≡ tries_of answer → left ≡ refusal_in answer → IfKnown before (λ log. Performs {A = Unit {0}} log (SyncFolder at) answer after) → (before ≡ None → after ≡ None) → f0 ≤ f1
+      → calls ≡ calls_made_for answer → left ≡ refusal_in answer → IfKnown before (λ log. Performs {A = Unit {0}} log (SyncFolder at) answer after) → (before ≡ None → after ≡ None) → f0 ≤ f1
       → WindsOn ending (copying p stage folder) (copying p stage Synced) Barrier calls left before after f0 f1
   winds_tried folder at answer calls left f0 f1 settled owed at_is calls_is left_is called unknown later = record {
     tells = (owed, ap (λ s. copying p s Synced) (sym (settled_same stage settled)));
@@ -114,7 +116,7 @@ module _ (ending : Ending) (p : Places) (stage : Stage) (before after : Option C
         }
 
     -- the part stays, and the sync of the folder was tried
-    winds_stays : (e : TreeError) (mid : Option CallLog) (answer : Result (Unit {0}) TreeError) (left : Option TreeError) (calls total f0 f1 f2 : ℕ) → calls ≡ tries_of (Err e) → total ≡ calls + tries_of answer
+    winds_stays : (e : TreeError) (mid : Option CallLog) (answer : Result (Unit {0}) TreeError) (left : Option TreeError) (calls total f0 f1 f2 : ℕ) → calls ≡ calls_made_for (Err e) → total ≡ calls + calls_made_for answer
         → left ≡ refusal_in answer → IfKnown before (λ log. Performs {A = Unit {0}} log (RemoveFile part) (Err e) mid) → IfKnown mid (λ log. Performs {A = Unit {0}} log (SyncFolder (folder_of p.target)) answer after)
         → (before ≡ None → after ≡ None) → f0 ≤ f2
         → WindsOn ending (copying p stage Dirty) (copying p (Left part) Synced) Barrier total left before after f0 f2
@@ -145,33 +147,33 @@ module _ (ending : Ending) (p : Places) (stage : Stage) (before after : Option C
           falls = omega (arith, three);
         }
 
-    pub winds_left : (e : TreeError) (mid : Option CallLog) (wound : Wound) (calls f0 f1 f2 : ℕ) → calls ≡ tries_of (Err e)
-        → IfKnown before (λ log. Performs {A = Unit {0}} log (RemoveFile part) (Err e) mid) → (before ≡ None → mid ≡ None) → f0 ≤ f1 → Leaves p part calls wound mid after f1 f2
-        → WindMoves ending (copying p stage Dirty) wound before after f0 f2
-    winds_left e mid wound calls f0 f1 f2 calls_is removed unknown later l =
-        let stays = winds_stays e mid l.tried.0 wound.left calls wound.calls f0 f1 f2 calls_is l.tried.1 l.tried.2 removed l.tried.3 (λ h. l.unknown (unknown h)) (let more = l.later in omega (arith, later, more)) in
-        let at_stage = subst (λ s. WindsOn ending (copying p stage Dirty) (copying p s Synced) Barrier wound.calls wound.left before after f0 f2) (sym l.stage) stays in
-        let at_folder = subst (λ f. WindsOn ending (copying p stage Dirty) (copying p wound.stage f) Barrier wound.calls wound.left before after f0 f2) (sym l.folder) at_stage in
-        subst (λ d. WindsOn ending (copying p stage Dirty) (copying p wound.stage wound.folder) d wound.calls wound.left before after f0 f2) (sym l.did) at_folder
+    pub winds_left : (e : TreeError) (mid : Option CallLog) (last_step : AfterLastStep) (calls f0 f1 f2 : ℕ) → calls ≡ calls_made_for (Err e)
+        → IfKnown before (λ log. Performs {A = Unit {0}} log (RemoveFile part) (Err e) mid) → (before ≡ None → mid ≡ None) → f0 ≤ f1 → Leaves p part calls last_step mid after f1 f2
+        → WindMoves ending (copying p stage Dirty) last_step before after f0 f2
+    winds_left e mid last_step calls f0 f1 f2 calls_is removed unknown later l =
+        let stays = winds_stays e mid l.tried.0 last_step.left calls last_step.calls f0 f1 f2 calls_is l.tried.1 l.tried.2 removed l.tried.3 (λ h. l.unknown (unknown h)) (let more = l.later in omega (arith, later, more)) in
+        let at_stage = subst (λ s. WindsOn ending (copying p stage Dirty) (copying p s Synced) Barrier last_step.calls last_step.left before after f0 f2) (sym l.stage) stays in
+        let at_folder = subst (λ f. WindsOn ending (copying p stage Dirty) (copying p last_step.stage f) Barrier last_step.calls last_step.left before after f0 f2) (sym l.folder) at_stage in
+        subst (λ d. WindsOn ending (copying p stage Dirty) (copying p last_step.stage last_step.folder) d last_step.calls last_step.left before after f0 f2) (sym l.did) at_folder
 
 -- where the copy stands at this stage
-pub winds_at : (ending : Ending) (p : Places) (stage at : Stage) (folder : FolderState) (wound : Wound) (before after : Option CallLog) (f0 f1 : ℕ)
-    → stage ≡ at → folder ≡ Dirty → WindMoves ending (copying p at Dirty) wound before after f0 f1 → WindMoves ending (copying p stage folder) wound before after f0 f1
-winds_at ending p stage at folder wound before after f0 f1 is folder_is m =
-    subst (λ s. WindMoves ending (copying p s folder) wound before after f0 f1) (sym is)
-    (subst (λ f. WindMoves ending (copying p at f) wound before after f0 f1) (sym folder_is) m)
+pub winds_at : (ending : Ending) (p : Places) (stage at : Stage) (folder : FolderState) (last_step : AfterLastStep) (before after : Option CallLog) (f0 f1 : ℕ)
+    → stage ≡ at → folder ≡ Dirty → WindMoves ending (copying p at Dirty) last_step before after f0 f1 → WindMoves ending (copying p stage folder) last_step before after f0 f1
+winds_at ending p stage at folder last_step before after f0 f1 is folder_is m =
+    subst (λ s. WindMoves ending (copying p s folder) last_step before after f0 f1) (sym is)
+    (subst (λ f. WindMoves ending (copying p at f) last_step before after f0 f1) (sym folder_is) m)
 
 -- a last step leaves the copy sound
 given_sound : (stage : Stage) → IsSound (given_up stage) Synced
 given_sound Begin = tt
-given_sound (Fill part said done) = tt
+given_sound (Fill part facts done) = tt
 given_sound (Clean part follows) = tt
 given_sound (Left part) = tt
 given_sound Decided = tt
 
 let_go_sound : (stage : Stage) (folder : FolderState) → removable stage ≡ None → IsSound (let_go stage) folder
 let_go_sound Begin folder h = tt
-let_go_sound (Fill part said done) folder h = absurd cc
+let_go_sound (Fill part facts done) folder h = absurd cc
 let_go_sound (Clean part follows) folder h = absurd cc
 let_go_sound (Left part) folder h = tt
 let_go_sound Decided folder h = tt

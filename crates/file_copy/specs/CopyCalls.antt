@@ -1,20 +1,22 @@
 -- What a copy's report says of the calls that the step made, on a tree that tells what it holds.
-use Rattle.std.specs.Prelude.{◌≡◌, ◌⊎◌, ℕ, ◌-◌, ◌<◌, ◌≤◌, ◌==◌, if◌then◌else◌, List, [], ◌∷◌, ◌++◌, length, take, drop, min, bit_or, Option, Some, None}
+use Rattle.std.specs.Prelude.{◌≡◌, ◌⊎◌, ℕ, ◌-◌, ◌<◌, ◌≤◌, ◌==◌, List, [], ◌∷◌, ◌++◌, length, take, drop, min, bit_or, Option, Some, None, if◌then◌else◌}
 use Rattle.mc_text.specs.Routes.{Route}
 use Rattle.tree_trait.specs.declared.file_system.FileSystem.{FileSystem}
 use Rattle.tree_trait.specs.Calls.{Call, ReadAt, MakeFile, WriteAt, SetMode, Rename, RemoveFile, SyncFile, SyncFolder}
 use Rattle.tree_trait.specs.Change.{CallLog, current}
-use Rattle.file_copy.specs.declared.report.Cause.{Cause}
-use Rattle.file_copy.specs.declared.report.Cause.TheVariants.{Tree, TargetKind, SpecialSource, PartTaken, TooLong, Changed, Memory}
-use Rattle.file_copy.specs.declared.report.Did.{Did}
-use Rattle.file_copy.specs.declared.report.Did.TheVariants.{Began, Chunk, Placed, Removed, Skipped, Cleaned, Barrier, Troubled, Ended}
-use Rattle.file_copy.specs.declared.stage.Said.{Said}
+use Rattle.job_reports.specs.declared.report.Cause.{Cause}
+use Rattle.job_reports.specs.declared.report.Cause.TheVariants.{Tree, TargetKind, SpecialSource, PartTaken, TooLong, Changed, Memory}
+use Rattle.job_reports.specs.declared.report.Did.{Did}
+use Rattle.job_reports.specs.declared.report.Did.TheVariants.{Began, Chunk, Placed, Removed, Skipped, Cleaned, Barrier, Troubled, Ended}
+use Rattle.file_copy.specs.declared.stage.SourceFacts.{SourceFacts}
 use Rattle.file_copy.specs.declared.stage.Stage.{Stage}
 use Rattle.file_copy.specs.declared.stage.Stage.TheVariants.{Begin, Fill, Clean, Left, Decided}
-use Rattle.file_copy.specs.CallRuns.{AllDone, RunStops}
-use Rattle.file_copy.specs.Looking.{file_at, IsSaid, IsReady, IsRefusedWith, LookStops}
+use Rattle.job_reports.specs.CallRuns.{AllDone, RunStops}
+use Rattle.file_copy.specs.Looking.{file_at, AreFactsOf, IsReady, LookStops}
+use Rattle.job_reports.specs.Reading.{IsRefusedWith}
 use Rattle.file_copy.specs.PartNames.{part_path, IsFirstFree, NameStops}
-use Rattle.file_copy.specs.Copying.{Places, Copying, places_of, folder_of, chunk_bytes}
+use Rattle.file_copy.specs.Copying.{Places, Copying, places_of, chunk_bytes}
+use Rattle.job_reports.specs.Paths.{folder_of}
 
 -- a part has the mode of the source, and its owner may read and write it
 abbrev pub part_mode : ℕ → ℕ
@@ -33,16 +35,16 @@ abbrev pub placing : ℕ → Route → Route → List Call
 placing mode part target = moding part mode ++ SyncFile part ∷ Rename part target ∷ []
 
 -- how many bytes of the source a chunk may have
-abbrev pub room_for : Said → ℕ → ℕ
-room_for said done = min chunk_bytes (said.size - done)
+abbrev pub room_for : SourceFacts → ℕ → ℕ
+room_for facts done = min chunk_bytes (facts.size - done)
 
 -- the next bytes of the source that go to the part
-abbrev pub next_bytes : FileSystem → Route → Said → ℕ → List ℕ
-next_bytes s source said done = take (room_for said done) (drop done (file_at s source).bytes)
+abbrev pub next_bytes : FileSystem → Route → SourceFacts → ℕ → List ℕ
+next_bytes s source facts done = take (room_for facts done) (drop done (file_at s source).bytes)
 
 -- the call that writes them
-abbrev pub writing : FileSystem → Places → Route → Said → ℕ → Call
-writing s p part said done = WriteAt part done (next_bytes s p.source said done)
+abbrev pub writing : FileSystem → Places → Route → SourceFacts → ℕ → Call
+writing s p part facts done = WriteAt part done (next_bytes s p.source facts done)
 
 -- The trouble before the part stands: of a look, of a part's name, or of its making.
 abbrev pub BeginStops : (Route → Type 0) → Places → Cause → Option Route → CallLog → Option CallLog → Type 0
@@ -52,35 +54,35 @@ BeginStops unclaimed p cause path log after =
     ⊎ ((k : ℕ) × IsReady (current log) p × IsFirstFree (current log) unclaimed p k × RunStops (making (current log) p k ∷ []) cause path log after)
 
 -- the trouble of reading the next bytes: the call is refused, or the source ends early
-abbrev pub ReadStops : FileSystem → Route → Said → ℕ → Cause → Option Route → Type 0
-ReadStops s source said done (Tree e) path = (path ≡ Some source) × IsRefusedWith s (ReadAt source done (room_for said done)) e
-ReadStops s source said done (Changed size got) path =
-    (path ≡ Some source) × (size ≡ said.size) × (got ≡ done) × (length (file_at s source).bytes ≤ done)
-ReadStops s source said done Memory path = path ≡ None
-ReadStops s source said done (TargetKind kind) path = ⊥
-ReadStops s source said done SpecialSource path = ⊥
-ReadStops s source said done PartTaken path = ⊥
-ReadStops s source said done TooLong path = ⊥
+abbrev pub ReadStops : FileSystem → Route → SourceFacts → ℕ → Cause → Option Route → Type 0
+ReadStops s source facts done (Tree e) path = (path ≡ Some source) × IsRefusedWith s (ReadAt source done (room_for facts done)) e
+ReadStops s source facts done (Changed size got) path =
+    (path ≡ Some source) × (size ≡ facts.size) × (got ≡ done) × (length (file_at s source).bytes ≤ done)
+ReadStops s source facts done Memory path = path ≡ None
+ReadStops s source facts done (TargetKind kind) path = ⊥
+ReadStops s source facts done SpecialSource path = ⊥
+ReadStops s source facts done PartTaken path = ⊥
+ReadStops s source facts done TooLong path = ⊥
 
 -- the trouble of a part that isn't full: the source can't be read, or the part can't be written
-abbrev pub ChunkStops : Places → Route → Said → ℕ → Cause → Option Route → CallLog → Option CallLog → Type 0
-ChunkStops p part said done cause path log after =
-    (ReadStops (current log) p.source said done cause path × (after ≡ Some log))
-    ⊎ RunStops (writing (current log) p part said done ∷ []) cause path log after
+abbrev pub ChunkStops : Places → Route → SourceFacts → ℕ → Cause → Option Route → CallLog → Option CallLog → Type 0
+ChunkStops p part facts done cause path log after =
+    (ReadStops (current log) p.source facts done cause path × (after ≡ Some log))
+    ⊎ RunStops (writing (current log) p part facts done ∷ []) cause path log after
 
 -- the trouble of a step, by where the copy stands
 abbrev pub CopyStops : (Route → Type 0) → Places → Stage → Cause → Option Route → CallLog → Option CallLog → Type 0
 CopyStops unclaimed p Begin cause path log after = BeginStops unclaimed p cause path log after
-CopyStops unclaimed p (Fill part said done) cause path log after =
-    ((done < said.size) × ChunkStops p part said done cause path log after)
-    ⊎ ((done ≡ said.size) × RunStops (placing said.mode part p.target) cause path log after)
+CopyStops unclaimed p (Fill part facts done) cause path log after =
+    ((done < facts.size) × ChunkStops p part facts done cause path log after)
+    ⊎ ((done ≡ facts.size) × RunStops (placing facts.mode part p.target) cause path log after)
 CopyStops unclaimed p (Clean part follows) cause path log after = RunStops (RemoveFile part ∷ []) cause path log after
 CopyStops unclaimed p (Left part) cause path log after = ⊥
 CopyStops unclaimed p Decided cause path log after = RunStops (SyncFolder (folder_of p.target) ∷ []) cause path log after
 
 -- the part was made of a source that is what was said
 abbrev pub BeganOf : FileSystem → Places → Stage → Type 0
-BeganOf s p (Fill part said done) = IsSaid s p.source said
+BeganOf s p (Fill part facts done) = AreFactsOf s p.source facts
 BeganOf s p Begin = ⊥
 BeganOf s p (Clean part follows) = ⊥
 BeganOf s p (Left part) = ⊥
@@ -92,10 +94,10 @@ CopyCalls unclaimed c (Began part) new log after =
     IsReady (current log) (places_of c) × BeganOf (current log) (places_of c) new.stage
     × ((k : ℕ) × (part ≡ part_path (places_of c) k) × IsFirstFree (current log) unclaimed (places_of c) k × AllDone log (making (current log) (places_of c) k ∷ []) after)
 CopyCalls unclaimed c (Chunk count) new log after =
-    (part : Route) × (said : Said) × (done : ℕ) × (c.stage ≡ Fill part said done)
-    × (count ≡ length (next_bytes (current log) c.source said done)) × AllDone log (writing (current log) (places_of c) part said done ∷ []) after
+    (part : Route) × (facts : SourceFacts) × (done : ℕ) × (c.stage ≡ Fill part facts done)
+    × (count ≡ length (next_bytes (current log) c.source facts done)) × AllDone log (writing (current log) (places_of c) part facts done ∷ []) after
 CopyCalls unclaimed c (Placed path) new log after =
-    (part : Route) × (said : Said) × (c.stage ≡ Fill part said said.size) × AllDone log (placing said.mode part c.target) after
+    (part : Route) × (facts : SourceFacts) × (c.stage ≡ Fill part facts facts.size) × AllDone log (placing facts.mode part c.target) after
 CopyCalls unclaimed c (Cleaned part) new log after = AllDone log (RemoveFile part ∷ []) after
 CopyCalls unclaimed c Barrier new log after = AllDone log (SyncFolder (folder_of c.target) ∷ []) after
 CopyCalls unclaimed c (Troubled trouble) new log after = CopyStops unclaimed (places_of c) c.stage trouble.cause trouble.path log after

@@ -4,27 +4,23 @@ use Rattle.mc_text.specs.Routes.{Route}
 use Rattle.tree_trait.specs.Change.{CallLog, current}
 use Rattle.tree_trait.specs.Answers.{IfKnown, HasRisen}
 use Rattle.tree_trait.specs.declared.calls.TreeError.TheVariants as refused
-use Rattle.file_copy.specs.declared.report.Cause.{Cause}
-use Rattle.file_copy.specs.declared.report.Cause.TheVariants.{Tree}
-use Rattle.file_copy.specs.declared.report.Did.{Did}
-use Rattle.file_copy.specs.declared.report.Did.TheVariants.{Chunk, Placed, Skipped, Cleaned, Barrier, Troubled}
+use Rattle.job_reports.specs.declared.report.Cause.{Cause}
+use Rattle.job_reports.specs.declared.report.Cause.TheVariants.{Tree}
+use Rattle.job_reports.specs.declared.report.Did.{Did}
+use Rattle.job_reports.specs.declared.report.Did.TheVariants.{Chunk, Placed, Skipped, Cleaned, Barrier, Troubled}
+use Rattle.job_reports.specs.Reports.{IsFault}
 use Rattle.file_copy.specs.declared.stage.Stage.{Stage}
 use Rattle.file_copy.specs.declared.stage.Stage.TheVariants.{Decided}
 use Rattle.file_copy.specs.declared.stage.FolderState.{FolderState}
-use Rattle.file_copy.specs.declared.stop.Stop.{Stop}
+use Rattle.job_reports.specs.declared.stop.Stop.{Stop}
 use Rattle.file_copy.specs.declared.work.Made.{Made}
-use Rattle.file_copy.specs.declared.work.Moved.{Moved}
-use Rattle.file_copy.specs.CallRuns.{AllDone, HasMore}
+use Rattle.file_copy.specs.declared.work.AfterStep.{AfterStep}
+use Rattle.job_reports.specs.CallRuns.{AllDone, HasMore}
 use Rattle.file_copy.specs.Copying.{Places, Copying, IsSound, Tells, skipped, at_barrier, steps_left}
 use Rattle.file_copy.specs.CopyCalls.{CopyCalls, BeginStops, making}
-use Rattle.file_copy.specs.Looking.{HasRange, IsReady, IsSaid}
+use Rattle.file_copy.specs.Looking.{HasRange, IsReady, AreFactsOf}
 use Rattle.file_copy.specs.PartNames.{IsFirstFree, part_path}
-use Rattle.file_copy.specs.Stops.{no_memory_of}
-
--- the report says that the device failed
-abbrev pub IsFault : Did → Type 0
-IsFault (Troubled trouble) = trouble.cause ≡ Tree refused.Fault
-IsFault did = ⊥
+use Rattle.job_reports.specs.Stops.{out_of_memory_at}
 
 -- fewer steps are left
 abbrev pub IsFewer : Copying → Copying → Type 0
@@ -54,21 +50,21 @@ pub record StepsOn (unclaimed : Route → Type 0) (old new : Copying) (did : Did
 abbrev pub Skips : Cause → Copying → Did → Copying → Type 0
 Skips cause old did new =
     ((did ≡ Skipped old.source cause) × (new ≡ record old { stage = skipped old.stage }))
-    ⊎ ((did ≡ Troubled (no_memory_of (at_barrier old.stage))) × (new ≡ old))
+    ⊎ ((did ≡ Troubled (out_of_memory_at (at_barrier old.stage))) × (new ≡ old))
 
 -- A step that says where it left the copy: the copy then is sound.
-pub record MovesOn (unclaimed : Route → Type 0) (old : Copying) (moved : Moved) (before after : Option CallLog) (faults faults_after : ℕ) : Type 0 where
+pub record MovesOn (unclaimed : Route → Type 0) (old : Copying) (moved : AfterStep) (before after : Option CallLog) (faults faults_after : ℕ) : Type 0 where
   pub steps : StepsOn unclaimed old (record old { stage = moved.stage; folder = moved.folder }) moved.did moved.calls before after faults faults_after
   pub sound : IsSound moved.stage moved.folder
 
 -- a trouble leaves the copy where it stood
-abbrev pub moved_by : Stop → Stage → FolderState → Moved
+abbrev pub moved_by : Stop → Stage → FolderState → AfterStep
 moved_by stop stage folder = record { did = Troubled stop.trouble; calls = stop.calls; stage = stage; folder = folder }
 
 -- a part was made, or the trouble is one that may come before
 abbrev pub BeginRuns : (Route → Type 0) → Places → Result Made Stop → CallLog → Option CallLog → Type 0
 BeginRuns unclaimed p (Ok made) log after =
-    IsReady (current log) p × IsSaid (current log) p.source made.said
+    IsReady (current log) p × AreFactsOf (current log) p.source made.facts
     × ((k : ℕ) × (made.part ≡ part_path p k) × IsFirstFree (current log) unclaimed p k × AllDone log (making (current log) p k ∷ []) after)
 BeginRuns unclaimed p (Err stop) log after = BeginStops unclaimed p stop.trouble.cause stop.trouble.path log after
 
@@ -79,7 +75,7 @@ begin_calls (Err stop) = stop.calls
 
 -- what is known of a part that was made, and of the trouble before
 abbrev pub IfBegun : Result Made Stop → Type 0
-IfBegun (Ok made) = (made.named ≡ made.part) × HasRange made.said
+IfBegun (Ok made) = (made.named ≡ made.part) × HasRange made.facts
 IfBegun (Err stop) = stop.trouble.barrier ≡ false
 
 -- What the making of a part comes to, as in `Ran`.

@@ -1,10 +1,10 @@
 -- The order in which a file is copied: what a step may report where the copy stands, and where it stands then.
 use Rattle.std.specs.Prelude.{◌≡◌, ℕ, ◌+◌, ◌-◌, ◌^◌, ◌≤◌, ⊤, Bool, true, false, not, [], ◌∷◌, Option, Some, None}
 use Rattle.mc_text.specs.Routes.{Route}
-use Rattle.file_copy.specs.declared.report.Ending.TheVariants.{Finished}
-use Rattle.file_copy.specs.declared.report.Did.{Did}
-use Rattle.file_copy.specs.declared.report.Did.TheVariants.{Began, Chunk, Placed, Removed, Skipped, Cleaned, Barrier, Troubled, Ended}
-use Rattle.file_copy.specs.declared.stage.Said.{Said}
+use Rattle.job_reports.specs.declared.report.Ending.TheVariants.{Finished}
+use Rattle.job_reports.specs.declared.report.Did.{Did}
+use Rattle.job_reports.specs.declared.report.Did.TheVariants.{Began, Chunk, Placed, Removed, Skipped, Cleaned, Barrier, Troubled, Ended}
+use Rattle.file_copy.specs.declared.stage.SourceFacts.{SourceFacts}
 use Rattle.file_copy.specs.declared.stage.Next.{Next}
 use Rattle.file_copy.specs.declared.stage.Next.TheVariants as next
 use Rattle.file_copy.specs.declared.stage.Stage.{Stage}
@@ -20,11 +20,6 @@ pub record Places : Type 0 where
 
 abbrev pub places : ℕ → Route → Route → Places
 places job source target = record { job = job; source = source; target = target }
-
--- the folder that holds a path
-abbrev pub folder_of : Route → Route
-folder_of [] = []
-folder_of (name ∷ folder) = folder
 
 -- the copy of a file, as it stands: its places, what is to be done next, and whether the target's folder is to be synced
 pub record Copying : Type 0 where
@@ -48,7 +43,7 @@ begun job source target = copying (places job source target) Begin Synced
 -- a part that is filled has no more bytes than its source was said to have, a file holds at most 2^63 of them, and a mode
 -- has twelve bits; where a part stands whose removal was not tried in vain, the folder is to be synced
 abbrev pub IsSound : Stage → FolderState → Type 0
-IsSound (Fill part said done) folder = (done ≤ said.size) × (said.size ≤ 2 ^ 63) × (said.mode ≤ 0o7777) × (folder ≡ Dirty)
+IsSound (Fill part facts done) folder = (done ≤ facts.size) × (facts.size ≤ 2 ^ 63) × (facts.mode ≤ 0o7777) × (folder ≡ Dirty)
 IsSound (Clean part follows) folder = folder ≡ Dirty
 IsSound Begin folder = ⊤
 IsSound (Left part) folder = ⊤
@@ -56,7 +51,7 @@ IsSound Decided folder = ⊤
 
 -- the part that stands
 abbrev pub part_at : Stage → Option Route
-part_at (Fill part said done) = Some part
+part_at (Fill part facts done) = Some part
 part_at (Clean part follows) = Some part
 part_at (Left part) = Some part
 part_at Begin = None
@@ -73,7 +68,7 @@ at_barrier (Clean part follows) = true
 at_barrier Decided = true
 at_barrier (Left part) = true
 at_barrier Begin = false
-at_barrier (Fill part said done) = false
+at_barrier (Fill part facts done) = false
 
 -- the folder has a change of names that no sync has brought onto the disk
 abbrev pub is_dirty : FolderState → Bool
@@ -83,7 +78,7 @@ is_dirty Synced = false
 -- a copy that has changed nothing yet
 abbrev pub is_fresh : Stage → FolderState → Bool
 is_fresh Begin folder = not (is_dirty folder)
-is_fresh (Fill part said done) folder = false
+is_fresh (Fill part facts done) folder = false
 is_fresh (Clean part follows) folder = false
 is_fresh (Left part) folder = false
 is_fresh Decided folder = false
@@ -96,12 +91,12 @@ chunk_bytes = 65536
 -- full, syncs the folder, and only then is finished.
 abbrev pub Tells : Copying → Did → Copying → Type 0
 Tells c (Began part) new =
-    (c.stage ≡ Begin) × ((said : Said) × (new ≡ record c { stage = Fill part said 0; folder = Dirty }))
+    (c.stage ≡ Begin) × ((facts : SourceFacts) × (new ≡ record c { stage = Fill part facts 0; folder = Dirty }))
 Tells c (Chunk count) new =
-    (part : Route) × (said : Said) × (done : ℕ) × (c.stage ≡ Fill part said done)
-    × (1 ≤ count) × (count ≤ chunk_bytes) × (done + count ≤ said.size) × (new ≡ record c { stage = Fill part said (done + count) })
+    (part : Route) × (facts : SourceFacts) × (done : ℕ) × (c.stage ≡ Fill part facts done)
+    × (1 ≤ count) × (count ≤ chunk_bytes) × (done + count ≤ facts.size) × (new ≡ record c { stage = Fill part facts (done + count) })
 Tells c (Placed path) new =
-    (part : Route) × (said : Said) × (c.stage ≡ Fill part said said.size) × (path ≡ c.target) × (new ≡ record c { stage = Decided })
+    (part : Route) × (facts : SourceFacts) × (c.stage ≡ Fill part facts facts.size) × (path ≡ c.target) × (new ≡ record c { stage = Decided })
 Tells c (Cleaned part) new = (follows : Next) × (c.stage ≡ Clean part follows) × (new ≡ record c { stage = after_clean follows })
 Tells c Barrier new = (c.stage ≡ Decided) × (c.folder ≡ Dirty) × (new ≡ record c { folder = Synced })
 Tells c (Troubled trouble) new = (trouble.barrier ≡ at_barrier c.stage) × (new ≡ c)
@@ -113,7 +108,7 @@ Tells c (Skipped path cause) new = ⊥
 -- a file that is skipped is not copied; a part that stands is to be removed
 abbrev pub skipped : Stage → Stage
 skipped Begin = Decided
-skipped (Fill part said done) = Clean part next.Decided
+skipped (Fill part facts done) = Clean part next.Decided
 skipped (Clean part follows) = Clean part next.Decided
 skipped (Left part) = Left part
 skipped Decided = Decided
@@ -121,7 +116,7 @@ skipped Decided = Decided
 -- a copy that is taken anew begins at the first byte, when its part was removed; what was placed or skipped stays so
 abbrev pub taken_anew : Stage → Stage
 taken_anew Begin = Begin
-taken_anew (Fill part said done) = Clean part next.Begin
+taken_anew (Fill part facts done) = Clean part next.Begin
 taken_anew (Clean part follows) = Clean part follows
 taken_anew (Left part) = Left part
 taken_anew Decided = Decided
@@ -129,7 +124,7 @@ taken_anew Decided = Decided
 -- the most steps that a copy whose part stands, or that is decided, makes yet, if none is refused
 abbrev pub steps_left : Stage → FolderState → ℕ
 steps_left Begin folder = 0
-steps_left (Fill part said done) folder = (said.size - done) + 3
+steps_left (Fill part facts done) folder = (facts.size - done) + 3
 steps_left (Clean part follows) folder = 3
 steps_left (Left part) folder = 0
 steps_left Decided Dirty = 2

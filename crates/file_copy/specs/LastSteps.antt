@@ -1,33 +1,34 @@
 -- The last steps of a copy that is to end: its part is removed, if it can be, the folder's sync is tried, and it ends.
-use Rattle.std.specs.Prelude.{◌≡◌, ℕ, ◌+◌, ◌<◌, ◌≤◌, ⊤, [], ◌∷◌, Option, Some, None, Result, Ok, Err}
+use Rattle.std.specs.Prelude.{◌≡◌, ℕ, ◌+◌, ◌<◌, ◌≤◌, ⊤, [], ◌∷◌, Option, Some, None, Result, Err}
 use Rattle.mc_text.specs.Routes.{Route}
 use Rattle.tree_trait.specs.declared.calls.TreeError.{TreeError}
-use Rattle.tree_trait.specs.declared.calls.TreeError.TheVariants as refused
-use Rattle.tree_trait.specs.Calls.{Call, RemoveFile, SyncFolder}
+use Rattle.tree_trait.specs.Calls.{RemoveFile, SyncFolder}
 use Rattle.tree_trait.specs.Change.{CallLog}
 use Rattle.tree_trait.specs.Answers.{IfKnown, Performs}
-use Rattle.file_copy.specs.declared.report.Ending.{Ending}
-use Rattle.file_copy.specs.declared.report.Did.{Did}
-use Rattle.file_copy.specs.declared.report.Did.TheVariants.{Began, Chunk, Placed, Removed, Skipped, Cleaned, Barrier, Troubled, Ended}
+use Rattle.job_reports.specs.declared.report.Ending.{Ending}
+use Rattle.job_reports.specs.declared.report.Did.{Did}
+use Rattle.job_reports.specs.declared.report.Did.TheVariants.{Began, Chunk, Placed, Removed, Skipped, Cleaned, Barrier, Troubled, Ended}
+use Rattle.job_reports.specs.Stops.{IsTried, refusal_in, sync_answer, calls_made_for}
 use Rattle.file_copy.specs.declared.stage.Stage.{Stage}
 use Rattle.file_copy.specs.declared.stage.Stage.TheVariants.{Begin, Fill, Clean, Left, Decided}
 use Rattle.file_copy.specs.declared.stage.FolderState.{FolderState}
 use Rattle.file_copy.specs.declared.stage.FolderState.TheVariants.{Synced, Dirty}
-use Rattle.file_copy.specs.CallRuns.{AllDone, HasMore}
-use Rattle.file_copy.specs.declared.winding.Wound.{Wound}
-use Rattle.file_copy.specs.Copying.{Places, Copying, copying, folder_of}
+use Rattle.job_reports.specs.CallRuns.{AllDone, HasMore}
+use Rattle.file_copy.specs.declared.winding.AfterLastStep.{AfterLastStep}
+use Rattle.file_copy.specs.Copying.{Places, Copying, copying}
+use Rattle.job_reports.specs.Paths.{folder_of}
 
 -- the part that could not be removed
 abbrev pub left_at : Stage → Option Route
 left_at (Left part) = Some part
 left_at Begin = None
-left_at (Fill part said done) = None
+left_at (Fill part facts done) = None
 left_at (Clean part follows) = None
 left_at Decided = None
 
 -- the removal of a part was tried in vain
 abbrev pub given_up : Stage → Stage
-given_up (Fill part said done) = Left part
+given_up (Fill part facts done) = Left part
 given_up (Clean part follows) = Left part
 given_up Begin = Begin
 given_up (Left part) = Left part
@@ -37,13 +38,13 @@ given_up Decided = Decided
 abbrev pub let_go : Stage → Stage
 let_go (Left part) = Decided
 let_go Begin = Begin
-let_go (Fill part said done) = Fill part said done
+let_go (Fill part facts done) = Fill part facts done
 let_go (Clean part follows) = Clean part follows
 let_go Decided = Decided
 
 -- the part that a last step may try to remove
 abbrev pub removable : Stage → Option Route
-removable (Fill part said done) = Some part
+removable (Fill part facts done) = Some part
 removable (Clean part follows) = Some part
 removable Begin = None
 removable (Left part) = None
@@ -63,10 +64,6 @@ Winds ending c (Removed path) new = ⊥
 Winds ending c (Skipped path cause) new = ⊥
 Winds ending c (Troubled trouble) new = ⊥
 
--- a call that may be refused, or find no memory
-abbrev pub IsTried : CallLog → Call → Option CallLog → Type 0
-IsTried log call after = (answer : Result (Unit {0}) TreeError) × Performs {A = Unit {0}} log call answer after
-
 -- the sync of the folder is tried; a part that stands was refused its removal before
 abbrev pub SyncTried : Copying → Option Route → CallLog → Option CallLog → Type 0
 SyncTried c None log after = IsTried log (SyncFolder (folder_of c.target)) after
@@ -85,16 +82,6 @@ WindCalls c (Removed path) log after = ⊥
 WindCalls c (Skipped path cause) log after = ⊥
 WindCalls c (Troubled trouble) log after = ⊥
 
--- what a sync answered: it was done, or it was refused so
-abbrev pub sync_answer : Option TreeError → Result (Unit {0}) TreeError
-sync_answer None = Ok tt
-sync_answer (Some e) = Err e
-
--- the refusal that an answer is
-abbrev pub refusal_in : Result (Unit {0}) TreeError → Option TreeError
-refusal_in (Ok done) = None
-refusal_in (Err e) = Some e
-
 -- the sync of the folder was answered so; a part that stands was refused its removal before
 abbrev pub SyncAnswers : Copying → Option Route → Option TreeError → CallLog → Option CallLog → Type 0
 SyncAnswers c None left log after = Performs {A = Unit {0}} log (SyncFolder (folder_of c.target)) (sync_answer left) after
@@ -109,7 +96,7 @@ TellsFolder c did left log after = left ≡ None
 
 -- the most last steps that a copy makes yet
 abbrev pub last_steps : Stage → FolderState → ℕ
-last_steps (Fill part said done) folder = 3
+last_steps (Fill part facts done) folder = 3
 last_steps (Clean part follows) folder = 3
 last_steps Begin Dirty = 2
 last_steps Begin Synced = 1
@@ -136,32 +123,26 @@ pub record WindsOn (ending : Ending) (old new : Copying) (did : Did) (calls : �
   pub falls : GoesDown did old new
 
 -- the same of a step that says where it left the copy
-abbrev pub WindMoves : Ending → Copying → Wound → Option CallLog → Option CallLog → ℕ → ℕ → Type 0
-WindMoves ending old wound before after faults faults_after =
-    WindsOn ending old (record old { stage = wound.stage; folder = wound.folder }) wound.did wound.calls wound.left before after faults faults_after
-
--- how many calls were made for an answer: none where there was no memory
-abbrev pub tries_of : Result (Unit {0}) TreeError → ℕ
-tries_of (Ok done) = 1
-tries_of (Err refused.Memory) = 0
-tries_of (Err e) = 1
+abbrev pub WindMoves : Ending → Copying → AfterLastStep → Option CallLog → Option CallLog → ℕ → ℕ → Type 0
+WindMoves ending old last_step before after faults faults_after =
+    WindsOn ending old (record old { stage = last_step.stage; folder = last_step.folder }) last_step.did last_step.calls last_step.left before after faults faults_after
 
 -- the end of a copy with no part to be removed
-abbrev pub Ends : Ending → Stage → Wound → Type 0
-Ends ending stage wound =
-    wound ≡ record { did = Ended ending (left_at stage); calls = 0; left = None; stage = let_go stage; folder = Synced }
+abbrev pub Ends : Ending → Stage → AfterLastStep → Type 0
+Ends ending stage last_step =
+    last_step ≡ record { did = Ended ending (left_at stage); calls = 0; left = None; stage = let_go stage; folder = Synced }
 
 -- The sync of the folder is tried where a part stays for which so many calls were made.
-pub record Leaves (p : Places) (part : Route) (calls : ℕ) (wound : Wound) (before after : Option CallLog) (faults faults_after : ℕ) : Type 0 where
-  pub did : wound.did ≡ Barrier
-  pub stage : wound.stage ≡ Left part
-  pub folder : wound.folder ≡ Synced
-  pub tried : (answer : Result (Unit {0}) TreeError) × (wound.calls ≡ calls + tries_of answer) × (wound.left ≡ refusal_in answer)
+pub record Leaves (p : Places) (part : Route) (calls : ℕ) (last_step : AfterLastStep) (before after : Option CallLog) (faults faults_after : ℕ) : Type 0 where
+  pub did : last_step.did ≡ Barrier
+  pub stage : last_step.stage ≡ Left part
+  pub folder : last_step.folder ≡ Synced
+  pub tried : (answer : Result (Unit {0}) TreeError) × (last_step.calls ≡ calls + calls_made_for answer) × (last_step.left ≡ refusal_in answer)
       × IfKnown before (λ log. Performs {A = Unit {0}} log (SyncFolder (folder_of p.target)) answer after)
   pub unknown : before ≡ None → after ≡ None
   pub later : faults ≤ faults_after
 
 -- the part that a stage has is removed, or it stays and the folder's sync is tried
-abbrev pub Removes : Places → Route → Wound → Option CallLog → Option CallLog → ℕ → ℕ → Type 0
-Removes p part wound before after faults faults_after =
-    (ending : Ending) (stage : Stage) → removable stage ≡ Some part → WindMoves ending (copying p stage Dirty) wound before after faults faults_after
+abbrev pub Removes : Places → Route → AfterLastStep → Option CallLog → Option CallLog → ℕ → ℕ → Type 0
+Removes p part last_step before after faults faults_after =
+    (ending : Ending) (stage : Stage) → removable stage ≡ Some part → WindMoves ending (copying p stage Dirty) last_step before after faults faults_after

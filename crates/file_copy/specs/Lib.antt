@@ -1,4 +1,3 @@
-pub mod CallRuns
 pub mod Chunks
 pub mod Copied
 pub mod CopyCalls
@@ -7,4 +6,3 @@ pub mod Copying
 pub mod LastSteps
 pub mod Looking
 pub mod PartNames
-pub mod Stops

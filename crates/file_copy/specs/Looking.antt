@@ -1,5 +1,5 @@
 -- The looks before a part is made, in their order, and the trouble that a look comes to.
-use Rattle.std.specs.Prelude.{◌≡◌, ◌≢◌, ◌⊎◌, ℕ, ◌^◌, ◌≤◌, ⊤, Bool, true, false, List, [], ◌∷◌, length, Option, Some, None, Result, Ok, Err, IfErr}
+use Rattle.std.specs.Prelude.{◌≡◌, ◌≢◌, ◌⊎◌, ℕ, ◌^◌, ◌≤◌, ⊤, Bool, true, false, List, [], ◌∷◌, length, Option, Some, None, Result, Ok, Err}
 use Rattle.mc_text.specs.Routes.{Route}
 use Rattle.mc_text.specs.declared.kind.Kind.TheVariants.{File}
 use Rattle.tree_trait.specs.declared.file_system.Node.{Node}
@@ -7,38 +7,34 @@ use Rattle.tree_trait.specs.declared.file_system.FileSystem.{FileSystem}
 use Rattle.tree_trait.specs.declared.calls.Meta.{Meta}
 use Rattle.tree_trait.specs.declared.calls.TreeError.{TreeError}
 use Rattle.tree_trait.specs.declared.calls.TreeError.TheVariants as refused
-use Rattle.tree_trait.specs.Calls.{Call, Stat}
+use Rattle.tree_trait.specs.Calls.{Stat}
 use Rattle.tree_trait.specs.FileSystem.{node}
-use Rattle.tree_trait.specs.Change.{CallLog, found}
+use Rattle.tree_trait.specs.Change.{found}
 use Rattle.tree_trait.specs.Refusals.{refusal_of}
-use Rattle.tree_trait.specs.Answers.{HasRisen, IsMeta}
-use Rattle.file_copy.specs.declared.report.Cause.{Cause}
-use Rattle.file_copy.specs.declared.report.Cause.TheVariants.{Tree, TargetKind, SpecialSource, PartTaken, TooLong, Changed, Memory}
-use Rattle.file_copy.specs.declared.report.Trouble.{Trouble}
-use Rattle.file_copy.specs.declared.stage.Said.{Said}
-use Rattle.file_copy.specs.Copying.{Places, folder_of}
-use Rattle.file_copy.specs.Stops.{IsNamed}
+use Rattle.tree_trait.specs.Answers.{IsMeta}
+use Rattle.job_reports.specs.declared.report.Cause.{Cause}
+use Rattle.job_reports.specs.declared.report.Cause.TheVariants.{Tree, TargetKind, SpecialSource, PartTaken, TooLong, Changed, Memory}
+use Rattle.job_reports.specs.declared.report.Trouble.{Trouble}
+use Rattle.job_reports.specs.Reading.{IsRefusedWith}
+use Rattle.file_copy.specs.declared.stage.SourceFacts.{SourceFacts}
+use Rattle.file_copy.specs.Copying.{Places}
+use Rattle.job_reports.specs.Paths.{folder_of}
+use Rattle.job_reports.specs.Stops.{IsTroubleWithPath}
 
 -- the file that a path leads to
 abbrev pub file_at : FileSystem → Route → Node
 file_at s path = node s (found s path)
 
 -- what the source was said to be is what it is
-pub record IsSaid (s : FileSystem) (source : Route) (said : Said) : Type 0 where
-  pub size : said.size ≡ length (file_at s source).bytes
-  pub mode : said.mode ≡ (file_at s source).mode
+pub record AreFactsOf (s : FileSystem) (source : Route) (facts : SourceFacts) : Type 0 where
+  pub size : facts.size ≡ length (file_at s source).bytes
+  pub mode : facts.mode ≡ (file_at s source).mode
 
 -- a file stands at the source, and nothing at the target
 pub record IsReady (s : FileSystem) (p : Places) : Type 0 where
   pub source : refusal_of s (Stat p.source) ≡ None
   pub file : (file_at s p.source).kind ≡ File
   pub target : refusal_of s (Stat p.target) ≡ Some refused.Missing
-
--- a reading call is refused with this error: as the tree gives it, or by a fault
-abbrev pub IsRefusedWith : FileSystem → Call → TreeError → Type 0
-IsRefusedWith s call refused.Fault = refusal_of s call ≡ None
-IsRefusedWith s call refused.Memory = ⊥
-IsRefusedWith s call e = refusal_of s call ≡ Some e
 
 -- the looks at an item, in their order: the source, the target, which alone may be missing, and the folders that hold them
 abbrev pub looks_at : Places → List (Route × Bool)
@@ -73,40 +69,19 @@ LookStops s p PartTaken path = ⊥
 LookStops s p TooLong path = ⊥
 LookStops s p (Changed said got) path = ⊥
 
--- the trouble of one look
-abbrev pub StatStops : FileSystem → Route → Cause → Option Route → Type 0
-StatStops s look (Tree e) path = (path ≡ Some look) × IsRefusedWith s (Stat look) e
-StatStops s look Memory path = path ≡ None
-StatStops s look (TargetKind kind) path = ⊥
-StatStops s look SpecialSource path = ⊥
-StatStops s look PartTaken path = ⊥
-StatStops s look TooLong path = ⊥
-StatStops s look (Changed said got) path = ⊥
-
--- the trouble of the look at a target, which may be missing
-abbrev pub TargetStops : FileSystem → Route → Cause → Option Route → Type 0
-TargetStops s target cause path = StatStops s target cause path × (cause ≢ Tree refused.Missing)
-
 -- what stands at a target, or that it is missing
 abbrev pub IsThere : FileSystem → Route → Option Meta → Type 0
 IsThere s target None = refusal_of s (Stat target) ≡ Some refused.Missing
 IsThere s target (Some meta) = (refusal_of s (Stat target) ≡ None) × IsMeta s target meta
 
 -- a file has at most 2^63 bytes, and a mode twelve bits
-pub record HasRange (said : Said) : Type 0 where
-  pub mode : said.mode ≤ 0o7777
-  pub size : said.size ≤ 2 ^ 63
+pub record HasRange (facts : SourceFacts) : Type 0 where
+  pub mode : facts.mode ≤ 0o7777
+  pub size : facts.size ≤ 2 ^ 63
 
 -- what the looks at source and target come to
-abbrev pub Judges : Places → Meta → Option Meta → Result Said Trouble → Type 0
-Judges p source (Some target) (Ok said) = ⊥
-Judges p source (Some target) (Err trouble) = IsNamed (TargetKind target.kind) p.target trouble
-Judges p source None (Ok said) = (source.kind ≡ File) × (said ≡ record { size = source.size; mode = source.mode })
-Judges p source None (Err trouble) = (source.kind ≢ File) × IsNamed SpecialSource p.source trouble
-
--- Reading calls leave the tree as it was. They report a fault only where its count has risen, and never at a barrier.
-pub record Peeks {A : Type 0} (result : Result A Trouble) (before after : Option CallLog) (faults faults_after : ℕ) : Type 0 where
-  pub same : after ≡ before
-  pub later : faults ≤ faults_after
-  pub fault : IfErr result (λ trouble. trouble.cause ≡ Tree refused.Fault → HasRisen faults faults_after)
-  pub apart : IfErr result (λ trouble. trouble.barrier ≡ false)
+abbrev pub Judges : Places → Meta → Option Meta → Result SourceFacts Trouble → Type 0
+Judges p source (Some target) (Ok facts) = ⊥
+Judges p source (Some target) (Err trouble) = IsTroubleWithPath (TargetKind target.kind) p.target trouble
+Judges p source None (Ok facts) = (source.kind ≡ File) × (facts ≡ record { size = source.size; mode = source.mode })
+Judges p source None (Err trouble) = (source.kind ≢ File) × IsTroubleWithPath SpecialSource p.source trouble

@@ -6,10 +6,11 @@ use Rattle.tree_trait.specs.declared.file_system.FileSystem.{FileSystem}
 use Rattle.tree_trait.specs.declared.calls.TreeError.TheVariants as refused
 use Rattle.tree_trait.specs.Calls.{Stat}
 use Rattle.tree_trait.specs.Refusals.{refusal_of}
-use Rattle.file_copy.specs.declared.report.Cause.{Cause}
-use Rattle.file_copy.specs.declared.report.Cause.TheVariants.{Tree, TargetKind, SpecialSource, PartTaken, TooLong, Changed, Memory}
-use Rattle.file_copy.specs.Copying.{Places, folder_of}
-use Rattle.file_copy.specs.Looking.{IsRefusedWith, TargetStops}
+use Rattle.job_reports.specs.declared.report.Cause.{Cause}
+use Rattle.job_reports.specs.declared.report.Cause.TheVariants.{Tree, TargetKind, SpecialSource, PartTaken, TooLong, Changed, Memory}
+use Rattle.file_copy.specs.Copying.{Places}
+use Rattle.job_reports.specs.Paths.{folder_of}
+use Rattle.job_reports.specs.Reading.{IsRefusedWith, TargetStops}
 
 -- `.mc.`, the job's number, a dot, k, and `.part`
 abbrev pub part_name : ℕ → ℕ → List ℕ

@@ -4,13 +4,14 @@ ghost use Rattle.tree_trait.specs.Change.{current};
 ghost use Rattle.tree_trait.specs.Answers.{IfKnown};
 ghost use Rattle.file_copy.specs.Chunks.{HasCount, Wrote};
 ghost use Rattle.file_copy.specs.CopyCalls.{ReadStops, next_bytes as bytes_of};
-ghost use Rattle.file_copy.specs.Looking.{Peeks};
+ghost use Rattle.job_reports.specs.Reading.{Peeks};
 
 use crate::item::Item;
 use crate::place::write_part;
-use crate::report::{Cause, Trouble};
-use crate::stage::Said;
-use crate::stop::{Stop, named, no_memory, refused, unmade};
+use crate::stage::SourceFacts;
+use job_reports::{
+    Cause, Stop, Trouble, out_of_memory, reading_trouble, stopped_before, trouble_with_path,
+};
 use mc_text::Path;
 use std::alloc::Global;
 use tree_trait::Tree;
@@ -24,20 +25,20 @@ pub(crate) fn write_chunk<T: Tree>(
     tree: &mut T,
     item: &Item,
     part: &Path,
-    said: Said,
+    facts: SourceFacts,
     done: u64,
 ) -> Result<u32, Stop>
-    requires unfilled { done < said.size }
-    requires in_range { said.size ≤ 2 ^ 63 }
-    ensures { Wrote item.now part.now said done result (T.contents tree.old) (T.contents tree.new)
+    requires unfilled { done < facts.size }
+    requires in_range { facts.size ≤ 2 ^ 63 }
+    ensures { Wrote item.now part.now facts done result (T.contents tree.old) (T.contents tree.new)
         (T.fault_count tree.old) (T.fault_count tree.new) }
 {
-    match next_bytes(alloc, tree, item, said, done) {
+    match next_bytes(alloc, tree, item, facts, done) {
         Ok(bytes) => match write_part(alloc, tree, part, done, bytes.as_slice()) {
             Ok(_) => Ok(bytes.len() as u32),
             Err(stop) => Err(stop),
         },
-        Err(trouble) => Err(unmade(trouble)),
+        Err(trouble) => Err(stopped_before(trouble)),
     }
 }
 
@@ -46,26 +47,26 @@ fn next_bytes<T: Tree>(
     alloc: Global,
     tree: &mut T,
     item: &Item,
-    said: Said,
+    facts: SourceFacts,
     done: u64,
 ) -> Result<Vec<u8>, Trouble>
-    requires unfilled { done < said.size }
+    requires unfilled { done < facts.size }
     ensures known { IfKnown (T.contents tree.old) (λ log. MatchResult result
-        (λ bytes. bytes.items ≡ bytes_of (current log) item.now.source said done)
-        (λ trouble. ReadStops (current log) item.now.source said done trouble.cause trouble.path)) }
-    ensures some { IfOk result (λ bytes. HasCount said done (length bytes.items)) }
+        (λ bytes. bytes.items ≡ bytes_of (current log) item.now.source facts done)
+        (λ trouble. ReadStops (current log) item.now.source facts done trouble.cause trouble.path)) }
+    ensures some { IfOk result (λ bytes. HasCount facts done (length bytes.items)) }
     ensures peeks { Peeks result (T.contents tree.old) (T.contents tree.new)
         (T.fault_count tree.old) (T.fault_count tree.new) }
 {
-    let room = (said.size - done).min(CHUNK_BYTES) as usize;
+    let room = (facts.size - done).min(CHUNK_BYTES) as usize;
     let Ok(mut bytes) = vec![in alloc; 0u8; room] else {
-        return Err(no_memory(false));
+        return Err(out_of_memory(false));
     };
     match tree.read_at(alloc, item.source(), done, bytes.as_mut_slice()) {
-        Ok(0) => Err(named(
+        Ok(0) => Err(trouble_with_path(
             alloc,
             Cause::Changed {
-                said: said.size,
+                said: facts.size,
                 got: done,
             },
             item.source(),
@@ -74,6 +75,6 @@ fn next_bytes<T: Tree>(
             bytes.truncate(count);
             Ok(bytes)
         }
-        Err(error) => Err(refused(alloc, error, item.source())),
+        Err(error) => Err(reading_trouble(alloc, error, item.source())),
     }
 }

@@ -1,22 +1,22 @@
 //! The copy of one file, a piece of work at each step.
 ghost use Rattle.std.specs.Prelude.{◌≡◌, None, Some, true, option_map};
 ghost use Rattle.mc_text.specs.Routes.{parent_of};
-ghost use Rattle.file_copy.specs.Copying.{IsSound, at_barrier, begun, folder_of, is_dirty, is_fresh, part_at, skipped as skipped_to, taken_anew as stage_anew};
+ghost use Rattle.file_copy.specs.Copying.{IsSound, at_barrier, begun, is_dirty, is_fresh, part_at, skipped as skipped_to, taken_anew as stage_anew};
+ghost use Rattle.job_reports.specs.Paths.{folder_of};
 ghost use Rattle.file_copy.specs.CopySteps.{Skips, StepsOn};
 ghost use Rattle.file_copy.specs.LastSteps.{WindsOn, left_at};
 
 use crate::item::Item;
 use crate::part_name::PartTest;
-use crate::report::{Cause, Did, Ending};
 use crate::stage::{FolderState, Next, Stage};
-use crate::stop::no_memory;
 use crate::winding::wind;
-use crate::work::{Moved, work};
+use crate::work::{AfterStep, work};
+use job_reports::{Cause, Did, Ending, LastStepResult, StepResult, out_of_memory};
 use mc_text::Path;
 use std::alloc::Global;
 use std::marker::Model;
 use std::mem;
-use tree_trait::{Tree, TreeError};
+use tree_trait::Tree;
 
 /// The copy of one file to a path at which nothing stands.
 #[derive(Debug, Drop)]
@@ -34,22 +34,6 @@ impl Model for FileCopy {
     ghost view = { λ c. copying c.item c.stage c.folder };
 
     ghost invariant = { λ c. IsSound c.stage c.folder };
-}
-
-/// What a step did, and how many changing calls of the tree it made.
-#[derive(Debug, Drop)]
-pub struct Stepped {
-    pub did: Did,
-    pub calls: u64,
-}
-
-/// What a last step did, how many changing calls of the tree it made, and the refusal of a sync that was tried in vain:
-/// the folder then has names that no sync has brought onto the disk.
-#[derive(Debug, Drop)]
-pub struct LastStepped {
-    pub did: Did,
-    pub calls: u64,
-    pub left: Option<TreeError>,
 }
 
 impl FileCopy {
@@ -126,7 +110,12 @@ impl FileCopy {
     }
 
     /// Does the next piece of work.
-    pub fn step<T: Tree, P: PartTest>(&mut self, alloc: Global, tree: &mut T, parts: &P) -> Stepped
+    pub fn step<T: Tree, P: PartTest>(
+        &mut self,
+        alloc: Global,
+        tree: &mut T,
+        parts: &P,
+    ) -> StepResult
         requires { left_at self.old.stage ≡ None }
         ensures steps { StepsOn (λ path. P.is_free parts.now path ≡ true) self.old self.new result.did result.calls
             (T.contents tree.old) (T.contents tree.new) (T.fault_count tree.old) (T.fault_count tree.new) }
@@ -137,7 +126,7 @@ impl FileCopy {
         let moved = work(alloc, tree, parts, &self.item, stage, self.folder);
         self.stage = moved.stage;
         self.folder = moved.folder;
-        Stepped {
+        StepResult {
             did: moved.did,
             calls: moved.calls,
         }
@@ -149,7 +138,7 @@ impl FileCopy {
         ensures ready { left_at self.new.stage ≡ left_at self.old.stage }
     {
         let Ok(source) = self.item.source().copy(alloc) else {
-            return Did::Troubled(no_memory(is_at_barrier(&self.stage)));
+            return Did::Troubled(out_of_memory(is_at_barrier(&self.stage)));
         };
         self.stage = skipped(mem::replace(&mut self.stage, Stage::Decided));
         Did::Skipped(source, cause)
@@ -164,18 +153,23 @@ impl FileCopy {
     }
 
     /// Makes the next of the last steps of a job that is to end so. After the end the copy is to be let go.
-    pub fn wind_up<T: Tree>(&mut self, alloc: Global, tree: &mut T, ending: Ending) -> LastStepped
+    pub fn wind_up<T: Tree>(
+        &mut self,
+        alloc: Global,
+        tree: &mut T,
+        ending: Ending,
+    ) -> LastStepResult
         ensures { WindsOn ending self.old self.new result.did result.calls result.left
             (T.contents tree.old) (T.contents tree.new) (T.fault_count tree.old) (T.fault_count tree.new) }
     {
         let stage = mem::replace(&mut self.stage, Stage::Decided);
-        let wound = wind(alloc, tree, &self.item, stage, self.folder, ending);
-        self.stage = wound.stage;
-        self.folder = wound.folder;
-        LastStepped {
-            did: wound.did,
-            calls: wound.calls,
-            left: wound.left,
+        let last_step = wind(alloc, tree, &self.item, stage, self.folder, ending);
+        self.stage = last_step.stage;
+        self.folder = last_step.folder;
+        LastStepResult {
+            did: last_step.did,
+            calls: last_step.calls,
+            left: last_step.left,
         }
     }
 }

@@ -1,7 +1,8 @@
 //! The file that is copied: where it lies, and where it is to come.
 ghost use Rattle.std.specs.Prelude.{◌≡◌};
 ghost use Rattle.mc_text.specs.Routes.{parent_of};
-ghost use Rattle.file_copy.specs.Copying.{folder_of, places};
+ghost use Rattle.job_reports.specs.Paths.{folder_of};
+ghost use Rattle.file_copy.specs.Copying.{places};
 
 use mc_text::Path;
 use std::marker::Model;
@@ -18,7 +19,8 @@ pub(crate) struct Item {
 
 impl Model for Item {
     ghost use Rattle.std.specs.Prelude.{◌≡◌};
-    ghost use Rattle.file_copy.specs.Copying.{Places, folder_of};
+    ghost use Rattle.file_copy.specs.Copying.{Places};
+    ghost use Rattle.job_reports.specs.Paths.{folder_of};
 
     ghost Value = { Places };
 

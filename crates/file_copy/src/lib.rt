@@ -8,13 +8,10 @@ mod item;
 mod looks;
 mod part_name;
 mod place;
-mod report;
 mod stage;
-mod stop;
 mod winding;
 mod work;
 
-pub use copy::{FileCopy, LastStepped, Stepped};
+pub use copy::FileCopy;
 pub use part_name::PartTest;
-pub use report::{Cause, Did, Ending, Trouble};
-pub use stage::{FolderState, Next, Said, Stage};
+pub use stage::{FolderState, Next, SourceFacts, Stage};

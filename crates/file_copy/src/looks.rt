@@ -4,21 +4,25 @@ ghost use Rattle.tree_trait.specs.Calls.{Stat};
 ghost use Rattle.tree_trait.specs.Change.{current};
 ghost use Rattle.tree_trait.specs.Refusals.{refusal_of};
 ghost use Rattle.tree_trait.specs.Answers.{IfKnown, IsInRange, IsMeta};
-ghost use Rattle.file_copy.specs.Looking.{HasRange, IsReady, IsSaid, IsThere, Judges, LookStops, Peeks, StatStops, TargetStops};
+ghost use Rattle.file_copy.specs.Looking.{AreFactsOf, HasRange, IsReady, IsThere, Judges, LookStops};
+ghost use Rattle.job_reports.specs.Reading.{Peeks, StatStops, TargetStops};
 
 use crate::item::Item;
-use crate::report::{Cause, Trouble};
-use crate::stage::Said;
-use crate::stop::{absent, named, refused};
+use crate::stage::SourceFacts;
+use job_reports::{Cause, Trouble, missing_or_trouble, reading_trouble, trouble_with_path};
 use mc_text::{Kind, Path};
 use std::alloc::Global;
 use tree_trait::{Meta, Tree};
 
 /// Looks at the source, the target and the folders that hold them, in this order. What a refused look says goes before
 /// what stands at the target, and that before what the source is.
-pub(crate) fn looks<T: Tree>(alloc: Global, tree: &mut T, item: &Item) -> Result<Said, Trouble>
+pub(crate) fn looks<T: Tree>(
+    alloc: Global,
+    tree: &mut T,
+    item: &Item,
+) -> Result<SourceFacts, Trouble>
     ensures known { IfKnown (T.contents tree.old) (λ log. MatchResult result
-        (λ said. IsReady (current log) item.now × IsSaid (current log) item.now.source said)
+        (λ facts. IsReady (current log) item.now × AreFactsOf (current log) item.now.source facts)
         (λ trouble. LookStops (current log) item.now trouble.cause trouble.path)) }
     ensures peeks { Peeks result (T.contents tree.old) (T.contents tree.new)
         (T.fault_count tree.old) (T.fault_count tree.new) }
@@ -52,7 +56,7 @@ fn look<T: Tree>(alloc: Global, tree: &mut T, path: &Path) -> Result<Meta, Troub
 {
     match tree.stat(alloc, path) {
         Ok(meta) => Ok(meta),
-        Err(error) => Err(refused(alloc, error, path)),
+        Err(error) => Err(reading_trouble(alloc, error, path)),
     }
 }
 
@@ -70,7 +74,7 @@ fn look_at_target<T: Tree>(
 {
     match tree.stat(alloc, path) {
         Ok(meta) => Ok(Some(meta)),
-        Err(error) => match absent(alloc, error, path) {
+        Err(error) => match missing_or_trouble(alloc, error, path) {
             Ok(()) => Ok(None),
             Err(trouble) => Err(trouble),
         },
@@ -78,15 +82,24 @@ fn look_at_target<T: Tree>(
 }
 
 /// What the looks at source and target come to.
-fn judge(alloc: Global, item: &Item, source: Meta, target: Option<Meta>) -> Result<Said, Trouble>
+fn judge(
+    alloc: Global,
+    item: &Item,
+    source: Meta,
+    target: Option<Meta>,
+) -> Result<SourceFacts, Trouble>
     ensures { Judges item.now source target result }
 {
     match (target, source.kind) {
-        (Some(target), _) => Err(named(alloc, Cause::TargetKind(target.kind), item.target())),
-        (None, Kind::File) => Ok(Said {
+        (Some(target), _) => Err(trouble_with_path(
+            alloc,
+            Cause::TargetKind(target.kind),
+            item.target(),
+        )),
+        (None, Kind::File) => Ok(SourceFacts {
             size: source.size,
             mode: source.mode,
         }),
-        (None, _) => Err(named(alloc, Cause::SpecialSource, item.source())),
+        (None, _) => Err(trouble_with_path(alloc, Cause::SpecialSource, item.source())),
     }
 }

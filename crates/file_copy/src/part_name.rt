@@ -3,13 +3,12 @@ ghost use Rattle.std.specs.Prelude.{◌≡◌, ◌||◌, not, Bool, true, IfOk, 
 ghost use Rattle.mc_text.specs.Routes.{Route, same_path};
 ghost use Rattle.tree_trait.specs.Change.{current};
 ghost use Rattle.tree_trait.specs.Answers.{IfKnown};
-ghost use Rattle.file_copy.specs.Looking.{Peeks};
-ghost use Rattle.file_copy.specs.Stops.{IsNamed};
+ghost use Rattle.job_reports.specs.Reading.{Peeks};
+ghost use Rattle.job_reports.specs.Stops.{IsTroubleWithPath};
 ghost use Rattle.file_copy.specs.PartNames.{IsChosen, IsPathOf, IsShort, IsTaken, IsTakenPath, NameStops, PathStops, TryStops, part_name as name_of};
 
 use crate::item::Item;
-use crate::report::{Cause, Trouble};
-use crate::stop::{absent, named, no_memory};
+use job_reports::{Cause, Trouble, missing_or_trouble, out_of_memory, trouble_with_path};
 use mc_text::{Name, NoMemory, Path, PathError};
 use std::alloc::Global;
 use tree_trait::Tree;
@@ -45,7 +44,7 @@ pub(crate) fn choose_part<T: Tree, P: PartTest>(
             Err(trouble) => return Err(trouble),
         }
     }
-    Err(named(alloc, Cause::PartTaken, item.target()))
+    Err(trouble_with_path(alloc, Cause::PartTaken, item.target()))
 }
 
 /// The path with this number, if it is free.
@@ -65,19 +64,19 @@ fn try_name<T: Tree, P: PartTest>(
     match part_path(alloc, item, k) {
         Ok(Some(path)) => try_path(alloc, tree, parts, item, path),
         Ok(None) => Err(too_long(alloc, item)),
-        Err(NoMemory) => Err(no_memory(false)),
+        Err(NoMemory) => Err(out_of_memory(false)),
     }
 }
 
 /// The trouble of a path that is too long. The paths of the copy itself are none of that kind.
 fn too_long(alloc: Global, item: &Item) -> Trouble
-    ensures named { IsNamed Cause.TooLong item.now.source result }
+    ensures named { IsTroubleWithPath Cause.TooLong item.now.source result }
     ensures source { IsShort item.now.source }
     ensures target { IsShort item.now.target }
 {
     let _source = item.source().names();
     let _target = item.target().names();
-    named(alloc, Cause::TooLong, item.source())
+    trouble_with_path(alloc, Cause::TooLong, item.source())
 }
 
 /// This path, if it is free.
@@ -100,7 +99,7 @@ fn try_path<T: Tree, P: PartTest>(
     }
     match tree.stat(alloc, &path) {
         Ok(_) => Ok(None),
-        Err(error) => match absent(alloc, error, &path) {
+        Err(error) => match missing_or_trouble(alloc, error, &path) {
             Ok(()) => Ok(Some(path)),
             Err(trouble) => Err(trouble),
         },

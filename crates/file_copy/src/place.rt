@@ -1,10 +1,10 @@
 //! The calls that change a part, and those that bring it to its place: each refusal is named with its path.
 ghost use Rattle.std.specs.Prelude.{◌+◌, ◌≤◌, ◌^◌, ◌∷◌, [], length, true, false};
-ghost use Rattle.tree_trait.specs.Calls.{MakeFile, WriteAt, SetMode, Rename, RemoveFile, SyncFile, SyncFolder};
+ghost use Rattle.tree_trait.specs.Calls.{MakeFile, WriteAt, Rename, RemoveFile, SyncFile, SyncFolder};
 ghost use Rattle.file_copy.specs.CopyCalls.{moding, placing};
-ghost use Rattle.file_copy.specs.Stops.{Comes, Ran};
+ghost use Rattle.job_reports.specs.Stops.{Ran, RanFolded};
 
-use crate::stop::{Stop, no_memory, ran, then, unmade};
+use job_reports::{Stop, after_calls, made_or_stopped, out_of_memory, stopped_before};
 use mc_text::Path;
 use std::alloc::Global;
 use tree_trait::Tree;
@@ -25,9 +25,9 @@ pub(crate) fn make_part<T: Tree>(
 {
     // The path of the report comes first, here and below: after the call it is too late to find no memory.
     let Ok(named) = part.copy(alloc) else {
-        return Err(unmade(no_memory(false)));
+        return Err(stopped_before(out_of_memory(false)));
     };
-    ran(tree.make_file(alloc, part, mode), named, false)
+    made_or_stopped(tree.make_file(alloc, part, mode), named, false)
 }
 
 pub(crate) fn write_part<T: Tree>(
@@ -42,13 +42,13 @@ pub(crate) fn write_part<T: Tree>(
         (T.fault_count tree.old) (T.fault_count tree.new) }
 {
     let Ok(named) = part.copy(alloc) else {
-        return Err(unmade(no_memory(false)));
+        return Err(stopped_before(out_of_memory(false)));
     };
-    ran(tree.write_at(alloc, part, offset, bytes), named, false)
+    made_or_stopped(tree.write_at(alloc, part, offset, bytes), named, false)
 }
 
 /// Brings a full part to the target. It is synced before it is renamed, so that no crash leaves half a target.
-#[tactic(auto, unfolding(crate::specs::Stops::Comes))]
+#[tactic(auto, unfolding(job_reports::specs::Stops::RanFolded))]
 pub(crate) fn place<T: Tree>(
     alloc: Global,
     tree: &mut T,
@@ -61,7 +61,7 @@ pub(crate) fn place<T: Tree>(
         (T.fault_count tree.old) (T.fault_count tree.new) }
 {
     match give_mode(alloc, tree, part, mode) {
-        Ok(calls) => then(calls, sync_and_rename(alloc, tree, part, target)),
+        Ok(calls) => after_calls(calls, sync_and_rename(alloc, tree, part, target)),
         Err(stop) => Err(stop),
     }
 }
@@ -76,52 +76,52 @@ fn give_mode<T: Tree>(alloc: Global, tree: &mut T, part: &Path, mode: u16) -> Re
         return Ok(0);
     }
     let Ok(named) = part.copy(alloc) else {
-        return Err(unmade(no_memory(false)));
+        return Err(stopped_before(out_of_memory(false)));
     };
-    ran(tree.set_mode(alloc, part, mode), named, false)
+    made_or_stopped(tree.set_mode(alloc, part, mode), named, false)
 }
 
-#[tactic(auto, using(crate::proofs::Runs::comes_then, crate::proofs::Runs::comes_stopped, crate::proofs::Runs::comes_few))]
+#[tactic(auto, using(job_reports::proofs::Runs::comes_then, job_reports::proofs::Runs::comes_stopped, job_reports::proofs::Runs::comes_few))]
 fn sync_and_rename<T: Tree>(
     alloc: Global,
     tree: &mut T,
     part: &Path,
     target: &Path,
 ) -> Result<u64, Stop>
-    ensures { Comes (SyncFile part.now ∷ Rename part.now target.now ∷ []) false result (T.contents tree.old) (T.contents tree.new)
+    ensures { RanFolded (SyncFile part.now ∷ Rename part.now target.now ∷ []) false result (T.contents tree.old) (T.contents tree.new)
         (T.fault_count tree.old) (T.fault_count tree.new) }
 {
     match sync_part(alloc, tree, part) {
-        Ok(calls) => then(calls, rename_part(alloc, tree, part, target)),
+        Ok(calls) => after_calls(calls, rename_part(alloc, tree, part, target)),
         Err(stop) => Err(stop),
     }
 }
 
-#[tactic(auto, unfolding(crate::specs::Stops::Comes))]
+#[tactic(auto, unfolding(job_reports::specs::Stops::RanFolded))]
 fn sync_part<T: Tree>(alloc: Global, tree: &mut T, part: &Path) -> Result<u64, Stop>
-    ensures { Comes (SyncFile part.now ∷ []) false result (T.contents tree.old) (T.contents tree.new)
+    ensures { RanFolded (SyncFile part.now ∷ []) false result (T.contents tree.old) (T.contents tree.new)
         (T.fault_count tree.old) (T.fault_count tree.new) }
 {
     let Ok(named) = part.copy(alloc) else {
-        return Err(unmade(no_memory(false)));
+        return Err(stopped_before(out_of_memory(false)));
     };
-    ran(tree.sync_file(alloc, part), named, false)
+    made_or_stopped(tree.sync_file(alloc, part), named, false)
 }
 
-#[tactic(auto, unfolding(crate::specs::Stops::Comes))]
+#[tactic(auto, unfolding(job_reports::specs::Stops::RanFolded))]
 fn rename_part<T: Tree>(
     alloc: Global,
     tree: &mut T,
     part: &Path,
     target: &Path,
 ) -> Result<u64, Stop>
-    ensures { Comes (Rename part.now target.now ∷ []) false result (T.contents tree.old) (T.contents tree.new)
+    ensures { RanFolded (Rename part.now target.now ∷ []) false result (T.contents tree.old) (T.contents tree.new)
         (T.fault_count tree.old) (T.fault_count tree.new) }
 {
     let Ok(named) = target.copy(alloc) else {
-        return Err(unmade(no_memory(false)));
+        return Err(stopped_before(out_of_memory(false)));
     };
-    ran(tree.rename(alloc, part, target), named, false)
+    made_or_stopped(tree.rename(alloc, part, target), named, false)
 }
 
 pub(crate) fn remove_part<T: Tree>(alloc: Global, tree: &mut T, part: &Path) -> Result<u64, Stop>
@@ -129,9 +129,9 @@ pub(crate) fn remove_part<T: Tree>(alloc: Global, tree: &mut T, part: &Path) -> 
         (T.fault_count tree.old) (T.fault_count tree.new) }
 {
     let Ok(named) = part.copy(alloc) else {
-        return Err(unmade(no_memory(true)));
+        return Err(stopped_before(out_of_memory(true)));
     };
-    ran(tree.remove_file(alloc, part), named, true)
+    made_or_stopped(tree.remove_file(alloc, part), named, true)
 }
 
 pub(crate) fn sync_target_folder<T: Tree>(
@@ -143,7 +143,7 @@ pub(crate) fn sync_target_folder<T: Tree>(
         (T.fault_count tree.old) (T.fault_count tree.new) }
 {
     let Ok(named) = folder.copy(alloc) else {
-        return Err(unmade(no_memory(true)));
+        return Err(stopped_before(out_of_memory(true)));
     };
-    ran(tree.sync_folder(alloc, folder), named, true)
+    made_or_stopped(tree.sync_folder(alloc, folder), named, true)
 }

@@ -3,7 +3,7 @@ use mc_text::Path;
 
 /// What the source was said to be when the part was made: its bytes and its mode.
 #[derive(Clone, Copy, Debug, Drop, PartialEq, Eq)]
-pub struct Said {
+pub struct SourceFacts {
     pub size: u64,
     pub mode: u16,
 }
@@ -24,11 +24,20 @@ pub enum Stage {
     Begin,
     /// The part holds the first bytes of the source. When it has all, it is synced before it is renamed, so that no crash
     /// leaves half a target.
-    Fill { part: Path, said: Said, done: u64 },
+    Fill {
+        part: Path,
+        facts: SourceFacts,
+        done: u64,
+    },
     /// The part is to be removed.
-    Clean { part: Path, next: Next },
+    Clean {
+        part: Path,
+        next: Next,
+    },
     /// The part could not be removed in the last steps. It stays.
-    Left { part: Path },
+    Left {
+        part: Path,
+    },
     /// The file was placed or skipped.
     Decided,
 }

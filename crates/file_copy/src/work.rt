@@ -9,16 +9,15 @@ use crate::item::Item;
 use crate::looks::looks;
 use crate::part_name::{PartTest, choose_part};
 use crate::place::{PART_MODE, make_part, place, remove_part, sync_target_folder};
-use crate::report::{Did, Ending};
-use crate::stage::{FolderState, Next, Said, Stage};
-use crate::stop::{Stop, no_memory, unmade};
+use crate::stage::{FolderState, Next, SourceFacts, Stage};
+use job_reports::{Did, Ending, Stop, out_of_memory, stopped_before};
 use mc_text::Path;
 use std::alloc::Global;
 use tree_trait::Tree;
 
 /// What a step did, how many changing calls it made, and where the copy stands then.
 #[derive(Debug, Drop)]
-pub(crate) struct Moved {
+pub(crate) struct AfterStep {
     pub(crate) did: Did,
     pub(crate) calls: u64,
     pub(crate) stage: Stage,
@@ -33,7 +32,7 @@ pub(crate) fn work<T: Tree, P: PartTest>(
     item: &Item,
     stage: Stage,
     folder: FolderState,
-) -> Moved
+) -> AfterStep
     requires ready { left_at stage ≡ None }
     requires sound { IsSound stage folder }
     ensures { MovesOn (λ path. P.is_free parts.now path ≡ true) (copying item.now stage folder) result (T.contents tree.old) (T.contents tree.new)
@@ -41,11 +40,11 @@ pub(crate) fn work<T: Tree, P: PartTest>(
 {
     match stage {
         Stage::Begin => begin(alloc, tree, parts, item, folder),
-        Stage::Fill { part, said, done } => {
-            if done < said.size {
-                fill(alloc, tree, item, part, said, done)
+        Stage::Fill { part, facts, done } => {
+            if done < facts.size {
+                fill(alloc, tree, item, part, facts, done)
             } else {
-                finish_part(alloc, tree, item, part, said, done)
+                finish_part(alloc, tree, item, part, facts, done)
             }
         }
         Stage::Clean { part, next } => clean(alloc, tree, item, part, next),
@@ -55,10 +54,10 @@ pub(crate) fn work<T: Tree, P: PartTest>(
 }
 
 /// A trouble leaves the copy where it stood.
-fn troubled(stop: Stop, stage: Stage, folder: FolderState) -> Moved
+fn troubled(stop: Stop, stage: Stage, folder: FolderState) -> AfterStep
     ensures { result ≡ moved_by stop stage folder }
 {
-    Moved {
+    AfterStep {
         did: Did::Troubled(stop.trouble),
         calls: stop.calls,
         stage,
@@ -71,7 +70,7 @@ fn troubled(stop: Stop, stage: Stage, folder: FolderState) -> Moved
 struct Made {
     part: Path,
     named: Path,
-    said: Said,
+    facts: SourceFacts,
 }
 
 fn begin<T: Tree, P: PartTest>(
@@ -80,17 +79,17 @@ fn begin<T: Tree, P: PartTest>(
     parts: &P,
     item: &Item,
     folder: FolderState,
-) -> Moved
+) -> AfterStep
     ensures { MovesOn (λ path. P.is_free parts.now path ≡ true) (copying item.now Stage.Begin folder) result (T.contents tree.old) (T.contents tree.new)
         (T.fault_count tree.old) (T.fault_count tree.new) }
 {
     match begin_part(alloc, tree, parts, item) {
-        Ok(made) => Moved {
+        Ok(made) => AfterStep {
             did: Did::Began(made.named),
             calls: 1,
             stage: Stage::Fill {
                 part: made.part,
-                said: made.said,
+                facts: made.facts,
                 done: 0,
             },
             folder: FolderState::Dirty,
@@ -108,19 +107,19 @@ fn begin_part<T: Tree, P: PartTest>(
     ensures { Begins (λ path. P.is_free parts.now path ≡ true) item.now result (T.contents tree.old) (T.contents tree.new)
         (T.fault_count tree.old) (T.fault_count tree.new) }
 {
-    let said = match looks(alloc, tree, item) {
-        Ok(said) => said,
-        Err(trouble) => return Err(unmade(trouble)),
+    let facts = match looks(alloc, tree, item) {
+        Ok(facts) => facts,
+        Err(trouble) => return Err(stopped_before(trouble)),
     };
     let part = match choose_part(alloc, tree, parts, item) {
         Ok(part) => part,
-        Err(trouble) => return Err(unmade(trouble)),
+        Err(trouble) => return Err(stopped_before(trouble)),
     };
     let Ok(named) = part.copy(alloc) else {
-        return Err(unmade(no_memory(false)));
+        return Err(stopped_before(out_of_memory(false)));
     };
-    match make_part(alloc, tree, &part, said.mode | PART_MODE) {
-        Ok(_) => Ok(Made { part, named, said }),
+    match make_part(alloc, tree, &part, facts.mode | PART_MODE) {
+        Ok(_) => Ok(Made { part, named, facts }),
         Err(stop) => Err(stop),
     }
 }
@@ -130,26 +129,26 @@ fn fill<T: Tree>(
     tree: &mut T,
     item: &Item,
     part: Path,
-    said: Said,
+    facts: SourceFacts,
     done: u64,
-) -> Moved
-    requires sound { IsSound (Stage.Fill part said done) FolderState.Dirty }
-    requires unfilled { done < said.size }
-    ensures { MovesOn (λ _. ⊤) (copying item.now (Stage.Fill part said done) FolderState.Dirty) result (T.contents tree.old) (T.contents tree.new)
+) -> AfterStep
+    requires sound { IsSound (Stage.Fill part facts done) FolderState.Dirty }
+    requires unfilled { done < facts.size }
+    ensures { MovesOn (λ _. ⊤) (copying item.now (Stage.Fill part facts done) FolderState.Dirty) result (T.contents tree.old) (T.contents tree.new)
         (T.fault_count tree.old) (T.fault_count tree.new) }
 {
-    match write_chunk(alloc, tree, item, &part, said, done) {
-        Ok(count) => Moved {
+    match write_chunk(alloc, tree, item, &part, facts, done) {
+        Ok(count) => AfterStep {
             did: Did::Chunk(count),
             calls: 1,
             stage: Stage::Fill {
                 part,
-                said,
+                facts,
                 done: done + count as u64,
             },
             folder: FolderState::Dirty,
         },
-        Err(stop) => troubled(stop, Stage::Fill { part, said, done }, FolderState::Dirty),
+        Err(stop) => troubled(stop, Stage::Fill { part, facts, done }, FolderState::Dirty),
     }
 }
 
@@ -158,38 +157,38 @@ fn finish_part<T: Tree>(
     tree: &mut T,
     item: &Item,
     part: Path,
-    said: Said,
+    facts: SourceFacts,
     done: u64,
-) -> Moved
-    requires sound { IsSound (Stage.Fill part said done) FolderState.Dirty }
-    requires filled { said.size ≤ done }
-    ensures { MovesOn (λ _. ⊤) (copying item.now (Stage.Fill part said done) FolderState.Dirty) result (T.contents tree.old) (T.contents tree.new)
+) -> AfterStep
+    requires sound { IsSound (Stage.Fill part facts done) FolderState.Dirty }
+    requires filled { facts.size ≤ done }
+    ensures { MovesOn (λ _. ⊤) (copying item.now (Stage.Fill part facts done) FolderState.Dirty) result (T.contents tree.old) (T.contents tree.new)
         (T.fault_count tree.old) (T.fault_count tree.new) }
 {
     let Ok(placed) = item.target().copy(alloc) else {
         return troubled(
-            unmade(no_memory(false)),
-            Stage::Fill { part, said, done },
+            stopped_before(out_of_memory(false)),
+            Stage::Fill { part, facts, done },
             FolderState::Dirty,
         );
     };
-    match place(alloc, tree, &part, said.mode, item.target()) {
-        Ok(calls) => Moved {
+    match place(alloc, tree, &part, facts.mode, item.target()) {
+        Ok(calls) => AfterStep {
             did: Did::Placed(placed),
             calls,
             stage: Stage::Decided,
             folder: FolderState::Dirty,
         },
-        Err(stop) => troubled(stop, Stage::Fill { part, said, done }, FolderState::Dirty),
+        Err(stop) => troubled(stop, Stage::Fill { part, facts, done }, FolderState::Dirty),
     }
 }
 
-fn clean<T: Tree>(alloc: Global, tree: &mut T, item: &Item, part: Path, next: Next) -> Moved
+fn clean<T: Tree>(alloc: Global, tree: &mut T, item: &Item, part: Path, next: Next) -> AfterStep
     ensures { MovesOn (λ _. ⊤) (copying item.now (Stage.Clean part next) FolderState.Dirty) result (T.contents tree.old) (T.contents tree.new)
         (T.fault_count tree.old) (T.fault_count tree.new) }
 {
     match remove_part(alloc, tree, &part) {
-        Ok(calls) => Moved {
+        Ok(calls) => AfterStep {
             did: Did::Cleaned(part),
             calls,
             stage: after_clean(next),
@@ -209,13 +208,13 @@ fn after_clean(next: Next) -> Stage
 }
 
 /// The folder is synced before the end, so that a finished copy is on the disk.
-fn conclude<T: Tree>(alloc: Global, tree: &mut T, item: &Item, folder: FolderState) -> Moved
+fn conclude<T: Tree>(alloc: Global, tree: &mut T, item: &Item, folder: FolderState) -> AfterStep
     ensures { MovesOn (λ _. ⊤) (copying item.now Stage.Decided folder) result (T.contents tree.old) (T.contents tree.new)
         (T.fault_count tree.old) (T.fault_count tree.new) }
 {
     match folder {
         FolderState::Dirty => sync_names(alloc, tree, item),
-        FolderState::Synced => Moved {
+        FolderState::Synced => AfterStep {
             did: Did::Ended {
                 ending: Ending::Finished,
                 part: None,
@@ -227,12 +226,12 @@ fn conclude<T: Tree>(alloc: Global, tree: &mut T, item: &Item, folder: FolderSta
     }
 }
 
-fn sync_names<T: Tree>(alloc: Global, tree: &mut T, item: &Item) -> Moved
+fn sync_names<T: Tree>(alloc: Global, tree: &mut T, item: &Item) -> AfterStep
     ensures { MovesOn (λ _. ⊤) (copying item.now Stage.Decided FolderState.Dirty) result (T.contents tree.old) (T.contents tree.new)
         (T.fault_count tree.old) (T.fault_count tree.new) }
 {
     match sync_target_folder(alloc, tree, item.folder()) {
-        Ok(calls) => Moved {
+        Ok(calls) => AfterStep {
             did: Did::Barrier,
             calls,
             stage: Stage::Decided,

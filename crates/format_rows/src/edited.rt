@@ -1,145 +1,168 @@
 //! Rows of the text of an editor, and of its undo.
-use crate::fields::two_fields;
-use crate::fronts::Answers;
-use anyhow::{Result, bail};
 use gap_text::{Change, GapText, Undo};
 use mc_text::Bytes;
-use std::alloc::Global;
+use row_page::{Page, number, two_fields};
 
-pub fn answered(alloc: Global, row: &str) -> Result<String> {
-    let (call, fields) = two_fields(row)?;
+pub fn answer(page: &mut Page, row: &str) {
+    let (call, fields) = two_fields(row, '|');
     match call {
-        "edits" => edits(alloc, fields),
-        "find" => found(alloc, fields),
-        "range" => range(alloc, fields),
-        "undo" => undone(alloc, fields),
-        _ => bail!("no such call"),
+        "edits" => tell_edits(page, fields),
+        "find" => tell_found(page, fields),
+        "range" => tell_range(page, fields),
+        "undo" => tell_undone(page, fields),
+        _ => page.fail(),
     }
 }
 
 /// Edits with `;` between each two, and what stands after each, with a bar at the point.
-fn edits(alloc: Global, all: &str) -> Result<String> {
-    let mut text = GapText::new(alloc);
-    let mut told = String::new(alloc);
-    for edit in all.split(';') {
-        edit_text(&mut text, edit)?;
-        let shown = shown(alloc, &text)?;
-        told.push_str(shown.as_str())?;
-        told.push(';')?;
+fn tell_edits(page: &mut Page, edits: &str) {
+    let mut text = GapText::new(page.alloc());
+    for edit in edits.split(';') {
+        let edited = edit_text(&mut text, edit);
+        page.need(edited);
+        tell_text(page, &text);
     }
-    Ok(told)
 }
 
-/// A place to go to, how many bytes are deleted behind it, and what is inserted there.
-fn edit_text(text: &mut GapText, edit: &str) -> Result<()> {
-    let mut words = edit.splitn(3, ' ');
-    let at = number(words.next())?;
-    let count = number(words.next())?;
+/// A place to go to, how many bytes are deleted behind it, and what is inserted there; whether that was done.
+fn edit_text(text: &mut GapText, edit: &str) -> bool {
+    let (at, change) = two_fields(edit, ' ');
+    let (count, inserted) = two_fields(change, ' ');
+    let (at, count) = (number(at), number(count));
     if at > text.len() || count > text.len() - at {
-        bail!("beside the text");
+        return false;
     }
     text.move_to(at);
     text.delete(count);
-    text.insert(words.next().unwrap_or("").as_bytes())?;
-    Ok(())
+    text.insert(inserted.as_bytes()).is_ok()
 }
 
-fn number(word: Option<&str>) -> Result<usize> {
-    Ok(word.unwrap_or("").parse()?)
+fn tell_text(page: &mut Page, text: &GapText) {
+    match text.to_bytes(page.alloc()) {
+        Ok(bytes) => tell_halves(page, bytes.0.as_slice().split_at(text.point())),
+        Err(_error) => page.fail(),
+    }
 }
 
-fn shown(alloc: Global, text: &GapText) -> Result<String> {
-    let bytes = text.to_bytes(alloc)?;
-    let (before, behind) = bytes.0.as_slice().split_at(text.point());
-    let before = String::from_utf8_lossy(alloc, before)?;
-    let behind = String::from_utf8_lossy(alloc, behind)?;
-    Ok(format!(in alloc; "{before}|{behind}")?)
+fn tell_halves(page: &mut Page, halves: (&[u8], &[u8])) {
+    tell_bytes(page, halves.0);
+    page.put("|");
+    tell_bytes(page, halves.1);
+    page.put(";");
+}
+
+fn tell_bytes(page: &mut Page, bytes: &[u8]) {
+    match String::from_utf8_lossy(page.alloc(), bytes) {
+        Ok(text) => page.tell(text),
+        Err(_error) => page.fail(),
+    }
 }
 
 /// A text, a place, and bytes: where they are found from the place on, with the point at each place of the text. An
 /// answer is told where it isn't that of the point before.
-fn found(alloc: Global, fields: &str) -> Result<String> {
-    let (text, fields) = two_fields(fields)?;
-    let (from, bytes) = two_fields(fields)?;
-    let from = number(Some(from))?;
-    let mut text = GapText::from_bytes(alloc, text.as_bytes())?;
-    let mut answers = Answers::new(alloc);
-    for point in 0..text.len().saturating_add(1) {
-        let answer = found_at(alloc, &mut text, point, from, bytes)?;
-        answers.tell(alloc, point, answer)?;
+fn tell_found(page: &mut Page, fields: &str) {
+    let (text, fields) = two_fields(fields, '|');
+    let (from, bytes) = two_fields(fields, '|');
+    match GapText::from_bytes(page.alloc(), text.as_bytes()) {
+        Ok(text) => find_at_each(page, text, number(from), bytes.as_bytes()),
+        Err(_error) => page.fail(),
     }
-    Ok(answers.lines)
 }
 
-fn found_at(
-    alloc: Global,
-    text: &mut GapText,
-    point: usize,
-    from: usize,
-    bytes: &str,
-) -> Result<String> {
-    if point > text.len() {
-        bail!("beside the text");
+fn find_at_each(page: &mut Page, text: GapText, from: usize, bytes: &[u8]) {
+    let mut text = text;
+    let mut last = None;
+    for point in 0..text.len().saturating_add(1) {
+        let place = found_at(&mut text, point, from, bytes);
+        if last != Some(place) {
+            tell_place(page, point, place);
+        }
+        last = Some(place);
     }
-    text.move_to(point);
-    match text.find(from, bytes.as_bytes()) {
-        Some(place) => Ok(format!(in alloc; "{place}")?),
-        None => Ok(String::from_str(alloc, "nowhere")?),
+}
+
+fn found_at(text: &mut GapText, point: usize, from: usize, bytes: &[u8]) -> Option<usize> {
+    if point <= text.len() {
+        text.move_to(point);
+    }
+    text.find(from, bytes)
+}
+
+fn tell_place(page: &mut Page, point: usize, place: Option<usize>) {
+    match place {
+        Some(place) => page.tell(format_args!("\n{point}: {place}")),
+        None => page.tell(format_args!("\n{point}: nowhere")),
     }
 }
 
 /// A text, a place of the point, and two places: the bytes between them, and the byte at the first.
-fn range(alloc: Global, fields: &str) -> Result<String> {
-    let (text, places) = two_fields(fields)?;
-    let mut text = GapText::from_bytes(alloc, text.as_bytes())?;
-    let mut words = places.split(' ');
-    let point = number(words.next())?;
-    let from = number(words.next())?;
-    let to = number(words.next())?;
+fn tell_range(page: &mut Page, fields: &str) {
+    let (text, places) = two_fields(fields, '|');
+    let (point, places) = two_fields(places, ' ');
+    let (from, to) = two_fields(places, ' ');
+    match GapText::from_bytes(page.alloc(), text.as_bytes()) {
+        Ok(text) => tell_between(page, text, number(point), number(from), number(to)),
+        Err(_error) => page.fail(),
+    }
+}
+
+fn tell_between(page: &mut Page, text: GapText, point: usize, from: usize, to: usize) {
+    let mut text = text;
     if point > text.len() || from >= to || to > text.len() {
-        bail!("beside the text");
+        return page.fail();
     }
     text.move_to(point);
-    let bytes = text.range(alloc, from, to)?;
-    let part = String::from_utf8_lossy(alloc, bytes.0.as_slice())?;
-    Ok(format!(in alloc; "{part} {}", char::from(text.byte_at(from)))?)
+    match text.range(page.alloc(), from, to) {
+        Ok(bytes) => tell_bytes(page, bytes.0.as_slice()),
+        Err(_error) => page.fail(),
+    }
+    page.tell(format_args!(" {}", char::from(text.byte_at(from))));
 }
 
 /// A depth, and steps: the number of a change that is noted, `undo` or `redo`. Told is which change each of these shows.
-fn undone(alloc: Global, fields: &str) -> Result<String> {
-    let (depth, steps) = two_fields(fields)?;
-    let mut undo = Undo::new(alloc, depth.parse::<usize>()?.max(1))?;
-    let mut told = String::new(alloc);
+fn tell_undone(page: &mut Page, fields: &str) {
+    let (depth, steps) = two_fields(fields, '|');
+    match Undo::new(page.alloc(), number(depth).max(1)) {
+        Ok(undo) => step_through(page, undo, steps),
+        Err(_error) => page.fail(),
+    }
+}
+
+fn step_through(page: &mut Page, undo: Undo, steps: &str) {
+    let mut undo = undo;
     for step in steps.split(' ') {
-        let shown = step_of(alloc, &mut undo, step)?;
-        told.push_str(shown.as_str())?;
-    }
-    Ok(told)
-}
-
-fn step_of(alloc: Global, undo: &mut Undo, step: &str) -> Result<String> {
-    match step {
-        "undo" => change_told(alloc, undo.undo()?.map(|change| change.at)),
-        "redo" => change_told(alloc, undo.redo().map(|change| change.at)),
-        _ => noted(alloc, undo, step.parse()?),
+        match step {
+            "undo" => tell_undo(page, &mut undo),
+            "redo" => tell_change(page, undo.redo()),
+            _ => note(page, &mut undo, number(step)),
+        }
     }
 }
 
-fn change_told(alloc: Global, at: Option<usize>) -> Result<String> {
-    match at {
-        Some(at) => Ok(format!(in alloc; "{at}, ")?),
-        None => Ok(String::from_str(alloc, "none, ")?),
+fn tell_undo(page: &mut Page, undo: &mut Undo) {
+    match undo.undo() {
+        Ok(change) => tell_change(page, change),
+        Err(_error) => page.fail(),
+    }
+}
+
+fn tell_change(page: &mut Page, change: Option<&Change>) {
+    match change {
+        Some(change) => page.tell(format_args!("{}, ", change.at)),
+        None => page.put("none, "),
     }
 }
 
 /// Notes a change that put one byte at a place.
-fn noted(alloc: Global, undo: &mut Undo, at: usize) -> Result<String> {
-    undo.note(Change {
-        at,
-        removed: Bytes::from_slice(alloc, b"")?,
-        inserted: Bytes::from_slice(alloc, b"x")?,
-        before: at,
-        after: at,
-    });
-    Ok(String::new(alloc))
+fn note(page: &mut Page, undo: &mut Undo, at: usize) {
+    match Bytes::from_slice(page.alloc(), b"x") {
+        Ok(inserted) => undo.note(Change {
+            at,
+            removed: Bytes(Vec::new(page.alloc())),
+            inserted,
+            before: at,
+            after: at,
+        }),
+        Err(_error) => page.fail(),
+    }
 }

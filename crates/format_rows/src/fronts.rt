@@ -1,30 +1,11 @@
 //! Answers one after the other, of which only new ones are told.
-use anyhow::Result;
-use std::alloc::Global;
-use std::convert::AsStr;
+use row_page::Page;
 
-/// The answers that were told, and the last one.
-#[derive(Drop)]
-pub struct Answers {
-    pub lines: String,
-    last: String,
-}
-
-impl Answers {
-    pub fn new(alloc: Global) -> Answers {
-        Answers {
-            lines: String::new(alloc),
-            last: String::new(alloc),
-        }
+/// Tells an answer with its number, if it isn't that of the number before.
+pub fn tell_new(page: &mut Page, number: usize, answer: Page, last: &mut Page) {
+    page.need(answer.is_whole());
+    if answer.text() != last.text() {
+        page.tell(format_args!("\n{number}: {}", answer.text()));
     }
-
-    /// Tells an answer with its number, if it isn't that of the number before.
-    pub fn tell(&mut self, alloc: Global, number: usize, answer: String) -> Result<()> {
-        if answer.as_str() != self.last.as_str() {
-            let line = format!(in alloc; "\n{number}: {answer}")?;
-            self.lines.push_str(line.as_str())?;
-        }
-        self.last = answer;
-        Ok(())
-    }
+    *last = answer;
 }

@@ -1,163 +1,172 @@
 //! Rows of hotlists.
-use crate::fields::{file_of, in_one_line, repeated, two_fields};
-use crate::fronts::Answers;
-use anyhow::{Result, bail};
-use hotlist::{HotItem, Hotlist, parse_hotlist, print_hotlist};
-use mc_text::Text;
+use crate::files::{file_of, put_in_one_line, repeated};
+use crate::fronts::tell_new;
+use hotlist::{HotEditError, HotError, HotItem, Hotlist, parse_hotlist, print_hotlist};
+use mc_text::{Bytes, Text};
+use row_page::{Page, number, two_fields};
 use std::alloc::Global;
 use std::convert::AsStr;
 
-pub fn answered(alloc: Global, row: &str) -> Result<String> {
-    let (call, fields) = two_fields(row)?;
+pub fn answer(page: &mut Page, row: &str) {
+    let (call, fields) = two_fields(row, '|');
     match call {
-        "read" => read(alloc, fields),
-        "fronts" => fronts(alloc, fields),
-        "groups" => groups(alloc, fields),
-        "at" => label_in_file(alloc, fields),
-        "edit" => edited(alloc, fields),
-        _ => bail!("no such call"),
+        "read" => tell_file(page, fields),
+        "fronts" => tell_fronts(page, fields),
+        "groups" => tell_groups(page, number(fields)),
+        "at" => tell_label_in(page, fields),
+        "edit" => tell_edited(page, fields),
+        _ => page.fail(),
     }
 }
 
 /// What comes of a file: the list as it is printed, with a bar for each newline, or the refusal.
-fn read(alloc: Global, file: &str) -> Result<String> {
-    let file = file_of(alloc, file)?;
-    let outcome = outcome(alloc, &file)?;
-    in_one_line(alloc, outcome.as_str())
-}
-
-/// What comes of a file: the printed list, or the refusal.
-fn outcome(alloc: Global, file: &[u8]) -> Result<String> {
-    match parse_hotlist(alloc, file) {
-        Ok(list) => printed(alloc, &list),
-        Err(error) => Ok(format!(in alloc; "{error:?}")?),
+fn tell_file(page: &mut Page, field: &str) {
+    match file_of(page.alloc(), field) {
+        Ok(file) => tell_list(page, parse_hotlist(page.alloc(), file.0.as_slice())),
+        Err(_error) => page.fail(),
     }
 }
 
-fn printed(alloc: Global, list: &Hotlist) -> Result<String> {
-    let bytes = print_hotlist(alloc, list)?;
-    Ok(String::from_utf8_lossy(alloc, bytes.0.as_slice())?)
+fn tell_list(page: &mut Page, outcome: Result<Hotlist, HotError>) {
+    let mut lines = Page::new(page.alloc());
+    tell_outcome(&mut lines, outcome);
+    page.need(lines.is_whole());
+    put_in_one_line(page, lines.text());
+}
+
+/// The printed list, or the refusal.
+fn tell_outcome(page: &mut Page, outcome: Result<Hotlist, HotError>) {
+    match outcome {
+        Ok(list) => tell_printed(page, &list),
+        Err(error) => page.tell(format_args!("{error:?}")),
+    }
+}
+
+fn tell_printed(page: &mut Page, list: &Hotlist) {
+    match print_hotlist(page.alloc(), list) {
+        Ok(bytes) => tell_bytes(page, &bytes),
+        Err(_error) => page.fail(),
+    }
+}
+
+fn tell_bytes(page: &mut Page, bytes: &Bytes) {
+    match String::from_utf8_lossy(page.alloc(), bytes.0.as_slice()) {
+        Ok(text) => page.tell(text),
+        Err(_error) => page.fail(),
+    }
 }
 
 /// What comes of each front of a file: `as it stands` where it is printed so, but for the last newline.
-fn fronts(alloc: Global, file: &str) -> Result<String> {
-    let file = file_of(alloc, file)?;
-    let mut answers = Answers::new(alloc);
-    for length in 0..file.len().saturating_add(1) {
-        let front = file.get(..length).unwrap_or(b"");
-        answers.tell(alloc, length, front_told(alloc, front)?)?;
+fn tell_fronts(page: &mut Page, field: &str) {
+    match file_of(page.alloc(), field) {
+        Ok(file) => tell_each_front(page, file.0.as_slice()),
+        Err(_error) => page.fail(),
     }
-    Ok(answers.lines)
 }
 
-fn front_told(alloc: Global, front: &[u8]) -> Result<String> {
-    let answer = outcome(alloc, front)?;
-    let text = String::from_utf8_lossy(alloc, front)?;
-    if answer.as_str().trim_end() == text.as_str().trim_end() {
-        return Ok(String::from_str(alloc, "as it stands")?);
+fn tell_each_front(page: &mut Page, file: &[u8]) {
+    let mut last = Page::new(page.alloc());
+    for length in 0..file.len().saturating_add(1) {
+        let answer = front_told(page.alloc(), file.get(..length).unwrap_or(b""));
+        tell_new(page, length, answer, &mut last);
     }
-    in_one_line(alloc, answer.as_str())
+}
+
+fn front_told(alloc: Global, front: &[u8]) -> Page {
+    let mut lines = Page::new(alloc);
+    tell_outcome(&mut lines, parse_hotlist(alloc, front));
+    let mut answer = Page::new(alloc);
+    answer.need(lines.is_whole());
+    if lines.text().trim_end().as_bytes() == front.trim_ascii_end() {
+        answer.put("as it stands");
+    } else {
+        put_in_one_line(&mut answer, lines.text());
+    }
+    answer
 }
 
 /// What comes of a file of so many groups, none of which ends.
-fn groups(alloc: Global, count: &str) -> Result<String> {
-    let file = repeated(alloc, "GROUP \"g\"\n", count.parse()?)?;
-    outcome(alloc, file.as_bytes())
+fn tell_groups(page: &mut Page, count: usize) {
+    let file = repeated(page.alloc(), "GROUP \"g\"\n", count);
+    tell_outcome(page, parse_hotlist(page.alloc(), file.text().as_bytes()));
 }
 
 /// A place, and a file: the label there.
-fn label_in_file(alloc: Global, fields: &str) -> Result<String> {
-    let (place, file) = two_fields(fields)?;
-    let place = place_of(alloc, place)?;
-    let file = file_of(alloc, file)?;
-    match parse_hotlist(alloc, &file) {
-        Ok(list) => label_at(alloc, &list, &place),
-        Err(error) => Ok(format!(in alloc; "{error:?}")?),
-    }
-}
-
-fn label_at(alloc: Global, list: &Hotlist, place: &[usize]) -> Result<String> {
-    match list.at(place) {
-        Some(item) => label_of(alloc, item),
-        None => Ok(String::from_str(alloc, "none")?),
-    }
-}
-
-fn label_of(alloc: Global, item: &HotItem) -> Result<String> {
-    let label = match item {
-        HotItem::Entry { label, .. } => label,
-        HotItem::Group { label, .. } => label,
+fn tell_label_in(page: &mut Page, fields: &str) {
+    let (place, file) = two_fields(fields, '|');
+    let place = place_of(page, place);
+    let Ok(file) = file_of(page.alloc(), file) else {
+        return page.fail();
     };
-    Ok(String::from_str(alloc, label.as_str())?)
+    match parse_hotlist(page.alloc(), file.0.as_slice()) {
+        Ok(list) => tell_label(page, list.at(place.as_slice())),
+        Err(error) => page.tell(format_args!("{error:?}")),
+    }
+}
+
+fn tell_label(page: &mut Page, item: Option<&HotItem>) {
+    match item {
+        Some(HotItem::Entry { label, .. }) => page.put(label.as_str()),
+        Some(HotItem::Group { label, .. }) => page.put(label.as_str()),
+        None => page.put("none"),
+    }
 }
 
 /// Positions with a dot between each two; `-` is the place of the list itself.
-fn place_of(alloc: Global, field: &str) -> Result<Vec<usize>> {
-    let mut place = Vec::new(alloc);
-    if field == "-" {
-        return Ok(place);
+fn place_of(page: &mut Page, field: &str) -> Vec<usize> {
+    let mut place = Vec::new(page.alloc());
+    for position in field.trim_matches('-').split_terminator('.') {
+        page.need(place.push(number(position)).is_ok());
     }
-    for position in field.split('.') {
-        place.push(position.parse()?)?;
-    }
-    Ok(place)
+    place
 }
 
 /// Changes with `;` between each two, and the file of the list at the start. Told is what each change answers, and the
 /// list at the end.
-fn edited(alloc: Global, fields: &str) -> Result<String> {
-    let (changes, file) = two_fields(fields)?;
-    let file = file_of(alloc, file)?;
-    match parse_hotlist(alloc, &file) {
-        Ok(list) => all_changed(alloc, list, changes),
-        Err(error) => Ok(format!(in alloc; "{error:?}")?),
+fn tell_edited(page: &mut Page, fields: &str) {
+    let (changes, file) = two_fields(fields, '|');
+    let Ok(file) = file_of(page.alloc(), file) else {
+        return page.fail();
+    };
+    match parse_hotlist(page.alloc(), file.0.as_slice()) {
+        Ok(list) => edit_list(page, list, changes),
+        Err(error) => page.tell(format_args!("{error:?}")),
     }
 }
 
-fn all_changed(alloc: Global, mut list: Hotlist, changes: &str) -> Result<String> {
-    let mut told = String::new(alloc);
+fn edit_list(page: &mut Page, list: Hotlist, changes: &str) {
+    let mut list = list;
     for change in changes.split(';') {
-        let answer = changed(alloc, &mut list, change)?;
-        told.push_str(answer.as_str())?;
-        told.push_str(", ")?;
+        tell_change(page, &mut list, change);
+        page.put(", ");
     }
-    let file = printed(alloc, &list)?;
-    told.push_str(in_one_line(alloc, file.as_str())?.as_str())?;
-    Ok(told)
+    tell_list(page, Ok(list));
 }
 
 /// An addition has a place and a label, a removal a place.
-fn changed(alloc: Global, list: &mut Hotlist, change: &str) -> Result<String> {
-    let Some((kind, about)) = change.split_once(' ') else {
-        bail!("a change without a place");
-    };
-    match about.split_once(' ') {
-        Some((place, label)) => added(alloc, list, place, item_of(alloc, kind, label)?),
-        None => removed(alloc, list, about),
+fn tell_change(page: &mut Page, list: &mut Hotlist, change: &str) {
+    let (kind, about) = two_fields(change, ' ');
+    let (place, label) = two_fields(about, ' ');
+    let place = place_of(page, place);
+    match item_of(page.alloc(), kind, label) {
+        Some(item) => tell_added(page, list.add(place.as_slice(), item)),
+        None => tell_label(page, list.remove(place.as_slice()).as_ref()),
     }
 }
 
-fn item_of(alloc: Global, kind: &str, label: &str) -> Result<HotItem> {
-    let label = Text::from_str(alloc, label)?;
+/// The item that a change adds; a removal adds none.
+fn item_of(alloc: Global, kind: &str, label: &str) -> Option<HotItem> {
+    let label = Text::from_str(alloc, label).ok()?;
     match kind {
-        "entry" => Ok(HotItem::entry(label, Text::from_str(alloc, "/")?)),
-        "group" => Ok(HotItem::group(label, Vec::new(alloc))),
-        _ => bail!("no such item"),
+        "entry" => Some(HotItem::entry(label, Text::from_str(alloc, "/").ok()?)),
+        "group" => Some(HotItem::group(label, Vec::new(alloc))),
+        _ => None,
     }
 }
 
-fn added(alloc: Global, list: &mut Hotlist, place: &str, item: HotItem) -> Result<String> {
-    let place = place_of(alloc, place)?;
-    match list.add(&place, item) {
-        Ok(()) => Ok(String::from_str(alloc, "added")?),
-        Err(error) => Ok(format!(in alloc; "{error:?}")?),
-    }
-}
-
-fn removed(alloc: Global, list: &mut Hotlist, place: &str) -> Result<String> {
-    let place = place_of(alloc, place)?;
-    match list.remove(&place) {
-        Some(item) => label_of(alloc, &item),
-        None => Ok(String::from_str(alloc, "none")?),
+fn tell_added(page: &mut Page, answer: Result<(), HotEditError>) {
+    match answer {
+        Ok(()) => page.put("added"),
+        Err(error) => page.tell(format_args!("{error:?}")),
     }
 }

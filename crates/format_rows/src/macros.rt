@@ -2,97 +2,115 @@
 ghost use Rattle.std.specs.Prelude.{◌≡◌, length, IfOk};
 ghost use Rattle.percent_macros.specs.Commands.{prompts_in};
 
-use crate::fields::{in_one_line, two_fields};
-use anyhow::{Result, bail};
-use mc_text::{Name, Names, Path, Text, Texts};
+use crate::files::put_in_one_line;
+use mc_text::{Name, NameError, Names, NoMemory, Path, Text, Texts};
 use percent_macros::{Context, Expanded, Piece, Pieces, Side, expand, quote};
+use row_page::{Page, two_fields};
 use std::alloc::Global;
 use std::convert::AsStr;
 
-pub fn answered(alloc: Global, row: &str) -> Result<String> {
-    let (call, field) = two_fields(row)?;
+pub fn answer(page: &mut Page, row: &str) {
+    let (call, field) = two_fields(row, '|');
     match call {
-        "expand" => expanded(alloc, field),
-        "fill" => filled(alloc, field),
-        "quote" => Ok(quote(alloc, field)?.0),
-        "quote lines" => quoted_lines(alloc),
-        _ => bail!("no such call"),
+        "expand" => tell_expanded(page, field),
+        "fill" => tell_filled(page, field),
+        "quote" => tell_quoted(page, field),
+        "quote lines" => tell_quoted(page, "a\nb"),
+        _ => page.fail(),
     }
 }
 
 /// A command, expanded between two panels. Each prompt is told by `?` and its question.
-fn expanded(alloc: Global, command: &str) -> Result<String> {
-    let context = context(alloc)?;
-    match expand(alloc, command, &context) {
-        Ok(expanded) => told(alloc, &expanded),
-        Err(error) => Ok(format!(in alloc; "{error:?}")?),
+fn tell_expanded(page: &mut Page, command: &str) {
+    let (Some(here), Some(other)) = (here(page.alloc()), other(page.alloc())) else {
+        return page.fail();
+    };
+    match expand(page.alloc(), command, &Context { here, other }) {
+        Ok(expanded) => tell(page, &expanded),
+        Err(error) => page.tell(format_args!("{error:?}")),
     }
 }
 
-/// The panel here has a current file and two tagged ones, the other one shows the root with none tagged.
-fn context(alloc: Global) -> Result<Context> {
-    let here = side(alloc, "/p/q r", "x.tar.gz", tagged(alloc)?)?;
-    let other = side(alloc, "/", "$y", Names::new(alloc))?;
-    Ok(Context { here, other })
+/// The panel here has a current file and two tagged ones.
+fn here(alloc: Global) -> Option<Side> {
+    side(alloc, "/p/q r", "x.tar.gz", tagged(alloc).ok()?)
 }
 
-fn side(alloc: Global, folder: &str, current: &str, tagged: Names) -> Result<Side> {
-    Ok(Side {
-        folder: Path::parse(alloc, folder)?,
-        current: Text::from_str(alloc, current)?,
+/// The other one shows the root with none tagged.
+fn other(alloc: Global) -> Option<Side> {
+    side(alloc, "/", "$y", Names::new(alloc))
+}
+
+fn side(alloc: Global, folder: &str, current: &str, tagged: Names) -> Option<Side> {
+    Some(Side {
+        folder: Path::parse(alloc, folder).ok()?,
+        current: Text::from_str(alloc, current).ok()?,
         tagged,
     })
 }
 
-fn tagged(alloc: Global) -> Result<Names> {
+fn tagged(alloc: Global) -> Result<Names, NameError> {
     let mut names = Names::new(alloc);
-    names.push(Name::new(alloc, "-a")?)?;
-    names.push(Name::new(alloc, "b c")?)?;
+    add_name(alloc, &mut names, "-a")?;
+    add_name(alloc, &mut names, "b c")?;
     Ok(names)
 }
 
-fn told(alloc: Global, expanded: &Expanded) -> Result<String> {
-    let text = plain_text(alloc, &expanded.pieces)?;
-    let here = if expanded.untag_here {
-        ", untags here"
-    } else {
-        ""
-    };
-    let other = if expanded.untag_other {
-        ", untags there"
-    } else {
-        ""
-    };
-    Ok(format!(in alloc; "{text}{here}{other}")?)
-}
-
-fn plain_text(alloc: Global, pieces: &Pieces) -> Result<String> {
-    let mut text = String::new(alloc);
-    for piece in &pieces.0 {
-        push_piece(&mut text, piece)?;
+fn add_name(alloc: Global, names: &mut Names, text: &str) -> Result<(), NameError> {
+    let name = Name::new(alloc, text)?;
+    match names.push(name) {
+        Ok(()) => Ok(()),
+        Err(NoMemory) => Err(NameError::Memory),
     }
-    Ok(text)
 }
 
-fn push_piece(text: &mut String, piece: &Piece) -> Result<()> {
+fn tell(page: &mut Page, expanded: &Expanded) {
+    for piece in &expanded.pieces.0 {
+        tell_piece(page, piece);
+    }
+    if expanded.untag_here {
+        page.put(", untags here");
+    }
+    if expanded.untag_other {
+        page.put(", untags there");
+    }
+}
+
+fn tell_piece(page: &mut Page, piece: &Piece) {
     match piece {
-        Piece::Plain(plain) => text.push_str(plain.as_str())?,
+        Piece::Plain(plain) => page.put(plain.as_str()),
         Piece::Prompt(question) => {
-            text.push('?')?;
-            text.push_str(question.as_str())?;
+            page.put("?");
+            page.put(question.as_str());
         }
     }
-    Ok(())
 }
 
 /// The command `echo `, then a prompt, with this answer.
-fn filled(alloc: Global, answer: &str) -> Result<String> {
-    let expanded = echo_of_prompt(alloc)?;
-    let answers = one_text(alloc, answer)?;
-    Ok(expanded.command(alloc, &answers)?.0)
+fn tell_filled(page: &mut Page, answer: &str) {
+    match echo_of_prompt(page.alloc()) {
+        Ok(echo) => tell_command(page, &echo, answer),
+        Err(_error) => page.fail(),
+    }
 }
 
-fn echo_of_prompt(alloc: Global) -> Result<Expanded>
+fn tell_command(page: &mut Page, echo: &Expanded, answer: &str)
+    requires { prompts_in echo.now.pieces ≡ 1 }
+{
+    match one_text(page.alloc(), answer) {
+        Ok(answers) => tell_text(page, echo.command(page.alloc(), &answers)),
+        Err(_error) => page.fail(),
+    }
+}
+
+fn tell_text(page: &mut Page, text: Result<Text, NoMemory>) {
+    match text {
+        Ok(text) => put_in_one_line(page, text.as_str()),
+        Err(_error) => page.fail(),
+    }
+}
+
+fn echo_of_prompt(alloc: Global) -> Result<Expanded, NoMemory>
     ensures { IfOk result (λ expanded. prompts_in expanded.pieces ≡ 1) }
 {
     let plain = Piece::Plain(Text::from_str(alloc, "echo ")?);
@@ -104,7 +122,7 @@ fn echo_of_prompt(alloc: Global) -> Result<Expanded>
     })
 }
 
-fn one_text(alloc: Global, text: &str) -> Result<Texts>
+fn one_text(alloc: Global, text: &str) -> Result<Texts, NoMemory>
     ensures { IfOk result (λ texts. length texts ≡ 1) }
 {
     let mut texts = Texts::new(alloc);
@@ -112,8 +130,7 @@ fn one_text(alloc: Global, text: &str) -> Result<Texts>
     Ok(texts)
 }
 
-/// A name with a newline, as a word of one line.
-fn quoted_lines(alloc: Global) -> Result<String> {
-    let word = quote(alloc, "a\nb")?;
-    in_one_line(alloc, word.as_str())
+/// A name as a word of a command, with a bar for each newline.
+fn tell_quoted(page: &mut Page, name: &str) {
+    tell_text(page, quote(page.alloc(), name));
 }

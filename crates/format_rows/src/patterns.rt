@@ -1,64 +1,63 @@
 //! Rows of patterns.
-use crate::fields::two_fields;
-use anyhow::{Result, bail};
-use mc_text::Texts;
-use std::alloc::Global;
+use mc_text::{NoMemory, Texts};
+use row_page::{Page, two_fields};
 use std::convert::AsStr;
-use tagging::{Pattern, ShellPattern};
+use tagging::{Pattern, PatternError, ShellPattern};
 
-pub fn answered(alloc: Global, row: &str) -> Result<String> {
-    let (call, fields) = two_fields(row)?;
-    let (pattern, name) = two_fields(fields)?;
+pub fn answer(page: &mut Page, row: &str) {
+    let (call, fields) = two_fields(row, '|');
+    let (pattern, name) = two_fields(fields, '|');
     match call {
-        "matches" => matches(alloc, pattern, name),
-        "captures" => captures(alloc, pattern, name),
-        "shell" => shell_finds(alloc, pattern, name),
-        "regex" => regex_finds(alloc, pattern, name),
-        _ => bail!("no such call"),
+        "matches" => tell_match(page, pattern, name),
+        "captures" => tell_captures(page, pattern, name),
+        "shell" => tell_found(page, Pattern::shell(page.alloc(), pattern), name),
+        "regex" => tell_found(page, Pattern::regex(page.alloc(), pattern), name),
+        _ => page.fail(),
     }
 }
 
 /// Whether a name matches a shell pattern, or why the text is none.
-fn matches(alloc: Global, pattern: &str, name: &str) -> Result<String> {
-    match ShellPattern::parse(alloc, pattern) {
-        Ok(pattern) => Ok(format!(in alloc; "{}", pattern.matches(name))?),
-        Err(error) => Ok(format!(in alloc; "{error:?}")?),
+fn tell_match(page: &mut Page, pattern: &str, name: &str) {
+    match ShellPattern::parse(page.alloc(), pattern) {
+        Ok(pattern) => page.tell(pattern.matches(name)),
+        Err(error) => page.tell(format_args!("{error:?}")),
     }
 }
 
 /// What the wildcards take of a name, a bar behind each.
-fn captures(alloc: Global, pattern: &str, name: &str) -> Result<String> {
-    let pattern = ShellPattern::parse(alloc, pattern)?;
-    match pattern.captures(alloc, name)? {
-        Some(texts) => joined(alloc, &texts),
-        None => Ok(String::from_str(alloc, "none")?),
+fn tell_captures(page: &mut Page, pattern: &str, name: &str) {
+    match ShellPattern::parse(page.alloc(), pattern) {
+        Ok(pattern) => tell_texts(page, pattern.captures(page.alloc(), name)),
+        Err(_error) => page.fail(),
     }
 }
 
-fn joined(alloc: Global, texts: &Texts) -> Result<String> {
-    let mut line = String::from_str(alloc, "|")?;
+fn tell_texts(page: &mut Page, captures: Result<Option<Texts>, NoMemory>) {
+    match captures {
+        Ok(Some(texts)) => tell_each(page, &texts),
+        Ok(None) => page.put("none"),
+        Err(_error) => page.fail(),
+    }
+}
+
+fn tell_each(page: &mut Page, texts: &Texts) {
+    page.put("|");
     for text in texts.as_slice() {
-        line.push_str(text.as_str())?;
-        line.push('|')?;
-    }
-    Ok(line)
-}
-
-fn shell_finds(alloc: Global, text: &str, name: &str) -> Result<String> {
-    match Pattern::shell(alloc, text) {
-        Ok(pattern) => finds(alloc, &pattern, name),
-        Err(error) => Ok(format!(in alloc; "{error:?}")?),
+        page.put(text.as_str());
+        page.put("|");
     }
 }
 
-fn regex_finds(alloc: Global, text: &str, name: &str) -> Result<String> {
-    match Pattern::regex(alloc, text) {
-        Ok(pattern) => finds(alloc, &pattern, name),
-        Err(error) => Ok(format!(in alloc; "{error:?}")?),
+fn tell_found(page: &mut Page, pattern: Result<Pattern, PatternError>, name: &str) {
+    match pattern {
+        Ok(pattern) => tell_whether(page, pattern.matches(page.alloc(), name)),
+        Err(error) => page.tell(format_args!("{error:?}")),
     }
 }
 
-fn finds(alloc: Global, pattern: &Pattern, name: &str) -> Result<String> {
-    let found = pattern.matches(alloc, name)?;
-    Ok(format!(in alloc; "{found}")?)
+fn tell_whether(page: &mut Page, found: Result<bool, NoMemory>) {
+    match found {
+        Ok(found) => page.tell(found),
+        Err(_error) => page.fail(),
+    }
 }

@@ -1,95 +1,126 @@
 //! Rows of extension files.
-use crate::fields::{file_of, repeated, two_fields};
-use crate::fronts::Answers;
-use anyhow::{Result, bail};
+use crate::files::{file_of, repeated};
+use crate::fronts::tell_new;
 use ext_rules::{Act, Rules, action, parse_ext};
 use mc_text::Kind;
-use std::alloc::Global;
+use row_page::{Page, number, two_fields};
 use std::convert::AsStr;
 
-pub fn answered(alloc: Global, row: &str) -> Result<String> {
-    let (call, fields) = two_fields(row)?;
+/// What a row asks of an extension file: what is to be done, with a thing of this kind and name.
+#[derive(Clone, Copy)]
+struct Asked<'a> {
+    act: Act,
+    kind: Kind,
+    name: &'a str,
+}
+
+pub fn answer(page: &mut Page, row: &str) {
+    let (call, fields) = two_fields(row, '|');
     match call {
-        "fronts" => fronts(alloc, fields),
-        "brackets" => brackets(alloc, fields),
-        asked => asked_of_file(alloc, asked, fields),
+        "fronts" => tell_fronts(page, fields),
+        "brackets" => tell_brackets(page, number(fields)),
+        asked => tell_asked(page, asked_of(asked), fields),
     }
 }
 
-/// An act, a kind and a name, asked of a file.
-fn asked_of_file(alloc: Global, asked: &str, file: &str) -> Result<String> {
-    let Some((act, thing)) = asked.split_once(' ') else {
-        bail!("no act");
-    };
-    let Some((kind, name)) = thing.split_once(' ') else {
-        bail!("no kind");
-    };
-    let file = file_of(alloc, file)?;
-    match parse_ext(alloc, &file) {
-        Ok(rules) => command(alloc, &rules, act_of(act)?, kind_of(kind)?, name),
-        Err(error) => Ok(format!(in alloc; "{error:?}")?),
+/// An act, a kind and a name.
+fn asked_of(words: &str) -> Asked<'_> {
+    let (act, thing) = two_fields(words, ' ');
+    let (kind, name) = two_fields(thing, ' ');
+    Asked {
+        act: act_of(act),
+        kind: kind_of(kind),
+        name,
     }
 }
 
-fn act_of(word: &str) -> Result<Act> {
+fn act_of(word: &str) -> Act {
     match word {
-        "launch" => Ok(Act::Launch),
-        "show" => Ok(Act::Show),
-        "change" => Ok(Act::Change),
-        _ => bail!("no such act"),
+        "launch" => Act::Launch,
+        "show" => Act::Show,
+        _ => Act::Change,
     }
 }
 
-fn kind_of(word: &str) -> Result<Kind> {
+fn kind_of(word: &str) -> Kind {
     match word {
-        "file" => Ok(Kind::File),
-        "folder" => Ok(Kind::Folder),
-        "link" => Ok(Kind::Link),
-        "other" => Ok(Kind::Other),
-        _ => bail!("no such kind"),
+        "file" => Kind::File,
+        "folder" => Kind::Folder,
+        "link" => Kind::Link,
+        _ => Kind::Other,
+    }
+}
+
+fn tell_asked(page: &mut Page, asked: Asked<'_>, file: &str) {
+    let Ok(file) = file_of(page.alloc(), file) else {
+        return page.fail();
+    };
+    match parse_ext(page.alloc(), file.0.as_slice()) {
+        Ok(rules) => tell_command(page, &rules, asked),
+        Err(error) => page.tell(format_args!("{error:?}")),
     }
 }
 
 /// The command for a thing.
-fn command(alloc: Global, rules: &Rules, act: Act, kind: Kind, name: &str) -> Result<String> {
-    match action(alloc, rules, name, kind, act)? {
-        Some(command) => Ok(command.0),
-        None => Ok(String::from_str(alloc, "none")?),
+fn tell_command(page: &mut Page, rules: &Rules, asked: Asked<'_>) {
+    match action(page.alloc(), rules, asked.name, asked.kind, asked.act) {
+        Ok(Some(command)) => page.put(command.as_str()),
+        Ok(None) => page.put("none"),
+        Err(_error) => page.fail(),
     }
 }
 
 /// What comes of each front of a file.
-fn fronts(alloc: Global, file: &str) -> Result<String> {
-    let file = file_of(alloc, file)?;
-    let mut answers = Answers::new(alloc);
-    for length in 0..file.len().saturating_add(1) {
-        let front = file.get(..length).unwrap_or(b"");
-        answers.tell(alloc, length, opened(alloc, front)?)?;
+fn tell_fronts(page: &mut Page, file: &str) {
+    match file_of(page.alloc(), file) {
+        Ok(file) => tell_each_front(page, file.0.as_slice()),
+        Err(_error) => page.fail(),
     }
-    Ok(answers.lines)
+}
+
+fn tell_each_front(page: &mut Page, file: &[u8]) {
+    let mut last = Page::new(page.alloc());
+    for length in 0..file.len().saturating_add(1) {
+        let mut answer = Page::new(page.alloc());
+        tell_opened(&mut answer, file.get(..length).unwrap_or(b""));
+        tell_new(page, length, answer, &mut last);
+    }
 }
 
 /// What a file says of opening four things, each behind a comma, or why it is refused.
-fn opened(alloc: Global, file: &[u8]) -> Result<String> {
-    match parse_ext(alloc, file) {
-        Ok(rules) => all_opened(alloc, &rules),
-        Err(error) => Ok(format!(in alloc; "{error:?}")?),
+fn tell_opened(page: &mut Page, file: &[u8]) {
+    match parse_ext(page.alloc(), file) {
+        Ok(rules) => tell_four(page, &rules),
+        Err(error) => page.tell(format_args!("{error:?}")),
     }
 }
 
-fn all_opened(alloc: Global, rules: &Rules) -> Result<String> {
-    let source = command(alloc, rules, Act::Launch, Kind::File, "a.c")?;
-    let text = command(alloc, rules, Act::Launch, Kind::File, "README")?;
-    let folder = command(alloc, rules, Act::Launch, Kind::Folder, "src")?;
-    let device = command(alloc, rules, Act::Launch, Kind::Other, "日")?;
-    Ok(format!(in alloc; "{source}, {text}, {folder}, {device}.")?)
+fn tell_four(page: &mut Page, rules: &Rules) {
+    tell_command(page, rules, opening(Kind::File, "a.c"));
+    page.put(", ");
+    tell_command(page, rules, opening(Kind::File, "README"));
+    page.put(", ");
+    tell_command(page, rules, opening(Kind::Folder, "src"));
+    page.put(", ");
+    tell_command(page, rules, opening(Kind::Other, "日"));
+    page.put(".");
+}
+
+fn opening(kind: Kind, name: &str) -> Asked<'_> {
+    Asked {
+        act: Act::Launch,
+        kind,
+        name,
+    }
 }
 
 /// So many open brackets, as a line and as a regular expression.
-fn brackets(alloc: Global, count: &str) -> Result<String> {
-    let line = repeated(alloc, "[", count.parse()?)?;
-    let plain = opened(alloc, line.as_bytes())?;
-    let regex = format!(in alloc; "regex/{line}")?;
-    let nested = opened(alloc, regex.as_bytes())?;
-    Ok(format!(in alloc; "{plain} {nested}")?)
+fn tell_brackets(page: &mut Page, count: usize) {
+    let line = repeated(page.alloc(), "[", count);
+    tell_opened(page, line.text().as_bytes());
+    page.put(" ");
+    let mut regex = Page::new(page.alloc());
+    regex.put("regex/");
+    regex.put(line.text());
+    tell_opened(page, regex.text().as_bytes());
 }

@@ -1,112 +1,166 @@
 //! Rows of tags, and of the comparison of two folders.
-use crate::fields::two_fields;
-use anyhow::{Result, bail};
-use mc_text::{Name, Names};
+use mc_text::{Name, NameError, Names, NoMemory};
+use row_page::{Page, number, two_fields};
 use std::alloc::Global;
-use tagging::{FileFact, Pattern, Tags, compare_quick};
+use tagging::{FileFact, Pattern, PatternError, Tags, compare_quick};
 
-pub fn answered(alloc: Global, row: &str) -> Result<String> {
-    let (call, fields) = two_fields(row)?;
-    let (first, second) = two_fields(fields)?;
+pub fn answer(page: &mut Page, row: &str) {
+    let (call, fields) = two_fields(row, '|');
+    let (first, second) = two_fields(fields, '|');
     match call {
-        "after" => tagged_after(alloc, first, second),
-        "compare" => compared(alloc, first, second),
-        _ => bail!("no such call"),
+        "after" => tell_tagged(page, first, second),
+        "compare" => tell_compared(page, first, second),
+        _ => page.fail(),
     }
 }
 
 /// Names, and changes of their tags with blanks between them: the tagged names after each change.
-fn tagged_after(alloc: Global, names: &str, changes: &str) -> Result<String> {
-    let names = names_of(alloc, names)?;
-    let mut tags = Tags::new(alloc);
-    let mut told = String::new(alloc);
-    for change in changes.split(' ') {
-        change_tags(alloc, &mut tags, &names, change)?;
-        let listed = listed(alloc, &tags, &names)?;
-        told.push_str(listed.as_str())?;
+fn tell_tagged(page: &mut Page, names: &str, changes: &str) {
+    match names_of(page.alloc(), names) {
+        Ok(names) => tell_after_each(page, &names, changes),
+        Err(_error) => page.fail(),
     }
-    Ok(told)
 }
 
-fn names_of(alloc: Global, field: &str) -> Result<Names> {
-    let mut names = Names::new(alloc);
-    for text in field.split(' ') {
-        names.push(Name::new(alloc, text)?)?;
+fn tell_after_each(page: &mut Page, names: &Names, changes: &str) {
+    let mut tags = Tags::new(page.alloc());
+    for change in changes.split(' ') {
+        let changed = change_tags(page.alloc(), &mut tags, names, change);
+        page.need(changed);
+        tell_names(page, tags.list(page.alloc(), names));
     }
+}
+
+fn names_of(alloc: Global, field: &str) -> Result<Names, NameError> {
+    let mut names = Names::new(alloc);
+    add_names(alloc, &mut names, field)?;
     Ok(names)
 }
 
-/// A change, and what it is about behind a colon.
-fn change_tags(alloc: Global, tags: &mut Tags, names: &Names, change: &str) -> Result<()> {
-    match change.split_once(':') {
-        Some(("toggle", name)) => toggle(alloc, tags, name),
-        Some(("select", text)) => Ok(tags.select(alloc, names, &Pattern::shell(alloc, text)?)?),
-        Some(("search", text)) => Ok(tags.select(alloc, names, &Pattern::regex(alloc, text)?)?),
-        Some((_, text)) => Ok(tags.unselect(alloc, names, &Pattern::regex(alloc, text)?)?),
-        None => change_all(alloc, tags, names, change),
-    }
-}
-
-fn toggle(alloc: Global, tags: &mut Tags, name: &str) -> Result<()> {
-    let name = Name::new(alloc, name)?;
-    let tagged = tags.toggle(alloc, &name)?;
-    if tagged != tags.has(name.text()) {
-        bail!("another answer");
+fn add_names(alloc: Global, names: &mut Names, field: &str) -> Result<(), NameError> {
+    for text in field.split(' ') {
+        add_name(alloc, names, text)?;
     }
     Ok(())
 }
 
-fn change_all(alloc: Global, tags: &mut Tags, names: &Names, change: &str) -> Result<()> {
-    match change {
-        "invert" => tags.invert(alloc, names)?,
-        "copy" => *tags = tags.copy(alloc)?,
-        _ => tags.untag(),
+fn add_name(alloc: Global, names: &mut Names, text: &str) -> Result<(), NameError> {
+    let name = Name::new(alloc, text)?;
+    match names.push(name) {
+        Ok(()) => Ok(()),
+        Err(NoMemory) => Err(NameError::Memory),
     }
-    Ok(())
 }
 
-fn listed(alloc: Global, tags: &Tags, names: &Names) -> Result<String> {
-    let listed = tags.list(alloc, names)?;
-    joined(alloc, &listed)
+/// A change, and what it is about behind a colon; whether it was made.
+fn change_tags(alloc: Global, tags: &mut Tags, names: &Names, change: &str) -> bool {
+    let (kind, about) = two_fields(change, ':');
+    match kind {
+        "toggle" => toggle(alloc, tags, about),
+        "select" => select(alloc, tags, names, Pattern::shell(alloc, about)),
+        "search" => select(alloc, tags, names, Pattern::regex(alloc, about)),
+        "unselect" => unselect(alloc, tags, names, Pattern::regex(alloc, about)),
+        "invert" => tags.invert(alloc, names).is_ok(),
+        "copy" => copy(alloc, tags),
+        _ => {
+            tags.untag();
+            true
+        }
+    }
+}
+
+/// Changes the tag of a name; whether the answer says how it stands then.
+fn toggle(alloc: Global, tags: &mut Tags, name: &str) -> bool {
+    match Name::new(alloc, name) {
+        Ok(name) => tags.toggle(alloc, &name) == Ok(tags.has(name.text())),
+        Err(_error) => false,
+    }
+}
+
+fn select(
+    alloc: Global,
+    tags: &mut Tags,
+    names: &Names,
+    pattern: Result<Pattern, PatternError>,
+) -> bool {
+    match pattern {
+        Ok(pattern) => tags.select(alloc, names, &pattern).is_ok(),
+        Err(_error) => false,
+    }
+}
+
+fn unselect(
+    alloc: Global,
+    tags: &mut Tags,
+    names: &Names,
+    pattern: Result<Pattern, PatternError>,
+) -> bool {
+    match pattern {
+        Ok(pattern) => tags.unselect(alloc, names, &pattern).is_ok(),
+        Err(_error) => false,
+    }
+}
+
+fn copy(alloc: Global, tags: &mut Tags) -> bool {
+    match tags.copy(alloc) {
+        Ok(copied) => {
+            *tags = copied;
+            true
+        }
+        Err(_error) => false,
+    }
 }
 
 /// Names with a blank behind each, and a bar behind all.
-fn joined(alloc: Global, names: &Names) -> Result<String> {
-    let mut line = String::new(alloc);
-    for name in names.as_slice() {
-        line.push_str(name.text())?;
-        line.push(' ')?;
+fn tell_names(page: &mut Page, names: Result<Names, NoMemory>) {
+    match names {
+        Ok(names) => tell_each(page, &names),
+        Err(_error) => page.fail(),
     }
-    line.push('|')?;
-    Ok(line)
+}
+
+fn tell_each(page: &mut Page, names: &Names) {
+    for name in names.as_slice() {
+        page.put(name.text());
+        page.put(" ");
+    }
+    page.put("|");
 }
 
 /// The names that each of two folders gives.
-fn compared(alloc: Global, left: &str, right: &str) -> Result<String> {
-    let left = facts_of(alloc, left)?;
-    let right = facts_of(alloc, right)?;
-    let (on_left, on_right) = compare_quick(alloc, &left, &right)?;
-    let on_left = joined(alloc, &on_left)?;
-    let on_right = joined(alloc, &on_right)?;
-    Ok(format!(in alloc; "{on_left}{on_right}")?)
+fn tell_compared(page: &mut Page, left: &str, right: &str) {
+    let left = facts_of(page, left);
+    let right = facts_of(page, right);
+    match compare_quick(page.alloc(), left.as_slice(), right.as_slice()) {
+        Ok((on_left, on_right)) => {
+            tell_each(page, &on_left);
+            tell_each(page, &on_right);
+        }
+        Err(_error) => page.fail(),
+    }
 }
 
-fn facts_of(alloc: Global, field: &str) -> Result<Vec<FileFact>> {
-    let mut facts = Vec::new(alloc);
-    if field.is_empty() {
-        return Ok(facts);
+fn facts_of(page: &mut Page, field: &str) -> Vec<FileFact> {
+    let mut facts = Vec::new(page.alloc());
+    for fact in field.split_terminator(';') {
+        let added = add_fact(page.alloc(), &mut facts, fact);
+        page.need(added);
     }
-    for fact in field.split(';') {
-        facts.push(fact_of(alloc, fact)?)?;
-    }
-    Ok(facts)
+    facts
 }
 
-/// A name, a size and a second.
-fn fact_of(alloc: Global, field: &str) -> Result<FileFact> {
-    let mut words = field.split(' ');
-    let name = Name::new(alloc, words.next().unwrap_or(""))?;
-    let size = words.next().unwrap_or("").parse()?;
-    let mtime = words.next().unwrap_or("").parse()?;
-    Ok(FileFact { name, size, mtime })
+/// A name, a size and a second; whether there was memory for them.
+fn add_fact(alloc: Global, facts: &mut Vec<FileFact>, field: &str) -> bool {
+    let (name, numbers) = two_fields(field, ' ');
+    let (size, second) = two_fields(numbers, ' ');
+    match Name::new(alloc, name) {
+        Ok(name) => facts
+            .push(FileFact {
+                name,
+                size: number(size) as u64,
+                mtime: second.parse().unwrap_or(0),
+            })
+            .is_ok(),
+        Err(_error) => false,
+    }
 }

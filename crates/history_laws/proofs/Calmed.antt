@@ -7,15 +7,15 @@ use Rattle.tree_trait.specs.Shape.{IsTree}
 use Rattle.tree_trait.specs.Change.{CallLog, current}
 use Rattle.tree_trait.specs.CrashImages.{all_settled}
 use Rattle.crash_law.specs.Guarded.{Marks}
-use Rattle.file_copy.specs.declared.report.Did.{Did}
-use Rattle.file_copy.specs.declared.report.Did.TheVariants.{Began, Chunk, Placed, Removed, Skipped, Cleaned, Barrier, Troubled, Ended}
-use Rattle.file_copy.specs.declared.report.Ending.{Ending}
-use Rattle.file_copy.specs.Copying.{Copying, folder_of}
+use Rattle.job_reports.specs.declared.report.Did.{Did}
+use Rattle.job_reports.specs.declared.report.Did.TheVariants.{Began, Chunk, Placed, Removed, Skipped, Cleaned, Barrier, Troubled, Ended}
+use Rattle.job_reports.specs.declared.report.Ending.{Ending}
+use Rattle.job_reports.specs.Paths.{folder_of}
 use Rattle.file_copy.specs.Copying as copying
-use Rattle.copy_move.specs.declared.history.Event.TheVariants.{Step}
-use Rattle.copy_move.specs.declared.history.Entry.{Entry}
+use Rattle.session_history.specs.declared.history.Event.TheVariants.{Step}
+use Rattle.session_history.specs.declared.history.Entry.{Entry}
 use Rattle.copy_move.specs.declared.run.Course.{Course}
-use Rattle.copy_move.specs.declared.run.Course.TheVariants.{GoesOn, InTrouble, Unsettled, Skips, Ends}
+use Rattle.copy_move.specs.declared.run.Course.TheVariants.{GoesOn, InTrouble, OwedSyncFailed, Skips, Ends}
 use Rattle.copy_move.specs.declared.work.Work.{Work}
 use Rattle.copy_move.specs.declared.work.Work.TheVariants.{Copy, Delete}
 use Rattle.copy_move.specs.Deletions as deletions
@@ -24,19 +24,19 @@ use Rattle.copy_move.specs.Settling.{changed_folder, is_dirty}
 use Rattle.copy_move.specs.Steps.{SyncsFolder}
 use Rattle.history_laws.specs.Calmed.{CalmLaw, HasBegun}
 use Rattle.history_laws.specs.Doubt.{is_unsettled}
-use Rattle.history_laws.specs.LiveJobs.{live_jobs, work_of}
-use Rattle.history_laws.specs.Owed.{IsApart, begins_change, has_changed}
-use Rattle.history_laws.specs.Replayed.{front}
-use Rattle.history_laws.specs.Safe.{calls_in}
-use Rattle.history_laws.specs.Staying.{names_path}
-use Rattle.history_laws.specs.Traces.{EventLeads, IsTraced, Stand, StepLeads, WorkLeads}
-use Rattle.history_laws.proofs.Done.{IsFound, found_moment, same_work}
+use Rattle.session_history.specs.LiveJobs.{live_jobs, live_item}
+use Rattle.history_laws.specs.Owed.{IsApart}
+use Rattle.session_history.specs.Named.{begins_change, has_changed, names_path}
+use Rattle.history_laws.specs.Replayed.{log_prefix}
+use Rattle.session_history.specs.Entries.{calls_in}
+use Rattle.history_laws.specs.Traces.{EventLeads, WorkLeads}
+use Rattle.history_laws.proofs.Done.{IsFound, found_moment, same_item}
 use Rattle.history_laws.proofs.Finished.{AreTidy, IsTidyJob, traced_tidy}
-use Rattle.history_laws.proofs.Fronts.{told_of}
+use Rattle.history_laws.proofs.Prefixes.{told_of}
 use Rattle.history_laws.proofs.Histories.{only_job, traced_reached}
 use Rattle.history_laws.proofs.JobKnows.{StageKnows, WorkKnows}
 use Rattle.history_laws.proofs.Knowing.{Said}
-use Rattle.history_laws.proofs.Moments.{front_is, log_of, traced_count}
+use Rattle.history_laws.proofs.Moments.{prefix_is, log_of, traced_count}
 use Rattle.history_laws.proofs.Owing.{owed_law}
 use Rattle.history_laws.proofs.Reports.{HasLive, JobsKnow}
 use Rattle.history_laws.proofs.Staying.{event_still}
@@ -60,7 +60,7 @@ winds_none ending old new (Ended how part) t h = false≢true h
 goes_then : (job new : Running) (did : Did) (course : Course) → job.course ≡ course → TellsOn course job did new → begins_change did ≡ true → (job.course ≡ GoesOn) × ((work : Work) × WorkTells job.work did work)
 goes_then job new did GoesOn is (work, tells, new_is) h = (is, (work, tells))
 goes_then job new did (InTrouble why) is t h = absurd t
-goes_then job new did (Unsettled why) is t h = absurd t
+goes_then job new did (OwedSyncFailed why) is t h = absurd t
 goes_then job new did (Skips why) is (inl (did_is, new_is)) h = absurd (false≢true (sym (ap begins_change did_is) ∙ h))
 goes_then job new did (Skips why) is (inr (did_is, new_is)) h = absurd (false≢true (sym (ap begins_change did_is) ∙ h))
 goes_then job new did (Ends ending) is (work, winds, new_is) h = absurd (winds_none ending job.work work did winds h)
@@ -118,8 +118,8 @@ module _ (opening : CallLog) (tree : IsTree (current opening)) (settled : all_se
           (subst (λ js. JobsKnow (told_of opening f.before older r.part) f.was.dirty r.marks (current f.before) js) jobs_is r.knows)
 
       folder_is : folder ≡ changed_folder job.work
-      folder_is = h.within ∙ same_work opening tree settled end e older job (live_jobs older) r.part h.work (subst (λ js. HasLive (live_jobs older) js r.part) jobs_is r.live)
-          (subst (λ n. work_of n (live_jobs older) ≡ Some h.work) (sym id_is) h.its)
+      folder_is = h.within ∙ same_item opening tree settled end e older job (live_jobs older) r.part h.item (subst (λ js. HasLive (live_jobs older) js r.part) jobs_is r.live)
+          (subst (λ n. live_item n (live_jobs older) ≡ Some h.item) (sym id_is) h.its)
 
       by : (named waited : Bool) → names_path e.what path ≡ named → is_unsettled f.before path ≡ waited → Calm
       by true waited named_is waited_is = inl named_is
@@ -151,8 +151,8 @@ calm_law opening now newest stand tree settled traced e older folder path h mome
     let f = found_moment opening tree settled now e older path newest (e ∷ older) (e ∷ older) stand e.calls now [] traced (ap (log_of now) (sym (append-nil now.changes))) moment (inl refl) in
     let n = traced_count opening f.before older f.was f.traced in
     let c = f.calls in
-    let at_end : front opening e.calls now ≡ f.now = front_is opening now e.calls f.now f.later f.later_is (omega (arith, c)) in
-    let at_start : front opening (calls_in older) now ≡ f.before = front_is opening now (calls_in older) f.before f.rest f.end_is (omega (arith, n)) in
+    let at_end : log_prefix opening e.calls now ≡ f.now = prefix_is opening now e.calls f.now f.later f.later_is (omega (arith, c)) in
+    let at_start : log_prefix opening (calls_in older) now ≡ f.before = prefix_is opening now (calls_in older) f.before f.rest f.end_is (omega (arith, n)) in
     elim (calm opening tree settled now e older folder path h f (subst (λ (l : CallLog). is_unsettled l path ≡ true) at_end waits)) [
       | inl named ↦ inl named
       | inr apart ↦ inr (subst (λ (l : CallLog). IsApart l folder (folder_of path)) (sym at_start) apart)

@@ -19,8 +19,8 @@ use Rattle.tree_trait.proofs.Visible.{same_path-true}
 use Rattle.crash_law.specs.Guarded.{Marks}
 use Rattle.crash_law.proofs.Guarding.{same_quiet}
 use Rattle.crash_law.proofs.Leading.{current_more}
-use Rattle.file_copy.proofs.CopyAnswers.{some_log, done_call}
-use Rattle.file_copy.proofs.PermittedCalls.{sync_finds}
+use Rattle.job_reports.proofs.CallAnswers.{some_log, done_call}
+use Rattle.job_reports.proofs.PermittedCalls.{sync_finds}
 use Rattle.history_laws.specs.Doubt.{is_pending}
 use Rattle.history_laws.proofs.Pending.{pending_synced}
 use Rattle.history_laws.proofs.Knowing.{Said, IsKnown}

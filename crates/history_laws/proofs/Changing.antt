@@ -16,7 +16,7 @@ use Rattle.tree_trait.proofs.Visible.{same_path-self}
 use Rattle.tree_trait.proofs.Steady.{at}
 use Rattle.crash_law.specs.Guarded.{Marks, IsNaming}
 use Rattle.crash_law.specs.Steps.{IsAnchored}
-use Rattle.crash_law.proofs.Guarding.{settle_law, find_same, found_at, said, unsaid, found_there}
+use Rattle.crash_law.proofs.Guarding.{find_same, said}
 use Rattle.crash_law.proofs.Leading.{current_more}
 use Rattle.crash_law.proofs.Removing.{removal_law}
 use Rattle.crash_law.proofs.Tops.{under_removed, none_below}

@@ -15,21 +15,22 @@ use Rattle.tree_trait.specs.CrashImages.{Among}
 use Rattle.tree_trait.specs.Answers.{Performs}
 use Rattle.tree_trait.proofs.Ending as ending
 use Rattle.crash_law.specs.Guarded.{Marks}
-use Rattle.file_copy.specs.declared.report.Cause.{Cause}
-use Rattle.file_copy.specs.declared.report.Cause.TheVariants as cause
-use Rattle.file_copy.specs.declared.report.Ending.TheVariants.{Finished, Aborted, Killed, NoMemory}
-use Rattle.file_copy.specs.declared.report.Did.{Did}
-use Rattle.file_copy.specs.declared.report.Did.TheVariants.{Began, Chunk, Placed, Removed, Skipped, Cleaned, Barrier, Troubled, Ended}
+use Rattle.job_reports.specs.declared.report.Cause.{Cause}
+use Rattle.job_reports.specs.declared.report.Cause.TheVariants as cause
+use Rattle.job_reports.specs.declared.report.Ending.TheVariants.{Finished, Aborted, Killed, NoMemory}
+use Rattle.job_reports.specs.declared.report.Did.{Did}
+use Rattle.job_reports.specs.declared.report.Did.TheVariants.{Began, Chunk, Placed, Removed, Skipped, Cleaned, Barrier, Troubled, Ended}
 use Rattle.file_copy.specs.declared.stage.FolderState.TheVariants.{Synced, Dirty}
 use Rattle.file_copy.specs.declared.stage.Next.{Next}
 use Rattle.file_copy.specs.declared.stage.Next.TheVariants as next
-use Rattle.file_copy.specs.declared.stage.Said.{Said as SaidOf}
+use Rattle.file_copy.specs.declared.stage.SourceFacts.{SourceFacts}
 use Rattle.file_copy.specs.declared.stage.Stage.{Stage}
 use Rattle.file_copy.specs.declared.stage.Stage.TheVariants.{Begin, Fill, Clean, Left, Decided}
-use Rattle.file_copy.specs.CallRuns.{AllDone, RunStops}
+use Rattle.job_reports.specs.CallRuns.{AllDone, RunStops}
 use Rattle.file_copy.specs.CopyCalls.{BeganOf, CopyCalls, CopyStops, making, next_bytes, placing, writing}
-use Rattle.file_copy.specs.Copying.{Copying, Tells, after_clean, folder_of, is_dirty, is_fresh, places_of}
-use Rattle.file_copy.proofs.CopyAnswers.{calm_stops, one_done, some_log}
+use Rattle.file_copy.specs.Copying.{Copying, Tells, after_clean, is_dirty, is_fresh, places_of}
+use Rattle.job_reports.specs.Paths.{folder_of}
+use Rattle.job_reports.proofs.CallAnswers.{calm_stops, one_done, some_log}
 use Rattle.tree_trait.proofs.Visible.{same_path-self}
 use Rattle.copy_move.specs.declared.work.Work.{Work}
 use Rattle.copy_move.specs.declared.work.Work.TheVariants.{Copy}
@@ -37,7 +38,7 @@ use Rattle.copy_move.specs.declared.run.Course.{Course}
 use Rattle.copy_move.specs.declared.run.Course.TheVariants.{GoesOn, InTrouble}
 use Rattle.copy_move.specs.Jobs.{course_after}
 use Rattle.copy_move.specs.Settling.{NoneOwed, with_change as moves_dirty}
-use Rattle.copy_move.specs.Traces.{IsUnclaimed}
+use Rattle.history_laws.specs.Traces.{IsUnclaimed}
 use Rattle.history_laws.proofs.Calming.{written_known}
 use Rattle.history_laws.proofs.Changing.{off_itself, removed_known}
 use Rattle.history_laws.proofs.Deleted.{IsRemoval, comes_refused, removal_done}
@@ -208,7 +209,7 @@ module _ (told : Said) (dirty dirty_after : List Route) (marks : Marks) (log now
       let e : (let o : Stage = Fill other_part other_said other_said.size in o) ≡ Fill part said said.size = sym other_stage ∙ stage in
       let p_is : other_part ≡ part = cc in
       let s_is : other_said ≡ said = cc in
-      let row = subst (λ (x : SaidOf). AllDone log (placing x.mode part c.target) (Some now)) s_is (subst (λ x. AllDone log (placing other_said.mode x c.target) (Some now)) p_is rows) in
+      let row = subst (λ (x : SourceFacts). AllDone log (placing x.mode part c.target) (Some now)) s_is (subst (λ x. AllDone log (placing other_said.mode x c.target) (Some now)) p_is rows) in
       let at_fill = subst (λ x. StageKnows told marks (current log) GoesOn c x) stage knows in
       with_routes (Placed path) GoesOn (Copy new) (leaves_same new (ap (λ (x : Copying). x.folder) new_is) leaves)
       (subst (λ (x : Copying). Comes told (said_after now (Placed path) (Copy c) told) dirty log now (KnowsAfter (Placed path) (said_after now (Placed path) (Copy c) told) dirty (current now) GoesOn (Copy x))) (sym new_is)

@@ -1,10 +1,9 @@
 -- Each step of a deletion keeps what is known.
 use Rattle.std.proofs.Common.{◌≡◌, ◌⊎◌, ℕ, false, List, ◌∷◌, sym, ◌∙◌, ap, subst, inl, inr, Option, Some, None, Ok, cond}
-use Rattle.std.specs.Prelude.{filter, not}
 use Rattle.std.proofs.lemmas.Bool.{both_ways, false_from_ne_true, or_left, or_right}
 use Rattle.mc_text.specs.Routes.{Route, same_path}
 use Rattle.tree_trait.specs.declared.file_system.FileSystem.{FileSystem}
-use Rattle.tree_trait.specs.FileSystem.{Value, Spot, View, find, node, starts_mount, put, value_at, visible_tree}
+use Rattle.tree_trait.specs.FileSystem.{Value, Spot, View, find, node, starts_mount, put, visible_tree}
 use Rattle.tree_trait.specs.Shape.{IsTree, IsRemovable}
 use Rattle.tree_trait.specs.Refusals.{is_folder}
 use Rattle.tree_trait.specs.Calls.{RemoveFile}
@@ -15,9 +14,9 @@ use Rattle.tree_trait.proofs.Visible.{same_path-self}
 use Rattle.tree_trait.proofs.Walking.{removable}
 use Rattle.crash_law.specs.Guarded.{Marks}
 use Rattle.crash_law.proofs.Leading.{current_more}
-use Rattle.file_copy.specs.declared.report.Did.TheVariants.{Removed}
-use Rattle.file_copy.specs.Copying.{folder_of}
-use Rattle.file_copy.proofs.CopyAnswers.{done_call, IsDoneCall}
+use Rattle.job_reports.specs.declared.report.Did.TheVariants.{Removed}
+use Rattle.job_reports.specs.Paths.{folder_of}
+use Rattle.job_reports.proofs.CallAnswers.{done_call, IsDoneCall}
 use Rattle.copy_move.specs.declared.work.Work.{Work}
 use Rattle.copy_move.specs.declared.run.Course.{Course}
 use Rattle.history_laws.specs.Doubt.{is_unsettled}

@@ -9,13 +9,13 @@ use Rattle.tree_trait.specs.CrashImages.{Among}
 use Rattle.tree_trait.specs.Answers.{Performs}
 use Rattle.crash_law.specs.Guarded.{Marks}
 use Rattle.crash_law.proofs.Leading.{current_more}
-use Rattle.file_copy.specs.declared.report.Ending.{Ending}
-use Rattle.file_copy.specs.declared.report.Ending.TheVariants.{Finished, Aborted, Killed, NoMemory}
-use Rattle.file_copy.specs.declared.report.Did.{Did}
-use Rattle.file_copy.specs.declared.report.Did.TheVariants.{Began, Chunk, Placed, Removed, Skipped, Cleaned, Barrier, Troubled, Ended}
-use Rattle.file_copy.specs.Copying.{folder_of}
-use Rattle.file_copy.specs.LastSteps.{sync_answer}
-use Rattle.file_copy.proofs.CopyAnswers.{some_log}
+use Rattle.job_reports.specs.declared.report.Ending.{Ending}
+use Rattle.job_reports.specs.declared.report.Ending.TheVariants.{Finished, Aborted, Killed, NoMemory}
+use Rattle.job_reports.specs.declared.report.Did.{Did}
+use Rattle.job_reports.specs.declared.report.Did.TheVariants.{Began, Chunk, Placed, Removed, Skipped, Cleaned, Barrier, Troubled, Ended}
+use Rattle.job_reports.specs.Paths.{folder_of, without}
+use Rattle.job_reports.specs.Stops.{sync_answer}
+use Rattle.job_reports.proofs.CallAnswers.{some_log}
 use Rattle.copy_move.specs.declared.deletion.Stage.{Stage}
 use Rattle.copy_move.specs.declared.deletion.Stage.TheVariants.{Remove, Sync, Finish, PassedOver}
 use Rattle.copy_move.specs.declared.work.Work.{Work}
@@ -25,7 +25,7 @@ use Rattle.copy_move.specs.declared.run.Course.TheVariants.{GoesOn, Ends}
 use Rattle.copy_move.specs.Deletions.{Deleting, Tells, Winds, DeletionCalls, DeletionLeaves, Answers, call_of, is_fresh}
 use Rattle.copy_move.specs.Deletions as deletions
 use Rattle.copy_move.specs.Jobs.{course_after}
-use Rattle.copy_move.specs.Settling.{NoneOwed, after_try, with_change as moves_dirty, without}
+use Rattle.copy_move.specs.Settling.{NoneOwed, after_try, with_change as moves_dirty}
 use Rattle.history_laws.proofs.Calming.{folder_synced, refused_is}
 use Rattle.history_laws.proofs.Knowing.{Said, IsKept}
 use Rattle.history_laws.proofs.JobKnows.{HasName, KnowsAfter, WorkKnows, none_waits, work_settled}

@@ -1,6 +1,6 @@
 -- What a finished job did stays done, in the words of the history: its entry tells of the job that was live then.
 use Rattle.std.proofs.Common.{◌≡◌, ℕ, ◌+◌, Bool, true, false, List, [], ◌∷◌, ◌++◌, length, refl, sym, ◌∙◌, ap, subst, inl, inr, Option, Some, None, arith, append-nil, append_assoc}
-use Rattle.std.specs.Prelude.{if◌then◌else◌, is_some}
+use Rattle.std.specs.Prelude.{is_some, if◌then◌else◌}
 use Rattle.std.specs.Option.{option_map}
 use Rattle.std.proofs.lemmas.Bool.{both_ways, eq-eqb, false≢true, true≢false}
 use Rattle.mc_text.specs.Routes.{Route}
@@ -9,28 +9,29 @@ use Rattle.tree_trait.specs.FileSystem.{Spot, Value, find, node, value, value_at
 use Rattle.tree_trait.specs.Shape.{IsTree}
 use Rattle.tree_trait.specs.Change.{Change, CallLog, current}
 use Rattle.tree_trait.specs.CrashImages.{Among, IsCrashImage, all_settled}
-use Rattle.file_copy.specs.declared.report.Ending.TheVariants.{Finished}
-use Rattle.file_copy.specs.declared.report.Did.TheVariants.{Ended}
-use Rattle.file_copy.specs.Copying.{folder_of}
-use Rattle.copy_move.specs.declared.history.Event.TheVariants.{Step}
-use Rattle.copy_move.specs.declared.history.Entry.{Entry}
-use Rattle.copy_move.specs.declared.work.Work.{Work}
+use Rattle.job_reports.specs.declared.report.Ending.TheVariants.{Finished}
+use Rattle.job_reports.specs.declared.report.Did.TheVariants.{Ended}
+use Rattle.job_reports.specs.Paths.{folder_of}
+use Rattle.job_reports.specs.Jobs.{Item, folder_changed}
+use Rattle.session_history.specs.declared.history.Event.TheVariants.{Step}
+use Rattle.session_history.specs.declared.history.Entry.{Entry}
 use Rattle.copy_move.specs.Jobs.{JobTells, Running}
 use Rattle.copy_move.specs.Settling.{changed_folder}
 use Rattle.copy_move.specs.Steps.{SyncsFolder}
 use Rattle.history_laws.specs.Doubt.{is_unsettled}
-use Rattle.history_laws.specs.LiveJobs.{IsLivePart, LiveJob, after_event, after_report, live_jobs, work_of}
-use Rattle.history_laws.specs.Owed.{has_changed}
-use Rattle.history_laws.specs.Replayed.{front, named_after, named_parts, replayed_tree}
-use Rattle.history_laws.specs.Safe.{IsMoment, IsPart, IsSafe, calls_in}
-use Rattle.history_laws.specs.Staying.{DoneLaw, HasFinished, IsUnnamedSince, names_path}
+use Rattle.session_history.specs.LiveJobs.{IsLivePart, LiveJob, after_event, after_report, live_jobs, live_item}
+use Rattle.session_history.specs.Named.{has_changed, named_after, named_parts, IsUnnamedSince, names_path}
+use Rattle.history_laws.specs.Replayed.{log_prefix, replayed_tree}
+use Rattle.session_history.specs.Entries.{IsMoment, calls_in}
+use Rattle.history_laws.specs.Safe.{IsPart, IsSafe}
+use Rattle.history_laws.specs.Staying.{DoneLaw, HasFinished}
 use Rattle.history_laws.specs.Traces.{EventLeads, IsTraced, Stand}
-use Rattle.history_laws.proofs.Fronts.{replayed_more, told_of}
+use Rattle.history_laws.proofs.Prefixes.{replayed_more, told_of}
 use Rattle.history_laws.proofs.Histories.{enters, only_job, traced_reached}
 use Rattle.history_laws.proofs.Lasting.{finished_stays_law, replayed_since}
-use Rattle.history_laws.proofs.Moments.{IsShown, front_is, log_of, replay_law, session_law, shown_moment, traced_count}
+use Rattle.history_laws.proofs.Moments.{IsShown, prefix_is, log_of, replay_law, session_law, shown_moment, traced_count}
 use Rattle.history_laws.proofs.Reports.{HasLive}
-use Rattle.history_laws.proofs.Sources.{folder_same}
+use Rattle.history_laws.proofs.Sources.{folder_is, item_in}
 use Rattle.history_laws.proofs.Staying.{event_part, stays_law}
 use Rattle.history_laws.proofs.Stepped.{more}
 
@@ -113,13 +114,13 @@ module _ (opening : CallLog) (tree : IsTree (current opening)) (settled : all_se
     pub tells : JobTells job (Ended Finished part) new
     pub within : folder ≡ changed_folder job.work
 
-  -- the work that the history tells of is that of the live job
-  pub same_work : (job : Running) (live : List LiveJob) (part : Option Route) (work : Work) → HasLive live (job ∷ []) part → work_of job.id live ≡ Some work → changed_folder work ≡ changed_folder job.work
-  same_work job live part work (w, is, paths) its =
-      let first : Some w ≡ Some work =
-      sym (ap (λ b. if b then Some w else None) (eq-eqb job.id job.id refl)) ∙ (sym (ap (work_of job.id) is) ∙ its) in
-      let same : w ≡ work = cc in
-      sym (ap changed_folder same) ∙ folder_same w job.work paths
+  -- the item that the history tells of is that of the live job
+  pub same_item : (job : Running) (live : List LiveJob) (part : Option Route) (item : Item) → HasLive live (job ∷ []) part → live_item job.id live ≡ Some item → folder_changed item ≡ changed_folder job.work
+  same_item job live part item is its =
+      let first : Some (item_in job.work) ≡ Some item =
+      sym (ap (λ b. if b then Some (item_in job.work) else None) (eq-eqb job.id job.id refl)) ∙ (sym (ap (live_item job.id) is) ∙ its) in
+      let same : item_in job.work ≡ item = cc in
+      sym (ap folder_changed same) ∙ folder_is job.work
 
   ender : (folder : Route) (h : HasFinished e older folder) (f : IsFound) → IsEnder f.was h.part h.id folder
   ender folder h f = by (subst (λ w. EventLeads f.was w f.after f.before f.now) h.ended f.leads)
@@ -134,7 +135,7 @@ module _ (opening : CallLog) (tree : IsTree (current opening)) (settled : all_se
             jobs_is = one.0;
             id_is = one.1;
             tells = tells;
-            within = h.within ∙ same_work job (live_jobs older) r.part h.work (subst (λ js. HasLive (live_jobs older) js r.part) one.0 r.live) (subst (λ n. work_of n (live_jobs older) ≡ Some h.work) (sym one.1) h.its);
+            within = h.within ∙ same_item job (live_jobs older) r.part h.item (subst (λ js. HasLive (live_jobs older) js r.part) one.0 r.live) (subst (λ n. live_item n (live_jobs older) ≡ Some h.item) (sym one.1) h.its);
           }
 
       by : EventLeads f.was (Step h.id (Ended Finished h.part)) f.after f.before f.now → IsEnder f.was h.part h.id folder
@@ -154,8 +155,8 @@ module _ (opening : CallLog) (tree : IsTree (current opening)) (settled : all_se
       ap (λ w. after_event w (live_jobs older)) h.ended ∙ gone (live_jobs older) i.job r.part i.id_is (subst (λ js. HasLive (live_jobs older) js r.part) i.jobs_is r.live)
     where
       gone : (live : List LiveJob) (job : Running) (part : Option Route) → job.id ≡ h.id → HasLive live (job ∷ []) part → after_report h.id (Ended Finished h.part) live ≡ []
-      gone live job part id_is (w, is, paths) =
-          ap (after_report h.id (Ended Finished h.part)) is ∙ ap (λ b. (let xs : List LiveJob = if b then [] else (let l : LiveJob = record { id = job.id; work = w; part = part } in l) ∷ [] in xs)) (eq-eqb job.id h.id id_is)
+      gone live job part id_is is =
+          ap (after_report h.id (Ended Finished h.part)) is ∙ ap (λ b. (let xs : List LiveJob = if b then [] else (let l : LiveJob = record { id = job.id; item = item_in job.work; part = part } in l) ∷ [] in xs)) (eq-eqb job.id h.id id_is)
 
 -- a path that no entry names is the part of a live job only if it was one
 live_since : (older g : List Entry) (path : Route) → IsUnnamedSince older path g → IsLivePart (live_jobs g) path → IsLivePart (live_jobs older) path
@@ -191,12 +192,12 @@ module _ (opening now : CallLog) (newest : List Entry) (stand : Stand) (tree : I
       let by = ender opening tree settled now e older (folder_of path) h f in
       let n = traced_count opening f.before older f.was f.traced in
       finished_stays_law opening now newest older standing coming f.was stand by.job by.new h.part calls path image tree settled traced
-      (subst (λ (l : CallLog). IsTraced opening older f.was l) (sym (front_is opening now (calls_in older) f.before f.rest f.end_is (omega (arith, n)))) f.traced)
+      (subst (λ (l : CallLog). IsTraced opening older f.was l) (sym (prefix_is opening now (calls_in older) f.before f.rest f.end_is (omega (arith, n)))) f.traced)
       by.jobs_is by.tells (subst (λ i. has_changed i older ≡ true) (sym by.id_is) h.changed) by.within unnamed moment (since_before e older standing path bare since) (since_before e older coming path bare later) left
 
   -- a path at which nothing stood when the job had ended, and of which nothing waited
   abbrev at_end : CallLog
-  at_end = front opening e.calls now
+  at_end = log_prefix opening e.calls now
 
   no_live : IsLivePart (live_jobs (e ∷ older)) path → ⊥
   no_live live = let l = subst (λ jobs. IsLivePart jobs path) (none_live opening tree settled now e older (folder_of path) h found) live in l.1
@@ -214,7 +215,7 @@ module _ (opening now : CallLog) (newest : List Entry) (stand : Stand) (tree : I
       let f = found in
       let c = f.calls in
       let r = traced_reached opening tree settled (e ∷ older) f.stand f.now f.whole in
-      let at : at_end ≡ f.now = front_is opening now e.calls f.now f.later f.later_is (omega (arith, c)) in
+      let at : at_end ≡ f.now = prefix_is opening now e.calls f.now f.later f.later_is (omega (arith, c)) in
       let shown = (replay_law opening f.now (e ∷ older) f.stand tree settled f.whole).shows path no_live in
       let same : replayed_tree opening now (e ∷ older) path ≡ replayed_tree opening f.now (e ∷ older) path =
       ap (λ (l : CallLog). replayed_tree opening l (e ∷ older) path) f.later_is ∙ ap (λ v. v path) (replayed_more opening f.now f.later (e ∷ older) r.within) in
@@ -224,22 +225,22 @@ module _ (opening now : CallLog) (newest : List Entry) (stand : Stand) (tree : I
   of_gone none sure_then =
       elim (session_law opening now newest standing coming stand calls image tree settled traced moment left) [ inl safe ↦ by standing since safe | inr safe ↦ by coming later safe ]
     where
-      sure : is_unsettled (front opening calls now) path ≡ false
+      sure : is_unsettled (log_prefix opening calls now) path ≡ false
       sure = stays_law opening now newest (e ∷ older) standing coming stand calls path tree settled traced moment since later sure_then no_live
 
-      gone_by : (g : List Entry) → IsUnnamedSince (e ∷ older) path g → IsShown opening now (front opening calls now) g → is_some (find (current (front opening calls now)) path) ≡ true → ⊥
+      gone_by : (g : List Entry) → IsUnnamedSince (e ∷ older) path g → IsShown opening now (log_prefix opening calls now) g → is_some (find (current (log_prefix opening calls now)) path) ≡ true → ⊥
       gone_by g unnamed_since shown =
-          none_stands (current (front opening calls now)) path _
+          none_stands (current (log_prefix opening calls now)) path _
           (ap (λ (s : Spot). s.value) (shown path (λ live. no_live (live_since (e ∷ older) g path unnamed_since live)) ∙ replayed_since opening now (e ∷ older) g path unnamed_since))
           (told_none none)
 
-      gone : is_some (find (current (front opening calls now)) path) ≡ true → ⊥
+      gone : is_some (find (current (log_prefix opening calls now)) path) ≡ true → ⊥
       gone = elim (shown_moment opening now newest standing coming stand calls tree settled traced moment) [ inl shown ↦ gone_by standing since shown | inr shown ↦ gone_by coming later shown ]
 
-      no_part : (g : List Entry) → IsPart g (front opening calls now) path → ⊥
+      no_part : (g : List Entry) → IsPart g (log_prefix opening calls now) path → ⊥
       no_part g part = elim part.stays [ inl stands ↦ gone stands | inr waits ↦ both_ways _ sure waits ]
 
-      by : (g : List Entry) → IsUnnamedSince (e ∷ older) path g → IsSafe opening now g (front opening calls now) image → Holds
+      by : (g : List Entry) → IsUnnamedSince (e ∷ older) path g → IsSafe opening now g (log_prefix opening calls now) image → Holds
       by g unnamed_since safe = elim (safe path (no_part g)) [
         | inl told ↦ told ∙ ap (λ (s : Spot). s.value) (replayed_since opening now (e ∷ older) g path unnamed_since ∙ told_same)
         | inr doubt ↦ absurd (both_ways _ sure doubt.0)
@@ -255,5 +256,5 @@ module _ (opening now : CallLog) (newest : List Entry) (stand : Stand) (tree : I
 
 pub done_law : DoneLaw
 done_law opening now newest stand tree settled traced e older standing coming calls path image h no_part bare moment since later left =
-    by_part opening now newest stand tree settled traced e older standing coming calls path image h bare moment since later left no_part (is_some (find (current (front opening e.calls now)) path)) (is_unsettled (front opening e.calls now) path)
+    by_part opening now newest stand tree settled traced e older standing coming calls path image h bare moment since later left no_part (is_some (find (current (log_prefix opening e.calls now)) path)) (is_unsettled (log_prefix opening e.calls now) path)
     refl refl

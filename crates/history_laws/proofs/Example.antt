@@ -1,6 +1,6 @@
 -- A small session, so the premises can be met: a deletion whose sync fails and that is aborted, its last sync failing too; then
 -- the file is in doubt; and a next job that syncs that folder first, after which no crash brings the file back.
-use Rattle.std.proofs.Common.{◌≡◌, ◌⊎◌, ℕ, pos, true, false, List, [], ◌∷◌, refl, sym, ◌∙◌, ap, inl, inr, true≢false, Option, Some, None, Ok, Err, arith}
+use Rattle.std.proofs.Common.{◌≡◌, ◌⊎◌, ℕ, pos, true, false, List, [], ◌∷◌, refl, sym, ◌∙◌, ap, inl, inr, true≢false, Option, Some, None, Ok, Err}
 use Rattle.mc_text.specs.declared.kind.Kind.TheVariants.{File, Folder}
 use Rattle.mc_text.specs.Routes.{Route}
 use Rattle.tree_trait.specs.declared.file_system.Node.{Node}
@@ -12,22 +12,22 @@ use Rattle.tree_trait.specs.Change.{Change, Nothing, Makes, Removes, Syncs, Call
 use Rattle.tree_trait.specs.CrashImages.{IsCrashImage}
 use Rattle.tree_trait.proofs.BareRoot.{bare, bare_tree}
 use Rattle.tree_trait.proofs.Kept.{tree_made}
-use Rattle.file_copy.specs.declared.report.Ending.TheVariants.{Aborted}
-use Rattle.file_copy.specs.declared.report.Did.TheVariants.{Removed, Barrier, Troubled, Ended}
+use Rattle.job_reports.specs.declared.report.Ending.TheVariants.{Aborted}
+use Rattle.job_reports.specs.declared.report.Did.TheVariants.{Removed, Barrier, Troubled, Ended}
 use Rattle.copy_move.specs.declared.deletion.Stage.{Stage}
 use Rattle.copy_move.specs.declared.deletion.Stage.TheVariants.{Remove, Sync, Finish}
-use Rattle.copy_move.specs.declared.history.Event.{Event}
-use Rattle.copy_move.specs.declared.history.Event.TheVariants.{Began, Step, Closed}
-use Rattle.copy_move.specs.declared.history.Job.TheVariants as plan
-use Rattle.copy_move.specs.declared.history.Entry.{Entry}
+use Rattle.session_history.specs.declared.history.Event.{Event}
+use Rattle.session_history.specs.declared.history.Event.TheVariants.{Began, Step, Closed}
+use Rattle.job_reports.specs.declared.job.Job.TheVariants as plan
+use Rattle.session_history.specs.declared.history.Entry.{Entry}
 use Rattle.copy_move.specs.declared.work.Work.TheVariants.{Delete}
 use Rattle.copy_move.specs.declared.run.Course.{Course}
 use Rattle.copy_move.specs.declared.run.Course.TheVariants.{GoesOn, InTrouble, Ends}
-use Rattle.copy_move.specs.Deletions.{trouble_at, cause_of}
+use Rattle.job_reports.specs.Stops.{trouble_at, cause_of}
 use Rattle.copy_move.specs.Jobs.{Running}
 use Rattle.history_laws.specs.Doubt.{is_unsettled}
-use Rattle.history_laws.specs.LiveJobs.{IsLivePart, LiveJob, live_jobs}
-use Rattle.history_laws.specs.Replayed.{earlier_tree, front, replayed_tree}
+use Rattle.session_history.specs.LiveJobs.{IsLivePart, LiveJob, live_jobs}
+use Rattle.history_laws.specs.Replayed.{earlier_tree, log_prefix, replayed_tree}
 use Rattle.history_laws.specs.Traces.{IsTraced, Stand, nothing_live}
 use Rattle.history_laws.proofs.Moments.{session_law}
 use Rattle.history_laws.proofs.Staying.{stays_law}
@@ -307,7 +307,7 @@ no_live_part : IsLivePart (live_jobs settled_entries) the_file → ⊥
 no_live_part (found, inl same, is) = let none : (let o : Option Route = None in o) ≡ Some the_file = ap (λ (l : LiveJob). l.part) (sym same) ∙ is in cc
 no_live_part (found, inr none, is) = none
 
-still_settled : is_unsettled (front (log []) 4 settled_log) the_file ≡ false
+still_settled : is_unsettled (log_prefix (log []) 4 settled_log) the_file ≡ false
 still_settled =
     stays_law (log []) settled_log ended_entries settled_entries ended_entries ended_entries (stand (second ∷ []) []) 4 the_file small_tree refl ended_traced (inl (refl, refl, refl)) (inr (refl, inl refl)) (inr (refl, inl refl))
     refl no_live_part

@@ -1,7 +1,7 @@
 -- A part is made, and filled.
 use Rattle.std.proofs.Common.{◌≡◌, ℕ, ◌<◌, ◌≤◌, ◌+◌, true, false, List, [], ◌∷◌, ◌++◌, length, take, drop, refl, sym, ◌∙◌, ap, subst, Some, None, arith}
 use Rattle.std.specs.Prelude.{◌==◌, ◌||◌, not, unwrap_or}
-use Rattle.std.proofs.lemmas.Bool.{true≢false, false≢true, both_ways, false_from_ne_true, or_left}
+use Rattle.std.proofs.lemmas.Bool.{false_from_ne_true, or_left}
 use Rattle.mc_text.specs.declared.kind.Kind.TheVariants.{File}
 use Rattle.mc_text.specs.Routes.{Route, same_path}
 use Rattle.tree_trait.specs.declared.file_system.Node.{Node}
@@ -13,22 +13,23 @@ use Rattle.tree_trait.proofs.Walking.{stat-found}
 use Rattle.crash_law.specs.Guarded.{Marks}
 use Rattle.crash_law.proofs.Guarding.{found_there, same_quiet}
 use Rattle.crash_law.proofs.Syncing.{unaltered_law}
-use Rattle.file_copy.specs.declared.report.Did.TheVariants.{Began}
+use Rattle.job_reports.specs.declared.report.Did.TheVariants.{Began}
 use Rattle.file_copy.specs.declared.stage.FolderState.{FolderState}
 use Rattle.file_copy.specs.declared.stage.FolderState.TheVariants.{Synced, Dirty}
-use Rattle.file_copy.specs.declared.stage.Said.{Said as SaidOf}
+use Rattle.file_copy.specs.declared.stage.SourceFacts.{SourceFacts}
 use Rattle.file_copy.specs.declared.stage.Stage.TheVariants.{Fill}
 use Rattle.file_copy.specs.CopyCalls.{making, next_bytes, part_mode, room_for, writing}
-use Rattle.file_copy.specs.Copying.{Copying, folder_of, places_of, is_dirty}
-use Rattle.file_copy.specs.Looking.{IsReady, IsSaid}
+use Rattle.file_copy.specs.Copying.{Copying, places_of, is_dirty}
+use Rattle.job_reports.specs.Paths.{folder_of}
+use Rattle.file_copy.specs.Looking.{IsReady, AreFactsOf}
 use Rattle.file_copy.specs.PartNames.{IsFirstFree, part_name}
-use Rattle.file_copy.proofs.CopyAnswers.{IsDoneCall}
+use Rattle.job_reports.proofs.CallAnswers.{IsDoneCall}
 use Rattle.file_copy.proofs.FilledParts.{Holds, written_on}
-use Rattle.file_copy.proofs.PermittedCalls.{IsMaking, making_passes, stat_missing}
+use Rattle.job_reports.proofs.PermittedCalls.{IsMaking, making_passes, stat_missing}
 use Rattle.copy_move.specs.declared.work.Work.TheVariants.{Copy}
 use Rattle.copy_move.specs.declared.run.Course.TheVariants.{GoesOn}
 use Rattle.copy_move.specs.Settling.{NoneOwed, with_change as moves_dirty}
-use Rattle.copy_move.specs.Traces.{IsUnclaimed}
+use Rattle.history_laws.specs.Traces.{IsUnclaimed}
 use Rattle.history_laws.proofs.Calming.{written_known}
 use Rattle.history_laws.proofs.Knowing.{Said, IsKnown, IsKept, settled_marks}
 use Rattle.history_laws.proofs.JobKnows.{HasName, HasPart, IsFilled, IsUntouched, WorkKnows, none_waits, part_settled, untouched_free}
@@ -42,7 +43,7 @@ module _ (told : Said) (dirty dirty_after : List Route) (marks : Marks) (log now
   up = folder_of c.target
 
   -- what is known once the part was made
-  abbrev Begun : Route → SaidOf → Type 0
+  abbrev Begun : Route → SourceFacts → Type 0
   Begun part said =
       Comes told (said_after now (Began part) (Copy c) told) dirty_after log now
       (λ m. WorkKnows (said_after now (Began part) (Copy c) told) dirty_after m (current now) GoesOn (Copy (record c { stage = Fill part said 0; folder = Dirty })))
@@ -66,7 +67,7 @@ module _ (told : Said) (dirty dirty_after : List Route) (marks : Marks) (log now
       let same : dirty_after ≡ dirty ++ up ∷ [] = leaves ∙ ap (λ x. moves_dirty (is_dirty x) true up dirty) is in
       (subst (λ xs. Among xs up) (sym same) (last_among up dirty), λ q among. subst (λ xs. Among xs q) (sym same) (among_more up q dirty among))
 
-  module _ (said : SaidOf) (k : ℕ) (target_name : HasName c.target) (ready : IsReady (current log) (places_of c)) (is_said : IsSaid (current log) c.source said)
+  module _ (said : SourceFacts) (k : ℕ) (target_name : HasName c.target) (ready : IsReady (current log) (places_of c)) (is_said : AreFactsOf (current log) c.source said)
       (free : IsFirstFree (current log) IsUnclaimed (places_of c) k) (none : told.part ≡ None) (untouched : IsUntouched marks (current log) c.target)
       (d : IsDoneCall log (making (current log) (places_of c) k) now) (listed : Among dirty_after up) (more : (q : Route) → Among dirty q → Among dirty_after q) where
     abbrev name : List ℕ
@@ -157,7 +158,7 @@ module _ (told : Said) (dirty dirty_after : List Route) (marks : Marks) (log now
         (target_name, (λ e. listed), (refl, (n, part_settled after (marks_new marks part n) (with_part told part) c.target part n has, λ e. filled))))
 
   -- bytes are written behind the first
-  module _ (part : Route) (said : SaidOf) (done : ℕ) (listed : c.folder ≡ Dirty → Among dirty up) (target_name : HasName c.target) (i : ℕ) (has : HasPart told marks (current log) c.target part i)
+  module _ (part : Route) (said : SourceFacts) (done : ℕ) (listed : c.folder ≡ Dirty → Among dirty up) (target_name : HasName c.target) (i : ℕ) (has : HasPart told marks (current log) c.target part i)
       (filled : IsFilled (current log) c.source part said done i) (few : done + length (next_bytes (current log) c.source said done) ≤ said.size)
       (d : IsDoneCall log (writing (current log) (places_of c) part said done) now) (dirty_is : c.folder ≡ Dirty) where
     abbrev bytes : List ℕ

@@ -8,34 +8,39 @@ use Rattle.tree_trait.specs.Shape.{IsTree}
 use Rattle.tree_trait.specs.Change.{CallLog, current}
 use Rattle.tree_trait.specs.CrashImages.{Among, all_settled}
 use Rattle.tree_trait.proofs.Visible.{same_path-self}
-use Rattle.file_copy.specs.declared.report.Ending.{Ending}
-use Rattle.file_copy.specs.declared.report.Ending.TheVariants.{Finished, Aborted}
-use Rattle.file_copy.specs.declared.report.Did.{Did}
-use Rattle.file_copy.specs.declared.report.Did.TheVariants.{Began, Chunk, Placed, Removed, Skipped, Cleaned, Barrier, Troubled, Ended}
+use Rattle.job_reports.specs.declared.report.Ending.{Ending}
+use Rattle.job_reports.specs.declared.report.Ending.TheVariants.{Finished, Aborted}
+use Rattle.job_reports.specs.declared.report.Did.{Did}
+use Rattle.job_reports.specs.declared.report.Did.TheVariants.{Began, Chunk, Placed, Removed, Skipped, Cleaned, Barrier, Troubled, Ended}
+use Rattle.job_reports.specs.Stops.{cause_of}
 use Rattle.file_copy.specs.Copying.{Copying}
 use Rattle.file_copy.specs.Copying as copying
 use Rattle.copy_move.specs.declared.deletion.Stage.{Stage}
 use Rattle.copy_move.specs.declared.deletion.Stage.TheVariants.{Remove, Sync, Finish, PassedOver}
-use Rattle.copy_move.specs.declared.history.Answer.{Answer}
-use Rattle.copy_move.specs.declared.history.Answer.TheVariants.{Retry, Skip, SkipAll, Abort}
-use Rattle.copy_move.specs.declared.history.Event.{Event}
-use Rattle.copy_move.specs.declared.history.Event.TheVariants.{Key, Look, Order, Step, Closed}
-use Rattle.copy_move.specs.declared.history.Event.TheVariants as event
-use Rattle.copy_move.specs.declared.history.JobOrder.{JobOrder}
-use Rattle.copy_move.specs.declared.history.JobOrder.TheVariants.{Answered}
-use Rattle.copy_move.specs.declared.history.Entry.{Entry}
+use Rattle.job_reports.specs.declared.answer.Answer.{Answer}
+use Rattle.job_reports.specs.declared.answer.Answer.TheVariants.{Retry, Skip, SkipAll, Abort}
+use Rattle.session_history.specs.declared.history.Event.{Event}
+use Rattle.session_history.specs.declared.history.Event.TheVariants.{Key, Look, Order, Step, Closed}
+use Rattle.session_history.specs.declared.history.Event.TheVariants as event
+use Rattle.session_history.specs.declared.history.JobOrder.{JobOrder}
+use Rattle.session_history.specs.declared.history.JobOrder.TheVariants.{Answered}
+use Rattle.session_history.specs.declared.history.Entry.{Entry}
 use Rattle.copy_move.specs.declared.run.Course.{Course}
-use Rattle.copy_move.specs.declared.run.Course.TheVariants.{GoesOn, InTrouble, Unsettled, Skips, Ends}
+use Rattle.copy_move.specs.declared.run.Course.TheVariants.{GoesOn, InTrouble, OwedSyncFailed, Skips, Ends}
 use Rattle.copy_move.specs.declared.work.Work.{Work}
 use Rattle.copy_move.specs.declared.work.Work.TheVariants.{Copy, Delete}
 use Rattle.copy_move.specs.Deletions.{Deleting}
 use Rattle.copy_move.specs.Deletions as deletions
-use Rattle.copy_move.specs.Jobs.{Running, TellsOn, WorkTells, answered_on, closed_course, closed_job, course_after, ends, first_work, skipped, taken_anew}
-use Rattle.copy_move.specs.Settling.{changed_folder, is_dirty, with_change, without}
+use Rattle.copy_move.specs.Jobs.{Running, TellsOn, WorkTells, answered_on, closed_course, closed_job, course_after, first_work, skipped, taken_anew}
+use Rattle.job_reports.specs.Reports.{ends}
+use Rattle.copy_move.specs.Settling.{changed_folder, is_dirty, with_change}
+use Rattle.job_reports.specs.Paths.{without}
 use Rattle.copy_move.specs.Steps.{LeavesDirty, SyncsFolder}
 use Rattle.history_laws.specs.Doubt.{is_unsettled}
-use Rattle.history_laws.specs.Owed.{FinishedLaw, begins_change, changed_after, has_changed}
-use Rattle.copy_move.specs.Told.{is_closed, running}
+use Rattle.history_laws.specs.Owed.{FinishedLaw}
+use Rattle.session_history.specs.Named.{begins_change, changed_after, has_changed}
+use Rattle.session_history.specs.Entries.{is_closed}
+use Rattle.copy_move.specs.Told.{running}
 use Rattle.history_laws.specs.Traces.{EventLeads, IsTraced, Stand, SyncLeads, WorkLeads, before_others, if_closed, ordered, with_job}
 use Rattle.history_laws.proofs.Histories.{IsReached, only_job, traced_reached}
 use Rattle.history_laws.proofs.Owing.{in_filter, owed_law}
@@ -84,7 +89,7 @@ abbrev IsGoing : Course → Type 0
 IsGoing (Ends ending) = ⊥
 IsGoing GoesOn = Unit {0}
 IsGoing (InTrouble why) = Unit {0}
-IsGoing (Unsettled why) = Unit {0}
+IsGoing (OwedSyncFailed why) = Unit {0}
 IsGoing (Skips why) = Unit {0}
 
 -- what is known of a job that has changed something: where its folder isn't dirty, it isn't listed
@@ -117,7 +122,7 @@ module _ (job new : Running) (did : Did) (dirty dirty_after : List Route) (log n
       tidy_by (is_dirty job.work) refl leaves folder
       (λ not_dirty. elim (changed_by before (begins_change did) changed) [ inl b ↦ old b (subst IsGoing (sym is) tt) not_dirty | inr h ↦ absurd (first h) ]) clean among
   tidy_on (InTrouble why) is t leaves old changed going clean among = absurd t
-  tidy_on (Unsettled why) is t leaves old changed going clean among = absurd t
+  tidy_on (OwedSyncFailed why) is t leaves old changed going clean among = absurd t
   tidy_on (Skips why) is t leaves old changed going clean among = by t
     where
       by : TellsOn (Skips why) job did new → ⊥
@@ -160,9 +165,9 @@ tells_aborted : (job new : Running) (did : Did) (course : Course) → job.course
     → (ending : Ending) → new.course ≡ Ends ending → ending ≡ Aborted
 tells_aborted job new did GoesOn is (work, tells, new_is) old ending e = no_end (course_after did) ending (after_going did) (sym (ap (λ (x : Running). x.course) new_is) ∙ e)
 tells_aborted job new did (InTrouble why) is t old ending e = absurd t
-tells_aborted job new did (Unsettled why) is t old ending e = absurd t
+tells_aborted job new did (OwedSyncFailed why) is t old ending e = absurd t
 tells_aborted job new did (Skips why) is (inl (did_is, new_is)) old ending e = no_end GoesOn ending tt (sym (ap (λ (x : Running). x.course) new_is) ∙ e)
-tells_aborted job new did (Skips why) is (inr (did_is, new_is)) old ending e = no_end (InTrouble Rattle.file_copy.specs.declared.report.Cause.TheVariants.Memory) ending tt (sym (ap (λ (x : Running). x.course) new_is) ∙ e)
+tells_aborted job new did (Skips why) is (inr (did_is, new_is)) old ending e = no_end (InTrouble Rattle.job_reports.specs.declared.report.Cause.TheVariants.Memory) ending tt (sym (ap (λ (x : Running). x.course) new_is) ∙ e)
 tells_aborted job new did (Ends first) is (work, winds, new_is) old ending e = old ending (sym (ap (λ (x : Running). x.course) new_is) ∙ e)
 
 -- a job with the same work and number, that goes on only where it went on
@@ -187,11 +192,11 @@ answer_tidy g dirty job (InTrouble why) is Retry t =
 answer_tidy g dirty job (InTrouble why) is Skip t = kept_tidy g dirty job (record job { course = Skips why }) refl refl refl (λ going. subst IsGoing (sym is) tt) (λ ending e. no_end (Skips why) ending tt e) t
 answer_tidy g dirty job (InTrouble why) is SkipAll t = kept_tidy g dirty job (record job { course = Skips why }) refl refl refl (λ going. subst IsGoing (sym is) tt) (λ ending e. no_end (Skips why) ending tt e) t
 answer_tidy g dirty job (InTrouble why) is Abort t = kept_tidy g dirty job (record job { course = Ends Aborted }) refl refl refl (λ going. absurd going) (λ ending e. some_end Aborted ending e) t
-answer_tidy g dirty job (Unsettled why) is Retry t =
+answer_tidy g dirty job (OwedSyncFailed why) is Retry t =
     let a = anew_dirty job.work in kept_tidy g dirty job (record job { work = taken_anew job.work; course = GoesOn }) refl a.0 a.1 (λ going. subst IsGoing (sym is) tt) (λ ending e. no_end GoesOn ending tt e) t
-answer_tidy g dirty job (Unsettled why) is Skip t = t
-answer_tidy g dirty job (Unsettled why) is SkipAll t = t
-answer_tidy g dirty job (Unsettled why) is Abort t = kept_tidy g dirty job (record job { course = Ends Aborted }) refl refl refl (λ going. absurd going) (λ ending e. some_end Aborted ending e) t
+answer_tidy g dirty job (OwedSyncFailed why) is Skip t = t
+answer_tidy g dirty job (OwedSyncFailed why) is SkipAll t = t
+answer_tidy g dirty job (OwedSyncFailed why) is Abort t = kept_tidy g dirty job (record job { course = Ends Aborted }) refl refl refl (λ going. absurd going) (λ ending e. some_end Aborted ending e) t
 answer_tidy g dirty job GoesOn is answer t = t
 answer_tidy g dirty job (Skips why) is answer t = t
 answer_tidy g dirty job (Ends ending) is answer t = t
@@ -199,7 +204,7 @@ answer_tidy g dirty job (Ends ending) is answer t = t
 close_tidy : (g : List Entry) (dirty : List Route) (job : Running) (course : Course) → job.course ≡ course → IsTidyJob g dirty job → IsTidyJob g dirty (record job { course = closed_course course })
 close_tidy g dirty job GoesOn is t = kept_tidy g dirty job (record job { course = GoesOn }) refl refl refl (λ going. subst IsGoing (sym is) tt) (λ ending e. no_end GoesOn ending tt e) t
 close_tidy g dirty job (InTrouble why) is t = kept_tidy g dirty job (record job { course = Ends Aborted }) refl refl refl (λ going. absurd going) (λ ending e. some_end Aborted ending e) t
-close_tidy g dirty job (Unsettled why) is t = kept_tidy g dirty job (record job { course = Ends Aborted }) refl refl refl (λ going. absurd going) (λ ending e. some_end Aborted ending e) t
+close_tidy g dirty job (OwedSyncFailed why) is t = kept_tidy g dirty job (record job { course = Ends Aborted }) refl refl refl (λ going. absurd going) (λ ending e. some_end Aborted ending e) t
 close_tidy g dirty job (Skips why) is t = kept_tidy g dirty job (record job { course = Skips why }) refl refl refl (λ going. subst IsGoing (sym is) tt) (λ ending e. no_end (Skips why) ending tt e) t
 close_tidy g dirty job (Ends first) is t = kept_tidy g dirty job (record job { course = Ends first }) refl refl refl (λ going. absurd going) (λ ending e. t.aborted ending (is ∙ e)) t
 
@@ -274,7 +279,7 @@ module _ (opening : CallLog) (tree : IsTree (current opening)) (settled : all_se
       })
       by (inr (error, did_is, new_is, routes, called)) = subst (λ (x : Running). IsTidyJob (e ∷ older) dirty_after x) (sym new_is) (record {
         tidy = λ changed going clean among. t.tidy (unchanged job.id (ap begins_change did_is) changed) (subst IsGoing (sym syncs.goes) tt) clean (subst (λ xs. Among xs (changed_folder job.work)) routes among);
-        aborted = λ ending x. no_end (Unsettled (deletions.cause_of error)) ending tt x;
+        aborted = λ ending x. no_end (OwedSyncFailed (cause_of error)) ending tt x;
         clean = clean;
       })
 
@@ -335,7 +340,7 @@ finished_tidy : (g : List Entry) (dirty : List Route) (job new : Running) (part 
     → has_changed job.id g ≡ true → Among dirty (changed_folder job.work) → ⊥
 finished_tidy g dirty job new part GoesOn is (work, tells, new_is) t changed among = t.tidy changed (subst IsGoing (sym is) tt) (done_work job.work work part tells) among
 finished_tidy g dirty job new part (InTrouble why) is tells t changed among = tells
-finished_tidy g dirty job new part (Unsettled why) is tells t changed among = tells
+finished_tidy g dirty job new part (OwedSyncFailed why) is tells t changed among = tells
 finished_tidy g dirty job new part (Skips why) is (inl (did_is, new_is)) t changed among = let f : ⊥ = cc in f
 finished_tidy g dirty job new part (Skips why) is (inr (did_is, new_is)) t changed among = let f : ⊥ = cc in f
 finished_tidy g dirty job new part (Ends ending) is (work, winds, new_is) t changed among =

@@ -1,7 +1,7 @@
 -- By induction over a history: what is known holds where each entry ends, and before each call of it.
 use Rattle.std.proofs.Common.{◌≡◌, ℕ, ◌+◌, Bool, true, false, List, [], ◌∷◌, length, take, refl, sym, ◌∙◌, ap, subst, inl, inr, Option, Some, None, arith, append-nil}
 use Rattle.std.specs.Prelude.{map, ◌==◌, if◌then◌else◌}
-use Rattle.std.specs.Option.{option_map_or}
+use Rattle.std.specs.Option.{option_map_or, option_map}
 use Rattle.std.proofs.lemmas.Bool.{false≢true, eq-eqb}
 use Rattle.std.proofs.Math.Seq.{take-length}
 use Rattle.mc_text.specs.Routes.{Route}
@@ -12,19 +12,19 @@ use Rattle.crash_law.specs.Guarded.{Marks}
 use Rattle.crash_law.specs.Steps.{as_it_stands}
 use Rattle.crash_law.proofs.Others.{opening_law}
 use Rattle.crash_law.proofs.Guarding.{found_there}
-use Rattle.file_copy.specs.declared.report.Did.{Did}
-use Rattle.file_copy.specs.declared.report.Ending.TheVariants.{NoMemory}
-use Rattle.file_copy.specs.declared.report.Did.TheVariants.{Ended}
-use Rattle.file_copy.specs.declared.report.Did.TheVariants as reported
-use Rattle.copy_move.specs.declared.history.Answer.{Answer}
-use Rattle.copy_move.specs.declared.history.Answer.TheVariants.{Retry, Skip, SkipAll, Abort}
-use Rattle.copy_move.specs.declared.history.Event.{Event}
-use Rattle.copy_move.specs.declared.history.Event.TheVariants.{Key, Look, Began, Order, Step, Closed}
-use Rattle.copy_move.specs.declared.history.JobOrder.{JobOrder}
-use Rattle.copy_move.specs.declared.history.JobOrder.TheVariants.{Answered}
-use Rattle.copy_move.specs.declared.history.Entry.{Entry}
+use Rattle.job_reports.specs.declared.report.Did.{Did}
+use Rattle.job_reports.specs.declared.report.Ending.TheVariants.{NoMemory}
+use Rattle.job_reports.specs.declared.report.Did.TheVariants.{Ended}
+use Rattle.job_reports.specs.declared.report.Did.TheVariants as reported
+use Rattle.job_reports.specs.declared.answer.Answer.{Answer}
+use Rattle.job_reports.specs.declared.answer.Answer.TheVariants.{Retry, Skip, SkipAll, Abort}
+use Rattle.session_history.specs.declared.history.Event.{Event}
+use Rattle.session_history.specs.declared.history.Event.TheVariants.{Key, Look, Began, Order, Step, Closed}
+use Rattle.session_history.specs.declared.history.JobOrder.{JobOrder}
+use Rattle.session_history.specs.declared.history.JobOrder.TheVariants.{Answered}
+use Rattle.session_history.specs.declared.history.Entry.{Entry}
 use Rattle.copy_move.specs.declared.run.Course.{Course}
-use Rattle.copy_move.specs.declared.run.Course.TheVariants.{GoesOn, InTrouble, Unsettled, Skips, Ends}
+use Rattle.copy_move.specs.declared.run.Course.TheVariants.{GoesOn, InTrouble, OwedSyncFailed, Skips, Ends}
 use Rattle.copy_move.specs.declared.work.Work.{Work}
 use Rattle.copy_move.specs.declared.work.Work.TheVariants.{Copy, Delete}
 use Rattle.file_copy.specs.declared.stage.Stage.{Stage}
@@ -32,19 +32,20 @@ use Rattle.file_copy.specs.declared.stage.Stage.TheVariants as at
 use Rattle.file_copy.specs.Copying.{Copying}
 use Rattle.file_copy.specs.Copying as copying
 use Rattle.copy_move.specs.Jobs.{Running, answered, answered_on, closed_course, closed_job, first_work, taken_anew}
-use Rattle.copy_move.specs.Told.{is_closed, running}
+use Rattle.session_history.specs.Entries.{is_closed}
+use Rattle.copy_move.specs.Told.{running}
 use Rattle.tree_trait.specs.declared.file_system.FileSystem.{FileSystem}
-use Rattle.history_laws.specs.LiveJobs.{LiveJob, after_event, after_report, live, live_jobs, work_of}
-use Rattle.history_laws.specs.Replayed.{earlier_tree, front, replayed_step, replayed_tree}
-use Rattle.history_laws.specs.Traces.{EventLeads, Follows, GivesUp, IsJob, IsTraced, Stand, StepLeads, SyncLeads, WorkLeads, begun, if_closed, nothing_live, ordered, unless_ended, with_job}
-use Rattle.history_laws.proofs.Fronts.{AreWithin, earlier_more, replayed_more, said_by, told_of, told_with, within_more}
+use Rattle.session_history.specs.LiveJobs.{LiveJob, after_event, after_report, live, live_jobs, live_item}
+use Rattle.history_laws.specs.Replayed.{earlier_tree, log_prefix, replayed_step, replayed_tree}
+use Rattle.history_laws.specs.Traces.{EventLeads, Follows, IsJob, IsTraced, Stand, StepLeads, begun, if_closed, ordered, unless_ended, with_job}
+use Rattle.history_laws.proofs.Prefixes.{AreWithin, earlier_more, replayed_more, said_by, told_of, told_with, within_more}
 use Rattle.history_laws.proofs.JobKnows.{StageKnows, WorkKnows, work_course}
 use Rattle.history_laws.proofs.JobLeads.{sync_leads, work_leads}
 use Rattle.history_laws.proofs.JobSteps.{gives_up}
 use Rattle.history_laws.proofs.Knowing.{Said, IsKept, anywhere}
 use Rattle.history_laws.proofs.Pending.{pending_settled, within_settled}
 use Rattle.history_laws.proofs.Reports.{HasLive, JobsKnow, first_knows, knows_after, live_after, with_one}
-use Rattle.history_laws.proofs.Sources.{IsSame, answer_same, replayed_same, paths_in, tells_same}
+use Rattle.history_laws.proofs.Sources.{IsSame, answer_same, first_item, item_in, tells_same}
 use Rattle.history_laws.proofs.Stepped.{AreMids, Comes, doubt_by, more, part_after, said_after}
 
 -- what holds after these entries
@@ -105,11 +106,11 @@ module _ (told : Said) (dirty : List Route) (marks : Marks) (s : FileSystem) whe
   answer_knows (InTrouble why) Retry job is k = anew_knows told dirty marks s job.course job.work k
   answer_knows (InTrouble why) Skip job is k = on_course job.course (Skips why) job.work (λ e. let f : ⊥ = cc in f) k
   answer_knows (InTrouble why) SkipAll job is k = on_course job.course (Skips why) job.work (λ e. let f : ⊥ = cc in f) k
-  answer_knows (InTrouble why) Abort job is k = on_course job.course (Ends Rattle.file_copy.specs.declared.report.Ending.TheVariants.Aborted) job.work (λ e. let f : ⊥ = cc in f) k
-  answer_knows (Unsettled why) Retry job is k = anew_knows told dirty marks s job.course job.work k
-  answer_knows (Unsettled why) Skip job is k = k
-  answer_knows (Unsettled why) SkipAll job is k = k
-  answer_knows (Unsettled why) Abort job is k = on_course job.course (Ends Rattle.file_copy.specs.declared.report.Ending.TheVariants.Aborted) job.work (λ e. let f : ⊥ = cc in f) k
+  answer_knows (InTrouble why) Abort job is k = on_course job.course (Ends Rattle.job_reports.specs.declared.report.Ending.TheVariants.Aborted) job.work (λ e. let f : ⊥ = cc in f) k
+  answer_knows (OwedSyncFailed why) Retry job is k = anew_knows told dirty marks s job.course job.work k
+  answer_knows (OwedSyncFailed why) Skip job is k = k
+  answer_knows (OwedSyncFailed why) SkipAll job is k = k
+  answer_knows (OwedSyncFailed why) Abort job is k = on_course job.course (Ends Rattle.job_reports.specs.declared.report.Ending.TheVariants.Aborted) job.work (λ e. let f : ⊥ = cc in f) k
   answer_knows GoesOn answer job is k = k
   answer_knows (Skips why) answer job is k = k
   answer_knows (Ends ending) answer job is k = k
@@ -129,7 +130,7 @@ module _ (told : Said) (dirty : List Route) (marks : Marks) (s : FileSystem) whe
   closed_by : (course : Course) → closed_course course ≡ GoesOn → course ≡ GoesOn
   closed_by GoesOn e = refl
   closed_by (InTrouble why) e = absurd (let f : ⊥ = cc in f)
-  closed_by (Unsettled why) e = absurd (let f : ⊥ = cc in f)
+  closed_by (OwedSyncFailed why) e = absurd (let f : ⊥ = cc in f)
   closed_by (Skips why) e = absurd (let f : ⊥ = cc in f)
   closed_by (Ends ending) e = absurd (let f : ⊥ = cc in f)
 
@@ -146,8 +147,9 @@ order_same id (Answered answer) job = by (job.id == id)
     by false = (refl, refl)
 
 same_live : (live : List LiveJob) (part : Option Route) (job new : Running) → IsSame job new → HasLive live (job ∷ []) part → HasLive live (new ∷ []) part
-same_live live part job new same (w, is, source) =
-    (w, is ∙ ap (λ n. (let l : LiveJob = record { id = n; work = w; part = part } in l) ∷ []) (sym same.0), source ∙ sym same.1)
+same_live live part job new same is =
+    is ∙ (ap (λ n. (let l : LiveJob = record { id = n; item = item_in job.work; part = part } in l) ∷ []) (sym same.0)
+    ∙ ap (λ i. (let l : LiveJob = record { id = new.id; item = i; part = part } in l) ∷ []) (sym same.1))
 
 orders_live : (live : List LiveJob) (part : Option Route) (id : ℕ) (order : JobOrder) (jobs : List Running) → HasLive live jobs part → HasLive live (map (ordered id order) jobs) part
 orders_live live part id order [] h = h
@@ -189,27 +191,27 @@ module _ (opening : CallLog) (older : List Entry) (calls : ℕ) (was : Stand) (b
 
   -- a job steps
   module _ (now : CallLog) (id : ℕ) (did : Did) (counts : length now.changes ≡ length opening.changes + calls) (job : Running) (jobs_is : was.jobs ≡ job ∷ []) (id_is : job.id ≡ id) where
-    at_end : front opening calls now ≡ now
+    at_end : log_prefix opening calls now ≡ now
     at_end = ap (λ xs. (let l : CallLog = record now { changes = xs } in l)) (ap (λ n. take n now.changes) (sym counts) ∙ take-length now.changes)
 
     job_live : HasLive (live_jobs older) (job ∷ []) r.part
     job_live = subst (λ js. HasLive (live_jobs older) js r.part) jobs_is r.live
 
-    work_is : work_of id (live_jobs older) ≡ Some job_live.0
-    work_is = ap (work_of id) job_live.1 ∙ ap (λ b. if◌then◌else◌ b (Some job_live.0) None) (eq-eqb job.id id id_is)
+    item_is : live_item id (live_jobs older) ≡ Some (item_in job.work)
+    item_is = ap (live_item id) job_live ∙ ap (λ b. if◌then◌else◌ b (Some (item_in job.work)) None) (eq-eqb job.id id id_is)
 
     -- what the history says then is what the step comes to
     told_is : (made : List Change) → now ≡ more before made → told_with opening now older calls (Step id did) (part_after did r.part) ≡ said_after now did job.work told
     told_is made now_is =
         let tree : replayed_tree opening now older ≡ replayed_tree opening before older = ap (λ l. replayed_tree opening l older) now_is ∙ replayed_more opening before made older r.within in
         let earlier : earlier_tree opening now older ≡ earlier_tree opening before older = ap (λ l. earlier_tree opening l older) now_is ∙ earlier_more opening before made older r.within in
-        ap (λ t. said_by t (Rattle.history_laws.specs.Replayed.keeping (Rattle.history_laws.specs.Replayed.changed_by did) (replayed_tree opening now older) (earlier_tree opening now older)) (Rattle.history_laws.specs.Replayed.named_by did (Rattle.history_laws.specs.Replayed.named_parts older)) (part_after did r.part))
-        (ap (λ l. replayed_step l did (work_of id (live_jobs older)) (replayed_tree opening now older)) at_end
-        ∙ (ap (λ w. replayed_step now did w (replayed_tree opening now older)) work_is
-        ∙ (ap (replayed_step now did (Some job_live.0)) tree ∙ replayed_same now did job_live.0 job.work (replayed_tree opening before older) job_live.2)))
-        ∙ ap (λ t. said_by (replayed_step now did (Some job.work) (replayed_tree opening before older)) t (Rattle.history_laws.specs.Replayed.named_by did (Rattle.history_laws.specs.Replayed.named_parts older)) (part_after did r.part))
-        (ap (λ v. Rattle.history_laws.specs.Replayed.keeping (Rattle.history_laws.specs.Replayed.changed_by did) v (earlier_tree opening now older)) tree
-        ∙ ap (Rattle.history_laws.specs.Replayed.keeping (Rattle.history_laws.specs.Replayed.changed_by did) (replayed_tree opening before older)) earlier)
+        ap (λ t. said_by t (Rattle.history_laws.specs.Replayed.keeping (Rattle.session_history.specs.Named.changed_by did) (replayed_tree opening now older) (earlier_tree opening now older)) (Rattle.session_history.specs.Named.named_by did (Rattle.session_history.specs.Named.named_parts older)) (part_after did r.part))
+        (ap (λ l. replayed_step l did (live_item id (live_jobs older)) (replayed_tree opening now older)) at_end
+        ∙ (ap (λ w. replayed_step now did w (replayed_tree opening now older)) item_is
+        ∙ ap (replayed_step now did (Some (item_in job.work))) tree))
+        ∙ ap (λ t. said_by (replayed_step now did (Some (item_in job.work)) (replayed_tree opening before older)) t (Rattle.session_history.specs.Named.named_by did (Rattle.session_history.specs.Named.named_parts older)) (part_after did r.part))
+        (ap (λ v. Rattle.history_laws.specs.Replayed.keeping (Rattle.session_history.specs.Named.changed_by did) v (earlier_tree opening now older)) tree
+        ∙ ap (Rattle.history_laws.specs.Replayed.keeping (Rattle.session_history.specs.Named.changed_by did) (replayed_tree opening before older)) earlier)
         ∙ ap (λ d. (let t : Said = record (said_after now did job.work told) { doubt = d } in t)) (sym (doubt_anywhere did r.part))
 
     job_knows : WorkKnows told was.dirty r.marks (current before) job.course job.work
@@ -234,9 +236,9 @@ module _ (opening : CallLog) (older : List Entry) (calls : ℕ) (was : Stand) (b
     -- the live jobs then
     live_then : (new : Running) → IsSame job new → HasLive (after_report id did (live_jobs older)) (Rattle.history_laws.specs.Traces.before_others (unless_ended did new) []) (part_after did r.part)
     live_then new same =
-        subst (λ l. HasLive (after_report id did l) (Rattle.history_laws.specs.Traces.before_others (unless_ended did new) []) (part_after did r.part)) (sym job_live.1)
-        (subst (λ n. HasLive (after_report n did ((let l : LiveJob = record { id = job.id; work = job_live.0; part = r.part } in l) ∷ [])) (Rattle.history_laws.specs.Traces.before_others (unless_ended did new) []) (part_after did r.part)) id_is
-        (live_after job.id job_live.0 r.part new same.0 (job_live.2 ∙ sym same.1) did))
+        subst (λ l. HasLive (after_report id did l) (Rattle.history_laws.specs.Traces.before_others (unless_ended did new) []) (part_after did r.part)) (sym job_live)
+        (subst (λ n. HasLive (after_report n did ((let l : LiveJob = record { id = job.id; item = item_in job.work; part = r.part } in l) ∷ [])) (Rattle.history_laws.specs.Traces.before_others (unless_ended did new) []) (part_after did r.part)) id_is
+        (live_after job.id (item_in job.work) r.part new same.0 (sym same.1) did))
 
     jobs_then : (new : Option Running) (jobs : List Running) → jobs ≡ with_job id new was.jobs → jobs ≡ Rattle.history_laws.specs.Traces.before_others new []
     jobs_then new jobs is = is ∙ (ap (with_job id new) jobs_is ∙ (ap (λ n. with_job n new (job ∷ [])) (sym id_is) ∙ with_one job new))
@@ -253,8 +255,8 @@ module _ (opening : CallLog) (older : List Entry) (calls : ℕ) (was : Stand) (b
         (λ m k. knows_after (said_after now did job.work told) dirty_after m (current now) new did k) (live_then new (settled_same syncs.synced)))
       where
         settled_same : Rattle.copy_move.specs.Steps.SyncsFolder job syncs.folder did new was.dirty dirty_after (Some before) (Some now) → IsSame job new
-        settled_same (inl (did_is, new_is, routes, called)) = (ap (λ (x : Running). x.id) new_is, ap (λ (x : Running). paths_in x.work) new_is)
-        settled_same (inr (e, did_is, new_is, routes, called)) = (ap (λ (x : Running). x.id) new_is, ap (λ (x : Running). paths_in x.work) new_is)
+        settled_same (inl (did_is, new_is, routes, called)) = (ap (λ (x : Running). x.id) new_is, ap (λ (x : Running). item_in x.work) new_is)
+        settled_same (inr (e, did_is, new_is, routes, called)) = (ap (λ (x : Running). x.id) new_is, ap (λ (x : Running). item_in x.work) new_is)
     stepped dirty_after jobs after (inr (gives, after_is)) is =
         subst (λ js. Quiet (Step id did) (let st : Stand = record { jobs = js; dirty = dirty_after } in st) now) (sym (jobs_then after jobs is ∙ ap (λ o. Rattle.history_laws.specs.Traces.before_others o []) after_is))
         (entered dirty_after [] _ (gives_up told was.dirty dirty_after r.marks before now r.kept job.work job.course did job_knows gives.did_is gives.same gives.none) (λ m k. k)
@@ -262,10 +264,10 @@ module _ (opening : CallLog) (older : List Entry) (calls : ℕ) (was : Stand) (b
       where
         ended : (left : Option Route) → HasLive (after_report id (Ended NoMemory left) (live_jobs older)) [] None
         ended left =
-            ap (after_report id (Ended NoMemory left)) job_live.1 ∙ ap (λ b. if◌then◌else◌ b [] ((let l : LiveJob = record { id = job.id; work = job_live.0; part = r.part } in l) ∷ [])) (eq-eqb job.id id id_is)
+            ap (after_report id (Ended NoMemory left)) job_live ∙ ap (λ b. if◌then◌else◌ b [] ((let l : LiveJob = record { id = job.id; item = item_in job.work; part = r.part } in l) ∷ [])) (eq-eqb job.id id id_is)
 
   -- a job begins
-  begins : (id : ℕ) (plan : Rattle.copy_move.specs.declared.history.Job.Job) (background : Bool) → was.jobs ≡ [] → (o : Option Work) → first_work id plan ≡ o
+  begins : (id : ℕ) (plan : Rattle.job_reports.specs.declared.job.Job.Job) (background : Bool) → was.jobs ≡ [] → (o : Option Work) → first_work id plan ≡ o
       → Quiet (Began id plan background) (record was { jobs = begun id plan }) before
   begins id plan background none o is = record {
     made = [];
@@ -275,7 +277,8 @@ module _ (opening : CallLog) (older : List Entry) (calls : ℕ) (was : Stand) (b
     marks = r.marks;
     kept = r.kept;
     knows = subst (λ x. JobsKnow told was.dirty r.marks (current before) (option_map_or (λ w. running id w ∷ []) x [])) (sym is) (knows_of o is);
-    live = subst (λ x. HasLive (option_map_or (λ w. live id w ∷ live_jobs older) x (live_jobs older)) (option_map_or (λ w. running id w ∷ []) x []) r.part) (sym is) (live_of o);
+    live = subst (λ x. HasLive (option_map_or (λ i. live id i ∷ live_jobs older) x (live_jobs older)) (begun id plan) r.part) (sym (first_item id plan))
+        (subst (λ x. HasLive (option_map_or (λ i. live id i ∷ live_jobs older) (option_map item_in x) (live_jobs older)) (option_map_or (λ w. running id w ∷ []) x []) r.part) (sym is) (live_of o));
   }
     where
       no_part : r.part ≡ None
@@ -288,9 +291,9 @@ module _ (opening : CallLog) (older : List Entry) (calls : ℕ) (was : Stand) (b
       knows_of None is = no_part
       knows_of (Some w) is = first_knows told was.dirty r.marks (current before) no_part id plan w is
 
-      live_of : (o : Option Work) → HasLive (option_map_or (λ w. live id w ∷ live_jobs older) o (live_jobs older)) (option_map_or (λ w. running id w ∷ []) o []) r.part
+      live_of : (o : Option Work) → HasLive (option_map_or (λ i. live id i ∷ live_jobs older) (option_map item_in o) (live_jobs older)) (option_map_or (λ w. running id w ∷ []) o []) r.part
       live_of None = no_live
-      live_of (Some w) = (w, ap (λ l. live id w ∷ l) no_live ∙ ap (λ p. (let l : LiveJob = record { id = id; work = w; part = p } in l) ∷ []) (sym no_part), refl)
+      live_of (Some w) = ap (λ l. live id (item_in w) ∷ l) no_live ∙ ap (λ p. (let l : LiveJob = record { id = id; item = item_in w; part = p } in l) ∷ []) (sym no_part)
 
   pub enters : (what : Event) (after : Stand) (now : CallLog) → EventLeads was what after before now → length now.changes ≡ length opening.changes + calls → Quiet what after now
   enters (Step id did) after now (job, is_job, (new, leads, jobs_is)) counts =

@@ -13,16 +13,17 @@ use Rattle.tree_trait.specs.Change.{CallLog, current}
 use Rattle.tree_trait.specs.CrashImages.{Among}
 use Rattle.tree_trait.proofs.Finding.{find-once}
 use Rattle.crash_law.specs.Guarded.{Marks}
-use Rattle.file_copy.specs.declared.report.Did.{Did}
-use Rattle.file_copy.specs.declared.report.Did.TheVariants.{Ended}
+use Rattle.job_reports.specs.declared.report.Did.{Did}
+use Rattle.job_reports.specs.declared.report.Did.TheVariants.{Ended}
 use Rattle.file_copy.specs.declared.stage.FolderState.TheVariants.{Dirty}
-use Rattle.file_copy.specs.declared.stage.Said.{Said as SaidOf}
+use Rattle.file_copy.specs.declared.stage.SourceFacts.{SourceFacts}
 use Rattle.file_copy.specs.declared.stage.Stage.{Stage}
 use Rattle.file_copy.specs.declared.stage.Stage.TheVariants.{Begin, Fill, Clean, Left, Decided}
 use Rattle.file_copy.specs.CopyCalls.{part_mode}
-use Rattle.file_copy.specs.Copying.{Copying, folder_of}
+use Rattle.file_copy.specs.Copying.{Copying}
+use Rattle.job_reports.specs.Paths.{folder_of}
 use Rattle.file_copy.proofs.FilledParts.{Holds}
-use Rattle.file_copy.proofs.PermittedCalls.{stat_missing}
+use Rattle.job_reports.proofs.PermittedCalls.{stat_missing}
 use Rattle.copy_move.specs.declared.run.Course.{Course}
 use Rattle.copy_move.specs.declared.run.Course.TheVariants.{GoesOn}
 use Rattle.copy_move.specs.declared.work.Work.{Work}
@@ -51,7 +52,7 @@ pub record HasPart (said : Said) (marks : Marks) (s : FileSystem) (target part :
   pub untouched : IsUntouched marks s target
 
 -- the part holds the first bytes of the source
-pub record IsFilled (s : FileSystem) (source part : Route) (said : SaidOf) (done i : ℕ) : Type 0 where
+pub record IsFilled (s : FileSystem) (source part : Route) (said : SourceFacts) (done i : ℕ) : Type 0 where
   pub n : ℕ
   pub source_leads : find s source ≡ Some n
   pub apart : source ≡ part → ⊥

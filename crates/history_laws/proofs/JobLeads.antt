@@ -4,28 +4,28 @@ use Rattle.mc_text.specs.Routes.{Route}
 use Rattle.tree_trait.specs.declared.file_system.FileSystem.{FileSystem}
 use Rattle.tree_trait.specs.Calls.{SyncFolder}
 use Rattle.tree_trait.specs.Change.{CallLog, current}
+use Rattle.job_reports.specs.Stops.{cause_of, trouble_at}
 use Rattle.crash_law.specs.Guarded.{Marks}
-use Rattle.file_copy.specs.declared.report.Cause.TheVariants.{Memory}
-use Rattle.file_copy.specs.declared.report.Ending.{Ending}
-use Rattle.file_copy.specs.declared.report.Did.{Did}
-use Rattle.file_copy.specs.declared.report.Did.TheVariants.{Skipped, Barrier, Troubled}
+use Rattle.job_reports.specs.declared.report.Cause.TheVariants.{Memory}
+use Rattle.job_reports.specs.declared.report.Ending.{Ending}
+use Rattle.job_reports.specs.declared.report.Did.{Did}
+use Rattle.job_reports.specs.declared.report.Did.TheVariants.{Skipped, Barrier, Troubled}
 use Rattle.file_copy.specs.declared.stage.Stage.{Stage}
 use Rattle.file_copy.specs.declared.stage.Stage.TheVariants.{Begin, Fill, Clean, Left, Decided}
 use Rattle.file_copy.specs.Copying.{Copying}
 use Rattle.file_copy.specs.Copying as copying
-use Rattle.file_copy.proofs.CopyAnswers.{some_log}
+use Rattle.job_reports.proofs.CallAnswers.{some_log}
 use Rattle.copy_move.specs.declared.deletion.Stage.{Stage as DeletionStage}
 use Rattle.copy_move.specs.declared.deletion.Stage.TheVariants as deletion
 use Rattle.copy_move.specs.declared.work.Work.{Work}
 use Rattle.copy_move.specs.declared.work.Work.TheVariants.{Copy, Delete}
 use Rattle.copy_move.specs.declared.run.Course.{Course}
-use Rattle.copy_move.specs.declared.run.Course.TheVariants.{GoesOn, InTrouble, Unsettled, Skips, Ends}
+use Rattle.copy_move.specs.declared.run.Course.TheVariants.{GoesOn, InTrouble, OwedSyncFailed, Skips, Ends}
 use Rattle.copy_move.specs.Deletions as deletions
 use Rattle.copy_move.specs.Jobs.{Running, CallsOn, TellsOn, WorkCalls, WorkLastCalls, WorkTells, WorkWinds, course_after, is_fresh, skipped}
-use Rattle.copy_move.specs.Settling.{NoneOwed, TellsFolder, after_try, changed_folder, is_dirty, with_change as moves_dirty}
+use Rattle.copy_move.specs.Settling.{NoneOwed, changed_folder, is_dirty, with_change as moves_dirty}
 use Rattle.copy_move.specs.Steps.{LeavesDirty}
-use Rattle.copy_move.specs.Traces.{IsUnclaimed}
-use Rattle.history_laws.specs.Traces.{SyncLeads, WorkLeads}
+use Rattle.history_laws.specs.Traces.{IsUnclaimed, SyncLeads, WorkLeads}
 use Rattle.history_laws.proofs.Calming.{refused_is}
 use Rattle.history_laws.proofs.Deleted.{comes_refused}
 use Rattle.history_laws.proofs.DeletionSteps.{Steps, comes_synced, deletion_tells, deletion_winds, same_dirty, stands}
@@ -84,7 +84,7 @@ module _ (told : Said) (dirty dirty_after : List Route) (marks : Marks) (log now
       (work_tells job.work work did knows tells (subst (λ (x : Running). WorkCalls IsUnclaimed job.work did x.work log (Some now)) new_is calls) (settled refl)
       (leaves ∙ ap (λ (x : Running). moves_dirty (is_dirty job.work) (is_dirty x.work) (changed_folder job.work) dirty) new_is))
   by_course job new did (InTrouble why) is knows tells calls settled leaves = absurd tells
-  by_course job new did (Unsettled why) is knows tells calls settled leaves = absurd tells
+  by_course job new did (OwedSyncFailed why) is knows tells calls settled leaves = absurd tells
   by_course job new did (Skips why) is knows (inl (did_is, new_is)) calls settled leaves =
       subst (λ x. Leads job x new) (sym did_is) (subst (λ (x : Running). Leads job (Skipped (Rattle.copy_move.specs.Jobs.file_of job.work) why) x) (sym new_is)
       (stands told dirty dirty_after marks log now kept GoesOn (skipped job.work) (skip_knows told dirty marks (current log) (Skips why) job.work knows)
@@ -92,7 +92,7 @@ module _ (told : Said) (dirty dirty_after : List Route) (marks : Marks) (log now
       ∙ (ap (λ b. moves_dirty (is_dirty job.work) b (changed_folder job.work) dirty) (skip_dirty job.work) ∙ same_dirty (is_dirty job.work) (changed_folder job.work) dirty)))
       (some_log now log calls)))
   by_course job new did (Skips why) is knows (inr (did_is, new_is)) calls settled leaves =
-      subst (λ x. Leads job x new) (sym did_is) (subst (λ (x : Running). Leads job (Troubled (Rattle.file_copy.specs.Stops.no_memory_of (Rattle.copy_move.specs.Jobs.at_barrier job.work))) x) (sym new_is)
+      subst (λ x. Leads job x new) (sym did_is) (subst (λ (x : Running). Leads job (Troubled (Rattle.job_reports.specs.Stops.out_of_memory_at (Rattle.copy_move.specs.Jobs.at_barrier job.work))) x) (sym new_is)
       (stands told dirty dirty_after marks log now kept (InTrouble Memory) job.work
       (work_course told dirty marks (current log) (Skips why) (InTrouble Memory) job.work (λ e. absurd (let f : ⊥ = cc in f)) knows)
       (leaves ∙ (ap (λ (x : Running). moves_dirty (is_dirty job.work) (is_dirty x.work) (changed_folder job.work) dirty) new_is ∙ same_dirty (is_dirty job.work) (changed_folder job.work) dirty))
@@ -112,10 +112,10 @@ module _ (told : Said) (dirty dirty_after : List Route) (marks : Marks) (log now
           subst (λ x. Leads job x new) (sym did_is) (subst (λ (x : Running). Leads job Barrier x) (sym new_is)
           (subst (λ xs. Comes told told xs log now (λ m. WorkKnows told xs m (current now) job.course job.work)) (sym routes)
           (comes_synced told dirty marks log now s.folder job.course job.work kept
-          (fresh_knows told dirty (Rattle.copy_move.specs.Settling.without s.folder dirty) marks (current log) job.course job.work s.fresh knows) (called log refl))))
+          (fresh_knows told dirty (Rattle.job_reports.specs.Paths.without s.folder dirty) marks (current log) job.course job.work s.fresh knows) (called log refl))))
       by (inr (e, did_is, new_is, routes, called)) =
-          subst (λ x. Leads job x new) (sym did_is) (subst (λ (x : Running). Leads job (Troubled (deletions.trouble_at e s.folder true)) x) (sym new_is)
-          (subst (λ xs. Comes told told xs log now (λ m. WorkKnows told xs m (current now) (Unsettled (deletions.cause_of e)) job.work)) (sym routes)
-          (comes_refused told dirty marks log now (Unsettled (deletions.cause_of e)) job.work kept
-          (work_course told dirty marks (current log) job.course (Unsettled (deletions.cause_of e)) job.work (λ x. absurd (let f : ⊥ = cc in f)) knows)
+          subst (λ x. Leads job x new) (sym did_is) (subst (λ (x : Running). Leads job (Troubled (trouble_at e s.folder true)) x) (sym new_is)
+          (subst (λ xs. Comes told told xs log now (λ m. WorkKnows told xs m (current now) (OwedSyncFailed (cause_of e)) job.work)) (sym routes)
+          (comes_refused told dirty marks log now (OwedSyncFailed (cause_of e)) job.work kept
+          (work_course told dirty marks (current log) job.course (OwedSyncFailed (cause_of e)) job.work (λ x. absurd (let f : ⊥ = cc in f)) knows)
           (refused_is log now (SyncFolder s.folder) e (λ x bytes. refl) (called log refl)))))

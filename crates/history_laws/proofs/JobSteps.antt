@@ -1,5 +1,5 @@
 -- Each step of a job keeps what is known: of its work, of its last steps, a skip, the sync of a folder that an ended job left,
--- and the end for want of memory.
+-- and the end out of memory.
 use Rattle.std.proofs.Common.{◌≡◌, ℕ, Bool, true, false, List, refl, sym, ◌∙◌, ap, subst, Option, Some, None, Ok}
 use Rattle.std.specs.Prelude.{not}
 use Rattle.std.specs.Option.{option_map_or}
@@ -7,30 +7,31 @@ use Rattle.std.proofs.lemmas.Bool.{false≢true, both_ways}
 use Rattle.mc_text.specs.Routes.{Route, same_path}
 use Rattle.tree_trait.specs.declared.file_system.FileSystem.{FileSystem}
 use Rattle.tree_trait.specs.declared.calls.TreeError.{TreeError}
-use Rattle.tree_trait.specs.FileSystem.{Spot, find, node, starts_mount, value_at, visible_tree}
+use Rattle.tree_trait.specs.FileSystem.{Spot, find, starts_mount, value_at, visible_tree}
 use Rattle.tree_trait.specs.Refusals.{folder_kind}
 use Rattle.tree_trait.specs.Calls.{RemoveFile}
 use Rattle.tree_trait.specs.Change.{CallLog, current}
 use Rattle.tree_trait.specs.Answers.{Performs}
 use Rattle.tree_trait.proofs.Visible.{same_path-true}
 use Rattle.crash_law.specs.Guarded.{Marks}
-use Rattle.file_copy.specs.declared.report.Ending.{Ending}
-use Rattle.file_copy.specs.declared.report.Ending.TheVariants.{NoMemory}
-use Rattle.file_copy.specs.declared.report.Did.{Did}
-use Rattle.file_copy.specs.declared.report.Did.TheVariants.{Began, Chunk, Placed, Removed, Skipped, Cleaned, Barrier, Troubled, Ended}
+use Rattle.job_reports.specs.declared.report.Ending.{Ending}
+use Rattle.job_reports.specs.declared.report.Ending.TheVariants.{NoMemory}
+use Rattle.job_reports.specs.declared.report.Did.{Did}
+use Rattle.job_reports.specs.declared.report.Did.TheVariants.{Began, Chunk, Placed, Removed, Skipped, Cleaned, Barrier, Troubled, Ended}
 use Rattle.file_copy.specs.declared.stage.FolderState.{FolderState}
 use Rattle.file_copy.specs.declared.stage.FolderState.TheVariants.{Synced, Dirty}
 use Rattle.file_copy.specs.declared.stage.Stage.{Stage}
 use Rattle.file_copy.specs.declared.stage.Stage.TheVariants.{Begin, Fill, Clean, Left, Decided}
-use Rattle.file_copy.specs.Copying.{Copying, folder_of, is_dirty, is_fresh, part_at}
-use Rattle.file_copy.specs.LastSteps.{SyncAnswers, WindCalls, Winds, given_up, left_at, removable, sync_answer}
+use Rattle.file_copy.specs.Copying.{Copying, is_dirty, is_fresh, part_at}
+use Rattle.job_reports.specs.Paths.{folder_of}
+use Rattle.file_copy.specs.LastSteps.{SyncAnswers, WindCalls, Winds, given_up, left_at, removable}
 use Rattle.file_copy.specs.LastSteps as last
-use Rattle.file_copy.proofs.CopyAnswers.{some_log}
+use Rattle.job_reports.proofs.CallAnswers.{some_log}
 use Rattle.copy_move.specs.declared.work.Work.{Work}
 use Rattle.copy_move.specs.declared.work.Work.TheVariants.{Copy, Delete}
 use Rattle.copy_move.specs.declared.run.Course.{Course}
 use Rattle.copy_move.specs.declared.run.Course.TheVariants.{Ends}
-use Rattle.copy_move.specs.Jobs.{Running, CallsOn, TellsOn, course_after, part_of, skipped}
+use Rattle.copy_move.specs.Jobs.{part_of}
 use Rattle.copy_move.specs.Jobs as jobs
 use Rattle.copy_move.specs.Settling.{after_try}
 use Rattle.history_laws.proofs.Calming.{refused_is}

@@ -6,21 +6,22 @@ use Rattle.tree_trait.specs.FileSystem.{Spot, View, value_at}
 use Rattle.tree_trait.specs.Change.{CallLog, current}
 use Rattle.tree_trait.specs.CrashImages.{Among}
 use Rattle.tree_trait.proofs.Visible.{same_path-self}
-use Rattle.file_copy.specs.declared.report.Did.{Did}
-use Rattle.file_copy.specs.declared.report.Did.TheVariants.{Began, Chunk, Placed, Removed, Skipped, Cleaned, Barrier, Troubled, Ended}
+use Rattle.job_reports.specs.declared.report.Did.{Did}
+use Rattle.job_reports.specs.declared.report.Did.TheVariants.{Began, Chunk, Placed, Removed, Skipped, Cleaned, Barrier, Troubled, Ended}
+use Rattle.job_reports.specs.Jobs.{Item, Copies, Removes}
 use Rattle.file_copy.specs.Copied.{copied}
-use Rattle.copy_move.specs.declared.history.Event.{Event}
-use Rattle.copy_move.specs.declared.history.Event.TheVariants.{Key, Look, Order, Step, Closed}
-use Rattle.copy_move.specs.declared.history.Event.TheVariants as event
-use Rattle.copy_move.specs.declared.history.Entry.{Entry}
-use Rattle.copy_move.specs.declared.work.Work.{Work}
-use Rattle.copy_move.specs.declared.work.Work.TheVariants.{Copy, Delete}
+use Rattle.session_history.specs.declared.history.Event.{Event}
+use Rattle.session_history.specs.declared.history.Event.TheVariants.{Key, Look, Order, Step, Closed}
+use Rattle.session_history.specs.declared.history.Event.TheVariants as event
+use Rattle.session_history.specs.declared.history.Entry.{Entry}
 use Rattle.copy_move.specs.Jobs.{Running}
 use Rattle.history_laws.specs.Doubt.{is_unsettled}
-use Rattle.history_laws.specs.LiveJobs.{IsLivePart, LiveJob, live_jobs, work_of}
-use Rattle.history_laws.specs.Replayed.{front, named_after, named_by, named_parts, placed_by, replayed_event, replayed_step, replayed_tree}
-use Rattle.history_laws.specs.Safe.{IsSafe, calls_in}
-use Rattle.history_laws.specs.Staying.{FinishedStaysLaw, IsUnnamedSince, names, names_path}
+use Rattle.session_history.specs.LiveJobs.{IsLivePart, LiveJob, live_jobs, live_item}
+use Rattle.history_laws.specs.Replayed.{log_prefix, placed_by, replayed_event, replayed_step, replayed_tree}
+use Rattle.session_history.specs.Named.{named_after, named_by, named_parts, IsUnnamedSince, names, names_path}
+use Rattle.history_laws.specs.Safe.{IsSafe}
+use Rattle.session_history.specs.Entries.{calls_in}
+use Rattle.history_laws.specs.Staying.{FinishedStaysLaw}
 use Rattle.history_laws.proofs.Deleted.{put_off}
 use Rattle.history_laws.proofs.Finished.{finished_law}
 use Rattle.history_laws.proofs.Histories.{traced_reached}
@@ -28,27 +29,28 @@ use Rattle.history_laws.proofs.Moments.{session_law}
 use Rattle.history_laws.proofs.Owing.{in_filter}
 use Rattle.history_laws.proofs.Reports.{HasLive}
 use Rattle.history_laws.proofs.Staying.{stays_law}
+use Rattle.history_laws.proofs.Sources.{item_in}
 
 -- a path that an entry doesn't name has what it had
-placed_unnamed : (work : Option Work) (target : Route) (v : View) (path : Route) → same_path path target ≡ false → placed_by work target v path ≡ v path
-placed_unnamed (Some (Copy c)) target v path unnamed = put_off v target (Rattle.std.specs.Option.option_map copied (v c.source).value) path unnamed
-placed_unnamed (Some (Delete d)) target v path unnamed = refl
+placed_unnamed : (item : Option Item) (target : Route) (v : View) (path : Route) → same_path path target ≡ false → placed_by item target v path ≡ v path
+placed_unnamed (Some (Copies source to)) target v path unnamed = put_off v target (Rattle.std.specs.Option.option_map copied (v source).value) path unnamed
+placed_unnamed (Some (Removes file)) target v path unnamed = refl
 placed_unnamed None target v path unnamed = refl
 
-step_unnamed : (log : CallLog) (did : Did) (work : Option Work) (v : View) (path : Route) → names did path ≡ false → replayed_step log did work v path ≡ v path
-step_unnamed log (Removed file) work v path unnamed = put_off v file None path unnamed
-step_unnamed log (Placed target) work v path unnamed = placed_unnamed work target v path unnamed
-step_unnamed log (Ended ending (Some part)) work v path unnamed = put_off v part (value_at (current log) part) path unnamed
-step_unnamed log (Ended ending None) work v path unnamed = refl
-step_unnamed log (Began part) work v path unnamed = refl
-step_unnamed log (Chunk count) work v path unnamed = refl
-step_unnamed log (Skipped file cause) work v path unnamed = refl
-step_unnamed log (Cleaned part) work v path unnamed = refl
-step_unnamed log Barrier work v path unnamed = refl
-step_unnamed log (Troubled trouble) work v path unnamed = refl
+step_unnamed : (log : CallLog) (did : Did) (item : Option Item) (v : View) (path : Route) → names did path ≡ false → replayed_step log did item v path ≡ v path
+step_unnamed log (Removed file) item v path unnamed = put_off v file None path unnamed
+step_unnamed log (Placed target) item v path unnamed = placed_unnamed item target v path unnamed
+step_unnamed log (Ended ending (Some part)) item v path unnamed = put_off v part (value_at (current log) part) path unnamed
+step_unnamed log (Ended ending None) item v path unnamed = refl
+step_unnamed log (Began part) item v path unnamed = refl
+step_unnamed log (Chunk count) item v path unnamed = refl
+step_unnamed log (Skipped file cause) item v path unnamed = refl
+step_unnamed log (Cleaned part) item v path unnamed = refl
+step_unnamed log Barrier item v path unnamed = refl
+step_unnamed log (Troubled trouble) item v path unnamed = refl
 
 event_unnamed : (log : CallLog) (what : Event) (jobs : List LiveJob) (v : View) (path : Route) → names_path what path ≡ false → replayed_event log what jobs v path ≡ v path
-event_unnamed log (Step id did) jobs v path unnamed = step_unnamed log did (work_of id jobs) v path unnamed
+event_unnamed log (Step id did) jobs v path unnamed = step_unnamed log did (live_item id jobs) v path unnamed
 event_unnamed log (event.Began id plan background) jobs v path unnamed = refl
 event_unnamed log (Order id order) jobs v path unnamed = refl
 event_unnamed log (Key key time refusals lost) jobs v path unnamed = refl
@@ -59,7 +61,7 @@ pub replayed_since : (opening end : CallLog) (older g : List Entry) (path : Rout
 replayed_since opening end older [] path same = ap (λ x. replayed_tree opening end x path) (sym same)
 replayed_since opening end older (e ∷ g) path (inl same) = ap (λ x. replayed_tree opening end x path) (sym same)
 replayed_since opening end older (e ∷ g) path (inr (unnamed, since)) =
-    event_unnamed (front opening e.calls end) e.what (live_jobs g) (replayed_tree opening end g) path unnamed ∙ replayed_since opening end older g path since
+    event_unnamed (log_prefix opening e.calls end) e.what (live_jobs g) (replayed_tree opening end g) path unnamed ∙ replayed_since opening end older g path since
 
 -- a path that no entry names is a named part only if it was one
 named_step : (did : Did) (parts : List Route) (path : Route) → names did path ≡ false → Among (named_by did parts) path → Among parts path
@@ -90,9 +92,9 @@ named_since older (e ∷ g) path (inr (unnamed, since)) among = named_since olde
 -- the part of a live job is the one that is known
 part_known : (jobs : List Running) (part : Option Route) (live : List LiveJob) (path : Route) → HasLive live jobs part → IsLivePart live path → part ≡ Some path
 part_known [] part live path none found = absurd (let f = subst (λ l. IsLivePart l path) none found in f.1)
-part_known (job ∷ []) part live path (work, is, source) found = by (subst (λ l. IsLivePart l path) is found)
+part_known (job ∷ []) part live path is found = by (subst (λ l. IsLivePart l path) is found)
   where
-    by : IsLivePart ((let l : LiveJob = record { id = job.id; work = work; part = part } in l) ∷ []) path → part ≡ Some path
+    by : IsLivePart ((let l : LiveJob = record { id = job.id; item = item_in job.work; part = part } in l) ∷ []) path → part ≡ Some path
     by (one, inl same, part_is) = ap (λ (l : LiveJob). l.part) (sym same) ∙ part_is
     by (one, inr none, part_is) = absurd none
 part_known (job ∷ other ∷ jobs) part live path many found = absurd many
@@ -103,14 +105,14 @@ finished_stays_law opening now newest older standing coming was stand job new pa
   where
     no_part : IsLivePart (live_jobs older) path → ⊥
     no_part found =
-        let r = traced_reached opening tree settled older was (front opening (calls_in older) now) before in
+        let r = traced_reached opening tree settled older was (log_prefix opening (calls_in older) now) before in
         unnamed (r.kept.known.aside path (r.kept.known.part path (part_known was.jobs r.part (live_jobs older) path r.live found)).0)
 
-    sure : is_unsettled (front opening calls now) path ≡ false
+    sure : is_unsettled (log_prefix opening calls now) path ≡ false
     sure = stays_law opening now newest older standing coming stand calls path tree settled traced moment since later
-        (finished_law opening (front opening (calls_in older) now) older was job new part path tree settled before jobs_is tells changed folder) no_part
+        (finished_law opening (log_prefix opening (calls_in older) now) older was job new part path tree settled before jobs_is tells changed folder) no_part
 
-    by : (g : List Entry) → IsUnnamedSince older path g → IsSafe opening now g (front opening calls now) image → value_at image path ≡ (replayed_tree opening now older path).value
+    by : (g : List Entry) → IsUnnamedSince older path g → IsSafe opening now g (log_prefix opening calls now) image → value_at image path ≡ (replayed_tree opening now older path).value
     by g unnamed_since safe = elim (safe path (λ is. unnamed (named_since older g path unnamed_since is.named))) [
       | inl told ↦ told ∙ ap (λ (s : Spot). s.value) (replayed_since opening now older g path unnamed_since)
       | inr doubt ↦ absurd (both_ways _ sure doubt.0)

@@ -8,7 +8,7 @@ pub mod Done
 pub mod Example
 pub mod Filling
 pub mod Finished
-pub mod Fronts
+pub mod Prefixes
 pub mod Histories
 pub mod JobKnows
 pub mod JobLeads

@@ -15,7 +15,7 @@ use Rattle.tree_trait.proofs.Names.{count_after, count-after_change}
 use Rattle.tree_trait.proofs.Visible.{same_path-true, same_path-self}
 use Rattle.tree_trait.proofs.Steady.{at}
 use Rattle.crash_law.specs.Guarded.{Marks, IsNaming}
-use Rattle.crash_law.proofs.Guarding.{settle_law, find_same, found_at, said, unsaid, found_there}
+use Rattle.crash_law.proofs.Guarding.{settle_law, find_same, said}
 use Rattle.crash_law.proofs.Leading.{current_more}
 use Rattle.crash_law.proofs.Making.{making_law}
 use Rattle.crash_law.proofs.Tops.{under_made, none_below}

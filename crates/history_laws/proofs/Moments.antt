@@ -1,5 +1,5 @@
 -- Each moment of a session is safe.
-use Rattle.std.proofs.Common.{◌≡◌, ◌⊎◌, ℕ, ◌+◌, ◌≤◌, true, List, [], ◌∷◌, ◌++◌, length, length-append, take, refl, sym, ◌∙◌, ap, subst, inl, inr, Option, Some, None, arith, append_assoc}
+use Rattle.std.proofs.Common.{◌≡◌, ◌⊎◌, ℕ, ◌+◌, ◌≤◌, true, List, [], ◌∷◌, ◌++◌, length, take, refl, sym, ◌∙◌, ap, subst, inl, inr, Option, Some, None, arith, append_assoc}
 use Rattle.std.proofs.Math.Seq.{take-append_seam}
 use Rattle.std.proofs.lemmas.List.{take-append-le}
 use Rattle.mc_text.specs.Routes.{Route}
@@ -10,17 +10,19 @@ use Rattle.tree_trait.specs.Change.{Change, CallLog, current}
 use Rattle.tree_trait.specs.CrashImages.{all_settled}
 use Rattle.crash_law.specs.Guarded.{Marks}
 use Rattle.crash_law.specs.Possible.{IsImage}
-use Rattle.copy_move.specs.declared.history.Entry.{Entry}
+use Rattle.session_history.specs.declared.history.Entry.{Entry}
 use Rattle.copy_move.specs.Jobs.{Running}
-use Rattle.history_laws.specs.LiveJobs.{LiveJob, IsLivePart, live_jobs}
-use Rattle.history_laws.specs.Replayed.{front, replayed_tree}
-use Rattle.history_laws.specs.Safe.{IsMoment, IsSafe, ReplayLaw, SessionLaw, calls_in}
+use Rattle.session_history.specs.LiveJobs.{LiveJob, IsLivePart, live_jobs}
+use Rattle.history_laws.specs.Replayed.{log_prefix, replayed_tree}
+use Rattle.session_history.specs.Entries.{IsMoment, calls_in}
+use Rattle.history_laws.specs.Safe.{IsSafe, ReplayLaw, SessionLaw}
 use Rattle.history_laws.specs.Traces.{Follows, IsTraced, Stand}
-use Rattle.history_laws.proofs.Fronts.{told_more, told_of, within_more}
+use Rattle.history_laws.proofs.Prefixes.{told_more, told_of, within_more}
 use Rattle.history_laws.proofs.Histories.{IsEntered, IsReached, enters, traced_reached}
 use Rattle.history_laws.proofs.Knowing.{IsKept, Said, safe_path}
 use Rattle.history_laws.proofs.Reports.{HasLive, JobsKnow}
 use Rattle.history_laws.proofs.Stepped.{cut, mid_at, more}
+use Rattle.history_laws.proofs.Sources.{item_in}
 
 abbrev pub log_of : CallLog → List Change → CallLog
 log_of now xs = record now { changes = xs }
@@ -34,7 +36,7 @@ safe_told opening end g part dirty marks log image kept left path apart =
 -- the part that is known is that of a live job
 pub live_part : (jobs : List Running) (told : Said) (dirty : List Route) (marks : Marks) (s : FileSystem) (live : List LiveJob) (path : Route) → JobsKnow told dirty marks s jobs → HasLive live jobs told.part → told.part ≡ Some path → IsLivePart live path
 live_part [] told dirty marks s live path knows is part = absurd (let e : (let o : Option Route = None in o) ≡ Some path = sym knows ∙ part in cc)
-live_part (job ∷ []) told dirty marks s live path knows (w, is, source) part = subst (λ l. IsLivePart l path) (sym is) ((let l : LiveJob = record { id = job.id; work = w; part = told.part } in l), inl refl, part)
+live_part (job ∷ []) told dirty marks s live path knows is part = subst (λ l. IsLivePart l path) (sym is) ((let l : LiveJob = record { id = job.id; item = item_in job.work; part = told.part } in l), inl refl, part)
 live_part (job ∷ other ∷ jobs) told dirty marks s live path knows is part = absurd knows
 
 -- so many calls were made
@@ -42,16 +44,16 @@ pub traced_count : (opening now : CallLog) (newest : List Entry) (stand : Stand)
 traced_count opening now [] stand traced = let same = ap (λ (l : CallLog). length l.changes) traced.1 in omega (arith, same)
 traced_count opening now (e ∷ older) stand traced = traced.3.counts
 
--- the front at the end of these entries is the log then
-pub front_is : (opening end : CallLog) (calls : ℕ) (now : CallLog) (rest : List Change) → end ≡ more now rest → length opening.changes + calls ≡ length now.changes → front opening calls end ≡ now
-front_is opening end calls now rest end_is count =
+-- the prefix at the end of these entries is the log then
+pub prefix_is : (opening end : CallLog) (calls : ℕ) (now : CallLog) (rest : List Change) → end ≡ more now rest → length opening.changes + calls ≡ length now.changes → log_prefix opening calls end ≡ now
+prefix_is opening end calls now rest end_is count =
     ap (λ (l : CallLog). log_of l (take (length opening.changes + calls) l.changes)) end_is
     ∙ ap (log_of now) (ap (λ n. take n (now.changes ++ rest)) count ∙ take-append_seam now.changes rest)
 
--- and before it a front of that log
-pub front_cut : (opening end : CallLog) (calls : ℕ) (now : CallLog) (rest : List Change) → end ≡ more now rest → length opening.changes + calls ≤ length now.changes
-    → front opening calls end ≡ cut now (length opening.changes + calls)
-front_cut opening end calls now rest end_is few =
+-- and before it a prefix of that log
+pub prefix_cut : (opening end : CallLog) (calls : ℕ) (now : CallLog) (rest : List Change) → end ≡ more now rest → length opening.changes + calls ≤ length now.changes
+    → log_prefix opening calls end ≡ cut now (length opening.changes + calls)
+prefix_cut opening end calls now rest end_is few =
     ap (λ (l : CallLog). log_of l (take (length opening.changes + calls) l.changes)) end_is
     ∙ ap (log_of now) (take-append-le (length opening.changes + calls) now.changes rest few)
 
@@ -61,10 +63,10 @@ KnownGives opening end log Is =
     (g : List Entry) (part : Option Route) (dirty : List Route) (marks : Marks) → ((q : Route) → part ≡ Some q → IsLivePart (live_jobs g) q) → IsKept (told_of opening end g part) dirty marks log → Is g
 
 -- What is known gives this, as of some entries: so it holds at each moment, as of those that stand or with the one under way.
-module _ (opening : CallLog) (tree : IsTree (current opening)) (settled : all_settled opening.changes ≡ true) (end : CallLog) (calls : ℕ) (Is : List Entry → Type 0) (gives : KnownGives opening end (front opening calls end) Is)
+module _ (opening : CallLog) (tree : IsTree (current opening)) (settled : all_settled opening.changes ≡ true) (end : CallLog) (calls : ℕ) (Is : List Entry → Type 0) (gives : KnownGives opening end (log_prefix opening calls end) Is)
     (standing coming : List Entry) where
   abbrev log : CallLog
-  log = front opening calls end
+  log = log_prefix opening calls end
 
   part_of : (g : List Entry) (stand : Stand) (now : CallLog) (r : IsReached opening g stand now) → (q : Route) → r.part ≡ Some q → IsLivePart (live_jobs g) q
   part_of g stand now r q is = live_part stand.jobs (told_of opening now g r.part) stand.dirty r.marks (current now) (live_jobs g) q r.knows r.live is
@@ -82,9 +84,9 @@ module _ (opening : CallLog) (tree : IsTree (current opening)) (settled : all_se
       → length before.changes ≤ length opening.changes + calls → length opening.changes + calls ≤ length now.changes → Is older ⊎ Is (e ∷ older)
   within_entry e older was before stand now rest r n later end_is least most =
       elim (mid_at (told_of opening before older r.part) n.made before (length opening.changes + calls) n.mids least (subst (λ (l : CallLog). length opening.changes + calls ≤ length l.changes) n.now_is most)) [
-        | inl whole ↦ inr (known_here (e ∷ older) stand now rest later end_is (front_cut opening end calls now rest end_is most ∙ (ap (λ (l : CallLog). cut l (length opening.changes + calls)) n.now_is ∙ (whole ∙ sym n.now_is))))
+        | inl whole ↦ inr (known_here (e ∷ older) stand now rest later end_is (prefix_cut opening end calls now rest end_is most ∙ (ap (λ (l : CallLog). cut l (length opening.changes + calls)) n.now_is ∙ (whole ∙ sym n.now_is))))
         | inr mid ↦ inl (gives older r.part mid.0 mid.1 (part_of older was before r)
-            (subst (λ (l : CallLog). IsKept (told_of opening end older r.part) mid.0 mid.1 l) (sym (front_cut opening end calls now rest end_is most ∙ ap (λ (l : CallLog). cut l (length opening.changes + calls)) n.now_is))
+            (subst (λ (l : CallLog). IsKept (told_of opening end older r.part) mid.0 mid.1 l) (sym (prefix_cut opening end calls now rest end_is most ∙ ap (λ (l : CallLog). cut l (length opening.changes + calls)) n.now_is))
             (subst (λ t. IsKept t mid.0 mid.1 (cut (more before n.made) (length opening.changes + calls)))
             (sym (ap (λ (l : CallLog). told_of opening l older r.part) (end_before n.made n.now_is) ∙ told_more opening before (n.made ++ rest) older r.part r.within)) mid.2)))
       ]
@@ -96,11 +98,11 @@ module _ (opening : CallLog) (tree : IsTree (current opening)) (settled : all_se
   known_moment [] stand now rest traced end_is (standing_is, coming_is, calls_is) =
       let r = traced_reached opening tree settled [] stand now traced in
       let count : length opening.changes + calls ≡ length now.changes = (let n = traced_count opening now [] stand traced in omega (arith, n, calls_is)) in
-      inl (subst Is (sym standing_is) (known_here [] stand now rest r end_is (front_is opening end calls now rest end_is count)))
+      inl (subst Is (sym standing_is) (known_here [] stand now rest r end_is (prefix_is opening end calls now rest end_is count)))
   known_moment (e ∷ older) stand now rest traced end_is (inl (standing_is, coming_is, calls_is)) =
       let r = traced_reached opening tree settled (e ∷ older) stand now traced in
       let count : length opening.changes + calls ≡ length now.changes = (let n = traced_count opening now (e ∷ older) stand traced in omega (arith, n, calls_is)) in
-      inl (subst Is (sym standing_is) (known_here (e ∷ older) stand now rest r end_is (front_is opening end calls now rest end_is count)))
+      inl (subst Is (sym standing_is) (known_here (e ∷ older) stand now rest r end_is (prefix_is opening end calls now rest end_is count)))
   known_moment (e ∷ older) stand now rest (was, before, traced, f) end_is (inr (inl (standing_is, coming_is, least, most))) =
       let r = traced_reached opening tree settled older was before traced in
       let n = enters opening older e.calls was before r e.what f.after now f.leads f.counts in
@@ -122,7 +124,7 @@ module _ (opening : CallLog) (tree : IsTree (current opening)) (settled : all_se
         live = n.live;
         within = (
           let c = f.counts in omega (arith, c),
-          subst (λ (l : CallLog). Rattle.history_laws.proofs.Fronts.AreWithin opening older l) (sym n.now_is) (within_more opening before n.made older (traced_reached opening tree settled older was before traced).within),
+          subst (λ (l : CallLog). Rattle.history_laws.proofs.Prefixes.AreWithin opening older l) (sym n.now_is) (within_more opening before n.made older (traced_reached opening tree settled older was before traced).within),
         );
       }
   known_moment (e ∷ older) stand now rest (was, before, traced, f) end_is (inr (inr earlier)) =
@@ -132,8 +134,8 @@ module _ (opening : CallLog) (tree : IsTree (current opening)) (settled : all_se
 
 pub session_law : SessionLaw
 session_law opening now newest standing coming stand calls image tree settled traced moment left =
-    known_moment opening tree settled now calls (λ g. IsSafe opening now g (front opening calls now) image)
-    (λ g part dirty marks live kept. safe_told opening now g part dirty marks (front opening calls now) image kept left)
+    known_moment opening tree settled now calls (λ g. IsSafe opening now g (log_prefix opening calls now) image)
+    (λ g part dirty marks live kept. safe_told opening now g part dirty marks (log_prefix opening calls now) image kept left)
     standing coming newest stand now [] traced (ap (log_of now) (sym (Rattle.std.proofs.Common.append-nil now.changes))) moment
 
 -- what can be seen in this log is what the history makes of the opening, but for the parts of live jobs
@@ -142,9 +144,9 @@ IsShown opening end log g = (path : Route) → (IsLivePart (live_jobs g) path �
 
 -- at each moment, inside a call too
 pub shown_moment : (opening now : CallLog) (newest standing coming : List Entry) (stand : Stand) (calls : ℕ) → IsTree (current opening) → all_settled opening.changes ≡ true → IsTraced opening newest stand now
-    → IsMoment newest standing coming calls → IsShown opening now (front opening calls now) standing ⊎ IsShown opening now (front opening calls now) coming
+    → IsMoment newest standing coming calls → IsShown opening now (log_prefix opening calls now) standing ⊎ IsShown opening now (log_prefix opening calls now) coming
 shown_moment opening now newest standing coming stand calls tree settled traced moment =
-    known_moment opening tree settled now calls (IsShown opening now (front opening calls now))
+    known_moment opening tree settled now calls (IsShown opening now (log_prefix opening calls now))
     (λ g part dirty marks live kept path other. kept.known.shows path (λ is. other (live path is)))
     standing coming newest stand now [] traced (ap (log_of now) (sym (Rattle.std.proofs.Common.append-nil now.changes))) moment
 

@@ -9,7 +9,7 @@ use Rattle.tree_trait.specs.Change.{CallLog, current}
 use Rattle.tree_trait.specs.CrashImages.{Among}
 use Rattle.tree_trait.proofs.Finding.{find-once}
 use Rattle.crash_law.specs.Guarded.{Marks}
-use Rattle.file_copy.specs.Copying.{folder_of}
+use Rattle.job_reports.specs.Paths.{folder_of}
 use Rattle.copy_move.specs.declared.run.Course.{Course}
 use Rattle.copy_move.specs.Settling.{changed_folder, is_dirty, with_change}
 use Rattle.copy_move.specs.Steps.{LeavesDirty}

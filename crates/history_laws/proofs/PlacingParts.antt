@@ -13,7 +13,7 @@ use Rattle.tree_trait.proofs.Kept.{folder_there}
 use Rattle.tree_trait.proofs.Finding.{same_name-true, same_name-self}
 use Rattle.tree_trait.proofs.Visible.{same_path-true}
 use Rattle.crash_law.specs.Guarded.{Marks, IsNaming}
-use Rattle.crash_law.proofs.Guarding.{settle_law, find_same, found_at, said, unsaid, found_there}
+use Rattle.crash_law.proofs.Guarding.{settle_law, find_same, found_at, said}
 use Rattle.crash_law.proofs.Leading.{current_more}
 use Rattle.crash_law.proofs.Placing.{placing_law}
 use Rattle.crash_law.proofs.Syncing.{unaltered_law}

@@ -1,6 +1,6 @@
 -- A full part is given its mode, synced, and gets the target's name; or one of these calls is refused.
 use Rattle.std.proofs.Common.{◌≡◌, ◌⊎◌, ℕ, ◌<◌, zero, suc, Bool, true, false, List, [], ◌∷◌, ◌++◌, take, refl, sym, ◌∙◌, ap, subst, inl, inr, Option, Some, None, Ok, arith}
-use Rattle.std.specs.Prelude.{◌==◌, unwrap_or, if◌then◌else◌, ℤ, option_and_then}
+use Rattle.std.specs.Prelude.{◌==◌, unwrap_or, if◌then◌else◌, ℤ}
 use Rattle.std.specs.Option.{option_map, option_map_or}
 use Rattle.std.proofs.lemmas.Bool.{both_ways, false_from_ne_true, eqb-true, eq-eqb, or_left, or_right}
 use Rattle.std.proofs.Math.Seq.{take-length}
@@ -9,26 +9,26 @@ use Rattle.tree_trait.specs.declared.file_system.Node.{Node}
 use Rattle.tree_trait.specs.declared.file_system.FileSystem.{FileSystem}
 use Rattle.tree_trait.specs.declared.calls.TreeError.{TreeError}
 use Rattle.tree_trait.specs.FileSystem.{Spot, find, node, value}
-use Rattle.tree_trait.specs.Refusals.{is_folder, folder_kind}
+use Rattle.tree_trait.specs.Refusals.{is_folder, folder_kind, walk, after_walk, rename_refusal}
 use Rattle.tree_trait.specs.Calls.{Call, SetMode, SyncFile, Rename}
 use Rattle.tree_trait.specs.Change.{Change, Nothing, Moves, Sets, Syncs, CallLog, current, with_change, change_of, found}
 use Rattle.tree_trait.specs.CrashImages.{Among}
 use Rattle.tree_trait.specs.Answers.{Performs}
 use Rattle.tree_trait.proofs.Visible.{same_path-self, same_path-true}
 use Rattle.tree_trait.proofs.Walking.{passed_walk, last_place}
-use Rattle.tree_trait.specs.Refusals.{walk, after_walk, rename_refusal}
 use Rattle.crash_law.specs.Guarded.{Marks}
 use Rattle.crash_law.proofs.Leading.{current_more}
 use Rattle.crash_law.proofs.Syncing.{firm_law}
-use Rattle.file_copy.specs.declared.report.Cause.{Cause}
-use Rattle.file_copy.specs.declared.report.Cause.TheVariants as cause
-use Rattle.file_copy.specs.declared.report.Did.TheVariants.{Placed}
-use Rattle.file_copy.specs.declared.stage.Said.{Said as SaidOf}
-use Rattle.file_copy.specs.CallRuns.{AllDone, StopsAt, RunStops}
+use Rattle.job_reports.specs.declared.report.Cause.{Cause}
+use Rattle.job_reports.specs.declared.report.Cause.TheVariants as cause
+use Rattle.job_reports.specs.declared.report.Did.TheVariants.{Placed}
+use Rattle.file_copy.specs.declared.stage.SourceFacts.{SourceFacts}
+use Rattle.job_reports.specs.CallRuns.{AllDone, StopsAt, RunStops}
 use Rattle.file_copy.specs.CopyCalls.{part_mode, placing}
 use Rattle.file_copy.specs.Copied.{copied}
-use Rattle.file_copy.specs.Copying.{Copying, folder_of}
-use Rattle.file_copy.proofs.CopyAnswers.{IsDoneCall, done_call, some_log}
+use Rattle.file_copy.specs.Copying.{Copying}
+use Rattle.job_reports.specs.Paths.{folder_of}
+use Rattle.job_reports.proofs.CallAnswers.{IsDoneCall, done_call, some_log}
 use Rattle.file_copy.proofs.FilledParts.{Holds, holds_copy}
 use Rattle.copy_move.specs.declared.work.Work.TheVariants.{Copy}
 use Rattle.history_laws.proofs.Calming.{moded_known, nothing_known, synced_known, refused_is}
@@ -276,7 +276,7 @@ module _ (told : Said) (dirty : List Route) (c : Copying) (tname : List ℕ) (ta
       (subst (λ (l : CallLog). Performs {A = Unit {0}} mid (Rename part c.target) (Ok tt) (Some l)) (sym (some_log now last end)) moved))
 
   -- a full part is placed
-  module _ (marks : Marks) (log now : CallLog) (said : SaidOf) (kept : IsKept told dirty marks log) (has : HasPart told marks (current log) c.target part i)
+  module _ (marks : Marks) (log now : CallLog) (said : SourceFacts) (kept : IsKept told dirty marks log) (has : HasPart told marks (current log) c.target part i)
       (filled : IsFilled (current log) c.source part said said.size i) (done : AllDone log (placing said.mode part c.target) (Some now)) where
     abbrev from : Node
     from = node (current log) filled.n

@@ -5,18 +5,19 @@ use Rattle.std.proofs.lemmas.Bool.{false≢true, and_parts, eq-eqb}
 use Rattle.mc_text.specs.Routes.{Route, parent_of}
 use Rattle.tree_trait.specs.declared.file_system.FileSystem.{FileSystem}
 use Rattle.crash_law.specs.Guarded.{Marks}
-use Rattle.file_copy.specs.declared.report.Did.{Did}
-use Rattle.file_copy.specs.declared.report.Did.TheVariants.{Began, Chunk, Placed, Removed, Skipped, Cleaned, Barrier, Troubled, Ended}
-use Rattle.copy_move.specs.declared.history.Job.{Job}
-use Rattle.copy_move.specs.declared.history.Job.TheVariants as plan
+use Rattle.job_reports.specs.declared.report.Did.{Did}
+use Rattle.job_reports.specs.declared.report.Did.TheVariants.{Began, Chunk, Placed, Removed, Skipped, Cleaned, Barrier, Troubled, Ended}
+use Rattle.job_reports.specs.declared.job.Job.{Job}
+use Rattle.job_reports.specs.declared.job.Job.TheVariants as plan
+use Rattle.job_reports.specs.Jobs.{Item}
 use Rattle.copy_move.specs.declared.run.Course.TheVariants.{GoesOn}
 use Rattle.copy_move.specs.declared.work.Work.{Work}
-use Rattle.copy_move.specs.Jobs.{Running, ends, first_work}
-use Rattle.history_laws.specs.LiveJobs.{LiveJob, after_report}
+use Rattle.copy_move.specs.Jobs.{Running, first_work}
+use Rattle.session_history.specs.LiveJobs.{LiveJob, after_report}
 use Rattle.history_laws.specs.Traces.{before_others, unless_ended, with_job}
 use Rattle.history_laws.proofs.Knowing.{Said}
 use Rattle.history_laws.proofs.JobKnows.{HasName, KnowsAfter, WorkKnows}
-use Rattle.history_laws.proofs.Sources.{paths_in}
+use Rattle.history_laws.proofs.Sources.{item_in}
 use Rattle.history_laws.proofs.Stepped.{part_after}
 
 -- what is known of the live jobs: of none no part stands
@@ -28,7 +29,7 @@ JobsKnow told dirty marks s (job ∷ other ∷ jobs) = ⊥
 -- the history tells of these live jobs
 abbrev pub HasLive : List LiveJob → List Running → Option Route → Type 0
 HasLive live [] part = live ≡ []
-HasLive live (job ∷ []) part = (w : Work) × (live ≡ (let l : LiveJob = record { id = job.id; work = w; part = part } in l) ∷ []) × (paths_in w ≡ paths_in job.work)
+HasLive live (job ∷ []) part = live ≡ (let l : LiveJob = record { id = job.id; item = item_in job.work; part = part } in l) ∷ []
 HasLive live (job ∷ other ∷ jobs) part = ⊥
 
 same_id : (id : ℕ) → (id == id) ≡ true
@@ -50,12 +51,14 @@ module _ (told : Said) (dirty : List Route) (marks : Marks) (s : FileSystem) (ne
   knows_after Barrier k = k
   knows_after (Troubled trouble) k = k
 
-module _ (id : ℕ) (w : Work) (part : Option Route) (new : Running) (same : new.id ≡ id) (source : paths_in w ≡ paths_in new.work) where
+module _ (id : ℕ) (item : Item) (part : Option Route) (new : Running) (same : new.id ≡ id) (same_item : item ≡ item_in new.work) where
   abbrev one : List LiveJob
-  one = (let l : LiveJob = record { id = id; work = w; part = part } in l) ∷ []
+  one = (let l : LiveJob = record { id = id; item = item; part = part } in l) ∷ []
 
-  stays : (later : Option Route) → (live : List LiveJob) → live ≡ (let l : LiveJob = record { id = id; work = w; part = later } in l) ∷ [] → HasLive live (new ∷ []) later
-  stays later live is = (w, is ∙ ap (λ n. (let l : LiveJob = record { id = n; work = w; part = later } in l) ∷ []) (sym same), source)
+  stays : (later : Option Route) → (live : List LiveJob) → live ≡ (let l : LiveJob = record { id = id; item = item; part = later } in l) ∷ [] → HasLive live (new ∷ []) later
+  stays later live is =
+      is ∙ (ap (λ n. (let l : LiveJob = record { id = n; item = item; part = later } in l) ∷ []) (sym same)
+      ∙ ap (λ i. (let l : LiveJob = record { id = new.id; item = i; part = later } in l) ∷ []) same_item)
 
   kept_if : (b : Bool) (x y : List LiveJob) → b ≡ true → if◌then◌else◌ b x y ≡ x
   kept_if true x y h = refl

@@ -9,33 +9,35 @@ use Rattle.tree_trait.specs.Shape.{IsTree}
 use Rattle.tree_trait.specs.Change.{Change, CallLog, current}
 use Rattle.tree_trait.specs.CrashImages.{all_settled}
 use Rattle.tree_trait.proofs.Visible.{same_path-self, same_path-true}
+use Rattle.job_reports.specs.Jobs.{Item, item_of}
 use Rattle.crash_law.specs.Guarded.{Marks}
-use Rattle.file_copy.specs.declared.report.Did.{Did}
-use Rattle.file_copy.specs.declared.report.Did.TheVariants.{Began, Chunk, Placed, Removed, Skipped, Cleaned, Barrier, Troubled, Ended}
+use Rattle.job_reports.specs.declared.report.Did.{Did}
+use Rattle.job_reports.specs.declared.report.Did.TheVariants.{Began, Chunk, Placed, Removed, Skipped, Cleaned, Barrier, Troubled, Ended}
 use Rattle.file_copy.specs.declared.stage.Stage.{Stage}
 use Rattle.file_copy.specs.declared.stage.Stage.TheVariants.{Begin, Fill, Clean, Left, Decided}
 use Rattle.file_copy.specs.Copying.{Copying}
-use Rattle.copy_move.specs.declared.history.Event.{Event}
-use Rattle.copy_move.specs.declared.history.Event.TheVariants.{Key, Look, Order, Step, Closed}
-use Rattle.copy_move.specs.declared.history.Event.TheVariants as event
-use Rattle.copy_move.specs.declared.history.Entry.{Entry}
+use Rattle.session_history.specs.declared.history.Event.{Event}
+use Rattle.session_history.specs.declared.history.Event.TheVariants.{Key, Look, Order, Step, Closed}
+use Rattle.session_history.specs.declared.history.Event.TheVariants as event
+use Rattle.session_history.specs.declared.history.Entry.{Entry}
 use Rattle.copy_move.specs.declared.run.Course.{Course}
 use Rattle.copy_move.specs.declared.work.Work.{Work}
 use Rattle.copy_move.specs.declared.work.Work.TheVariants.{Copy, Delete}
-use Rattle.copy_move.specs.Jobs.{Running, first_work}
+use Rattle.copy_move.specs.Jobs.{Running}
 use Rattle.history_laws.specs.Doubt.{is_unsettled}
-use Rattle.history_laws.specs.LiveJobs.{IsLivePart, LiveJob, after_event, after_report, live, live_jobs, part_after}
-use Rattle.history_laws.specs.Replayed.{front}
-use Rattle.history_laws.specs.Safe.{IsMoment, calls_in}
-use Rattle.history_laws.specs.Staying.{IsUnnamedSince, StaysLaw, names, names_path}
+use Rattle.session_history.specs.LiveJobs.{IsLivePart, LiveJob, after_event, after_report, live, live_jobs, part_after}
+use Rattle.history_laws.specs.Replayed.{log_prefix}
+use Rattle.session_history.specs.Entries.{IsMoment, calls_in}
+use Rattle.session_history.specs.Named.{IsUnnamedSince, names, names_path}
+use Rattle.history_laws.specs.Staying.{StaysLaw}
 use Rattle.history_laws.specs.Traces.{EventLeads, IsTraced, Stand, StepLeads}
-use Rattle.history_laws.proofs.Fronts.{told_of}
+use Rattle.history_laws.proofs.Prefixes.{told_of}
 use Rattle.history_laws.proofs.Histories.{IsReached, enters, only_job, traced_reached}
 use Rattle.history_laws.proofs.JobKnows.{HasPart, StageKnows, WorkKnows}
 use Rattle.history_laws.proofs.JobLeads.{sync_leads, work_leads}
 use Rattle.history_laws.proofs.JobSteps.{gives_up}
 use Rattle.history_laws.proofs.Knowing.{IsKept, Said}
-use Rattle.history_laws.proofs.Moments.{front_cut, front_is, live_part, log_of, traced_count}
+use Rattle.history_laws.proofs.Moments.{prefix_cut, prefix_is, live_part, log_of, traced_count}
 use Rattle.history_laws.proofs.Reports.{JobsKnow}
 use Rattle.history_laws.proofs.Stepped.{AreMids, Comes, cut, doubt_by, mid_at, more, said_after}
 
@@ -95,16 +97,16 @@ no_route : (part : Option Route) (path : Route) → (part ≡ Some path → ⊥)
 no_route None path other = refl
 no_route (Some part) path other = false_from_ne_true _ (λ same. other (ap (λ q. (let o : Option Route = Some q in o)) (sym (same_path-true path part same))))
 
-unsaid : (a b : Bool) → a ≡ false → b ≡ false → (a || b) ≡ false
-unsaid a b a_is b_is = false_from_ne_true _ (neither a b a_is b_is)
+untold_facts : (a b : Bool) → a ≡ false → b ≡ false → (a || b) ≡ false
+untold_facts a b a_is b_is = false_from_ne_true _ (neither a b a_is b_is)
 
 -- a report that doesn't name a path, which is no part, leaves no change of it
 unnamed_sure : (did : Did) (part : Option Route) (before : Route → Bool) (path : Route) → before path ≡ false → names did path ≡ false → (part ≡ Some path → ⊥) → doubt_by did part before path ≡ false
-unnamed_sure (Began made) part before path sure unnamed other = unsaid (before path) (same_path path made) sure unnamed
+unnamed_sure (Began made) part before path sure unnamed other = untold_facts (before path) (same_path path made) sure unnamed
 unnamed_sure (Placed target) part before path sure unnamed other =
-    unsaid (before path || same_path path target) (option_map_or (same_path path) part false) (unsaid (before path) (same_path path target) sure unnamed) (no_route part path other)
-unnamed_sure (Removed file) part before path sure unnamed other = unsaid (before path) (same_path path file) sure unnamed
-unnamed_sure (Cleaned gone) part before path sure unnamed other = unsaid (before path) (same_path path gone) sure unnamed
+    untold_facts (before path || same_path path target) (option_map_or (same_path path) part false) (untold_facts (before path) (same_path path target) sure unnamed) (no_route part path other)
+unnamed_sure (Removed file) part before path sure unnamed other = untold_facts (before path) (same_path path file) sure unnamed
+unnamed_sure (Cleaned gone) part before path sure unnamed other = untold_facts (before path) (same_path path gone) sure unnamed
 unnamed_sure (Chunk count) part before path sure unnamed other = sure
 unnamed_sure (Skipped file cause) part before path sure unnamed other = sure
 unnamed_sure Barrier part before path sure unnamed other = sure
@@ -212,14 +214,14 @@ module _ (path : Route) where
   report_part id Barrier (job ∷ jobs) unnamed h = stepped_part (job.id == id) job Barrier jobs (after_report id Barrier jobs) unnamed (report_part id Barrier jobs unnamed) h
   report_part id (Troubled trouble) (job ∷ jobs) unnamed h = stepped_part (job.id == id) job (Troubled trouble) jobs (after_report id (Troubled trouble) jobs) unnamed (report_part id (Troubled trouble) jobs unnamed) h
 
-  begun_part : (id : ℕ) (jobs : List LiveJob) (o : Option Work) → IsLivePart (option_map_or (λ work. live id work ∷ jobs) o jobs) path → IsLivePart jobs path
+  begun_part : (id : ℕ) (jobs : List LiveJob) (o : Option Item) → IsLivePart (option_map_or (λ item. live id item ∷ jobs) o jobs) path → IsLivePart jobs path
   begun_part id jobs None h = h
-  begun_part id jobs (Some work) (found, inl same, is) = let e : (let o : Option Route = None in o) ≡ Some path = ap (λ (l : LiveJob). l.part) (sym same) ∙ is in absurd (let f : ⊥ = cc in f)
-  begun_part id jobs (Some work) (found, inr among, is) = (found, among, is)
+  begun_part id jobs (Some item) (found, inl same, is) = let e : (let o : Option Route = None in o) ≡ Some path = ap (λ (l : LiveJob). l.part) (sym same) ∙ is in absurd (let f : ⊥ = cc in f)
+  begun_part id jobs (Some item) (found, inr among, is) = (found, among, is)
 
   pub event_part : (what : Event) (jobs : List LiveJob) → names_path what path ≡ false → IsLivePart (after_event what jobs) path → IsLivePart jobs path
   event_part (Step id did) jobs unnamed h = report_part id did jobs unnamed h
-  event_part (event.Began id plan background) jobs unnamed h = begun_part id jobs (first_work id plan) h
+  event_part (event.Began id plan background) jobs unnamed h = begun_part id jobs (item_of plan) h
   event_part (Order id order) jobs unnamed h = h
   event_part (Key key time refusals lost) jobs unnamed h = h
   event_part (Look refusals) jobs unnamed h = h
@@ -231,7 +233,7 @@ since_longer older (e ∷ g) path (inl same) = let n = ap (λ (xs : List Entry).
 since_longer older (e ∷ g) path (inr (unnamed, since)) = let n = since_longer older g path since in omega (arith, n)
 
 module _ (opening : CallLog) (tree : IsTree (current opening)) (settled : all_settled opening.changes ≡ true) (end : CallLog) (older : List Entry) (path : Route)
-    (sure : is_unsettled (front opening (calls_in older) end) path ≡ false) (no_part : IsLivePart (live_jobs older) path → ⊥) where
+    (sure : is_unsettled (log_prefix opening (calls_in older) end) path ≡ false) (no_part : IsLivePart (live_jobs older) path → ⊥) where
   -- after these entries no change of the path waits, and it is no live job's part
   abbrev IsSure : List Entry → CallLog → Type 0
   IsSure g now = (is_unsettled now path ≡ false) × (IsLivePart (live_jobs g) path → ⊥)
@@ -240,7 +242,7 @@ module _ (opening : CallLog) (tree : IsTree (current opening)) (settled : all_se
   at_older g stand now rest same traced end_is =
       let n = traced_count opening now g stand traced in
       let calls : calls_in older ≡ calls_in g = ap calls_in same in (
-        subst (λ (l : CallLog). is_unsettled l path ≡ false) (front_is opening end (calls_in older) now rest end_is (omega (arith, n, calls))) sure,
+        subst (λ (l : CallLog). is_unsettled l path ≡ false) (prefix_is opening end (calls_in older) now rest end_is (omega (arith, n, calls))) sure,
         subst (λ x. IsLivePart (live_jobs x) path → ⊥) same no_part,
       )
 
@@ -266,29 +268,29 @@ module _ (opening : CallLog) (tree : IsTree (current opening)) (settled : all_se
 
   -- within an entry
   sure_within : (calls : ℕ) (before now : CallLog) (rest : List Change) → IsStill path before now → end ≡ more now rest → length before.changes ≤ length opening.changes + calls → length opening.changes + calls ≤ length now.changes
-      → is_unsettled (front opening calls end) path ≡ false
+      → is_unsettled (log_prefix opening calls end) path ≡ false
   sure_within calls before now rest still end_is least most =
       let count : ℕ = length opening.changes + calls in
-      let at : front opening calls end ≡ cut (more before still.made) count = front_cut opening end calls now rest end_is most ∙ ap (λ (l : CallLog). cut l count) still.now_is in
+      let at : log_prefix opening calls end ≡ cut (more before still.made) count = prefix_cut opening end calls now rest end_is most ∙ ap (λ (l : CallLog). cut l count) still.now_is in
       elim (mid_at still.said still.made before count still.mids least (subst (λ (l : CallLog). count ≤ length l.changes) still.now_is most)) [
         | inl whole ↦ subst (λ (l : CallLog). is_unsettled l path ≡ false) (sym (at ∙ (whole ∙ sym still.now_is))) still.after
         | inr mid ↦ subst (λ (l : CallLog). is_unsettled l path ≡ false) (sym at) (false_from_ne_true _ (λ waits. both_ways _ still.sure (mid.2.known.doubts path waits)))
       ]
 
   sure_moment : (newest standing coming : List Entry) (stand : Stand) (calls : ℕ) (now : CallLog) (rest : List Change) → IsTraced opening newest stand now → end ≡ more now rest → IsMoment newest standing coming calls
-      → IsUnnamedSince older path standing → IsUnnamedSince older path coming → is_unsettled (front opening calls end) path ≡ false
+      → IsUnnamedSince older path standing → IsUnnamedSince older path coming → is_unsettled (log_prefix opening calls end) path ≡ false
   sure_moment [] standing coming stand calls now rest traced end_is (standing_is, coming_is, calls_is) since later =
       let n = traced_count opening now [] stand traced in
-      subst (λ (l : CallLog). is_unsettled l path ≡ false) (sym (front_is opening end calls now rest end_is (omega (arith, n, calls_is))))
+      subst (λ (l : CallLog). is_unsettled l path ≡ false) (sym (prefix_is opening end calls now rest end_is (omega (arith, n, calls_is))))
       (sure_after [] stand now rest traced end_is (subst (IsUnnamedSince older path) standing_is since)).0
   sure_moment (e ∷ g) standing coming stand calls now rest traced end_is (inl (standing_is, coming_is, calls_is)) since later =
       let n = traced_count opening now (e ∷ g) stand traced in
-      subst (λ (l : CallLog). is_unsettled l path ≡ false) (sym (front_is opening end calls now rest end_is (omega (arith, n, calls_is))))
+      subst (λ (l : CallLog). is_unsettled l path ≡ false) (sym (prefix_is opening end calls now rest end_is (omega (arith, n, calls_is))))
       (sure_after (e ∷ g) stand now rest traced end_is (subst (IsUnnamedSince older path) standing_is since)).0
   sure_moment (e ∷ g) standing coming stand calls now rest (was, before, traced, f) end_is (inr (inl (standing_is, coming_is, least, most))) since later =
       by (subst (IsUnnamedSince older path) coming_is later)
     where
-      by : IsUnnamedSince older path (e ∷ g) → is_unsettled (front opening calls end) path ≡ false
+      by : IsUnnamedSince older path (e ∷ g) → is_unsettled (log_prefix opening calls end) path ≡ false
       by (inl same) =
           let longer = since_longer older g path (subst (IsUnnamedSince older path) standing_is since) in
           let n = ap (λ (xs : List Entry). length xs) same in

@@ -6,11 +6,13 @@ use Rattle.std.proofs.Math.Seq.{take-append_seam, take-length}
 use Rattle.mc_text.specs.Routes.{Route, same_path}
 use Rattle.tree_trait.specs.Change.{Change, CallLog, with_change}
 use Rattle.crash_law.specs.Guarded.{Marks}
-use Rattle.file_copy.specs.declared.report.Did.{Did}
-use Rattle.file_copy.specs.declared.report.Did.TheVariants.{Began, Chunk, Placed, Removed, Skipped, Cleaned, Barrier, Troubled, Ended}
+use Rattle.job_reports.specs.declared.report.Did.{Did}
+use Rattle.job_reports.specs.declared.report.Did.TheVariants.{Began, Chunk, Placed, Removed, Skipped, Cleaned, Barrier, Troubled, Ended}
 use Rattle.copy_move.specs.declared.work.Work.{Work}
-use Rattle.history_laws.specs.Replayed.{replayed_step, keeping, changed_by, named_by}
+use Rattle.history_laws.specs.Replayed.{replayed_step, keeping}
+use Rattle.session_history.specs.Named.{changed_by, named_by}
 use Rattle.history_laws.proofs.Knowing.{Said, IsKnown, IsKept, settled_kept, settled_marks}
+use Rattle.history_laws.proofs.Sources.{item_in}
 
 -- the log with these changes more
 abbrev pub more : CallLog → List Change → CallLog
@@ -80,7 +82,7 @@ doubt_by (Ended ending left) part before = before
 
 abbrev pub said_after : CallLog → Did → Work → Said → Said
 said_after now did work told = record {
-  tree = replayed_step now did (Some work) told.tree;
+  tree = replayed_step now did (Some (item_in work)) told.tree;
   earlier = keeping (changed_by did) told.tree told.earlier;
   named = named_by did told.named;
   part = part_after did told.part;

@@ -3,21 +3,22 @@ use Rattle.std.proofs.Common.{◌≡◌, ℕ, Bool, true, false, [], ◌∷◌, 
 use Rattle.std.specs.Prelude.{if◌then◌else◌, is_some, ◌&&◌}
 use Rattle.std.proofs.lemmas.Bool.{true≢false}
 use Rattle.mc_text.specs.Routes.{Route, parent_of}
-use Rattle.file_copy.specs.declared.report.Did.{Did}
-use Rattle.file_copy.specs.declared.report.Did.TheVariants.{Began, Chunk, Placed, Removed, Skipped, Cleaned, Barrier, Troubled, Ended}
+use Rattle.job_reports.specs.declared.report.Did.{Did}
+use Rattle.job_reports.specs.declared.report.Did.TheVariants.{Began, Chunk, Placed, Removed, Skipped, Cleaned, Barrier, Troubled, Ended}
 use Rattle.copy_move.specs.declared.deletion.Stage.{Stage}
 use Rattle.copy_move.specs.declared.deletion.Stage.TheVariants.{Remove, Sync, Finish, PassedOver}
-use Rattle.copy_move.specs.declared.history.Job.{Job}
-use Rattle.copy_move.specs.declared.history.Job.TheVariants as plan
+use Rattle.job_reports.specs.declared.job.Job.{Job}
+use Rattle.job_reports.specs.declared.job.Job.TheVariants as plan
 use Rattle.copy_move.specs.declared.work.Work.{Work}
 use Rattle.copy_move.specs.declared.work.Work.TheVariants.{Copy, Delete}
 use Rattle.copy_move.specs.Deletions as deletions
-use Rattle.copy_move.specs.Jobs.{JobTells, Running, copies, deletes, ends, first_work, skipped}
+use Rattle.copy_move.specs.Jobs.{JobTells, Running, copies, deletes, first_work, skipped}
+use Rattle.job_reports.specs.Reports.{ends}
 use Rattle.copy_move.specs.Settling.{is_dirty}
 use Rattle.copy_move.specs.Told.{after_step, cleaned, placed, synced, told, work_told}
 use Rattle.copy_move.specs.declared.run.Course.{Course}
 use Rattle.copy_move.proofs.Telling.{told_follows}
-use Rattle.history_laws.specs.Owed.{begins_change}
+use Rattle.session_history.specs.Named.{begins_change}
 
 told_dirty : (work : Work) → is_dirty (work_told work) ≡ is_dirty work
 told_dirty (Copy c) = refl

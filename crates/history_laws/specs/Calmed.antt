@@ -5,38 +5,37 @@ use Rattle.mc_text.specs.Routes.{Route}
 use Rattle.tree_trait.specs.Shape.{IsTree}
 use Rattle.tree_trait.specs.Change.{CallLog, current}
 use Rattle.tree_trait.specs.CrashImages.{all_settled}
-use Rattle.file_copy.specs.declared.report.Did.{Did}
-use Rattle.file_copy.specs.Copying.{folder_of}
-use Rattle.copy_move.specs.declared.history.Event.TheVariants.{Step}
-use Rattle.copy_move.specs.declared.history.Entry.{Entry}
-use Rattle.copy_move.specs.declared.work.Work.{Work}
-use Rattle.copy_move.specs.Settling.{changed_folder}
+use Rattle.job_reports.specs.declared.report.Did.{Did}
+use Rattle.job_reports.specs.Paths.{folder_of}
+use Rattle.session_history.specs.declared.history.Event.TheVariants.{Step}
+use Rattle.session_history.specs.declared.history.Entry.{Entry}
+use Rattle.job_reports.specs.Jobs.{Item, folder_changed}
 use Rattle.history_laws.specs.Doubt.{is_unsettled}
-use Rattle.history_laws.specs.LiveJobs.{live_jobs, work_of}
-use Rattle.history_laws.specs.Owed.{IsApart, begins_change, has_changed}
-use Rattle.history_laws.specs.Replayed.{front}
-use Rattle.history_laws.specs.Safe.{IsMoment, calls_in}
-use Rattle.history_laws.specs.Staying.{names_path}
+use Rattle.session_history.specs.LiveJobs.{live_jobs, live_item}
+use Rattle.history_laws.specs.Owed.{IsApart}
+use Rattle.session_history.specs.Named.{begins_change, has_changed, names_path}
+use Rattle.history_laws.specs.Replayed.{log_prefix}
+use Rattle.session_history.specs.Entries.{IsMoment, calls_in}
 use Rattle.history_laws.specs.Traces.{IsTraced, Stand}
 
 -- This entry, after the older ones, is the report of the first change of a job that changes names in this folder.
 pub record HasBegun (e : Entry) (older : List Entry) (folder : Route) : Type 0 where
   pub id : ℕ
   pub did : Did
-  pub work : Work
+  pub item : Item
   pub reports : e.what ≡ Step id did
   pub begins : begins_change did ≡ true
   pub unchanged : has_changed id older ≡ false
-  pub its : work_of id (live_jobs older) ≡ Some work
-  pub within : folder ≡ changed_folder work
+  pub its : live_item id (live_jobs older) ≡ Some item
+  pub within : folder ≡ folder_changed item
 
 -- When such an entry has come to stand, a path of which a change isn't on the disk yet is one that this entry names, or its
 -- folder lies on another mount, or was removed.
 abbrev pub CalmsOthers : CallLog → CallLog → List Entry → Type 0
 CalmsOthers opening now newest =
     (e : Entry) (older : List Entry) (folder path : Route)
-    → HasBegun e older folder → IsMoment newest (e ∷ older) (e ∷ older) e.calls → is_unsettled (front opening e.calls now) path ≡ true
-    → (names_path e.what path ≡ true) ⊎ IsApart (front opening (calls_in older) now) folder (folder_of path)
+    → HasBegun e older folder → IsMoment newest (e ∷ older) (e ∷ older) e.calls → is_unsettled (log_prefix opening e.calls now) path ≡ true
+    → (names_path e.what path ≡ true) ⊎ IsApart (log_prefix opening (calls_in older) now) folder (folder_of path)
 
 abbrev pub CalmLaw : Type 0
 CalmLaw = (opening now : CallLog) (newest : List Entry) (stand : Stand)

@@ -1,8 +1,8 @@
 pub mod Calmed
 pub mod Doubt
-pub mod LiveJobs
 pub mod Owed
 pub mod Replayed
 pub mod Safe
 pub mod Staying
 pub mod Traces
+pub mod ToldJob

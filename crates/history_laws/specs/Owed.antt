@@ -1,5 +1,5 @@
 -- What waits for a sync lies in a dirty folder, and a job's first change comes only where nothing waits on that mount.
-use Rattle.std.specs.Prelude.{◌≡◌, ◌⊎◌, ℕ, ◌==◌, ◌||◌, ◌&&◌, if◌then◌else◌, Bool, true, false, List, [], ◌∷◌, Option, Some}
+use Rattle.std.specs.Prelude.{◌≡◌, ◌⊎◌, ℕ, true, false, List, [], ◌∷◌, Option, Some}
 use Rattle.mc_text.specs.Routes.{Route}
 use Rattle.tree_trait.specs.declared.calls.TreeError.TheVariants.{Missing}
 use Rattle.tree_trait.specs.Calls.{Stat}
@@ -7,21 +7,18 @@ use Rattle.tree_trait.specs.Change.{CallLog, current}
 use Rattle.tree_trait.specs.CrashImages.{Among, all_settled}
 use Rattle.tree_trait.specs.Refusals.{refusal_of}
 use Rattle.tree_trait.specs.Shape.{IsTree}
-use Rattle.file_copy.specs.declared.report.Did.{Did}
-use Rattle.file_copy.specs.declared.report.Did.TheVariants.{Began, Chunk, Placed, Removed, Skipped, Cleaned, Barrier, Troubled, Ended}
-use Rattle.file_copy.specs.declared.report.Ending.TheVariants.{Finished}
-use Rattle.file_copy.specs.Copying.{folder_of}
-use Rattle.copy_move.specs.declared.history.Event.{Event}
-use Rattle.copy_move.specs.declared.history.Event.TheVariants.{Key, Look, Order, Step, Closed}
-use Rattle.copy_move.specs.declared.history.Event.TheVariants as event
-use Rattle.copy_move.specs.declared.history.Entry.{Entry}
+use Rattle.job_reports.specs.declared.report.Did.{Did}
+use Rattle.job_reports.specs.declared.report.Did.TheVariants.{Ended}
+use Rattle.job_reports.specs.declared.report.Ending.TheVariants.{Finished}
+use Rattle.job_reports.specs.Paths.{folder_of}
+use Rattle.session_history.specs.declared.history.Entry.{Entry}
+use Rattle.session_history.specs.Named.{has_changed}
 use Rattle.copy_move.specs.declared.run.Course.TheVariants.{GoesOn}
 use Rattle.copy_move.specs.Jobs.{JobTells, Running, is_fresh}
 use Rattle.copy_move.specs.Settling.{IsMountOf, changed_folder}
-use Rattle.copy_move.specs.Steps.{RunStep}
-use Rattle.copy_move.specs.Traces.{IsUnclaimed}
+use Rattle.copy_move.specs.Steps.{RunStep, step_made}
+use Rattle.history_laws.specs.Traces.{IsUnclaimed, IsTraced, Stand, StepLeads, WorkLeads, unless_ended}
 use Rattle.history_laws.specs.Doubt.{is_unsettled}
-use Rattle.history_laws.specs.Traces.{IsTraced, Stand, StepLeads, WorkLeads, unless_ended}
 
 -- Where each entry ends, a path of which a change isn't on the disk yet lies in a dirty folder.
 abbrev pub OwedLaw : Type 0
@@ -40,31 +37,6 @@ FirstChangeLaw = (opening log now : CallLog) (older newest : List Entry) (was st
     → WorkLeads job did new was.dirty stand.dirty log now → job.course ≡ GoesOn → is_fresh job.work ≡ true → is_unsettled now path ≡ true
     → (folder_of path ≡ changed_folder job.work) ⊎ IsApart log (changed_folder job.work) (folder_of path)
 
--- a report of the first change that work makes: a part is made, or a file is removed
-abbrev pub begins_change : Did → Bool
-begins_change (Began part) = true
-begins_change (Removed path) = true
-begins_change (Chunk count) = false
-begins_change (Placed path) = false
-begins_change (Skipped path cause) = false
-begins_change (Cleaned part) = false
-begins_change Barrier = false
-begins_change (Troubled trouble) = false
-begins_change (Ended ending part) = false
-
-abbrev pub changed_after : ℕ → Event → Bool → Bool
-changed_after id (event.Began number plan background) before = if number == id then false else before
-changed_after id (Step number did) before = before || ((number == id) && begins_change did)
-changed_after id (Key key now refusals lost) before = before
-changed_after id (Look refusals) before = before
-changed_after id (Order number order) before = before
-changed_after id Closed before = before
-
--- the job that was begun last with this number has changed something
-abbrev pub has_changed : ℕ → List Entry → Bool
-has_changed id [] = false
-has_changed id (e ∷ older) = changed_after id e.what (has_changed id older)
-
 -- A job that may report that it is finished, and has changed something, has left nothing in its folder that isn't on the disk.
 abbrev pub FinishedLaw : Type 0
 FinishedLaw = (opening now : CallLog) (newest : List Entry) (stand : Stand) (job new : Running) (part : Option Route) (path : Route)
@@ -74,4 +46,4 @@ FinishedLaw = (opening now : CallLog) (newest : List Entry) (stand : Stand) (job
 -- The machine's own step is one of which such a history tells.
 abbrev pub StepLaw : Type 0
 StepLaw = (job new : Running) (did : Did) (calls : ℕ) (dirty dirty_after : List Route) (log now : CallLog) (faults faults_after : ℕ)
-    → RunStep IsUnclaimed job new did calls dirty dirty_after (Some log) (Some now) faults faults_after → StepLeads job did (unless_ended did new) dirty dirty_after log now
+    → RunStep IsUnclaimed (step_made job new did calls dirty dirty_after (Some log) (Some now) faults faults_after) → StepLeads job did (unless_ended did new) dirty dirty_after log now

@@ -6,10 +6,12 @@ use Rattle.tree_trait.specs.FileSystem.{find, value_at, visible_tree}
 use Rattle.tree_trait.specs.Shape.{IsTree}
 use Rattle.tree_trait.specs.Change.{CallLog, current}
 use Rattle.tree_trait.specs.CrashImages.{Among, all_settled, IsCrashImage}
-use Rattle.copy_move.specs.declared.history.Entry.{Entry}
+use Rattle.session_history.specs.declared.history.Entry.{Entry}
+use Rattle.session_history.specs.Entries.{IsMoment}
 use Rattle.history_laws.specs.Doubt.{is_unsettled}
-use Rattle.history_laws.specs.LiveJobs.{live_jobs, IsLivePart}
-use Rattle.history_laws.specs.Replayed.{earlier_tree, front, named_parts, replayed_tree}
+use Rattle.session_history.specs.LiveJobs.{live_jobs, IsLivePart}
+use Rattle.history_laws.specs.Replayed.{earlier_tree, log_prefix, replayed_tree}
+use Rattle.session_history.specs.Named.{named_parts}
 use Rattle.history_laws.specs.Traces.{IsTraced, Stand}
 
 -- a part that an entry named, until it is gone or replaced and that is on the disk
@@ -25,26 +27,13 @@ IsSafe opening now standing log image =
     → (value_at image path ≡ (replayed_tree opening now standing path).value)
     ⊎ ((is_unsettled log path ≡ true) × (value_at image path ≡ (earlier_tree opening now standing path).value))
 
--- how many changing calls were made by the end of these entries
-abbrev pub calls_in : List Entry → ℕ
-calls_in [] = 0
-calls_in (e ∷ older) = e.calls
-
--- A moment of a session: these entries stand; that one is the same, or has the entry that is under way besides; and so many
--- changing calls were made.
-abbrev pub IsMoment : List Entry → List Entry → List Entry → ℕ → Type 0
-IsMoment [] standing coming calls = (standing ≡ []) × (coming ≡ []) × (calls ≡ 0)
-IsMoment (e ∷ older) standing coming calls =
-    ((standing ≡ e ∷ older) × (coming ≡ e ∷ older) × (calls ≡ e.calls))
-    ⊎ (((standing ≡ older) × (coming ≡ e ∷ older) × (calls_in older ≤ calls) × (calls ≤ e.calls)) ⊎ IsMoment older standing coming calls)
-
 -- The law of what a crash leaves: at each moment of a session, over a tree on which nothing was pending at the opening, each
 -- crash image is safe as of the entries that stand, or with the one that is under way.
 abbrev pub SessionLaw : Type 0
 SessionLaw = (opening now : CallLog) (newest standing coming : List Entry) (stand : Stand) (calls : ℕ) (image : FileSystem)
     → IsTree (current opening) → all_settled opening.changes ≡ true → IsTraced opening newest stand now
     → IsMoment newest standing coming calls → IsCrashImage now (length opening.changes + calls) image
-    → IsSafe opening now standing (front opening calls now) image ⊎ IsSafe opening now coming (front opening calls now) image
+    → IsSafe opening now standing (log_prefix opening calls now) image ⊎ IsSafe opening now coming (log_prefix opening calls now) image
 
 -- The log goes on from the opening, and what can be seen at its end is what the history makes of the opening, but for the parts
 -- of live jobs.

@@ -1,55 +1,27 @@
 -- What is on the disk stays on the disk until an entry names it again; so what a finished job did stays done. Histories stand
 -- newest first here.
-use Rattle.std.specs.Prelude.{◌≡◌, ◌⊎◌, ℕ, ◌+◌, Bool, true, false, List, [], ◌∷◌, length, Option, Some}
-use Rattle.std.specs.Option.{option_map_or}
-use Rattle.mc_text.specs.Routes.{Route, same_path}
+use Rattle.std.specs.Prelude.{◌≡◌, ◌⊎◌, ℕ, ◌+◌, true, false, List, [], ◌∷◌, length, Option, Some}
+use Rattle.mc_text.specs.Routes.{Route}
 use Rattle.tree_trait.specs.declared.file_system.FileSystem.{FileSystem}
 use Rattle.tree_trait.specs.FileSystem.{value_at}
 use Rattle.tree_trait.specs.Shape.{IsTree}
 use Rattle.tree_trait.specs.Change.{CallLog, current}
 use Rattle.tree_trait.specs.CrashImages.{Among, all_settled, IsCrashImage}
-use Rattle.file_copy.specs.declared.report.Did.{Did}
-use Rattle.file_copy.specs.declared.report.Did.TheVariants.{Began, Chunk, Placed, Removed, Skipped, Cleaned, Barrier, Troubled, Ended}
-use Rattle.file_copy.specs.declared.report.Ending.TheVariants.{Finished}
-use Rattle.file_copy.specs.Copying.{folder_of}
-use Rattle.copy_move.specs.declared.history.Event.{Event}
-use Rattle.copy_move.specs.declared.history.Event.TheVariants.{Key, Look, Order, Step, Closed}
-use Rattle.copy_move.specs.declared.history.Event.TheVariants as event
-use Rattle.copy_move.specs.declared.history.Entry.{Entry}
-use Rattle.copy_move.specs.declared.work.Work.{Work}
+use Rattle.job_reports.specs.declared.report.Did.TheVariants.{Ended}
+use Rattle.job_reports.specs.declared.report.Ending.TheVariants.{Finished}
+use Rattle.job_reports.specs.Paths.{folder_of}
+use Rattle.session_history.specs.declared.history.Event.TheVariants.{Step}
+use Rattle.session_history.specs.declared.history.Entry.{Entry}
+use Rattle.job_reports.specs.Jobs.{Item, folder_changed}
 use Rattle.copy_move.specs.Jobs.{JobTells, Running}
 use Rattle.copy_move.specs.Settling.{changed_folder}
 use Rattle.history_laws.specs.Doubt.{is_unsettled}
-use Rattle.history_laws.specs.LiveJobs.{IsLivePart, live_jobs, work_of}
-use Rattle.history_laws.specs.Owed.{has_changed}
-use Rattle.history_laws.specs.Replayed.{front, named_parts, replayed_tree}
-use Rattle.history_laws.specs.Safe.{IsMoment, IsPart, calls_in}
+use Rattle.session_history.specs.LiveJobs.{IsLivePart, live_jobs, live_item}
+use Rattle.session_history.specs.Named.{has_changed, named_parts, names_path, IsUnnamedSince}
+use Rattle.history_laws.specs.Replayed.{log_prefix, replayed_tree}
+use Rattle.session_history.specs.Entries.{IsMoment, calls_in}
+use Rattle.history_laws.specs.Safe.{IsPart}
 use Rattle.history_laws.specs.Traces.{IsTraced, Stand}
-
--- a report names this path: as a part that was made, is gone, or is left, or as what was placed or removed
-abbrev pub names : Did → Route → Bool
-names (Began part) path = same_path path part
-names (Placed target) path = same_path path target
-names (Removed file) path = same_path path file
-names (Cleaned part) path = same_path path part
-names (Ended ending part) path = option_map_or (same_path path) part false
-names (Chunk count) path = false
-names (Skipped file cause) path = false
-names Barrier path = false
-names (Troubled trouble) path = false
-
-abbrev pub names_path : Event → Route → Bool
-names_path (Step id did) path = names did path
-names_path (Key key now refusals lost) path = false
-names_path (Look refusals) path = false
-names_path (event.Began id plan background) path = false
-names_path (Order id order) path = false
-names_path Closed path = false
-
--- these entries are the older ones with more on top, of which none names this path
-abbrev pub IsUnnamedSince : List Entry → Route → List Entry → Type 0
-IsUnnamedSince older path [] = older ≡ []
-IsUnnamedSince older path (e ∷ entries) = (older ≡ e ∷ entries) ⊎ ((names_path e.what path ≡ false) × IsUnnamedSince older path entries)
 
 -- A path of which no change waited for a sync where the older entries ended, and that was no live job's part, waits for none
 -- at any later moment, inside a call too, until an entry names it.
@@ -57,15 +29,15 @@ abbrev pub StaysLaw : Type 0
 StaysLaw = (opening now : CallLog) (newest older standing coming : List Entry) (stand : Stand) (calls : ℕ) (path : Route)
     → IsTree (current opening) → all_settled opening.changes ≡ true → IsTraced opening newest stand now → IsMoment newest standing coming calls
     → IsUnnamedSince older path standing → IsUnnamedSince older path coming
-    → is_unsettled (front opening (calls_in older) now) path ≡ false → (IsLivePart (live_jobs older) path → ⊥)
-    → is_unsettled (front opening calls now) path ≡ false
+    → is_unsettled (log_prefix opening (calls_in older) now) path ≡ false → (IsLivePart (live_jobs older) path → ⊥)
+    → is_unsettled (log_prefix opening calls now) path ≡ false
 
 -- Where the older entries ended a job may report that it is finished, and it has changed something. From then on, at each
 -- moment, inside a call too, each path of its folder holds after any crash what the history said then, until an entry names
 -- it; but for paths that were named as parts.
 abbrev pub FinishedStaysLaw : Type 0
 FinishedStaysLaw = (opening now : CallLog) (newest older standing coming : List Entry) (was stand : Stand) (job new : Running) (part : Option Route) (calls : ℕ) (path : Route) (image : FileSystem)
-    → IsTree (current opening) → all_settled opening.changes ≡ true → IsTraced opening newest stand now → IsTraced opening older was (front opening (calls_in older) now)
+    → IsTree (current opening) → all_settled opening.changes ≡ true → IsTraced opening newest stand now → IsTraced opening older was (log_prefix opening (calls_in older) now)
     → was.jobs ≡ job ∷ [] → JobTells job (Ended Finished part) new → has_changed job.id older ≡ true → folder_of path ≡ changed_folder job.work → (Among (named_parts older) path → ⊥)
     → IsMoment newest standing coming calls → IsUnnamedSince older path standing → IsUnnamedSince older path coming → IsCrashImage now (length opening.changes + calls) image
     → value_at image path ≡ (replayed_tree opening now older path).value
@@ -74,11 +46,11 @@ FinishedStaysLaw = (opening now : CallLog) (newest older standing coming : List 
 pub record HasFinished (e : Entry) (older : List Entry) (folder : Route) : Type 0 where
   pub id : ℕ
   pub part : Option Route
-  pub work : Work
+  pub item : Item
   pub ended : e.what ≡ Step id (Ended Finished part)
   pub changed : has_changed id older ≡ true
-  pub its : work_of id (live_jobs older) ≡ Some work
-  pub within : folder ≡ changed_folder work
+  pub its : live_item id (live_jobs older) ≡ Some item
+  pub within : folder ≡ folder_changed item
 
 -- The same in the words of the history alone: once a job that has changed something has reported that it is finished, each
 -- path of its folder holds after a crash at any later moment, inside a call too, what the history said then, until an entry
@@ -87,7 +59,7 @@ pub record HasFinished (e : Entry) (older : List Entry) (folder : Route) : Type 
 abbrev pub StaysDone : CallLog → CallLog → List Entry → Type 0
 StaysDone opening now newest =
     (e : Entry) (older standing coming : List Entry) (calls : ℕ) (path : Route) (image : FileSystem)
-    → HasFinished e older (folder_of path) → (IsPart (e ∷ older) (front opening e.calls now) path → ⊥) → names_path e.what path ≡ false
+    → HasFinished e older (folder_of path) → (IsPart (e ∷ older) (log_prefix opening e.calls now) path → ⊥) → names_path e.what path ≡ false
     → IsMoment newest standing coming calls → IsUnnamedSince (e ∷ older) path standing → IsUnnamedSince (e ∷ older) path coming
     → IsCrashImage now (length opening.changes + calls) image → value_at image path ≡ (replayed_tree opening now older path).value
 

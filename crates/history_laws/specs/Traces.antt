@@ -1,25 +1,26 @@
 -- What a history says of the tree's calls: each step of a job is one piece of its work with the calls that belong to it, or
 -- the sync of a folder that an ended job left, and nothing else changes the tree. Histories stand newest first here.
-use Rattle.std.specs.Prelude.{◌≡◌, ◌⊎◌, ℕ, ◌+◌, ◌==◌, Bool, true, false, if◌then◌else◌, List, [], ◌∷◌, length, map, Option, Some, None}
+use Rattle.std.specs.Prelude.{◌≡◌, ◌⊎◌, ℕ, ◌+◌, ◌==◌, Bool, true, false, List, [], ◌∷◌, length, map, Option, Some, None, if◌then◌else◌}
 use Rattle.std.specs.Option.{option_map_or}
 use Rattle.mc_text.specs.Routes.{Route}
 use Rattle.tree_trait.specs.Change.{CallLog, current}
 use Rattle.tree_trait.specs.CrashImages.{Among}
-use Rattle.file_copy.specs.declared.report.Ending.TheVariants.{NoMemory}
-use Rattle.file_copy.specs.declared.report.Did.{Did}
-use Rattle.file_copy.specs.declared.report.Did.TheVariants.{Ended}
-use Rattle.copy_move.specs.declared.history.Job.{Job}
-use Rattle.copy_move.specs.declared.history.Event.{Event}
-use Rattle.copy_move.specs.declared.history.Event.TheVariants.{Key, Look, Began, Order, Step, Closed}
-use Rattle.copy_move.specs.declared.history.JobOrder.{JobOrder}
-use Rattle.copy_move.specs.declared.history.JobOrder.TheVariants.{Answered}
-use Rattle.copy_move.specs.declared.history.Entry.{Entry}
+use Rattle.job_reports.specs.declared.report.Ending.TheVariants.{NoMemory}
+use Rattle.job_reports.specs.declared.report.Did.{Did}
+use Rattle.job_reports.specs.declared.report.Did.TheVariants.{Ended}
+use Rattle.job_reports.specs.declared.job.Job.{Job}
+use Rattle.session_history.specs.declared.history.Event.{Event}
+use Rattle.session_history.specs.declared.history.Event.TheVariants.{Key, Look, Began, Order, Step, Closed}
+use Rattle.session_history.specs.declared.history.JobOrder.{JobOrder}
+use Rattle.session_history.specs.declared.history.JobOrder.TheVariants.{Answered}
+use Rattle.session_history.specs.declared.history.Entry.{Entry}
 use Rattle.copy_move.specs.declared.run.Course.TheVariants.{GoesOn}
-use Rattle.copy_move.specs.Jobs.{Running, JobTells, JobCalls, answered, closed_job, ends, first_work, is_fresh, part_of}
+use Rattle.copy_move.specs.Jobs.{Running, JobTells, JobCalls, answered, closed_job, first_work, is_fresh, part_of}
+use Rattle.job_reports.specs.Reports.{ends}
 use Rattle.copy_move.specs.Settling.{NoneOwed, changed_folder}
 use Rattle.copy_move.specs.Steps.{LeavesDirty, SyncsFolder}
-use Rattle.copy_move.specs.Told.{is_closed, running}
-use Rattle.copy_move.specs.Traces.{IsUnclaimed}
+use Rattle.session_history.specs.Entries.{is_closed}
+use Rattle.copy_move.specs.Told.{running}
 
 -- where a session stands: its live jobs, and the folders with a change of names that no sync has brought onto the disk
 pub record Stand : Type 0 where
@@ -41,6 +42,10 @@ abbrev pub with_job : ℕ → Option Running → List Running → List Running
 with_job id new [] = []
 with_job id new (job ∷ jobs) = if job.id == id then before_others new jobs else job ∷ with_job id new jobs
 
+-- no other job is live, so each path may be a part's
+abbrev pub IsUnclaimed : Route → Type 0
+IsUnclaimed path = true ≡ true
+
 -- A step of a job's own work. The first change comes only where no dirty folder lies on that mount.
 pub record WorkLeads (job : Running) (did : Did) (new : Running) (dirty dirty_after : List Route) (log now : CallLog) : Type 0 where
   pub tells : JobTells job did new
@@ -56,7 +61,7 @@ pub record SyncLeads (job : Running) (did : Did) (new : Running) (dirty dirty_af
   pub owed : Among dirty folder
   pub synced : SyncsFolder job folder did new dirty dirty_after (Some log) (Some now)
 
--- a job ends for want of memory for the entry, and makes no call
+-- a job ends out of memory for the entry, and makes no call
 pub record GivesUp (job : Running) (did : Did) (dirty dirty_after : List Route) (log now : CallLog) : Type 0 where
   pub did_is : did ≡ Ended NoMemory (part_of job.work)
   pub same : dirty_after ≡ dirty

@@ -1,5 +1,5 @@
 -- The entries of a desk, one kind at a time: each may follow.
-use Rattle.std.proofs.Common.{◌≡◌, ◌⊎◌, ℕ, ◌+◌, ◌-◌, ◌≤◌, Bool, true, false, ◌||◌, List, [], ◌∷◌, length, refl, sym, ◌∙◌, ap, subst, inl, inr, IsSome, Option, Some, None, Ok, Err, arith}
+use Rattle.std.proofs.Common.{◌≡◌, ◌⊎◌, ℕ, ◌+◌, ◌-◌, ◌≤◌, Bool, true, false, ◌||◌, List, [], ◌∷◌, length, refl, sym, ◌∙◌, ap, subst, inl, inr, Option, Some, None, Ok, Err, arith}
 use Rattle.std.specs.Prelude.{if◌then◌else◌, map, option_and_then}
 use Rattle.std.specs.Option.{option_map, option_map_or}
 use Rattle.std.proofs.lemmas.Bool.{eq-eqb}
@@ -9,37 +9,41 @@ use Rattle.tree_trait.specs.declared.calls.TreeError.{TreeError}
 use Rattle.tree_trait.specs.Calls.{Stat, ListFolder, SyncFolder}
 use Rattle.tree_trait.specs.Change.{CallLog}
 use Rattle.tree_trait.specs.Answers.{IfKnown, HasRisen}
-use Rattle.file_copy.specs.CallRuns.{HasMore}
-use Rattle.file_copy.specs.declared.report.Did.{Did}
-use Rattle.file_copy.specs.declared.report.Did.TheVariants.{Began as BeganPart, Chunk, Placed, Removed, Skipped, Cleaned, Barrier, Troubled, Ended}
-use Rattle.file_copy.specs.declared.report.Trouble.{Trouble}
-use Rattle.file_copy.specs.declared.report.Ending.TheVariants.{NoMemory}
-use Rattle.copy_move.specs.declared.history.Entry.{Entry}
-use Rattle.copy_move.specs.declared.history.Event.{Event}
-use Rattle.copy_move.specs.declared.history.Event.TheVariants.{Key, Look, Began, Order, Step, Closed}
-use Rattle.copy_move.specs.declared.history.JobOrder.TheVariants.{Answered}
-use Rattle.copy_move.specs.declared.history.Answer.{Answer}
-use Rattle.copy_move.specs.declared.history.Job.{Job}
-use Rattle.copy_move.specs.declared.history.Refusal.{Refusal}
-use Rattle.copy_move.specs.Jobs.{Running, MayAnswer, answered, closed_job, ends, first_work, part_of, waits_on}
+use Rattle.job_reports.specs.CallRuns.{HasMore}
+use Rattle.job_reports.specs.declared.report.Did.{Did}
+use Rattle.job_reports.specs.declared.report.Did.TheVariants.{Began as BeganPart, Chunk, Placed, Removed, Skipped, Cleaned, Barrier, Troubled, Ended}
+use Rattle.job_reports.specs.declared.report.Trouble.{Trouble}
+use Rattle.job_reports.specs.declared.report.Ending.TheVariants.{NoMemory}
+use Rattle.session_history.specs.declared.history.Entry.{Entry}
+use Rattle.session_history.specs.declared.history.Event.{Event}
+use Rattle.session_history.specs.declared.history.Event.TheVariants.{Key, Look, Began, Order, Step, Closed}
+use Rattle.session_history.specs.declared.history.JobOrder.TheVariants.{Answered}
+use Rattle.job_reports.specs.declared.answer.Answer.{Answer}
+use Rattle.job_reports.specs.declared.job.Job.{Job}
+use Rattle.session_history.specs.declared.refusal.Refusal.{Refusal}
+use Rattle.copy_move.specs.Jobs.{Running, answered, closed_job, first_work, part_of, waits_on}
+use Rattle.job_reports.specs.Reports.{ends}
 use Rattle.copy_move.specs.Told.{after_step, if_closed, running, told}
 use Rattle.copy_move.specs.declared.work.Work.{Work}
-use Rattle.copy_move.specs.declared.run.Course.TheVariants.{Unsettled}
-use Rattle.copy_move.specs.Deletions.{cause_of, trouble_at}
-use Rattle.copy_move.specs.Steps.{OwnStep, RunStep, SettlingStep, SyncsFolder}
-use Rattle.copy_move.specs.Traces.{AreRefused, IsUnclaimed}
+use Rattle.copy_move.specs.declared.run.Course.TheVariants.{OwedSyncFailed}
+use Rattle.job_reports.specs.Stops.{cause_of, trouble_at}
+use Rattle.copy_move.specs.Steps.{OwnStep, RunStep, OwedSyncStep, SyncsFolder, step_made}
+use Rattle.session_history.specs.Refusals.{AreRefused}
+use Rattle.history_laws.specs.Traces.{IsUnclaimed, EventLeads, IsJob, Stand, StepLeads, before_others, begun, ordered, with_job}
 use Rattle.copy_move.proofs.StillTelling.{StillTells, performs_tells, step_tells}
 use Rattle.copy_move.proofs.Telling.{answered_told, began_told, closed_told, fresh_told, step_told, sync_told}
-use Rattle.history_laws.specs.Traces.{EventLeads, IsJob, Stand, StepLeads, before_others, begun, ordered, with_job}
 use Rattle.history_laws.proofs.Owing.{step_law}
 use Rattle.history_laws.proofs.Reports.{with_one}
-use Rattle.mc_ui.specs.Screens.{Begins, Answers, Ends, KeyLeads, LookLeads, Screen, sight}
+use Rattle.job_reports.specs.Jobs.{is_workable}
+use Rattle.mc_ui.specs.LiveJobs.{takes_answer}
+use Rattle.mc_ui.specs.Screens.{Begins, Answers, Ends, LookLeads, Screen, sight}
 use Rattle.mc_ui.specs.Refused.{has_fault}
 use Rattle.mc_desk.specs.Tallies.{Tally, faults_in, can_step, end_unseen_event, next_id, part_left}
 use Rattle.mc_desk.specs.Desks.{Seen, noted, stand_of, stand_with, with_end}
-use Rattle.mc_desk.specs.Sessions.{MayEnd}
-use Rattle.mc_desk.proofs.Answering.{may_answer_told, part_told, waits_told}
-use Rattle.mc_desk.proofs.Keeping.{Adds, Leads}
+use Rattle.mc_desk.specs.LiveRows.{row_of, rows_told, trouble_told}
+use Rattle.mc_desk.specs.Sessions.{KeyWorks, MayEnd}
+use Rattle.mc_desk.proofs.Answering.{part_told, waits_told}
+use Rattle.mc_desk.proofs.Keeping.{Adds, Leads, before}
 
 abbrev pub entry : ℕ → ℕ → ℕ → ℕ → Event → Entry
 entry seat calls faults shown what = record { seat = seat; calls = calls; faults = faults; shown = shown; what = what }
@@ -90,12 +94,12 @@ module _ (contents contents_after : Option CallLog) (same : contents_after ≡ c
 
   -- an entry that makes no changing call
   leads_on : (old new : Seen) (e : Entry) (after : Option Running) → e.calls ≡ old.tally.calls → ((log : CallLog) → contents ≡ Some log → EventLeads (stand_of old) e.what (stand_with after new.dirty) log log)
-      → new.job ≡ if_closed (Rattle.copy_move.specs.Told.closes e.what || old.tally.closed) after → Leads contents contents_after old new e
+      → new.job ≡ if_closed (Rattle.session_history.specs.Entries.closes e.what || old.tally.closed) after → Leads contents contents_after old new e
   leads_on old new e after calls leads job log known = (log, after, same ∙ known, leads log known, job, (let l : length log.changes ≡ length log.changes = refl in omega (arith, calls)))
 
   -- nor changes where the session stands
   leads_still : (old new : Seen) (e : Entry) → e.calls ≡ old.tally.calls → new.dirty ≡ old.dirty → ((log : CallLog) → stand_with old.job new.dirty ≡ stand_of old → EventLeads (stand_of old) e.what (stand_with old.job new.dirty) log log)
-      → new.job ≡ if_closed (Rattle.copy_move.specs.Told.closes e.what || old.tally.closed) old.job → Leads contents contents_after old new e
+      → new.job ≡ if_closed (Rattle.session_history.specs.Entries.closes e.what || old.tally.closed) old.job → Leads contents contents_after old new e
   leads_still old new e calls dirty leads job = leads_on old new e old.job calls (λ log known. leads log (ap (stand_with old.job) dirty)) job
 
 -- a job that was begun is the one that is live
@@ -125,23 +129,20 @@ steps old new live did after log now is leads = (
   (after, leads, sym (with_one live after) ∙ ap (λ j. with_job live.id after (before_others j [])) (sym is)),
 )
 
-module _ (contents contents_after : Option CallLog) (faults : ℕ) (old new : Seen) (seat count shown : ℕ) where
+module _ (contents contents_after : Option CallLog) (faults : ℕ) (old new : Seen) (seat count shown : ℕ) (main : seat ≡ 0) where
   -- a key that was worked
   pub adds_key : (key : KeyType) (now : ℕ) (refusals : List Refusal) → new.newest ≡ entry seat old.tally.calls count shown (Key key now refusals false) ∷ old.newest → new.tally ≡ old.tally → new.job ≡ old.job
       → new.tally.job ≡ option_map told new.job → old.tally.closed ≡ false → old.tally.due ≡ None → old.tally.lost ≡ false → old.screen.planned ≡ None → contents_after ≡ contents
       → faults_in faults old.newest ≤ count → (has_fault refusals ≡ true → HasRisen (faults_in faults old.newest) count) → IfKnown contents (λ log. AreRefused Stat log refusals)
-      → KeyLeads (sight contents) old.tally.job (next_id old.tally.last) key refusals old.screen (noted new) → old.quit ≡ false → new.dirty ≡ old.dirty
+      → KeyWorks (before contents old) key refusals (noted new) → old.quit ≡ false → new.dirty ≡ old.dirty
       → Adds contents contents_after faults old new (entry seat old.tally.calls count shown (Key key now refusals false))
   adds_key key now refusals more tally job tells unclosed looked unlost settled same later fault refused leads unasked dirty = record {
     more = more;
     tally = tally ∙ open_tally old.tally unclosed;
     told = tells;
     timely = unplanned old unasked settled;
-    counts = record { later = later; fault = fault; calls = omega arith; most = omega arith };
-    leads = (
-      record { unclosed = unclosed; looked = looked; unlost = unlost },
-      subst (λ s. KeyLeads (sight contents) old.tally.job (next_id old.tally.last) key refusals s (noted new)) (sym (unasked_screen old unasked)) leads,
-    );
+    counts = record { seat = main; later = later; fault = fault; calls = omega arith; most = omega arith };
+    leads = (record { unclosed = unclosed; looked = looked; unlost = unlost }, leads);
     caused = refused;
     traced = leads_still contents contents_after same old new (entry seat old.tally.calls count shown (Key key now refusals false)) refl dirty (λ log stays. (stays, refl)) (job ∙ open_job old.tally.closed old.job unclosed);
     unknown = still_unknown contents contents_after same;
@@ -158,7 +159,7 @@ module _ (contents contents_after : Option CallLog) (faults : ℕ) (old new : Se
     tally = tally ∙ ap (λ b. let r : Tally = record old.tally { job = if_closed b old.tally.job; lost = true } in r) (sym unclosed);
     told = tells;
     timely = unplanned old unasked settled;
-    counts = record { later = later; fault = λ h. absurd cc; calls = omega arith; most = omega arith };
+    counts = record { seat = main; later = later; fault = λ h. absurd cc; calls = omega arith; most = omega arith };
     leads = (record { unclosed = unclosed; looked = looked; unlost = unlost }, same_noted old new screen quit);
     caused = λ log known. tt;
     traced = leads_still contents contents_after same old new (entry seat old.tally.calls count shown (Key key now [] true)) refl dirty (λ log stays. (stays, refl)) (job ∙ open_job old.tally.closed old.job unclosed);
@@ -167,22 +168,22 @@ module _ (contents contents_after : Option CallLog) (faults : ℕ) (old new : Se
 
   -- a look
   pub adds_look : (refusals : List Refusal) → new.newest ≡ entry seat old.tally.calls count shown (Look refusals) ∷ old.newest
-      → new.tally ≡ record old.tally { unseen = false; due = if can_step old.tally.job then old.tally.due else None } → new.job ≡ old.job → new.tally.job ≡ option_map told new.job
+      → new.tally ≡ record old.tally { has_unseen_end = false; due = if can_step old.tally.job then old.tally.due else None } → new.job ≡ old.job → new.tally.job ≡ option_map told new.job
       → old.tally.closed ≡ false → old.screen.planned ≡ None → contents_after ≡ contents
       → faults_in faults old.newest ≤ count → (has_fault refusals ≡ true → HasRisen (faults_in faults old.newest) count) → IfKnown contents (λ log. AreRefused ListFolder log refusals)
-      → LookLeads (sight contents) old.tally.job old.tally.unseen (part_left old.newest) refusals old.screen new.screen → new.quit ≡ old.quit → old.quit ≡ false → new.dirty ≡ old.dirty
+      → LookLeads (sight contents) (rows_told old.newest) old.tally.has_unseen_end (part_left old.newest) refusals old.screen new.screen → new.quit ≡ old.quit → old.quit ≡ false → new.dirty ≡ old.dirty
       → Adds contents contents_after faults old new (entry seat old.tally.calls count shown (Look refusals))
   adds_look refusals more tally job tells unclosed settled same later fault refused leads quit unasked dirty = record {
     more = more;
     tally = tally
-        ∙ ap (λ b. let r : Tally = record old.tally { job = if_closed b old.tally.job; unseen = false; due = if can_step old.tally.job then old.tally.due else None } in r) (sym unclosed);
+        ∙ ap (λ b. let r : Tally = record old.tally { job = if_closed b old.tally.job; has_unseen_end = false; due = if can_step old.tally.job then old.tally.due else None } in r) (sym unclosed);
     told = tells;
     timely = unplanned old unasked settled;
-    counts = record { later = later; fault = fault; calls = omega arith; most = omega arith };
+    counts = record { seat = main; later = later; fault = fault; calls = omega arith; most = omega arith };
     leads = (
       unclosed,
-      subst (λ s. LookLeads (sight contents) old.tally.job old.tally.unseen (part_left old.newest) refusals s (noted new)) (sym (unasked_screen old unasked))
-          (subst (λ s. LookLeads (sight contents) old.tally.job old.tally.unseen (part_left old.newest) refusals old.screen s) (sym (unasked_screen new (quit ∙ unasked))) leads),
+      subst (λ s. LookLeads (sight contents) (rows_told old.newest) old.tally.has_unseen_end (part_left old.newest) refusals s (noted new)) (sym (unasked_screen old unasked))
+          (subst (λ s. LookLeads (sight contents) (rows_told old.newest) old.tally.has_unseen_end (part_left old.newest) refusals old.screen s) (sym (unasked_screen new (quit ∙ unasked))) leads),
     );
     caused = refused;
     traced = leads_still contents contents_after same old new (entry seat old.tally.calls count shown (Look refusals)) refl dirty (λ log stays. (stays, refl)) (job ∙ open_job old.tally.closed old.job unclosed);
@@ -190,29 +191,28 @@ module _ (contents contents_after : Option CallLog) (faults : ℕ) (old new : Se
   }
 
   -- a job that was begun
-  pub adds_began : (id : ℕ) (plan : Job) (run : Running) → new.newest ≡ entry seat old.tally.calls count shown (Began id plan false) ∷ old.newest
+  pub adds_began : (id : ℕ) (plan : Job) (background : Bool) (run : Running) → new.newest ≡ entry seat old.tally.calls count shown (Began id plan background) ∷ old.newest
       → option_map (running id) (first_work id plan) ≡ Some run → new.job ≡ Some run → new.tally ≡ record old.tally { job = Some (told run); last = id; due = Some id }
-      → old.tally.closed ≡ false → old.tally.job ≡ None → old.screen.planned ≡ Some (Begins plan) → contents_after ≡ contents → faults_in faults old.newest ≤ count
+      → old.tally.closed ≡ false → rows_told old.newest ≡ [] → is_workable plan ≡ true → old.screen.planned ≡ Some (Begins plan background) → contents_after ≡ contents → faults_in faults old.newest ≤ count
       → next_id old.tally.last ≡ Some id → new.screen ≡ record old.screen { planned = None } → new.quit ≡ old.quit → old.quit ≡ false → old.job ≡ None → new.dirty ≡ old.dirty
-      → Adds contents contents_after faults old new (entry seat old.tally.calls count shown (Began id plan false))
-  adds_began id plan run more started job tally unclosed idle planned same later id_is screen quit unasked none dirty = record {
+      → Adds contents contents_after faults old new (entry seat old.tally.calls count shown (Began id plan background))
+  adds_began id plan background run more started job tally unclosed idle workable planned same later id_is screen quit unasked none dirty = record {
     more = more;
     tally = tally
         ∙ (ap (λ j. let r : Tally = record old.tally { job = j; last = id; due = Some id } in r) told_then
         ∙ ap (λ b. let r : Tally = record old.tally { job = if_closed b (option_map (running id) (first_work id plan)); last = id; due = Some id } in r) (sym unclosed));
     told = ap (λ (t : Tally). t.job) tally ∙ sym (ap (option_map told) job);
     timely = tt;
-    counts = record { later = later; fault = λ h. absurd h; calls = omega arith; most = omega arith };
-    leads = (
-      ap (λ (s : Screen). s.planned) (unasked_screen old unasked) ∙ planned,
-      idle,
-      some_work (first_work id plan) started,
-      refl,
-      id_is,
-      carried_out old new screen quit unasked,
-    );
+    counts = record { seat = main; later = later; fault = λ h. absurd h; calls = omega arith; most = omega arith };
+    leads = record {
+      asked = ap (λ (s : Screen). s.planned) (unasked_screen old unasked) ∙ planned;
+      idle = idle;
+      workable = workable;
+      number = id_is;
+      carried_out = carried_out old new screen quit unasked;
+    };
     caused = λ log known. tt;
-    traced = leads_on contents contents_after same old new (entry seat old.tally.calls count shown (Began id plan false)) (Some run) refl
+    traced = leads_on contents contents_after same old new (entry seat old.tally.calls count shown (Began id plan background)) (Some run) refl
         (λ log known. (ap (λ j. before_others j []) none, begins id plan run old new started dirty, refl)) (job ∙ open_job old.tally.closed (Some run) unclosed);
     unknown = still_unknown contents contents_after same;
   }
@@ -220,18 +220,15 @@ module _ (contents contents_after : Option CallLog) (faults : ℕ) (old new : Se
       told_then : Some (told run) ≡ option_map (running id) (first_work id plan)
       told_then = sym (ap (option_map told) started) ∙ began_told id plan
 
-      some_work : (work : Option Rattle.copy_move.specs.declared.work.Work.Work) → option_map (running id) work ≡ Some run → IsSome work
-      some_work None h = absurd cc
-      some_work (Some work) h = refl
-
   -- a trouble that was answered
   pub adds_order : (answer : Answer) (live : Running) → new.newest ≡ entry seat old.tally.calls count shown (Order live.id (Answered answer)) ∷ old.newest
-      → old.job ≡ Some live → MayAnswer live answer → old.tally.job ≡ option_map told old.job → new.job ≡ Some (answered answer live)
+      → old.job ≡ Some live → rows_told old.newest ≡ row_of live (trouble_told old.newest) ∷ [] → takes_answer (row_of live (trouble_told old.newest)) answer ≡ true → old.tally.job ≡ option_map told old.job
+      → new.job ≡ Some (answered answer live)
       → new.tally ≡ record old.tally { job = Some (told (answered answer live)); due = Some live.id }
       → old.tally.closed ≡ false → old.screen.planned ≡ Some (Answers answer) → contents_after ≡ contents → faults_in faults old.newest ≤ count
       → new.screen ≡ record old.screen { planned = None } → new.quit ≡ old.quit → old.quit ≡ false → new.dirty ≡ old.dirty
       → Adds contents contents_after faults old new (entry seat old.tally.calls count shown (Order live.id (Answered answer)))
-  adds_order answer live more is may tells job tally unclosed planned same later screen quit unasked dirty = record {
+  adds_order answer live more is rows takes tells job tally unclosed planned same later screen quit unasked dirty = record {
     more = more;
     tally = tally
         ∙ (ap (λ j. let r : Tally = record old.tally { job = j; due = Some live.id } in r) (ap Some (answered_told answer live) ∙ sym (ap (option_map (answered answer)) told_is))
@@ -239,12 +236,15 @@ module _ (contents contents_after : Option CallLog) (faults : ℕ) (old new : Se
         ∙ ap (λ b. let r : Tally = record old.tally { job = if_closed b (option_map (answered answer) old.tally.job); due = option_map (λ (j : Running). j.id) old.tally.job } in r) (sym unclosed)));
     told = ap (λ (t : Tally). t.job) tally ∙ sym (ap (option_map told) job);
     timely = tt;
-    counts = record { later = later; fault = λ h. absurd h; calls = omega arith; most = omega arith };
-    leads = (
-      ap (λ (s : Screen). s.planned) (unasked_screen old unasked) ∙ planned,
-      (told live, told_is, refl, may_answer_told live answer may),
-      carried_out old new screen quit unasked,
-    );
+    counts = record { seat = main; later = later; fault = λ h. absurd h; calls = omega arith; most = omega arith };
+    leads = record {
+      asked = ap (λ (s : Screen). s.planned) (unasked_screen old unasked) ∙ planned;
+      row = row_of live (trouble_told old.newest);
+      live = rows;
+      number = refl;
+      fits = takes;
+      carried_out = carried_out old new screen quit unasked;
+    };
     caused = λ log known. tt;
     traced = leads_on contents contents_after same old new (entry seat old.tally.calls count shown (Order live.id (Answered answer))) (Some (answered answer live)) refl
         (λ log known. (answers answer live old new is dirty, refl)) (job ∙ open_job old.tally.closed (Some (answered answer live)) unclosed);
@@ -264,7 +264,7 @@ module _ (contents contents_after : Option CallLog) (faults : ℕ) (old new : Se
     tally = tally;
     told = tells;
     timely = may_end old settled;
-    counts = record { later = later; fault = λ h. absurd h; calls = omega arith; most = omega arith };
+    counts = record { seat = main; later = later; fault = λ h. absurd h; calls = omega arith; most = omega arith };
     leads = same_noted old new screen quit;
     caused = λ log known. tt;
     traced = leads_still contents contents_after same old new (entry seat old.tally.calls count shown Closed) refl dirty (λ log stays. (stays, refl)) job;
@@ -282,13 +282,13 @@ module _ (contents contents_after : Option CallLog) (faults : ℕ) (old new : Se
   unseen_step id (Troubled trouble) b = refl
   unseen_step id (Ended ending part) b = refl
 
-  stepped_tally : (t : Tally) (job job' : Option Running) (unseen unseen' : Bool) (calls : ℕ) → job ≡ job' → unseen ≡ unseen'
-      → (let r : Tally = record t { job = job; unseen = unseen; calls = calls } in r) ≡ record t { job = job'; unseen = unseen'; calls = calls }
-  stepped_tally t job job' unseen unseen' calls p q =
-      ap (λ j. let r : Tally = record t { job = j; unseen = unseen; calls = calls } in r) p ∙ ap (λ u. let r : Tally = record t { job = job'; unseen = u; calls = calls } in r) q
+  stepped_tally : (t : Tally) (job job' : Option Running) (has_unseen_end has_unseen_end' : Bool) (calls : ℕ) → job ≡ job' → has_unseen_end ≡ has_unseen_end'
+      → (let r : Tally = record t { job = job; has_unseen_end = has_unseen_end; calls = calls } in r) ≡ record t { job = job'; has_unseen_end = has_unseen_end'; calls = calls }
+  stepped_tally t job job' has_unseen_end has_unseen_end' calls p q =
+      ap (λ j. let r : Tally = record t { job = j; has_unseen_end = has_unseen_end; calls = calls } in r) p ∙ ap (λ u. let r : Tally = record t { job = job'; has_unseen_end = u; calls = calls } in r) q
 
   -- what a step says of the tree, once that goes on telling
-  step_traced : (live stepped : Running) (did : Did) (made calls before after : ℕ) → old.job ≡ Some live → RunStep IsUnclaimed live stepped did made old.dirty new.dirty contents contents_after before after
+  step_traced : (live stepped : Running) (did : Did) (made calls before after : ℕ) → old.job ≡ Some live → RunStep IsUnclaimed (step_made live stepped did made old.dirty new.dirty contents contents_after before after)
       → calls ≡ old.tally.calls + made → new.job ≡ if_closed old.tally.closed (if ends did then None else Some stepped) → (counted : IfKnown contents (λ log. IfKnown contents_after (HasMore log made)))
       → ((log : CallLog) → contents ≡ Some log → StillTells contents_after) → Leads contents contents_after old new (entry seat calls count shown (Step live.id did))
   step_traced live stepped did made calls before after is run calls_is job counted tells log known =
@@ -299,18 +299,18 @@ module _ (contents contents_after : Option CallLog) (faults : ℕ) (old new : Se
         here.1,
         steps old new live did (if ends did then None else Some stepped) log here.0 is
             (step_law live stepped did made old.dirty new.dirty log here.0 before after
-            (subst (λ x. RunStep IsUnclaimed live stepped did made old.dirty new.dirty x (Some here.0) before after) known
-            (subst (λ x. RunStep IsUnclaimed live stepped did made old.dirty new.dirty contents x before after) here.1 run))),
+            (subst (λ x. RunStep IsUnclaimed (step_made live stepped did made old.dirty new.dirty x (Some here.0) before after)) known
+            (subst (λ x. RunStep IsUnclaimed (step_made live stepped did made old.dirty new.dirty contents x before after)) here.1 run))),
         job,
         omega (arith, more, calls_is),
       )
 
   -- a step of the job's own
   pub adds_step : (live stepped : Running) (did : Did) (made calls before after : ℕ) → old.job ≡ Some live → old.tally.job ≡ option_map told old.job
-      → OwnStep IsUnclaimed live stepped did made old.dirty new.dirty contents contents_after before after → calls ≡ old.tally.calls + made
+      → OwnStep IsUnclaimed (step_made live stepped did made old.dirty new.dirty contents contents_after before after) → calls ≡ old.tally.calls + made
       → new.newest ≡ entry seat calls count shown (Step live.id did) ∷ old.newest
       → new.job ≡ if_closed old.tally.closed (if ends did then None else Some stepped)
-      → new.tally ≡ record old.tally { job = option_map told new.job; unseen = ends did || old.tally.unseen; calls = calls }
+      → new.tally ≡ record old.tally { job = option_map told new.job; has_unseen_end = ends did || old.tally.has_unseen_end; calls = calls }
       → old.screen.planned ≡ None → faults_in faults old.newest ≤ before → after ≡ count → new.screen ≡ old.screen → new.quit ≡ old.quit
       → Adds contents contents_after faults old new (entry seat calls count shown (Step live.id did))
   adds_step live stepped did made calls before after is tells o calls_is more job tally settled had now screen quit =
@@ -319,10 +319,11 @@ module _ (contents contents_after : Option CallLog) (faults : ℕ) (old new : Se
         more = more;
         tally = tally ∙ stepped_tally old.tally _ _ _ _ calls
             (ap (option_map told) job ∙ (closed_told old.tally.closed (if ends did then None else Some stepped)
-            ∙ ap (if_closed old.tally.closed) (step_told live stepped did s.tells ∙ sym (ap (λ j. option_and_then (after_step did) j) told_is)))) (unseen_step live.id did old.tally.unseen);
+            ∙ ap (if_closed old.tally.closed) (step_told live stepped did s.tells ∙ sym (ap (λ j. option_and_then (after_step did) j) told_is)))) (unseen_step live.id did old.tally.has_unseen_end);
         told = ap (λ (t : Tally). t.job) tally;
         timely = may_end old settled;
         counts = record {
+          seat = main;
           later = let l = s.later in omega (arith, l, had, now);
           fault = λ h. let risen = s.fault h in omega (arith, risen, had, now);
           calls = omega (arith, calls_is);
@@ -339,20 +340,21 @@ module _ (contents contents_after : Option CallLog) (faults : ℕ) (old new : Se
 
   -- the sync of a folder that an ended job left
   pub adds_settled : (live stepped : Running) (did : Did) (made calls before after : ℕ) → old.job ≡ Some live → old.tally.job ≡ option_map told old.job
-      → SettlingStep live stepped did made old.dirty new.dirty contents contents_after before after → calls ≡ old.tally.calls + made
+      → OwedSyncStep (step_made live stepped did made old.dirty new.dirty contents contents_after before after) → calls ≡ old.tally.calls + made
       → new.newest ≡ entry seat calls count shown (Step live.id did) ∷ old.newest
       → new.job ≡ if_closed old.tally.closed (if ends did then None else Some stepped)
-      → new.tally ≡ record old.tally { job = option_map told new.job; unseen = ends did || old.tally.unseen; calls = calls }
+      → new.tally ≡ record old.tally { job = option_map told new.job; has_unseen_end = ends did || old.tally.has_unseen_end; calls = calls }
       → old.screen.planned ≡ None → faults_in faults old.newest ≤ before → after ≡ count → new.screen ≡ old.screen → new.quit ≡ old.quit
       → Adds contents contents_after faults old new (entry seat calls count shown (Step live.id did))
   adds_settled live stepped did made calls before after is tells s calls_is more job tally settled had now screen quit = record {
     more = more;
     tally = tally ∙ stepped_tally old.tally _ _ _ _ calls
         (ap (option_map told) (job ∙ ap (if_closed old.tally.closed) goes_on) ∙ (closed_told old.tally.closed (Some stepped)
-        ∙ ap (if_closed old.tally.closed) (sync_told live s.folder did (Some stepped) s.fresh reported ∙ sym (ap (λ j. option_and_then (after_step did) j) told_is)))) (unseen_step live.id did old.tally.unseen);
+        ∙ ap (if_closed old.tally.closed) (sync_told live s.folder did (Some stepped) s.fresh reported ∙ sym (ap (λ j. option_and_then (after_step did) j) told_is)))) (unseen_step live.id did old.tally.has_unseen_end);
     told = ap (λ (t : Tally). t.job) tally;
     timely = may_end old settled;
     counts = record {
+      seat = main;
       later = let l = s.later in omega (arith, l, had, now);
       fault = λ h. let risen = s.fault h in omega (arith, risen, had, now);
       calls = omega (arith, calls_is);
@@ -377,11 +379,11 @@ module _ (contents contents_after : Option CallLog) (faults : ℕ) (old new : Se
       goes_on : (if ends did then None else Some stepped) ≡ Some stepped
       goes_on = ap (λ b. if b then None else Some stepped) (not_ended s.synced)
 
-      report : Syncs → ((did ≡ Barrier) × (Some stepped ≡ Some live)) ⊎ ((e : TreeError) × (did ≡ Troubled (trouble_at e s.folder true)) × (Some stepped ≡ Some (record live { course = Unsettled (cause_of e) })))
+      report : Syncs → ((did ≡ Barrier) × (Some stepped ≡ Some live)) ⊎ ((e : TreeError) × (did ≡ Troubled (trouble_at e s.folder true)) × (Some stepped ≡ Some (record live { course = OwedSyncFailed (cause_of e) })))
       report (inl h) = inl (h.0, ap Some h.1)
       report (inr h) = inr (h.0, h.1, ap Some h.2)
 
-      reported : ((did ≡ Barrier) × (Some stepped ≡ Some live)) ⊎ ((e : TreeError) × (did ≡ Troubled (trouble_at e s.folder true)) × (Some stepped ≡ Some (record live { course = Unsettled (cause_of e) })))
+      reported : ((did ≡ Barrier) × (Some stepped ≡ Some live)) ⊎ ((e : TreeError) × (did ≡ Troubled (trouble_at e s.folder true)) × (Some stepped ≡ Some (record live { course = OwedSyncFailed (cause_of e) })))
       reported = report s.synced
 
       reports : Syncs → (did ≡ Barrier) ⊎ ((trouble : Trouble) × (did ≡ Troubled trouble) × (trouble.barrier ≡ true))
@@ -392,10 +394,10 @@ module _ (contents contents_after : Option CallLog) (faults : ℕ) (old new : Se
       tells_on log known (inl h) = performs_tells log (SyncFolder s.folder) (Ok tt) contents_after (h.3 log known)
       tells_on log known (inr h) = performs_tells log (SyncFolder s.folder) (Err h.0) contents_after (h.4 log known)
 
-  -- the end of a job for want of memory
+  -- the end of a job that ran out of memory
   pub adds_given_up : (live : Running) (part : Option Route) → old.job ≡ Some live → old.tally.job ≡ option_map told old.job → waits_on live.course ≡ false → part ≡ part_of live.work
       → new.newest ≡ entry seat old.tally.calls count shown (Step live.id (Ended NoMemory part)) ∷ old.newest
-      → new.job ≡ None → new.tally ≡ record old.tally { job = None; unseen = true }
+      → new.job ≡ None → new.tally ≡ record old.tally { job = None; has_unseen_end = true }
       → old.screen.planned ≡ None → contents_after ≡ contents → faults_in faults old.newest ≤ count → new.screen ≡ old.screen → new.quit ≡ old.quit → new.dirty ≡ old.dirty
       → Adds contents contents_after faults old new (entry seat old.tally.calls count shown (Step live.id (Ended NoMemory part)))
   adds_given_up live part is tells ready part_is more job tally settled same later screen quit dirty = record {
@@ -403,7 +405,7 @@ module _ (contents contents_after : Option CallLog) (faults : ℕ) (old new : Se
     tally = tally ∙ stepped_tally old.tally _ _ _ _ old.tally.calls (none_left old.tally.closed ∙ ap (if_closed old.tally.closed) (sym (ap (λ j. option_and_then (after_step (Ended NoMemory part)) j) told_is))) refl;
     told = ap (λ (t : Tally). t.job) tally ∙ sym (ap (option_map told) job);
     timely = may_end old settled;
-    counts = record { later = later; fault = λ h. absurd h; calls = omega arith; most = omega arith };
+    counts = record { seat = main; later = later; fault = λ h. absurd h; calls = omega arith; most = omega arith };
     leads = (same_noted old new screen quit, (told live, told_is, refl, inr (inl (waits_told live ∙ ready, ap (Ended NoMemory) (part_is ∙ sym (part_told live))))));
     caused = λ log known. tt;
     traced = leads_on contents contents_after same old new (entry seat old.tally.calls count shown (Step live.id (Ended NoMemory part))) None refl

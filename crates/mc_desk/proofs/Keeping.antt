@@ -4,12 +4,12 @@ use Rattle.std.specs.Option.{option_map}
 use Rattle.mc_text.specs.Routes.{Route}
 use Rattle.tree_trait.specs.Change.{CallLog}
 use Rattle.tree_trait.specs.Answers.{IfKnown}
-use Rattle.copy_move.specs.declared.history.Entry.{Entry}
-use Rattle.copy_move.specs.declared.history.Event.{Event}
-use Rattle.copy_move.specs.declared.history.Event.TheVariants.{Key, Look, Began, Order, Step, Closed}
+use Rattle.session_history.specs.declared.history.Entry.{Entry}
+use Rattle.session_history.specs.declared.history.Event.{Event}
+use Rattle.session_history.specs.declared.history.Event.TheVariants.{Key, Look, Began, Order, Step, Closed}
 use Rattle.copy_move.specs.Jobs.{Running}
-use Rattle.copy_move.specs.Told.{told, closes, if_closed, is_closed}
-use Rattle.history_laws.specs.Safe.{calls_in}
+use Rattle.copy_move.specs.Told.{told, if_closed}
+use Rattle.session_history.specs.Entries.{closes, is_closed, calls_in}
 use Rattle.history_laws.specs.Traces.{IsTraced, IsTracedTo, Stand, at_rest}
 use Rattle.history_laws.specs.Traces as traces
 use Rattle.history_laws.proofs.Moments.{traced_count}
@@ -17,13 +17,14 @@ use Rattle.mc_ui.specs.Screens.{Screen, sight}
 use Rattle.mc_desk.specs.declared.starts.Start.{Start}
 use Rattle.mc_desk.specs.Logs.{Logged}
 use Rattle.mc_desk.specs.Tallies.{Tally, tally, after_entry, most_calls, faults_in, part_left}
-use Rattle.mc_desk.specs.Sessions.{IsSession, Traces, BeginsIn, EventLeads, HasCauses, IsTimely, Counts, folders_of}
+use Rattle.mc_desk.specs.LiveRows.{rows_told}
+use Rattle.mc_desk.specs.Sessions.{Before, IsSession, Traces, BeginsIn, EventLeads, HasCauses, IsTimely, Counts, folders_of}
 use Rattle.mc_desk.specs.Starts.{IsOpened}
 use Rattle.mc_desk.specs.Desks.{Seen, IsWritten, IsDesk, noted, stand_of, stand_with}
 
 -- a desk on which nothing happened yet
 abbrev pub fresh : Tally
-fresh = record { job = None; last = 0; unseen = false; closed = false; due = Some 0; lost = false; calls = 0 }
+fresh = record { job = None; last = 0; has_unseen_end = false; closed = false; due = Some 0; lost = false; calls = 0 }
 
 pub kept_opening : (start : Option Start) (opening contents : Option CallLog) (faults : ℕ) (folders : Start) (screen : Screen) (log : Logged) (dirty : List Route) (taken : ℕ) (pending : List ℕ) (failed : Bool) → BeginsIn start folders
     → contents ≡ opening → IsOpened contents folders.left folders.right screen log → dirty ≡ []
@@ -55,6 +56,10 @@ Leads contents contents_after old new e =
     IfKnown contents (λ log. (now : CallLog) × (after : Option Running) × (contents_after ≡ Some now) × traces.EventLeads (stand_of old) e.what (stand_with after new.dirty) log now
     × (new.job ≡ if_closed (closes e.what || old.tally.closed) after) × (length now.changes + old.tally.calls ≡ length log.changes + e.calls))
 
+-- how a desk stands before an entry
+abbrev pub before : Option CallLog → Seen → Before
+before contents desk = record { tree = sight contents; tally = desk.tally; rows = rows_told desk.newest; part = part_left desk.newest; screen = noted desk }
+
 -- an entry that may follow: what it makes of the desk, of the screen and of the tree
 pub record Adds (contents contents_after : Option CallLog) (faults : ℕ) (old new : Seen) (e : Entry) : Type 0 where
   pub more : new.newest ≡ e ∷ old.newest
@@ -62,7 +67,7 @@ pub record Adds (contents contents_after : Option CallLog) (faults : ℕ) (old n
   pub told : new.tally.job ≡ option_map told new.job
   pub timely : IsTimely e.what (noted old)
   pub counts : Counts (faults_in faults old.newest) old.tally.calls e
-  pub leads : EventLeads (sight contents) old.tally (part_left old.newest) e.what (noted old) (noted new)
+  pub leads : EventLeads (before contents old) e.what (noted new)
   pub caused : IfKnown contents (HasCauses e.what)
   pub traced : Leads contents contents_after old new e
   pub unknown : contents ≡ None → contents_after ≡ None
@@ -135,7 +140,8 @@ module _ (faults : ℕ) (old new : Seen) (e : Entry) where
       record {
         timely = adds.timely;
         counts = subst (λ n. Counts (faults_in faults old.newest) n e) (ap (λ (t : Tally). t.calls) written.tally) adds.counts;
-        leads = subst (λ t. EventLeads (sight contents) t (part_left old.newest) e.what (noted old) (noted new)) written.tally adds.leads;
+        leads = subst (λ t. EventLeads (let b : Before = record { tree = sight contents; tally = t; rows = rows_told old.newest; part = part_left old.newest; screen = noted old } in b) e.what (noted new)) written.tally
+            adds.leads;
         caused = adds.caused;
         traced = traced_more start opening contents contents_after written adds;
       },

@@ -4,23 +4,24 @@ use Rattle.std.proofs.lemmas.Bool.{true≢false, false≢true}
 use Rattle.mc_text.specs.Routes.{Route}
 use Rattle.tree_trait.specs.declared.calls.TreeError.{TreeError}
 use Rattle.tree_trait.specs.Change.{CallLog}
-use Rattle.file_copy.specs.declared.report.Did.{Did}
-use Rattle.file_copy.specs.declared.report.Did.TheVariants.{Began, Chunk, Placed, Removed, Skipped, Cleaned, Barrier, Troubled, Ended}
-use Rattle.file_copy.specs.declared.report.Ending.{Ending}
-use Rattle.file_copy.specs.declared.report.Ending.TheVariants.{Finished, Aborted, Killed, NoMemory}
+use Rattle.job_reports.specs.declared.report.Did.{Did}
+use Rattle.job_reports.specs.declared.report.Did.TheVariants.{Began, Chunk, Placed, Removed, Skipped, Cleaned, Barrier, Troubled, Ended}
+use Rattle.job_reports.specs.declared.report.Ending.{Ending}
+use Rattle.job_reports.specs.declared.report.Ending.TheVariants.{Finished, Aborted, Killed, NoMemory}
 use Rattle.file_copy.specs.Copying as copying
-use Rattle.copy_move.specs.declared.history.Event.TheVariants.{Step}
-use Rattle.copy_move.specs.declared.history.Entry.{Entry}
+use Rattle.session_history.specs.declared.history.Event.TheVariants.{Step}
+use Rattle.session_history.specs.declared.history.Entry.{Entry}
 use Rattle.copy_move.specs.declared.deletion.Stage.{Stage as DeletionStage}
 use Rattle.copy_move.specs.declared.deletion.Stage.TheVariants.{Remove, Sync, Finish, PassedOver}
 use Rattle.copy_move.specs.declared.work.Work.{Work}
 use Rattle.copy_move.specs.declared.work.Work.TheVariants.{Copy, Delete}
 use Rattle.copy_move.specs.declared.run.Course.{Course}
-use Rattle.copy_move.specs.declared.run.Course.TheVariants.{GoesOn, InTrouble, Unsettled, Skips, Ends}
+use Rattle.copy_move.specs.declared.run.Course.TheVariants.{GoesOn, InTrouble, OwedSyncFailed, Skips, Ends}
 use Rattle.copy_move.specs.Deletions as deletions
 use Rattle.copy_move.specs.Jobs.{Running, TellsOn, WorkTells}
-use Rattle.copy_move.specs.Settling.{after_try, changed_folder, is_dirty, with_change, without}
-use Rattle.copy_move.specs.Steps.{LeavesDirty, RunStep}
+use Rattle.copy_move.specs.Settling.{after_try, changed_folder, is_dirty, with_change}
+use Rattle.job_reports.specs.Paths.{without}
+use Rattle.copy_move.specs.Steps.{LeavesDirty, RunStep, step_made}
 use Rattle.copy_move.proofs.FolderSteps.{skipped_dirty}
 use Rattle.mc_desk.specs.Desks.{HasSynced, MovesDirty}
 use Rattle.mc_desk.proofs.Adding.{entry}
@@ -105,7 +106,7 @@ module _ (job : Option Running) (newest older : List Entry) (dirty dirty_after :
   tries folder refusal (Ended ending part) is left = inl left
 
   pub run_moves : (unclaimed : Route → Type 0) (live stepped : Running) (made : ℕ) (before after : Option CallLog) (f0 f1 : ℕ) → job ≡ Some live
-      → RunStep unclaimed live stepped did made dirty dirty_after before after f0 f1 → Moves
+      → RunStep unclaimed (step_made live stepped did made dirty dirty_after before after f0 f1) → Moves
   run_moves unclaimed live stepped made before after f0 f1 is (inr s) = elim s.synced [ inl h ↦ synced s.folder h.0 h.2 | inr h ↦ inl h.3 ]
   run_moves unclaimed live stepped made before after f0 f1 is (inl o) = by live.course o.own.tells o.leaves
     where
@@ -114,7 +115,7 @@ module _ (job : Option Running) (newest older : List Entry) (dirty dirty_after :
           changes live (is_dirty live.work) (is_dirty stepped.work) is
           (λ was now. clean_before live.work work did tells was (sym (ap (λ (s : Running). is_dirty s.work) new_is) ∙ now)) leaves
       by (InTrouble cause) tells leaves = absurd tells
-      by (Unsettled cause) tells leaves = absurd tells
+      by (OwedSyncFailed cause) tells leaves = absurd tells
       by (Skips cause) (inl (did_is, new_is)) leaves =
           inl (still (changed_folder live.work) (is_dirty live.work) (is_dirty stepped.work) (ap (λ (s : Running). is_dirty s.work) new_is ∙ skipped_dirty live.work) leaves)
       by (Skips cause) (inr (did_is, new_is)) leaves = inl (still (changed_folder live.work) (is_dirty live.work) (is_dirty stepped.work) (ap (λ (s : Running). is_dirty s.work) new_is) leaves)

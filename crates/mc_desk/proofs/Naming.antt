@@ -2,19 +2,21 @@
 use Rattle.std.proofs.Common.{◌≡◌, ℕ, Bool, true, false, List, [], ◌∷◌, refl, sym, ap, ◌∙◌, Option, Some, None}
 use Rattle.std.specs.Prelude.{option_and_then, if◌then◌else◌}
 use Rattle.std.specs.Option.{option_map}
-use Rattle.file_copy.specs.declared.report.Did.{Did}
-use Rattle.file_copy.specs.declared.report.Did.TheVariants.{Began as BeganPart, Chunk, Placed, Removed, Skipped, Cleaned, Barrier, Troubled, Ended}
-use Rattle.copy_move.specs.declared.history.Answer.{Answer}
-use Rattle.copy_move.specs.declared.history.Answer.TheVariants.{Retry, Skip, SkipAll, Abort}
-use Rattle.copy_move.specs.declared.history.Entry.{Entry}
-use Rattle.copy_move.specs.declared.history.Event.{Event}
-use Rattle.copy_move.specs.declared.history.Event.TheVariants.{Key, Look, Began, Order, Step, Closed}
-use Rattle.copy_move.specs.declared.history.JobOrder.TheVariants.{Answered}
+use Rattle.job_reports.specs.declared.report.Did.{Did}
+use Rattle.job_reports.specs.declared.report.Did.TheVariants.{Began as BeganPart, Chunk, Placed, Removed, Skipped, Cleaned, Barrier, Troubled, Ended}
+use Rattle.job_reports.specs.declared.answer.Answer.{Answer}
+use Rattle.job_reports.specs.declared.answer.Answer.TheVariants.{Retry, Skip, SkipAll, Abort}
+use Rattle.session_history.specs.declared.history.Entry.{Entry}
+use Rattle.session_history.specs.declared.history.Event.{Event}
+use Rattle.session_history.specs.declared.history.Event.TheVariants.{Key, Look, Began, Order, Step, Closed}
+use Rattle.session_history.specs.declared.history.JobOrder.TheVariants.{Answered}
 use Rattle.copy_move.specs.declared.work.Work.{Work}
 use Rattle.copy_move.specs.declared.run.Course.{Course}
-use Rattle.copy_move.specs.declared.run.Course.TheVariants.{GoesOn, InTrouble, Unsettled, Skips, Ends}
+use Rattle.copy_move.specs.declared.run.Course.TheVariants.{GoesOn, InTrouble, OwedSyncFailed, Skips, Ends}
 use Rattle.copy_move.specs.Jobs.{Running, answered, answered_on, first_work}
-use Rattle.copy_move.specs.Told.{live_job, is_closed, if_closed, after_event, after_step, running}
+use Rattle.history_laws.specs.ToldJob.{live_job, after_event}
+use Rattle.session_history.specs.Entries.{is_closed}
+use Rattle.copy_move.specs.Told.{if_closed, after_step, running}
 use Rattle.mc_desk.specs.Tallies.{due_in, due_after, can_step}
 
 -- the number of a job, if there is one, is this
@@ -43,10 +45,10 @@ answered_id Retry (InTrouble cause) job = refl
 answered_id Skip (InTrouble cause) job = refl
 answered_id SkipAll (InTrouble cause) job = refl
 answered_id Abort (InTrouble cause) job = refl
-answered_id Retry (Unsettled cause) job = refl
-answered_id Skip (Unsettled cause) job = refl
-answered_id SkipAll (Unsettled cause) job = refl
-answered_id Abort (Unsettled cause) job = refl
+answered_id Retry (OwedSyncFailed cause) job = refl
+answered_id Skip (OwedSyncFailed cause) job = refl
+answered_id SkipAll (OwedSyncFailed cause) job = refl
+answered_id Abort (OwedSyncFailed cause) job = refl
 answered_id answer GoesOn job = refl
 answered_id answer (Skips cause) job = refl
 answered_id answer (Ends ending) job = refl

@@ -7,8 +7,8 @@ use Rattle.tree_trait.specs.declared.calls.TreeError.{TreeError}
 use Rattle.tree_trait.specs.Change.{CallLog}
 use Rattle.tree_trait.specs.CrashImages.{Among}
 use Rattle.tree_trait.proofs.Visible.{same_path-self}
-use Rattle.file_copy.specs.declared.report.Did.{Did}
-use Rattle.file_copy.specs.declared.report.Did.TheVariants.{Began, Chunk, Placed, Removed, Skipped, Cleaned, Barrier, Troubled, Ended}
+use Rattle.job_reports.specs.declared.report.Did.{Did}
+use Rattle.job_reports.specs.declared.report.Did.TheVariants.{Began, Chunk, Placed, Removed, Skipped, Cleaned, Barrier, Troubled, Ended}
 use Rattle.file_copy.specs.declared.stage.Stage.{Stage}
 use Rattle.file_copy.specs.declared.stage.Stage.TheVariants.{Begin, Fill, Clean, Left, Decided}
 use Rattle.file_copy.specs.declared.stage.Next.TheVariants as next
@@ -20,11 +20,13 @@ use Rattle.copy_move.specs.declared.deletion.Stage.TheVariants as deletion
 use Rattle.copy_move.specs.declared.work.Work.{Work}
 use Rattle.copy_move.specs.declared.work.Work.TheVariants.{Copy, Delete}
 use Rattle.copy_move.specs.declared.run.Course.{Course}
-use Rattle.copy_move.specs.declared.run.Course.TheVariants.{GoesOn, InTrouble, Unsettled, Skips, Ends}
-use Rattle.copy_move.specs.Jobs.{Running, closed_course, ends}
+use Rattle.copy_move.specs.declared.run.Course.TheVariants.{GoesOn, InTrouble, OwedSyncFailed, Skips, Ends}
+use Rattle.copy_move.specs.Jobs.{Running, closed_course}
+use Rattle.job_reports.specs.Reports.{ends}
 use Rattle.copy_move.specs.Ranks.{copy_rank, deletion_rank, last_deletion_steps, last_rank, rank, rank_on, rank_with, work_rank}
-use Rattle.copy_move.specs.Settling.{after_try, changed_folder, is_dirty, with_change, without}
-use Rattle.copy_move.specs.Steps.{LeavesDirty, RunStep, SettlingStep, SyncsFolder}
+use Rattle.copy_move.specs.Settling.{after_try, changed_folder, is_dirty, with_change}
+use Rattle.job_reports.specs.Paths.{without}
+use Rattle.copy_move.specs.Steps.{LeavesDirty, RunStep, OwedSyncStep, SyncsFolder, step_made}
 use Rattle.copy_move.specs.Told.{if_closed}
 use Rattle.copy_move.proofs.Falling.{trouble_falls}
 
@@ -77,7 +79,7 @@ some_work (Delete d) = some_deletion d.stage
 some_steps : (course : Course) (work : Work) → 0 < rank_on course work
 some_steps GoesOn work = some_work work
 some_steps (InTrouble cause) work = some_end work
-some_steps (Unsettled cause) work = some_end work
+some_steps (OwedSyncFailed cause) work = some_end work
 some_steps (Skips cause) work = omega arith
 some_steps (Ends ending) work = some_end work
 
@@ -85,7 +87,7 @@ some_steps (Ends ending) work = some_end work
 closed_rank : (course : Course) (work : Work) → rank_on (closed_course course) work ≡ rank_on course work
 closed_rank GoesOn work = refl
 closed_rank (InTrouble cause) work = refl
-closed_rank (Unsettled cause) work = refl
+closed_rank (OwedSyncFailed cause) work = refl
 closed_rank (Skips cause) work = refl
 closed_rank (Ends ending) work = refl
 
@@ -140,12 +142,12 @@ tried_more (Ended ending part) left folder dirty = omega arith
 leaves_more : (course : Course) (old new : Work) (did : Did) (dirty dirty_after : List Route) (before after : Option CallLog) → LeavesDirty course old did new dirty dirty_after before after → length dirty_after ≤ length dirty + 1
 leaves_more GoesOn old new did dirty dirty_after before after h = subst (λ d. length d ≤ length dirty + 1) (sym h) (one_more (is_dirty old) (is_dirty new) (changed_folder old) dirty)
 leaves_more (InTrouble cause) old new did dirty dirty_after before after h = subst (λ d. length d ≤ length dirty + 1) (sym h) (one_more (is_dirty old) (is_dirty new) (changed_folder old) dirty)
-leaves_more (Unsettled cause) old new did dirty dirty_after before after h = subst (λ d. length d ≤ length dirty + 1) (sym h) (one_more (is_dirty old) (is_dirty new) (changed_folder old) dirty)
+leaves_more (OwedSyncFailed cause) old new did dirty dirty_after before after h = subst (λ d. length d ≤ length dirty + 1) (sym h) (one_more (is_dirty old) (is_dirty new) (changed_folder old) dirty)
 leaves_more (Skips cause) old new did dirty dirty_after before after h = subst (λ d. length d ≤ length dirty + 1) (sym h) (one_more (is_dirty old) (is_dirty new) (changed_folder old) dirty)
 leaves_more (Ends ending) old new did dirty dirty_after before after h = subst (λ d. length d ≤ length dirty + 1) (sym h.1) (tried_more did h.0 (changed_folder old) dirty)
 
 -- the sync of a folder that an ended job left leaves the job where it stood, or waiting
-settled_falls : (closed : Bool) (job stepped : Running) (did : Did) (made : ℕ) (dirty dirty_after : List Route) (before after : Option CallLog) (f0 f1 : ℕ) → SettlingStep job stepped did made dirty dirty_after before after f0 f1
+settled_falls : (closed : Bool) (job stepped : Running) (did : Did) (made : ℕ) (dirty dirty_after : List Route) (before after : Option CallLog) (f0 f1 : ℕ) → OwedSyncStep (step_made job stepped did made dirty dirty_after before after f0 f1)
     → rank_with dirty_after (if_closed closed (if ends did then None else Some stepped)) < rank_with dirty (Some job)
 settled_falls closed job stepped did made dirty dirty_after before after f0 f1 s = go s.synced
   where
@@ -171,7 +173,7 @@ settled_falls closed job stepped did made dirty dirty_after before after f0 f1 s
         omega (arith, waits, goes, low, going, still, count)
 
 pub run_falls : (unclaimed : Route → Type 0) (closed : Bool) (job stepped : Running) (did : Did) (made : ℕ) (dirty dirty_after : List Route) (before after : Option CallLog) (f0 f1 : ℕ)
-    → RunStep unclaimed job stepped did made dirty dirty_after before after f0 f1 → rank_with dirty_after (if_closed closed (if ends did then None else Some stepped)) < rank_with dirty (Some job)
+    → RunStep unclaimed (step_made job stepped did made dirty dirty_after before after f0 f1) → rank_with dirty_after (if_closed closed (if ends did then None else Some stepped)) < rank_with dirty (Some job)
 run_falls unclaimed closed job stepped did made dirty dirty_after before after f0 f1 (inl o) =
     let low = rank_left closed job stepped did o.own.falls in
     let more = leaves_more job.course job.work stepped.work did dirty dirty_after before after o.leaves in

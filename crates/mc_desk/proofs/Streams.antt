@@ -6,7 +6,7 @@ use Rattle.std.proofs.lemmas.Bool.{true≢false}
 use Rattle.tree_trait.specs.Answers.{IfKnown}
 use Rattle.key_screen.specs.declared.keys.Key.{Key}
 use Rattle.key_screen.specs.DecodedKeys.{Decoded, decoded_keys}
-use Rattle.copy_move.specs.declared.history.Entry.{Entry}
+use Rattle.session_history.specs.declared.history.Entry.{Entry}
 use Rattle.mc_desk.specs.declared.replies.DeskReply.{DeskReply}
 use Rattle.mc_desk.specs.declared.replies.DeskError.{DeskError}
 use Rattle.mc_desk.specs.Tallies.{keys_in}
@@ -26,7 +26,7 @@ fed_first stream desk newest taken pending bytes known = record {
 -- a call that takes no byte
 lacks_kept : (bytes : List ℕ) (older newer : List Entry) → keys_in newer ≡ keys_in older → LacksSecond bytes older → LacksSecond bytes newer
 lacks_kept bytes older newer same l =
-    record { front = l.front; last = l.last; first = l.first; second = l.second; bytes_are = l.bytes_are; completed = l.completed; has = same ∙ l.has }
+    record { prefix = l.prefix; last = l.last; first = l.first; second = l.second; bytes_are = l.bytes_are; completed = l.completed; has = same ∙ l.has }
 
 took_kept : (bytes : List ℕ) (old new : Seen) → KeepsKeys old new → TookOf bytes old → TookOf bytes new
 took_kept bytes old new kept took = record {

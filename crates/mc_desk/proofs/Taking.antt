@@ -70,7 +70,7 @@ module _ (bytes : List ℕ) (byte : ℕ) (old new : Seen) (fed : Fed) (rest : Li
         counted = counted;
         closed = closed;
         lacks = record {
-          front = bytes;
+          prefix = bytes;
           last = byte;
           first = key;
           second = next;

@@ -9,32 +9,40 @@ use Rattle.tree_trait.specs.Calls.{Stat, ListFolder}
 use Rattle.tree_trait.specs.FileSystem.{View}
 use Rattle.tree_trait.specs.Change.{CallLog}
 use Rattle.tree_trait.specs.Answers.{IfKnown, HasRisen}
-use Rattle.file_copy.specs.declared.report.Did.{Did}
-use Rattle.file_copy.specs.declared.report.Did.TheVariants.{Ended}
-use Rattle.file_copy.specs.declared.report.Ending.TheVariants.{NoMemory}
-use Rattle.file_copy.specs.declared.report.Trouble.{Trouble}
-use Rattle.copy_move.specs.declared.history.Entry.{Entry}
-use Rattle.copy_move.specs.declared.history.Event.TheVariants.{Key, Look, Began, Order, Step, Closed}
-use Rattle.copy_move.specs.declared.history.JobOrder.TheVariants.{Answered}
-use Rattle.copy_move.specs.declared.history.Answer.{Answer}
-use Rattle.copy_move.specs.declared.history.Refusal.{Refusal}
+use Rattle.job_reports.specs.declared.report.Did.{Did}
+use Rattle.job_reports.specs.declared.report.Did.TheVariants.{Ended}
+use Rattle.job_reports.specs.declared.report.Ending.TheVariants.{NoMemory}
+use Rattle.job_reports.specs.declared.job.Job.{Job}
+use Rattle.job_reports.specs.declared.row.JobRow.{JobRow}
+use Rattle.job_reports.specs.Jobs.{is_workable}
+use Rattle.session_history.specs.declared.history.Entry.{Entry}
+use Rattle.session_history.specs.declared.history.Event.TheVariants.{Key, Look, Began, Order, Step, Closed}
+use Rattle.session_history.specs.declared.history.JobOrder.TheVariants.{Answered}
+use Rattle.job_reports.specs.declared.answer.Answer.{Answer}
+use Rattle.session_history.specs.declared.refusal.Refusal.{Refusal}
 use Rattle.copy_move.specs.declared.run.Course.{Course}
-use Rattle.copy_move.specs.declared.run.Course.TheVariants.{GoesOn, InTrouble, Unsettled, Skips, Ends}
-use Rattle.copy_move.specs.Jobs.{Running, MayAnswer, answered, closed_course, closed_job, ends, first_work, part_of, waits_on}
-use Rattle.copy_move.specs.Told.{after_event, if_closed, is_closed, live_job, running, told}
-use Rattle.copy_move.specs.Steps.{RunStep}
-use Rattle.copy_move.specs.Traces.{AreRefused, IsUnclaimed}
+use Rattle.copy_move.specs.declared.run.Course.TheVariants.{GoesOn, InTrouble, OwedSyncFailed, Skips, Ends}
+use Rattle.copy_move.specs.Jobs.{Running, MayAnswer, answered, closed_course, closed_job, first_work, part_of, waits_on}
+use Rattle.job_reports.specs.Reports.{ends}
+use Rattle.history_laws.specs.ToldJob.{after_event, live_job}
+use Rattle.copy_move.specs.Told.{if_closed, running, told}
+use Rattle.session_history.specs.Entries.{is_closed}
+use Rattle.copy_move.specs.Steps.{RunStep, step_made}
+use Rattle.session_history.specs.Refusals.{AreRefused}
+use Rattle.history_laws.specs.Traces.{IsUnclaimed}
 use Rattle.mc_ui.specs.declared.asks.Ask.{Ask}
-use Rattle.mc_ui.specs.declared.asks.Ask.TheVariants as ask
-use Rattle.mc_ui.specs.declared.asks.Confirmed.{Confirmed}
-use Rattle.mc_ui.specs.Screens.{Box, Screen, NoBox, DeleteBox, MaskBox, TargetBox, TroubleBox, PartLeftBox, Planned, Begins, Answers, ByBox, KeyLeads, LooksAgain, ShowsTrouble, WellAsked, plain_base, sight, with_ask}
+use Rattle.mc_ui.specs.LiveJobs.{takes_answer}
+use Rattle.mc_ui.specs.Screens.{Box, Screen, NoBox, DeleteBox, MaskBox, TargetBox, TroubleBox, PartLeftBox, Planned, Begins, Answers, ByBox, KeyLeads, LookLeads, plain_base, sight, with_ask}
 use Rattle.mc_ui.specs.Refused.{has_fault}
 use Rattle.mc_desk.specs.Tallies.{Tally, faults_in, can_step, next_id, part_left}
 use Rattle.mc_desk.specs.declared.starts.Start.{Start}
-use Rattle.mc_desk.specs.Desks.{Seen, kept_room, IsWritten, IsDesk, noted}
+use Rattle.mc_desk.specs.LiveRows.{row_of, rows_of, rows_told, trouble_told}
+use Rattle.mc_desk.specs.Sessions.{KeyWorks}
+use Rattle.mc_desk.specs.Desks.{Seen, kept_room, IsWritten, IsDesk, noted, stand_of}
 use Rattle.mc_desk.proofs.Adding.{adds_began, adds_closed, adds_given_up, adds_key, adds_look, adds_lost, adds_order, adds_settled, adds_step, entry, unasked_screen}
-use Rattle.mc_desk.proofs.Answering.{shows_told}
-use Rattle.mc_desk.proofs.Keeping.{written_more}
+use Rattle.mc_desk.proofs.Answering.{rows_untold}
+use Rattle.mc_desk.proofs.Keeping.{before, written_more}
+use Rattle.mc_desk.proofs.Troubles.{WaitsIn, may_answer, session_waits}
 
 -- two entries are room enough
 room_two : (closed : Bool) (job : Option Running) → kept_room closed job ≤ 2
@@ -52,7 +60,7 @@ desk_of start opening contents faults desk written settled lost asked shut room 
 closed_waits : (course : Course) → waits_on (closed_course course) ≡ false
 closed_waits GoesOn = refl
 closed_waits (InTrouble cause) = refl
-closed_waits (Unsettled cause) = refl
+closed_waits (OwedSyncFailed cause) = refl
 closed_waits (Skips cause) = refl
 closed_waits (Ends ending) = refl
 
@@ -85,6 +93,19 @@ last_room : (job : Option Running) → kept_room true job ≤ 1
 last_room None = omega arith
 last_room (Some job) = omega arith
 
+-- the rows of a desk are those that its history tells
+pub rows_are : (start : Option Start) (opening contents : Option CallLog) (faults : ℕ) (desk : Seen) → IsWritten start opening contents faults desk → rows_told desk.newest ≡ rows_of desk.job (trouble_told desk.newest)
+rows_are start opening contents faults desk written =
+    ap (λ j. rows_of j (trouble_told desk.newest)) (sym (ap (λ (t : Tally). t.job) written.tally) ∙ written.told) ∙ rows_untold desk.job (trouble_told desk.newest)
+
+-- the live job may be answered as its row says
+pub answers_live : (start : Option Start) (opening contents : Option CallLog) (faults : ℕ) (desk : Seen) (live : Running) (answer : Answer) → IsWritten start opening contents faults desk → desk.job ≡ Some live
+    → takes_answer (row_of live (trouble_told desk.newest)) answer ≡ true → MayAnswer live answer
+answers_live start opening contents faults desk live answer written is takes =
+    may_answer live (trouble_told desk.newest) answer
+    (subst (λ j. WaitsIn j (trouble_told desk.newest)) (sym (ap (λ (t : Tally). t.job) written.tally) ∙ (written.told ∙ ap (option_map told) is))
+    (session_waits start opening faults desk.newest (noted desk) (stand_of desk) contents written.session)) takes
+
 module _ (start : Option Start) (opening contents contents_after : Option CallLog) (faults : ℕ) (old new : Seen) (count shown : ℕ) (key : KeyType) (now : ℕ) (desk : IsDesk start opening contents faults old)
     (unclosed : old.tally.closed ≡ false) (unasked : old.quit ≡ false) (looked : old.tally.due ≡ None) (same : contents_after ≡ contents) (later : faults_in faults old.newest ≤ count) where
   -- a key that was lost, and the end of keys
@@ -96,8 +117,8 @@ module _ (start : Option Start) (opening contents contents_after : Option CallLo
     written =
         written_more faults mid new _ start opening contents_after contents_after
         (written_more faults old mid _ start opening contents contents_after desk.written
-        (adds_lost contents contents_after faults old mid 0 count shown key now refl refl refl desk.written.told unclosed looked (unlost start opening contents faults old desk unclosed) desk.settled same later refl refl unasked refl))
-        (adds_closed contents_after contents_after faults mid new 0 count 0 more is job tells desk.settled refl (omega arith) screen quit dirty);
+        (adds_lost contents contents_after faults old mid 0 count shown refl key now refl refl refl desk.written.told unclosed looked (unlost start opening contents faults old desk unclosed) desk.settled same later refl refl unasked refl))
+        (adds_closed contents_after contents_after faults mid new 0 count 0 refl more is job tells desk.settled refl (omega arith) screen quit dirty);
     settled = ap (λ (s : Screen). s.planned) screen ∙ desk.settled;
     asked = λ h. ap (λ (t : Tally). t.due) is;
     lost = λ h. ap (λ (t : Tally). t.closed) is;
@@ -108,22 +129,16 @@ module _ (start : Option Start) (opening contents contents_after : Option CallLo
       mid : Seen
       mid = record old { newest = entry 0 old.tally.calls count shown (Key key now [] true) ∷ old.newest; tally = record old.tally { lost = true } }
 
-  module _ (refusals : List Refusal) (asked : Ask) (next : Option ℕ) (next_is : next ≡ next_id old.tally.last) (fault : has_fault refusals ≡ true → HasRisen (faults_in faults old.newest) count)
-      (refused : IfKnown contents (λ log. AreRefused Stat log refusals)) (leads : KeyLeads (sight contents) old.tally.job next key refusals old.screen (with_ask asked new.screen))
-      (settled : new.screen.planned ≡ None) (room : 2 ≤ new.spare) (tells : new.tally.job ≡ option_map told new.job) where
-    key_leads : (screen : Screen) → with_ask asked new.screen ≡ screen → KeyLeads (sight contents) old.tally.job (next_id old.tally.last) key refusals old.screen screen
-    key_leads screen asks =
-        subst (λ n. KeyLeads (sight contents) old.tally.job n key refusals old.screen screen) next_is
-        (subst (λ s. KeyLeads (sight contents) old.tally.job next key refusals old.screen s) asks leads)
-
+  module _ (refusals : List Refusal) (fault : has_fault refusals ≡ true → HasRisen (faults_in faults old.newest) count) (refused : IfKnown contents (λ log. AreRefused Stat log refusals))
+      (settled : new.screen.planned ≡ None) (room : 2 ≤ new.spare) where
     -- a key that was worked
-    pub desk_keyed : new.newest ≡ entry 0 old.tally.calls count shown (Key key now refusals false) ∷ old.newest → new.tally ≡ old.tally → new.job ≡ old.job → with_ask asked new.screen ≡ noted new
-        → new.dirty ≡ old.dirty → IsDesk start opening contents_after faults new
-    desk_keyed more is job asks dirty =
+    pub desk_keyed : new.newest ≡ entry 0 old.tally.calls count shown (Key key now refusals false) ∷ old.newest → new.tally ≡ old.tally → new.job ≡ old.job → new.tally.job ≡ option_map told new.job
+        → KeyWorks (before contents old) key refusals (noted new) → new.dirty ≡ old.dirty → IsDesk start opening contents_after faults new
+    desk_keyed more is job tells works dirty =
         desk_of start opening contents_after faults new
         (written_more faults old new _ start opening contents contents_after desk.written
-        (adds_key contents contents_after faults old new 0 count shown key now refusals more is job tells unclosed looked (unlost start opening contents faults old desk unclosed) desk.settled same later fault refused
-        (key_leads (noted new) asks) unasked dirty))
+        (adds_key contents contents_after faults old new 0 count shown refl key now refusals more is job tells unclosed looked (unlost start opening contents faults old desk unclosed) desk.settled same later fault refused
+        works unasked dirty))
         settled (λ h. ap (λ (t : Tally). t.closed) is ∙ desk.lost (sym (ap (λ (t : Tally). t.lost) is) ∙ h)) (λ h. ap (λ (t : Tally). t.due) is ∙ looked)
         (λ h. ap (λ (t : Tally). t.due) is ∙ desk.shut (sym (ap (λ (t : Tally). t.closed) is) ∙ h)) room
 
@@ -131,44 +146,48 @@ module _ (start : Option Start) (opening contents contents_after : Option CallLo
     not_asked h quit = let no = unasked in cc
 
     -- the key, on a screen on which what it asked is still to be carried out
-    abbrev keyed : Screen → Seen
+    abbrev pub keyed : Screen → Seen
     keyed screen = record old { newest = entry 0 old.tally.calls count shown (Key key now refusals false) ∷ old.newest; screen = screen }
 
-    keyed_written : (screen : Screen) → with_ask asked new.screen ≡ screen → IsWritten start opening contents_after faults (keyed screen)
-    keyed_written screen asks =
+    keyed_written : (screen : Screen) → KeyWorks (before contents old) key refusals screen → IsWritten start opening contents_after faults (keyed screen)
+    keyed_written screen works =
         written_more faults old (keyed screen) _ start opening contents contents_after desk.written
-        (adds_key contents contents_after faults old (keyed screen) 0 count shown key now refusals refl refl refl desk.written.told unclosed looked (unlost start opening contents faults old desk unclosed) desk.settled same later fault
-        refused (key_leads (noted (keyed screen)) (asks ∙ sym (unasked_screen (keyed screen) unasked))) unasked refl)
+        (adds_key contents contents_after faults old (keyed screen) 0 count shown refl key now refusals refl refl refl desk.written.told unclosed looked (unlost start opening contents faults old desk unclosed) desk.settled same later fault
+        refused (subst (λ s. KeyWorks (before contents old) key refusals s) (sym (unasked_screen (keyed screen) unasked)) works) unasked refl)
 
     -- a key that confirmed a job, and the job that it begins
-    pub desk_began : (confirmed : Confirmed) (id began_count : ℕ) → asked ≡ ask.Begin confirmed → confirmed.run.id ≡ id → next ≡ Some confirmed.run.id → old.job ≡ None
-        → option_map (running confirmed.run.id) (first_work confirmed.run.id confirmed.plan) ≡ Some confirmed.run
-        → new.newest ≡ entry 0 old.tally.calls began_count 0 (Began id confirmed.plan false) ∷ (entry 0 old.tally.calls count shown (Key key now refusals false) ∷ old.newest)
-        → count ≤ began_count → new.job ≡ Some confirmed.run
-        → new.tally ≡ record old.tally { job = Some (told confirmed.run); last = id; due = Some id } → new.quit ≡ old.quit → new.dirty ≡ old.dirty
-        → IsDesk start opening contents_after faults new
-    desk_began confirmed id began_count asks number numbered idle started more counted job is quit dirty =
+    pub desk_began : (plan : Job) (background : Bool) (run : Running) (id began_count : ℕ) → run.id ≡ id → next_id old.tally.last ≡ Some run.id → old.job ≡ None → is_workable plan ≡ true
+        → option_map (running run.id) (first_work run.id plan) ≡ Some run
+        → new.newest ≡ entry 0 old.tally.calls began_count 0 (Began id plan background) ∷ (entry 0 old.tally.calls count shown (Key key now refusals false) ∷ old.newest)
+        → count ≤ began_count → new.job ≡ Some run → new.tally ≡ record old.tally { job = Some (told run); last = id; due = Some id } → new.quit ≡ old.quit → new.dirty ≡ old.dirty
+        → KeyWorks (before contents old) key refusals (record new.screen { planned = Some (Begins plan background) }) → IsDesk start opening contents_after faults new
+    desk_began plan background run id began_count number numbered idle workable started more counted job is quit dirty works =
+        let written = keyed_written screen works in
         desk_of start opening contents_after faults new
-        (written_more faults (keyed screen) new _ start opening contents_after contents_after (keyed_written screen (ap (λ a. with_ask a new.screen) asks))
-        (adds_began contents_after contents_after faults (keyed screen) new 0 began_count 0 id confirmed.plan confirmed.run more
-        (subst (λ n. option_map (running n) (first_work n confirmed.plan) ≡ Some confirmed.run) number started) job is unclosed (desk.written.told ∙ ap (option_map told) idle) refl refl counted (sym next_is ∙ (numbered ∙ ap Some number))
-        (cleared new.screen settled) quit unasked idle dirty))
+        (written_more faults (keyed screen) new _ start opening contents_after contents_after written
+        (adds_began contents_after contents_after faults (keyed screen) new 0 began_count 0 refl id plan background run more
+        (subst (λ n. option_map (running n) (first_work n plan) ≡ Some run) number started) job is unclosed
+        (rows_are start opening contents_after faults (keyed screen) written ∙ ap (λ j. rows_of j (trouble_told (keyed screen).newest)) idle) workable refl refl counted
+        (numbered ∙ ap Some number) (cleared new.screen settled) quit unasked idle dirty))
         settled (λ h. ap (λ (t : Tally). t.closed) is ∙ desk.lost (sym (ap (λ (t : Tally). t.lost) is) ∙ h)) (λ h. absurd (not_asked h quit))
         (λ h. absurd (let shut = ap (λ (t : Tally). t.closed) is in cc)) room
       where
         screen : Screen
-        screen = record new.screen { planned = Some (Begins confirmed.plan) }
+        screen = record new.screen { planned = Some (Begins plan background) }
 
     -- a key that answers the job's trouble, and the order
-    pub desk_ordered : (answer : Answer) (live : Running) (order_count : ℕ) → asked ≡ ask.Answer answer → old.job ≡ Some live → MayAnswer live answer
+    pub desk_ordered : (answer : Answer) (live : Running) (order_count : ℕ) → old.job ≡ Some live → takes_answer (row_of live (trouble_told old.newest)) answer ≡ true
         → new.newest ≡ entry 0 old.tally.calls order_count 0 (Order live.id (Answered answer)) ∷ (entry 0 old.tally.calls count shown (Key key now refusals false) ∷ old.newest)
         → count ≤ order_count → new.job ≡ Some (answered answer live)
         → new.tally ≡ record old.tally { job = Some (told (answered answer live)); due = Some live.id } → new.quit ≡ old.quit → new.dirty ≡ old.dirty
-        → IsDesk start opening contents_after faults new
-    desk_ordered answer live order_count asks was may more counted job is quit dirty =
+        → KeyWorks (before contents old) key refusals (record new.screen { planned = Some (Answers answer) }) → IsDesk start opening contents_after faults new
+    desk_ordered answer live order_count was takes more counted job is quit dirty works =
+        let written = keyed_written screen works in
         desk_of start opening contents_after faults new
-        (written_more faults (keyed screen) new _ start opening contents_after contents_after (keyed_written screen (ap (λ a. with_ask a new.screen) asks))
-        (adds_order contents_after contents_after faults (keyed screen) new 0 order_count 0 answer live more was may desk.written.told job is unclosed refl refl counted (cleared new.screen settled) quit unasked dirty))
+        (written_more faults (keyed screen) new _ start opening contents_after contents_after written
+        (adds_order contents_after contents_after faults (keyed screen) new 0 order_count 0 refl answer live more was
+        (rows_are start opening contents_after faults (keyed screen) written ∙ ap (λ j. rows_of j (trouble_told (keyed screen).newest)) was) takes
+        desk.written.told job is unclosed refl refl counted (cleared new.screen settled) quit unasked dirty))
         settled (λ h. ap (λ (t : Tally). t.closed) is ∙ desk.lost (sym (ap (λ (t : Tally). t.lost) is) ∙ h)) (λ h. absurd (not_asked h quit))
         (λ h. absurd (let shut = ap (λ (t : Tally). t.closed) is in cc)) room
       where
@@ -186,7 +205,7 @@ pub desk_closed : (start : Option Start) (opening contents : Option CallLog) (fa
     → new.screen ≡ old.screen → new.quit ≡ old.quit → old.spare ≤ new.spare + 1 → new.dirty ≡ old.dirty → IsDesk start opening contents faults new
 desk_closed start opening contents faults old new count desk unclosed later more is job tells screen quit left dirty = record {
   written = written_more faults old new _ start opening contents contents desk.written
-      (adds_closed contents contents faults old new 0 count 0 more is job tells desk.settled refl later screen quit dirty);
+      (adds_closed contents contents faults old new 0 count 0 refl more is job tells desk.settled refl later screen quit dirty);
   settled = ap (λ (s : Screen). s.planned) screen ∙ desk.settled;
   asked = λ h. ap (λ (t : Tally). t.due) is;
   lost = λ h. ap (λ (t : Tally). t.closed) is;
@@ -196,41 +215,42 @@ desk_closed start opening contents faults old new count desk unclosed later more
 }
 
 -- a look, written down
-pub desk_looked : (start : Option Start) (opening contents contents_after : Option CallLog) (faults : ℕ) (old new : Seen) (count shown : ℕ) (refusals : List Refusal) (trouble : Option Trouble) (part : Option Route) → part ≡ part_left old.newest → IsDesk start opening contents faults old
+pub desk_looked : (start : Option Start) (opening contents contents_after : Option CallLog) (faults : ℕ) (old new : Seen) (count shown : ℕ) (refusals : List Refusal) (rows : List JobRow) (part : Option Route) → rows ≡ rows_of old.job (trouble_told old.newest) → part ≡ part_left old.newest → IsDesk start opening contents faults old
     → old.tally.closed ≡ false → contents_after ≡ contents → faults_in faults old.newest ≤ count → (has_fault refusals ≡ true → HasRisen (faults_in faults old.newest) count)
-    → IfKnown contents (λ log. AreRefused ListFolder log refusals) → ShowsTrouble old.job trouble → LooksAgain (sight contents) old.tally.unseen trouble part refusals old.screen new.screen
+    → IfKnown contents (λ log. AreRefused ListFolder log refusals) → LookLeads (sight contents) rows old.tally.has_unseen_end part refusals old.screen new.screen
     → new.newest ≡ entry 0 old.tally.calls count shown (Look refusals) ∷ old.newest
-    → new.tally ≡ record old.tally { unseen = false; due = if can_step old.tally.job then old.tally.due else None } → new.job ≡ old.job → new.tally.job ≡ option_map told new.job
+    → new.tally ≡ record old.tally { has_unseen_end = false; due = if can_step old.tally.job then old.tally.due else None } → new.job ≡ old.job → new.tally.job ≡ option_map told new.job
     → new.screen.planned ≡ None → new.quit ≡ old.quit → 2 ≤ new.spare → new.dirty ≡ old.dirty → old.quit ≡ false
     → IsDesk start opening contents_after faults new
-desk_looked start opening contents contents_after faults old new count shown refusals trouble part part_is desk unclosed same later fault refused shows leads more is job tells settled quit room dirty unasked =
+desk_looked start opening contents contents_after faults old new count shown refusals rows part rows_is part_is desk unclosed same later fault refused leads more is job tells settled quit room dirty unasked =
     desk_of start opening contents_after faults new
     (written_more faults old new _ start opening contents contents_after desk.written
-    (adds_look contents contents_after faults old new 0 count shown refusals more is job tells unclosed desk.settled same later fault refused
-    (trouble, subst (λ j. ShowsTrouble j trouble) (sym desk.written.told) (shows_told old.job trouble shows), subst (λ p. LooksAgain (sight contents) old.tally.unseen trouble p refusals old.screen new.screen) part_is leads) quit unasked dirty))
+    (adds_look contents contents_after faults old new 0 count shown refl refusals more is job tells unclosed desk.settled same later fault refused
+    (subst (λ rs. LookLeads (sight contents) rs old.tally.has_unseen_end (part_left old.newest) refusals old.screen new.screen) (rows_is ∙ sym (rows_are start opening contents faults old desk.written))
+    (subst (λ p. LookLeads (sight contents) rows old.tally.has_unseen_end p refusals old.screen new.screen) part_is leads)) quit unasked dirty))
     settled (λ h. ap (λ (t : Tally). t.closed) is ∙ desk.lost (sym (ap (λ (t : Tally). t.lost) is) ∙ h)) (λ h. absurd (let no = unasked in cc)) (λ h. absurd (let shut = ap (λ (t : Tally). t.closed) is in cc)) room
 
 -- a step makes at most three changing calls
 few_made : (live stepped : Running) (did : Did) (made : ℕ) (dirty dirty_after : List Route) (contents contents_after : Option CallLog) (before after : ℕ)
-    → RunStep IsUnclaimed live stepped did made dirty dirty_after contents contents_after before after → made ≤ 3
+    → RunStep IsUnclaimed (step_made live stepped did made dirty dirty_after contents contents_after before after) → made ≤ 3
 few_made live stepped did made dirty dirty_after contents contents_after before after (inl o) = o.own.few
 few_made live stepped did made dirty dirty_after contents contents_after before after (inr s) = let few = s.few in omega (arith, few)
 
 -- a step of the job, written down
 pub desk_stepped : (start : Option Start) (opening contents contents_after : Option CallLog) (faults : ℕ) (old new : Seen) (seat count made calls before after : ℕ) (live stepped : Running) (did : Did)
-    → IsDesk start opening contents faults old → old.job ≡ Some live → RunStep IsUnclaimed live stepped did made old.dirty new.dirty contents contents_after before after → length old.newest + 3 ≤ 2 ^ 56
+    → seat ≡ 0 → IsDesk start opening contents faults old → old.job ≡ Some live → RunStep IsUnclaimed (step_made live stepped did made old.dirty new.dirty contents contents_after before after) → length old.newest + 3 ≤ 2 ^ 56
     → calls ≡ min (old.tally.calls + made) (2 ^ 64 - 1) → faults_in faults old.newest ≤ before → after ≡ count
     → new.newest ≡ entry seat calls count 0 (Step live.id did) ∷ old.newest
     → new.job ≡ if_closed old.tally.closed (if ends did then None else Some stepped)
-    → new.tally ≡ record old.tally { job = option_map told new.job; unseen = ends did || old.tally.unseen; calls = calls } → new.screen ≡ old.screen
+    → new.tally ≡ record old.tally { job = option_map told new.job; has_unseen_end = ends did || old.tally.has_unseen_end; calls = calls } → new.screen ≡ old.screen
     → new.quit ≡ old.quit → 2 ≤ new.spare → IsDesk start opening contents_after faults new
-desk_stepped start opening contents contents_after faults old new seat count made calls before after live stepped did desk is steps fits calls_is had now more job tally screen quit room =
+desk_stepped start opening contents contents_after faults old new seat count made calls before after live stepped did main desk is steps fits calls_is had now more job tally screen quit room =
     let all : calls ≡ old.tally.calls + made =
     let few = desk.written.calls in let three = few_made live stepped did made old.dirty new.dirty contents contents_after before after steps in omega (arith, calls_is, three, fits, few) in
     desk_of start opening contents_after faults new
     (written_more faults old new _ start opening contents contents_after desk.written (elim steps [
-      | inl o ↦ adds_step contents contents_after faults old new seat count 0 live stepped did made calls before after is desk.written.told o all more job tally desk.settled had now screen quit
-      | inr s ↦ adds_settled contents contents_after faults old new seat count 0 live stepped did made calls before after is desk.written.told s all more job tally desk.settled had now screen quit
+      | inl o ↦ adds_step contents contents_after faults old new seat count 0 main live stepped did made calls before after is desk.written.told o all more job tally desk.settled had now screen quit
+      | inr s ↦ adds_settled contents contents_after faults old new seat count 0 main live stepped did made calls before after is desk.written.told s all more job tally desk.settled had now screen quit
     ]))
     (ap (λ (s : Screen). s.planned) screen ∙ desk.settled) (λ h. ap (λ (t : Tally). t.closed) tally ∙ desk.lost (sym (ap (λ (t : Tally). t.lost) tally) ∙ h))
     (λ h. ap (λ (t : Tally). t.due) tally ∙ desk.asked (sym quit ∙ h))
@@ -243,15 +263,11 @@ room_left closed job live spare reserved left is had kept noted = go closed (sub
     go true had = omega (arith, had, kept, noted)
     go false had = omega (arith, had, kept, noted)
 
--- the live job's trouble may be answered as it was asked
-pub asked_live : (next : Option ℕ) (job : Option Running) (answer : Answer) (live : Running) → job ≡ Some live → WellAsked next job (ask.Answer answer) → MayAnswer live answer
-asked_live next job answer live is (other, was, may) = let same : other ≡ live = let both : Some other ≡ Some live = sym was ∙ is in cc in subst (λ j. MayAnswer j answer) same may
-
 -- a key that is unknown leaves the screen as it was
-unknown_stays : (tree : Option View) (job : Option Running) (next : Option ℕ) (key : KeyType) (refusals : List Refusal) (before after : Screen) → plain_base key ≡ Unknown → KeyLeads tree job next key refusals before after → after ≡ before
-unknown_stays tree job next key refusals before after unknown leads = go before.over (subst (λ b. ByBox before.over tree job next b refusals before after) unknown leads)
+unknown_stays : (tree : Option View) (rows : List JobRow) (key : KeyType) (refusals : List Refusal) (before after : Screen) → plain_base key ≡ Unknown → KeyLeads tree rows key refusals before after → after ≡ before
+unknown_stays tree rows key refusals before after unknown leads = go before.over (subst (λ b. ByBox before.over tree rows b refusals before after) unknown leads)
   where
-    go : (over : Box) → ByBox over tree job next Unknown refusals before after → after ≡ before
+    go : (over : Box) → ByBox over tree rows Unknown refusals before after → after ≡ before
     go NoBox h = h.1
     go (DeleteBox path) h = h.1
     go (MaskBox path) h = h.1
@@ -260,21 +276,21 @@ unknown_stays tree job next key refusals before after unknown leads = go before.
     go (PartLeftBox path) h = h.1
 
 -- so it asks for nothing that is to be carried out
-pub unknown_plans_nothing : (tree : Option View) (job : Option Running) (next : Option ℕ) (key : KeyType) (refusals : List Refusal) (before after : Screen) (asked : Ask) (planned : Planned) → plain_base key ≡ Unknown → before.planned ≡ None
-    → KeyLeads tree job next key refusals before (with_ask asked after) → (with_ask asked after).planned ≡ Some planned → ⊥
-unknown_plans_nothing tree job next key refusals before after asked planned unknown settled leads plans =
-    let none = ap (λ (s : Screen). s.planned) (unknown_stays tree job next key refusals before (with_ask asked after) unknown leads) ∙ settled in
+pub unknown_plans_nothing : (tree : Option View) (rows : List JobRow) (key : KeyType) (refusals : List Refusal) (before after : Screen) (asked : Ask) (planned : Planned) → plain_base key ≡ Unknown → before.planned ≡ None
+    → KeyLeads tree rows key refusals before (with_ask asked after) → (with_ask asked after).planned ≡ Some planned → ⊥
+unknown_plans_nothing tree rows key refusals before after asked planned unknown settled leads plans =
+    let none = ap (λ (s : Screen). s.planned) (unknown_stays tree rows key refusals before (with_ask asked after) unknown leads) ∙ settled in
     cc
 
--- the end of a job for want of memory, written down in the room that was kept for it
+-- the end of a job that ran out of memory, written down in the room that was kept for it
 pub desk_gave_up : (start : Option Start) (opening contents : Option CallLog) (faults : ℕ) (old new : Seen) (seat count : ℕ) (live : Running) (part : Option Route)
-    → IsDesk start opening contents faults old → old.job ≡ Some live → waits_on live.course ≡ false → part ≡ part_of live.work → faults_in faults old.newest ≤ count
+    → seat ≡ 0 → IsDesk start opening contents faults old → old.job ≡ Some live → waits_on live.course ≡ false → part ≡ part_of live.work → faults_in faults old.newest ≤ count
     → new.newest ≡ entry seat old.tally.calls count 0 (Step live.id (Ended NoMemory part)) ∷ old.newest
-    → new.job ≡ None → new.tally ≡ record old.tally { job = None; unseen = true } → new.screen ≡ old.screen → new.quit ≡ old.quit → kept_room old.tally.closed None ≤ new.spare → new.dirty ≡ old.dirty
+    → new.job ≡ None → new.tally ≡ record old.tally { job = None; has_unseen_end = true } → new.screen ≡ old.screen → new.quit ≡ old.quit → kept_room old.tally.closed None ≤ new.spare → new.dirty ≡ old.dirty
     → IsDesk start opening contents faults new
-desk_gave_up start opening contents faults old new seat count live part desk is ready part_is later more job tally screen quit room dirty = record {
+desk_gave_up start opening contents faults old new seat count live part main desk is ready part_is later more job tally screen quit room dirty = record {
   written = written_more faults old new _ start opening contents contents desk.written
-      (adds_given_up contents contents faults old new seat count 0 live part is desk.written.told ready part_is more job tally desk.settled refl later screen quit dirty);
+      (adds_given_up contents contents faults old new seat count 0 main live part is desk.written.told ready part_is more job tally desk.settled refl later screen quit dirty);
   settled = ap (λ (s : Screen). s.planned) screen ∙ desk.settled;
   asked = λ h. ap (λ (t : Tally). t.due) tally ∙ desk.asked (sym quit ∙ h);
   lost = λ h. ap (λ (t : Tally). t.closed) tally ∙ desk.lost (sym (ap (λ (t : Tally). t.lost) tally) ∙ h);

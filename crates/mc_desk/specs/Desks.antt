@@ -9,12 +9,13 @@ use Rattle.tree_trait.specs.declared.devices.SinkError.{SinkError}
 use Rattle.tree_trait.specs.declared.devices.SinkError.TheVariants.{Fault, Memory}
 use Rattle.key_screen.specs.declared.keys.Key.{Key as KeyType}
 use Rattle.key_screen.specs.DecodedKeys.{decoded_keys}
-use Rattle.file_copy.specs.declared.report.Did.TheVariants.{Barrier}
-use Rattle.copy_move.specs.declared.history.Event.TheVariants.{Step}
-use Rattle.copy_move.specs.declared.history.Entry.{Entry}
+use Rattle.job_reports.specs.declared.report.Did.TheVariants.{Barrier}
+use Rattle.session_history.specs.declared.history.Event.TheVariants.{Step}
+use Rattle.session_history.specs.declared.history.Entry.{Entry}
 use Rattle.copy_move.specs.Jobs.{Running}
 use Rattle.copy_move.specs.Told.{told}
-use Rattle.copy_move.specs.Settling.{changed_folder, without}
+use Rattle.copy_move.specs.Settling.{changed_folder}
+use Rattle.job_reports.specs.Paths.{without}
 use Rattle.history_laws.specs.Traces.{Stand, before_others}
 use Rattle.mc_ui.specs.Screens.{Screen, Ends}
 use Rattle.mc_desk.specs.declared.session.Due.{Due}
@@ -122,15 +123,15 @@ HasTaken bytes desk = decoded_keys bytes ≡ record { keys = keys_in desk.newest
 
 -- the last of these bytes completed two keys, of which the history lacks the second
 pub record LacksSecond (bytes : List ℕ) (newest : List Entry) : Type 0 where
-  pub front : List ℕ
+  pub prefix : List ℕ
   pub last : ℕ
   pub first : KeyType
   pub second : KeyType
-  pub bytes_are : bytes ≡ front ++ last ∷ []
-  pub completed : (decoded_keys bytes).keys ≡ (decoded_keys front).keys ++ first ∷ second ∷ []
-  pub has : keys_in newest ≡ (decoded_keys front).keys ++ first ∷ []
+  pub bytes_are : bytes ≡ prefix ++ last ∷ []
+  pub completed : (decoded_keys bytes).keys ≡ (decoded_keys prefix).keys ++ first ∷ second ∷ []
+  pub has : keys_in newest ≡ (decoded_keys prefix).keys ++ first ∷ []
 
--- Of what the keyboard gives so many bytes were taken, from its front, and their keys are those of the history; in a closed
+-- Of what the keyboard gives so many bytes were taken, a prefix of it, and their keys are those of the history; in a closed
 -- session the history may lack the second of two that the last byte completed.
 pub record Reads (bytes : List ℕ) (taken : ℕ) (closed : Bool) (newest : List Entry) : Type 0 where
   pub some : taken ≤ length bytes
@@ -164,6 +165,16 @@ abbrev pub is_quit : DeskReply → Bool
 is_quit Go = false
 is_quit (Wait job) = false
 is_quit Quit = true
+
+-- what is to be looked at, by the answer
+abbrev pub awaited_by : DeskReply → Option ℕ
+awaited_by Go = None
+awaited_by (Wait job) = Some job
+awaited_by Quit = None
+
+-- An error closes the desk, unless memory ran out and all was left as it was; there may be more room for entries then.
+abbrev pub FailsClosed : DeskError → Seen → Seen → Type 0
+FailsClosed answer old new = (new.tally.closed ≡ true) ⊎ ((answer ≡ error.Memory) × (record new { spare = old.spare } ≡ old))
 
 -- nothing was taken, and the session is not over
 pub record IsFresh (desk : Seen) : Type 0 where

@@ -1,8 +1,8 @@
 -- What can be seen of a history that is being written.
 use Rattle.std.specs.Prelude.{ℕ, ◌+◌, List, [], ◌∷◌}
-use Rattle.copy_move.specs.declared.history.Event.{Event}
-use Rattle.copy_move.specs.declared.history.Event.TheVariants.{Began}
-use Rattle.copy_move.specs.declared.history.Entry.{Entry}
+use Rattle.session_history.specs.declared.history.Event.{Event}
+use Rattle.session_history.specs.declared.history.Event.TheVariants.{Began}
+use Rattle.session_history.specs.declared.history.Entry.{Entry}
 
 -- its entries, the newest first, and how many more find room
 pub record Logged : Type 0 where

@@ -1,24 +1,34 @@
 -- A session, as its history tells it: each entry follows from those before it, and from the tree as it stands then. Histories
 -- stand newest first here.
-use Rattle.std.specs.Prelude.{◌≡◌, ◌⊎◌, ℕ, ◌+◌, ◌≤◌, Bool, true, false, ⊤, if◌then◌else◌, List, [], ◌∷◌, IsSome, Option, Some, None}
+use Rattle.std.specs.Prelude.{◌≡◌, ◌⊎◌, ℕ, ◌+◌, ◌≤◌, Bool, true, false, ⊤, if◌then◌else◌, List, [], ◌∷◌, Option, Some, None}
 use Rattle.tree_trait.specs.FileSystem.{View}
 use Rattle.mc_text.specs.Routes.{Route}
 use Rattle.tree_trait.specs.Calls.{Stat, ListFolder}
 use Rattle.tree_trait.specs.Change.{CallLog}
 use Rattle.tree_trait.specs.Answers.{HasRisen, IfKnown}
-use Rattle.file_copy.specs.CopySteps.{IsFault}
-use Rattle.copy_move.specs.declared.history.Event.{Event}
-use Rattle.copy_move.specs.declared.history.Event.TheVariants.{Key, Look, Began, Order, Step, Closed}
-use Rattle.copy_move.specs.declared.history.JobOrder.TheVariants.{Answered}
-use Rattle.copy_move.specs.declared.history.Entry.{Entry}
-use Rattle.copy_move.specs.Jobs.{Running, MayAnswer, first_work}
+use Rattle.key_screen.specs.declared.keys.Key.{Key as KeyType}
+use Rattle.job_reports.specs.declared.answer.Answer.{Answer}
+use Rattle.job_reports.specs.declared.job.Job.{Job}
+use Rattle.job_reports.specs.declared.row.JobRow.{JobRow}
+use Rattle.job_reports.specs.Jobs.{is_workable}
+use Rattle.job_reports.specs.Reports.{IsFault}
+use Rattle.session_history.specs.declared.history.Event.{Event}
+use Rattle.session_history.specs.declared.history.Event.TheVariants.{Key, Look, Began, Order, Step, Closed}
+use Rattle.session_history.specs.declared.history.JobOrder.TheVariants.{Answered}
+use Rattle.session_history.specs.declared.history.Entry.{Entry}
+use Rattle.session_history.specs.declared.refusal.Refusal.{Refusal}
+use Rattle.copy_move.specs.Jobs.{Running}
 use Rattle.copy_move.specs.Told.{IsAllowedStep}
-use Rattle.copy_move.specs.Traces.{AreRefused}
-use Rattle.history_laws.specs.Safe.{calls_in}
+use Rattle.session_history.specs.Refusals.{AreRefused}
+use Rattle.session_history.specs.Entries.{calls_in}
 use Rattle.history_laws.specs.Traces.{Follows, Stand, at_rest, nothing_live}
 use Rattle.mc_ui.specs.Refused.{has_fault}
-use Rattle.mc_ui.specs.Screens.{Screen, Planned, Begins, Answers, Ends, sight, KeyLeads, LookLeads, IsOpening}
+use Rattle.mc_ui.specs.declared.asks.Ask.TheVariants as ask
+use Rattle.mc_ui.specs.LiveJobs.{takes_answer}
+use Rattle.mc_ui.specs.Screens.{Screen, Planned, Begins, Answers, Ends, sight, KeyLeads, LookLeads, IsOpening, with_ask}
 use Rattle.mc_desk.specs.declared.starts.Start.{Start}
+use Rattle.mc_desk.specs.Granting.{no_more_ids}
+use Rattle.mc_desk.specs.LiveRows.{rows_told}
 use Rattle.mc_desk.specs.Tallies.{Tally, tally, most_calls, faults_in, next_id, part_left}
 
 -- no key is worked in a closed session, where something is to be looked at, or after one was lost
@@ -27,22 +37,57 @@ pub record TakesKey (t : Tally) : Type 0 where
   pub looked : t.due ≡ None
   pub unlost : t.lost ≡ false
 
--- What an event makes of the screen. Directly after the key that confirmed a job, and nowhere else, it is begun as it was
--- planned, while no other is live, under the next number. Directly after the key that answers a trouble the live job is ordered
--- so. A look takes up a job's end, and shows the part that this left. A step is one that the live job may make.
-abbrev pub EventLeads : Option View → Tally → Option Route → Event → Screen → Screen → Type 0
-EventLeads tree t part (Key key now refusals true) before after = TakesKey t × (after ≡ before)
-EventLeads tree t part (Key key now refusals false) before after = TakesKey t × KeyLeads tree t.job (next_id t.last) key refusals before after
-EventLeads tree t part (Look refusals) before after = (t.closed ≡ false) × LookLeads tree t.job t.unseen part refusals before after
-EventLeads tree t part (Began id plan background) before after =
-    (before.planned ≡ Some (Begins plan)) × (t.job ≡ None) × IsSome (first_work id plan) × (background ≡ false)
-    × (next_id t.last ≡ Some id) × (after ≡ record before { planned = None })
-EventLeads tree t part (Order id (Answered answer)) before after =
-    (before.planned ≡ Some (Answers answer)) × ((live : Running) × (t.job ≡ Some live) × (id ≡ live.id) × MayAnswer live answer)
-    × (after ≡ record before { planned = None })
-EventLeads tree t part (Step id did) before after =
-    (after ≡ before) × ((live : Running) × (t.job ≡ Some live) × (id ≡ live.id) × IsAllowedStep live did)
-EventLeads tree t part Closed before after = after ≡ before
+-- How a session stands before an entry: what can be seen of the tree, what the history came to, the rows of its live jobs, the
+-- part that the last end left, and the screen.
+pub record Before : Type 0 where
+  pub tree : Option View
+  pub tally : Tally
+  pub rows : List JobRow
+  pub part : Option Route
+  pub screen : Screen
+
+-- a key asks for a job after all numbers were given: that is refused, and the screen stays
+pub record FindsNoNumber (was : Before) (key : KeyType) (refusals : List Refusal) (after : Screen) : Type 0 where
+  pub plan : Job
+  pub background : Bool
+  pub asks : KeyLeads was.tree was.rows key [] was.screen (with_ask (ask.Begin plan background) was.screen)
+  pub none_left : next_id was.tally.last ≡ None
+  pub refused : refusals ≡ no_more_ids
+  pub stays : after ≡ was.screen
+
+-- what a key comes to
+abbrev pub KeyWorks : Before → KeyType → List Refusal → Screen → Type 0
+KeyWorks was key refusals after = KeyLeads was.tree was.rows key refusals was.screen after ⊎ FindsNoNumber was key refusals after
+
+-- Directly after the key that confirmed a job, and nowhere else, it is begun as it was planned, while no other is live, under
+-- the next number.
+pub record IsBegun (was : Before) (id : ℕ) (plan : Job) (background : Bool) (after : Screen) : Type 0 where
+  pub asked : was.screen.planned ≡ Some (Begins plan background)
+  pub idle : was.rows ≡ []
+  pub workable : is_workable plan ≡ true
+  pub number : next_id was.tally.last ≡ Some id
+  pub carried_out : after ≡ record was.screen { planned = None }
+
+-- directly after the key that answers a trouble the live job is ordered so, as it may be
+pub record IsOrdered (was : Before) (id : ℕ) (answer : Answer) (after : Screen) : Type 0 where
+  pub asked : was.screen.planned ≡ Some (Answers answer)
+  pub row : JobRow
+  pub live : was.rows ≡ row ∷ []
+  pub number : id ≡ row.job
+  pub fits : takes_answer row answer ≡ true
+  pub carried_out : after ≡ record was.screen { planned = None }
+
+-- What an event makes of the screen. A look takes up a job's end, and shows the part that this left, and the trouble of the
+-- live job as its newest report told it. A step is one that the live job may make.
+abbrev pub EventLeads : Before → Event → Screen → Type 0
+EventLeads was (Key key now refusals true) after = TakesKey was.tally × (after ≡ was.screen)
+EventLeads was (Key key now refusals false) after = TakesKey was.tally × KeyWorks was key refusals after
+EventLeads was (Look refusals) after = (was.tally.closed ≡ false) × LookLeads was.tree was.rows was.tally.has_unseen_end was.part refusals was.screen after
+EventLeads was (Began id plan background) after = IsBegun was id plan background after
+EventLeads was (Order id (Answered answer)) after = IsOrdered was id answer after
+EventLeads was (Step id did) after =
+    (after ≡ was.screen) × ((live : Running) × (was.tally.job ≡ Some live) × (id ≡ live.id) × IsAllowedStep live did)
+EventLeads was Closed after = after ≡ was.screen
 
 -- an event tells of a fault of the tree
 abbrev pub TellsFault : Event → Type 0
@@ -67,9 +112,10 @@ IsTimely (Order id order) before = ⊤
 IsTimely (Step id did) before = MayEnd before.planned
 IsTimely Closed before = MayEnd before.planned
 
--- The counts of an entry. The tree's faults don't fall, and rise where the entry tells of one. Only a step makes changing
--- calls, and at most three.
+-- The counts of an entry. It is the main thread's, since there is no other yet. The tree's faults don't fall, and rise where the
+-- entry tells of one. Only a step makes changing calls, and at most three.
 pub record Counts (failed made : ℕ) (e : Entry) : Type 0 where
+  pub seat : e.seat ≡ 0
   pub later : failed ≤ e.faults
   pub fault : TellsFault e.what → HasRisen failed e.faults
   pub calls : made ≤ e.calls
@@ -91,12 +137,16 @@ Traces None e older was before stand contents = contents ≡ None
 Traces (Some opening) e older was before stand contents =
     (log : CallLog) × (now : CallLog) × (before ≡ Some log) × (contents ≡ Some now) × Follows opening e older was log stand now
 
+-- how a session stands after these entries
+abbrev pub before_entry : Option View → List Entry → Screen → Before
+before_entry tree older screen = record { tree = tree; tally = tally older; rows = rows_told older; part = part_left older; screen = screen }
+
 -- An entry after older ones: from the screen, the live jobs with the dirty folders, and the tree that these came to, to others.
 pub record Enters (opening : Option CallLog) (faults : ℕ) (e : Entry) (older : List Entry) (before : Screen) (was : Stand) (stood : Option CallLog)
     (screen : Screen) (stand : Stand) (contents : Option CallLog) : Type 0 where
   pub timely : IsTimely e.what before
   pub counts : Counts (faults_in faults older) (calls_in older) e
-  pub leads : EventLeads (sight stood) (tally older) (part_left older) e.what before screen
+  pub leads : EventLeads (before_entry (sight stood) older before) e.what screen
   pub caused : IfKnown stood (HasCauses e.what)
   pub traced : Traces opening e older was stood stand contents
 

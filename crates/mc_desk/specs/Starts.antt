@@ -24,7 +24,7 @@ pub record IsOpened (contents : Option CallLog) (left right : Route) (screen : S
   pub room : 1 ≤ log.spare
 
 -- Why a session over these files doesn't start in these folders: as the listing of the first that can't be listed is refused,
--- or by a fault, or for want of memory.
+-- or by a fault, or since memory ran out.
 abbrev pub IsStartCause : FileSystem → Route → Route → StartError → Type 0
 IsStartCause s left right Memory = ⊤
 IsStartCause s left right (Tree Left Fault) = refusal_of s (ListFolder left) ≡ None

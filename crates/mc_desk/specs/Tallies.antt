@@ -3,13 +3,15 @@ use Rattle.std.specs.Prelude.{ℕ, ◌+◌, ◌-◌, ◌^◌, nat_lt, Bool, true
 use Rattle.std.specs.Option.{option_map}
 use Rattle.mc_text.specs.Routes.{Route}
 use Rattle.key_screen.specs.declared.keys.Key.{Key as KeyType}
-use Rattle.file_copy.specs.declared.report.Did.TheVariants.{Ended}
-use Rattle.copy_move.specs.declared.history.Event.{Event}
-use Rattle.copy_move.specs.declared.history.Event.TheVariants.{Key, Look, Began, Order, Step, Closed}
-use Rattle.copy_move.specs.declared.history.Entry.{Entry}
-use Rattle.copy_move.specs.Jobs.{Running, ends, waits_on}
-use Rattle.copy_move.specs.Told.{live_job, last_id, is_closed, closes, if_closed, after_event, id_after}
-use Rattle.history_laws.specs.Safe.{calls_in}
+use Rattle.job_reports.specs.declared.report.Did.TheVariants.{Ended}
+use Rattle.session_history.specs.declared.history.Event.{Event}
+use Rattle.session_history.specs.declared.history.Event.TheVariants.{Key, Look, Began, Order, Step, Closed}
+use Rattle.session_history.specs.declared.history.Entry.{Entry}
+use Rattle.copy_move.specs.Jobs.{Running, waits_on}
+use Rattle.job_reports.specs.Reports.{ends}
+use Rattle.history_laws.specs.ToldJob.{live_job, after_event}
+use Rattle.session_history.specs.Entries.{last_id, is_closed, closes, id_after, calls_in}
+use Rattle.copy_move.specs.Told.{if_closed}
 
 -- a job has ended, and no look has taken it up
 abbrev pub end_unseen_event : Event → Bool → Bool
@@ -60,7 +62,7 @@ abbrev pub due_in : List Entry → Option ℕ
 due_in [] = Some 0
 due_in (e ∷ older) = due_after e.what (live_job older) (due_in older)
 
--- a key was lost for want of memory
+-- a key was lost since memory ran out
 abbrev pub loses : Event → Bool
 loses (Key key now refusals lost) = lost
 loses (Look refusals) = false
@@ -83,7 +85,7 @@ faults_in opening (e ∷ older) = e.faults
 pub record Tally : Type 0 where
   pub job : Option Running
   pub last : ℕ
-  pub unseen : Bool
+  pub has_unseen_end : Bool
   pub closed : Bool
   pub due : Option ℕ
   pub lost : Bool
@@ -93,7 +95,7 @@ abbrev pub tally : List Entry → Tally
 tally newest = record {
   job = live_job newest;
   last = last_id newest;
-  unseen = end_unseen newest;
+  has_unseen_end = end_unseen newest;
   closed = is_closed newest;
   due = due_in newest;
   lost = has_lost newest;
@@ -105,7 +107,7 @@ abbrev pub after_entry : Entry → Tally → Tally
 after_entry e t = record {
   job = if_closed (closes e.what || t.closed) (after_event e.what t.job);
   last = id_after e.what t.last;
-  unseen = end_unseen_event e.what t.unseen;
+  has_unseen_end = end_unseen_event e.what t.has_unseen_end;
   closed = closes e.what || t.closed;
   due = due_after e.what t.job t.due;
   lost = loses e.what || t.lost;

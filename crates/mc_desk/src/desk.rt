@@ -5,13 +5,14 @@ ghost use Rattle.tree_trait.specs.Refusals.{refusal_of};
 ghost use Rattle.tree_trait.specs.Change.{current};
 ghost use Rattle.tree_trait.specs.Answers.{IfKnown, HasRisen};
 ghost use Rattle.copy_move.specs.Ranks.{rank_with};
-ghost use Rattle.copy_move.specs.Told.{live_job, IsReady};
+ghost use Rattle.history_laws.specs.ToldJob.{live_job};
+ghost use Rattle.copy_move.specs.Told.{IsReady};
 ghost use Rattle.history_laws.specs.Traces.{IsTracedTo};
 ghost use Rattle.mc_desk.specs.Logs.{jobs_begun};
 ghost use Rattle.mc_desk.specs.Sessions.{BeginsIn, EndsSession};
 ghost use Rattle.mc_desk.specs.Starts.{IsStartCause, is_start_fault};
 ghost use Rattle.mc_desk.specs.Tallies.{can_step, faults_in, has_lost};
-ghost use Rattle.mc_desk.specs.Desks.{Blames, BlamesScreen, CountsByte, IsFresh, IsNext, KeepsKeys, MovesDirty, RanNothing, Reads, idle_reply, is_over, is_quit};
+ghost use Rattle.mc_desk.specs.Desks.{Blames, BlamesScreen, CountsByte, FailsClosed, IsFresh, IsNext, KeepsKeys, MovesDirty, RanNothing, Reads, awaited_by, idle_reply, is_over, is_quit};
 
 use crate::replies::{DeskError, DeskReply, Ended, Refused, StepReply};
 use crate::session::Session;
@@ -38,7 +39,7 @@ impl<N: Tag, T: Tree, S: Sink, P: Spawner> Model for Desk<N, T, S, P> {
 }
 
 impl<N: Tag, T: Tree, S: Sink, P: Spawner> Desk<N, T, S, P> {
-    /// Opens a session in two folders. It is refused as `list` of the first is that can't be listed, or for want of memory;
+    /// Opens a session in two folders. It is refused as `list` of the first is that can't be listed, or since memory ran out;
     /// the devices are as they were then, but for the tree's count of faults.
     pub fn begin(
         alloc: Global,
@@ -73,13 +74,15 @@ impl<N: Tag, T: Tree, S: Sink, P: Spawner> Desk<N, T, S, P> {
     }
 
     /// Takes the next byte of the keyboard and works the keys that it completes; the reply is that of the last. Each is drawn.
-    /// Where it finds no memory before the byte is taken, nothing changes; each other error closes the desk. One that is
-    /// closed, or whose end was asked, takes no byte and answers `Quit`.
+    /// Where it finds no memory before the byte is taken, nothing changes; each other error closes the desk. `Wait` names the
+    /// job that is due then. One that is closed, or whose end was asked, takes no byte and answers `Quit`.
     pub fn byte(&mut self, alloc: Global, byte: u8, now: u64) -> Result<DeskReply, DeskError>
         requires looked { self.old.tally.due ≡ None }
         requires next { IfKnown N.stream (λ bytes. IsNext bytes self.old.taken byte) }
 
         ensures quit { IfOk result (λ reply. is_quit reply ≡ is_over self.new) }
+        ensures awaits { IfOk result (λ reply. awaited_by reply ≡ self.new.tally.due) }
+        ensures fails { IfErr result (λ error. FailsClosed error self.old self.new) }
         ensures over { is_over self.old ≡ true → self.new ≡ self.old }
         ensures taken { is_over self.old ≡ false → CountsByte result self.old.taken self.new.taken }
         ensures unclosed { OnOk result (self.new.tally.closed ≡ self.old.tally.closed) }
@@ -93,6 +96,7 @@ impl<N: Tag, T: Tree, S: Sink, P: Spawner> Desk<N, T, S, P> {
     /// the end left. A desk that is closed, or whose end was asked, stays as it is.
     pub fn look(&mut self, alloc: Global) -> Result<(), DeskError>
         ensures looked { OnOk result (can_step self.old.tally.job ≡ false → self.new.tally.due ≡ None) }
+        ensures fails { IfErr result (λ error. FailsClosed error self.old self.new) }
         ensures keys { KeepsKeys self.old self.new }
         ensures unclosed { OnOk result (self.new.tally.closed ≡ self.old.tally.closed) }
         ensures quit { self.new.quit ≡ self.old.quit }
@@ -118,8 +122,9 @@ impl<N: Tag, T: Tree, S: Sink, P: Spawner> Desk<N, T, S, P> {
     }
 
     /// Makes one step of the job, if it is ready: `Did` where an entry was added. Without memory for the entry no call of
-    /// the tree is made, and the job ends by the entry for which room was kept.
+    /// the tree is made, and the job ends by the entry for which room was kept. Only the main thread steps yet, whose seat is 0.
     pub fn step(&mut self, alloc: Global, seat: u32) -> StepReply
+        requires main { seat ≡ 0 }
         ensures reply { result ≡ (if can_step self.old.tally.job then StepReply.Did else idle_reply self.old.tally.closed) }
         ensures screen { self.new.screen ≡ self.old.screen }
         ensures keys { KeepsKeys self.old self.new }

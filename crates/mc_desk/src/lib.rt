@@ -2,10 +2,13 @@
 #![tactic(auto)]
 
 mod claims;
+mod confirmed;
 mod desk;
+mod granting;
 mod log;
 mod opening;
 mod replies;
+mod rows;
 mod session;
 mod starts;
 mod tag;
@@ -13,8 +16,8 @@ mod tag;
 pub use desk::Desk;
 pub use log::Log;
 pub use mc_ui::{
-    Ask, Choice, Chosen, Confirmed, CopyPlan, Dialog, KeyAct, Panel, Reread, Ui, cause_text,
-    choose, draw, list_again, plan_copy,
+    Ask, Choice, Chosen, CopyPlan, Dialog, KeyAct, Panel, Reread, Told, Ui, cause_text, choose,
+    draw, list_again, plan_copy,
 };
 pub use replies::{DeskError, DeskReply, Ended, Refused, StepReply};
 pub use starts::{Side, Start, StartError};

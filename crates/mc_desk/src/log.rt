@@ -1,10 +1,12 @@
 //! The history as it is written: entries are added in room that was made before, so that nothing is half written down.
 ghost use Rattle.std.specs.Prelude.{◌≡◌, ◌+◌, ◌-◌, ◌^◌, ◌≤◌, ◌<◌, [], ◌∷◌, length, IfOk, OnOk, OnErr, reverse};
 ghost use Rattle.mc_desk.specs.Logs.{begun_by, jobs_begun};
+ghost use Rattle.mc_desk.specs.LiveRows.{is_report as does_report, reported_trouble as trouble_in, trouble_told as last_trouble};
 ghost use Rattle.mc_desk.specs.Tallies.{is_end_or_look as ends_or_looks, named_part as part_named, part_left as last_part};
 
-use copy_move::{Did, Entries, Entry, Event, History, is_end};
+use job_reports::{Did, Trouble, is_end};
 use mc_text::{NoMemory, Path};
+use session_history::{Entries, Entry, Event, History};
 use std::alloc::Global;
 use std::marker::Model;
 
@@ -68,6 +70,13 @@ impl Log {
         ensures { IfOk result (λ part. part ≡ last_part self.now.newest) }
     {
         part_left(alloc, self.entries.as_slice())
+    }
+
+    /// The trouble that the newest report of a step tells, if it tells of one.
+    pub fn trouble_told(&self, alloc: Global) -> Result<Option<Trouble>, NoMemory>
+        ensures { IfOk result (λ trouble. trouble ≡ last_trouble self.now.newest) }
+    {
+        trouble_told(alloc, self.entries.as_slice())
     }
 
     /// The history. The newest entry comes last there.
@@ -145,6 +154,40 @@ fn named_part(alloc: Global, what: &Event) -> Result<Option<Path>, NoMemory>
             },
             ..
         } => Ok(Some(path.copy(alloc)?)),
+        _ => Ok(None),
+    }
+}
+
+/// The trouble of the newest report among these entries, if it tells of one. The newest entry comes last.
+fn trouble_told(alloc: Global, entries: &[Entry]) -> Result<Option<Trouble>, NoMemory>
+    ensures { IfOk result (λ trouble. trouble ≡ last_trouble (reverse entries.now)) }
+{
+    let mut left = entries;
+    while let Some((entry, older)) = left.split_last() {
+        if is_report(&entry.what) {
+            return reported_trouble(alloc, &entry.what);
+        }
+        left = older;
+    }
+    Ok(None)
+}
+
+/// Whether an entry reports a step.
+fn is_report(what: &Event) -> bool
+    ensures { result ≡ does_report what.now }
+{
+    matches!(what, Event::Step { .. })
+}
+
+/// The trouble that an entry tells of.
+fn reported_trouble(alloc: Global, what: &Event) -> Result<Option<Trouble>, NoMemory>
+    ensures { IfOk result (λ trouble. trouble ≡ trouble_in what.now) }
+{
+    match what {
+        Event::Step {
+            did: Did::Troubled(trouble),
+            ..
+        } => Ok(Some(trouble.copy(alloc)?)),
         _ => Ok(None),
     }
 }

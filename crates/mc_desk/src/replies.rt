@@ -1,6 +1,6 @@
 //! What the calls on a session answer.
 use crate::starts::StartError;
-use copy_move::History;
+use session_history::History;
 use thiserror::Error;
 
 /// A start that was refused gives the devices back.
@@ -20,7 +20,7 @@ pub enum DeskReply {
     Quit,
 }
 
-/// Why a call on the desk failed. But for want of memory that left all as it was, the desk is closed then.
+/// Why a call on the desk failed. The desk is closed then, unless it ran out of memory and left all as it was.
 #[derive(Clone, Copy, Debug, Drop, Error, PartialEq, Eq)]
 pub enum DeskError {
     #[error("the screen failed")]

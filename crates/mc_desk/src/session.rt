@@ -18,7 +18,6 @@ use crate::starts::Start;
 use crate::tag::Tag;
 use copy_move::{Dirty, Run};
 use key_screen::KeyReader;
-use mc_text::Path;
 use mc_ui::Ui;
 use std::alloc::Global;
 use std::marker::{Model, PhantomData};
@@ -49,8 +48,7 @@ pub struct Session<N: Tag, T: Tree, S: Sink, P: Spawner> {
     last_id: u32,
     calls: u64,
     shown: u128,
-    unseen: bool,
-    stuck_at: Option<Path>,
+    has_unseen_end: bool,
     due: Due,
     closed: bool,
     quit: bool,
@@ -75,7 +73,7 @@ impl<N: Tag, T: Tree, S: Sink, P: Spawner> Model for Session<N, T, S, P> {
       tally = record {
         job = option_map told d.job;
         last = d.last_id;
-        unseen = d.unseen;
+        has_unseen_end = d.has_unseen_end;
         closed = d.closed;
         due = awaited d.due;
         lost = d.lost;
@@ -96,7 +94,7 @@ impl<N: Tag, T: Tree, S: Sink, P: Spawner> Model for Session<N, T, S, P> {
       tally = record {
         job = option_map told d.job;
         last = d.last_id;
-        unseen = d.unseen;
+        has_unseen_end = d.has_unseen_end;
         closed = d.closed;
         due = awaited d.due;
         lost = d.lost;
@@ -111,7 +109,7 @@ impl<N: Tag, T: Tree, S: Sink, P: Spawner> Model for Session<N, T, S, P> {
 }
 
 impl<N: Tag, T: Tree, S: Sink, P: Spawner> Session<N, T, S, P> {
-    /// Opens a session in two folders. It is refused as `list` of the first is that can't be listed, or for want of memory;
+    /// Opens a session in two folders. It is refused as `list` of the first is that can't be listed, or since memory ran out;
     /// the tree is as it was then.
     pub fn begin(
         alloc: Global,
@@ -159,8 +157,7 @@ impl<N: Tag, T: Tree, S: Sink, P: Spawner> Session<N, T, S, P> {
                 last_id: 0,
                 calls: 0,
                 shown: 0,
-                unseen: false,
-                stuck_at: None,
+                has_unseen_end: false,
                 due: Due::First,
                 closed: false,
                 quit: false,

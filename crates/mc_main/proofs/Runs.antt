@@ -5,8 +5,8 @@ use Rattle.tree_trait.specs.Calls.{ListFolder}
 use Rattle.tree_trait.specs.Refusals.{refusal_of}
 use Rattle.tree_trait.specs.Change.{CallLog, current}
 use Rattle.tree_trait.specs.Answers.{IfKnown, HasRisen}
-use Rattle.copy_move.specs.declared.history.Entry.{Entry}
-use Rattle.history_laws.specs.LiveJobs.{IsLivePart, live_jobs}
+use Rattle.session_history.specs.declared.history.Entry.{Entry}
+use Rattle.session_history.specs.LiveJobs.{IsLivePart, live_jobs}
 use Rattle.history_laws.specs.Traces.{IsTraced, IsTracedTo, at_rest}
 use Rattle.history_laws.proofs.Calmed.{calm_law}
 use Rattle.history_laws.proofs.Done.{done_law}
@@ -87,10 +87,10 @@ run_in start folders told o told_faults faults status newest contents stream lef
     (subst (λ s. RanSession start told told_faults status newest contents (TookAll s left_after)) (sym gives) ran)))
 
 -- what a session came to is what its run did
-pub ran : (start : Option Start) (opening : Option CallLog) (faults status : ℕ) (newest : List Entry) (contents : Option CallLog) (end : SessionEnd) (quit screen_failed key_lost : Bool) (all_taken : Type 0)
+pub ran_session : (start : Option Start) (opening : Option CallLog) (faults status : ℕ) (newest : List Entry) (contents : Option CallLog) (end : SessionEnd) (quit screen_failed key_lost : Bool) (all_taken : Type 0)
     → EndsSession start opening faults newest contents quit → IsStatusOf end screen_failed key_lost status → (end ≡ Quit → quit ≡ true) → (end ≡ KeysEnded → all_taken)
     → RanSession start opening faults status newest contents all_taken
-ran start opening faults status newest contents end quit screen_failed key_lost all_taken ends is asked whole = record {
+ran_session start opening faults status newest contents end quit screen_failed key_lost all_taken ends is asked whole = record {
   asked = quit;
   session = ends;
   ended = λ zero_status. elim (is.done zero_status) [ inl by_key ↦ inl (asked by_key) | inr by_end ↦ inr (whole by_end) ];

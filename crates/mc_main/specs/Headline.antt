@@ -1,5 +1,5 @@
 -- What a run of the file manager promises.
-use Rattle.std.specs.Prelude.{◌≡◌, ◌≢◌, ◌⊎◌, ℕ, ◌+◌, ◌≤◌, Bool, true, is_none, ⊤, if◌then◌else◌, List, [], ◌∷◌, length, take, drop, Option, Some, None, IsSome, Result, Ok, Err}
+use Rattle.std.specs.Prelude.{◌≡◌, ◌≢◌, ◌⊎◌, ℕ, ◌+◌, ◌≤◌, Bool, true, false, is_none, ⊤, if◌then◌else◌, List, [], ◌∷◌, length, take, drop, Option, Some, None, IsSome, Result, Ok, Err}
 use Rattle.std.specs.Option.{option_map}
 use Rattle.mc_text.specs.Routes.{Route, path_fault, route_of}
 use Rattle.tree_trait.specs.declared.file_system.FileSystem.{FileSystem}
@@ -12,10 +12,11 @@ use Rattle.tree_trait.specs.CrashImages.{all_settled, IsCrashImage}
 use Rattle.tree_trait.specs.Answers.{HasRisen, IfKnown}
 use Rattle.tree_trait.specs.declared.devices.SourceFault.{SourceFault}
 use Rattle.key_screen.specs.DecodedKeys.{decoded_keys}
-use Rattle.copy_move.specs.declared.history.Entry.{Entry}
+use Rattle.session_history.specs.declared.history.Entry.{Entry}
 use Rattle.history_laws.specs.Calmed.{CalmsOthers}
-use Rattle.history_laws.specs.Replayed.{front, replayed_tree}
-use Rattle.history_laws.specs.Safe.{IsMoment, IsSafe}
+use Rattle.history_laws.specs.Replayed.{log_prefix, replayed_tree}
+use Rattle.session_history.specs.Entries.{IsMoment}
+use Rattle.history_laws.specs.Safe.{IsSafe}
 use Rattle.history_laws.specs.Staying.{StaysDone}
 use Rattle.mc_desk.specs.Tallies.{keys_in}
 use Rattle.mc_desk.specs.declared.starts.Start.{Start}
@@ -44,7 +45,7 @@ folders_in (word ∷ []) = beside (folder_of word) (folder_of word)
 folders_in (first ∷ second ∷ []) = beside (folder_of first) (folder_of second)
 folders_in (first ∷ second ∷ third ∷ words) = None
 
--- a run that can't be had has one of these statuses: its own, 4 where its line couldn't be printed, or 5 for want of memory
+-- a run that can't be had has one of these statuses: its own, 4 where its line couldn't be printed, or 5 where memory ran out
 abbrev pub IsStatusOr : ℕ → ℕ → Type 0
 IsStatusOr own status = (status ≡ own) ⊎ (status ≡ 4) ⊎ (status ≡ 5)
 
@@ -80,7 +81,7 @@ abbrev pub IsRun : Option Start → Option CallLog → ℕ → ℕ → List Entr
 IsRun folders opening faults status newest contents all_taken =
     (IsSome folders × RanSession folders opening faults status newest contents all_taken) ⊎ ((newest ≡ []) × BeginsNone status)
 
--- the run ended as the screen failed, or for want of memory
+-- the run ended as the screen failed, or memory ran out
 abbrev pub IsCutShort : ℕ → Type 0
 IsCutShort status = (status ≡ 4) ⊎ (status ≡ 5)
 
@@ -101,12 +102,12 @@ pub record ReadsKeys (bytes : List ℕ) (left : Option (List ℕ)) (status : ℕ
   pub others : (left ≡ Some (drop taken bytes)) ⊎ ((left ≡ Some (drop (taken + 1) bytes)) × IsCutShort status)
 
 -- how many bytes a source gave
-abbrev pub given : Result (Option ℕ) SourceFault → ℕ
-given (Ok None) = 0
-given (Ok (Some byte)) = 1
-given (Err fault) = 0
+abbrev pub bytes_given : Result (Option ℕ) SourceFault → ℕ
+bytes_given (Ok None) = 0
+bytes_given (Ok (Some byte)) = 1
+bytes_given (Err fault) = 0
 
--- the session was cut short by a draw that failed, or for want of memory
+-- the session was cut short by a draw that failed, or since memory ran out
 abbrev pub IsCut : Option SessionEnd → Type 0
 IsCut end = (end ≡ Some ScreenFailed) ⊎ (end ≡ Some NoMemory)
 
@@ -120,7 +121,7 @@ abbrev pub IsSafeRun : CallLog → CallLog → List Entry → Type 0
 IsSafeRun opening now newest =
     IsTree (current opening) → all_settled opening.changes ≡ true → (standing coming : List Entry) (calls : ℕ) (image : FileSystem)
     → IsMoment newest standing coming calls → IsCrashImage now (length opening.changes + calls) image
-    → IsSafe opening now standing (front opening calls now) image ⊎ IsSafe opening now coming (front opening calls now) image
+    → IsSafe opening now standing (log_prefix opening calls now) image ⊎ IsSafe opening now coming (log_prefix opening calls now) image
 
 -- what a finished job did stays done
 abbrev pub IsFinishedRun : CallLog → CallLog → List Entry → Type 0
@@ -140,20 +141,23 @@ pub record ShowsAll (opening : CallLog) (newest : List Entry) (now : CallLog) : 
 abbrev pub IsReplayedRun : CallLog → CallLog → List Entry → Type 0
 IsReplayedRun opening now newest = IsTree (current opening) → all_settled opening.changes ≡ true → ShowsAll opening newest now
 
--- Where the words name folders that can be listed, and no device failed, the status is 0, or 5 for want of memory.
+-- Where the words name folders that can be listed, and no device failed, the status is 0, or 5 where memory ran out.
 abbrev pub IsComplete : CallLog → Option Start → ℕ → Type 0 → Type 0
 IsComplete log None status failed = ⊤
 IsComplete log (Some start) status failed =
     refusal_of (current log) (ListFolder start.left) ≡ None → refusal_of (current log) (ListFolder start.right) ≡ None → (failed → ⊥) → (status ≡ 0) ⊎ (status ≡ 5)
 
--- The status of a session. A key that was lost makes it 5. Else it is 3 only where the keyboard failed, 4 only where the
--- screen did, and 0 only at the quit key or the end of the keys; so it is never 0 where the session failed.
+-- The status of a session. A key that was lost makes it 5. Else it is 3 exactly where the keyboard failed, 4 only where the
+-- screen did, and 0 only at the quit key or the end of the keys, where the screen never failed; so it is never 0 where the
+-- session failed.
 pub record IsStatusOf (end : SessionEnd) (screen_failed key_lost : Bool) (status : ℕ) : Type 0 where
   pub lost : key_lost ≡ true → status ≡ 5
   pub not_usage : status ≢ 1
   pub not_start : status ≢ 2
   pub keyboard : status ≡ 3 → end ≡ KeysFailed
+  pub keys : end ≡ KeysFailed → key_lost ≡ false → status ≡ 3
   pub screen : status ≡ 4 → screen_failed ≡ true
+  pub told : screen_failed ≡ true → status ≢ 0
   pub done : status ≡ 0 → (end ≡ Quit) ⊎ (end ≡ KeysEnded)
   pub failed : (end ≡ ScreenFailed) ⊎ (end ≡ NoMemory) → IsCutShort status
   pub most : status ≤ 5

@@ -18,15 +18,15 @@ abbrev pub usage_line : List ℕ
 usage_line = codes "usage: mc [-b] [-V] [-h] [-P FILE] [-v FILE | -e FILE | --drill N | DIR1 [DIR2]]" ++ 10 ∷ []
 
 -- the word that names the folder of a panel, and a colon, where there is one; a single word names both folders
-abbrev pub named : Side → List (List ℕ) → List ℕ
-named side [] = []
-named side (word ∷ []) = drawn word ++ codes ": "
-named Left (first ∷ second ∷ words) = drawn first ++ codes ": "
-named Right (first ∷ second ∷ words) = drawn second ++ codes ": "
+abbrev pub folder_word : Side → List (List ℕ) → List ℕ
+folder_word side [] = []
+folder_word side (word ∷ []) = drawn word ++ codes ": "
+folder_word Left (first ∷ second ∷ words) = drawn first ++ codes ": "
+folder_word Right (first ∷ second ∷ words) = drawn second ++ codes ": "
 
 -- the line for a folder that can't be listed: `mc: WORD: CAUSE`, the word as it is drawn
 abbrev pub start_line : List (List ℕ) → Side → TreeError → List ℕ
-start_line words side cause = codes "mc: " ++ (named side words ++ (cause_words cause ++ 10 ∷ []))
+start_line words side cause = codes "mc: " ++ (folder_word side words ++ (cause_words cause ++ 10 ∷ []))
 
 -- the screen was given its line after these bytes
 abbrev pub PrintsCause : List (List ℕ) → StartError → List ℕ → Option (List ℕ) → Type 0

@@ -2,19 +2,19 @@
 ghost use Rattle.std.specs.Prelude.{◌≡◌, ◌≢◌, ◌≤◌, ◌<◌, ◌++◌, [], true, IfOk, OnOk, Option, None, Some, codes, reverse, string_bytes};
 ghost use Rattle.mc_text.specs.Drawn.{drawn as drawn_text};
 ghost use Rattle.tree_trait.specs.Answers.{IfKnown, HasRisen};
-ghost use Rattle.copy_move.specs.Told.{live_job};
+ghost use Rattle.history_laws.specs.ToldJob.{live_job};
 ghost use Rattle.history_laws.specs.Traces.{IsTracedTo};
 ghost use Rattle.mc_desk.specs.Logs.{jobs_begun};
 ghost use Rattle.mc_desk.specs.Tallies.{faults_in, has_lost};
 ghost use Rattle.mc_desk.specs.Desks.{IsFresh, RanNothing};
-ghost use Rattle.mc_main.specs.Printed.{PrintsCause, named, start_line as line_for};
+ghost use Rattle.mc_main.specs.Printed.{PrintsCause, folder_word, start_line as line_for};
 ghost use Rattle.mc_main.specs.Headline.{IsStatusOr, IsStatusOf, RanSession, ReadsKeys, TookAll};
 
 use crate::outcome::Outcome;
 use crate::session::{SessionEnd, run_session};
-use copy_move::{Entries, History};
 use mc_desk::{Desk, Ended, Refused, Side, StartError, Tag, cause_text};
 use mc_text::{NoMemory, Text, drawn};
+use session_history::{Entries, History};
 use std::alloc::Global;
 use tree_trait::{Clock, Sink, SinkError, Source, Spawner, Tree, TreeError};
 
@@ -62,7 +62,7 @@ pub fn run_desk<N: Tag, T: Tree, K: Source, S: Sink, P: Spawner, C: Clock>(
     }
 }
 
-/// The status of a session. A lost key is want of memory; else the first cause that stands decides.
+/// The status of a session. With a lost key memory ran out; else the first cause that stands decides.
 fn status_of(end: SessionEnd, screen_failed: bool, key_lost: bool) -> u8
     ensures { IsStatusOf end screen_failed key_lost result }
 {
@@ -152,7 +152,7 @@ fn start_line(
 
 /// Adds the word that names the folder of a panel, and a colon.
 fn push_named(alloc: Global, line: &mut String, words: &[Text], side: Side) -> Result<(), NoMemory>
-    ensures { OnOk result (string_bytes line.new ≡ string_bytes line.old ++ named side words.now) }
+    ensures { OnOk result (string_bytes line.new ≡ string_bytes line.old ++ folder_word side words.now) }
 {
     match words {
         [] => Ok(()),

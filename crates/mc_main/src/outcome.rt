@@ -1,5 +1,5 @@
 //! What a run leaves.
-use copy_move::History;
+use session_history::History;
 
 /// What a run leaves: its status, the devices, and the history of its session.
 #[derive(Drop)]

@@ -1,7 +1,7 @@
 //! One run of the file manager over its devices.
 ghost use Rattle.std.specs.Prelude.{◌≡◌, ◌⊎◌, ◌≤◌, ◌++◌, true, Option, None, Some, reverse};
 ghost use Rattle.tree_trait.specs.Answers.{IfKnown, HasRisen};
-ghost use Rattle.copy_move.specs.Told.{live_job};
+ghost use Rattle.history_laws.specs.ToldJob.{live_job};
 ghost use Rattle.history_laws.specs.Traces.{IsTracedTo};
 ghost use Rattle.mc_desk.specs.Logs.{jobs_begun};
 ghost use Rattle.mc_desk.specs.Tallies.{faults_in, has_lost};
@@ -36,7 +36,7 @@ pub trait Gate {
 /// Runs the file manager: reads the words, opens the session, works its keys and steps its jobs, and ends it.
 ///
 /// The status is 0 at the quit key or the end of the keys, 1 where the words can't be read, 2 where a folder is refused, 3
-/// where the keyboard failed, 4 where the screen did, and 5 for want of memory. For 1 and 2 one line is printed.
+/// where the keyboard failed, 4 where the screen did, and 5 where memory ran out. For 1 and 2 one line is printed.
 pub fn mc_run<N: Tag, T: Tree, K: Source, S: Sink, P: Spawner, C: Clock, G: Gate>(
     alloc: Global,
     words: &[Text],

@@ -2,7 +2,7 @@
 ghost use Rattle.std.specs.Prelude.{◌≡◌, ◌≤◌, true, false, None, Some, IfOk, IfNone, OnOk, slice_get};
 ghost use Rattle.tree_trait.specs.Answers.{HasRisen, HasCause, IfKnown};
 ghost use Rattle.mc_desk.specs.Desks.{IsFresh, KeepsKeys, is_over};
-ghost use Rattle.mc_main.specs.Headline.{IsCut, LeavesOthers, TookAll, given, left_of};
+ghost use Rattle.mc_main.specs.Headline.{IsCut, LeavesOthers, TookAll, bytes_given, left_of};
 
 use mc_desk::{Desk, DeskError, DeskReply, Tag};
 use std::alloc::Global;
@@ -79,7 +79,7 @@ fn take_turn<N: Tag, T: Tree, K: Source, S: Sink, P: Spawner, C: Clock>(
 /// Takes one byte, or none at the end of the keys. It may wait.
 fn take_byte<K: Source>(keys: &mut K) -> Result<Option<u8>, SourceFault>
     ensures first { IfKnown (K.left keys.old) (λ bytes. IfOk result (λ byte. byte ≡ slice_get bytes 0)) }
-    ensures left { K.left keys.new ≡ left_of (K.left keys.old) (given result) }
+    ensures left { K.left keys.new ≡ left_of (K.left keys.old) (bytes_given result) }
     ensures cause { HasCause (record {}) (K.fault_count keys.old) (K.fault_count keys.new) result }
 {
     let mut room = [0u8; 1];

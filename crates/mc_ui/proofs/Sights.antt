@@ -15,7 +15,7 @@ use Rattle.tree_trait.specs.Change.{CallLog, current, found}
 use Rattle.tree_trait.specs.CrashImages.{Among}
 use Rattle.tree_trait.specs.Answers.{IsMeta, IsListing, IsAscending, IfKnown, Reads}
 use Rattle.tree_trait.proofs.Walking.{stat-found, list-found}
-use Rattle.file_copy.proofs.PermittedCalls.{stat_missing}
+use Rattle.job_reports.proofs.PermittedCalls.{stat_missing}
 use Rattle.mc_ui.specs.declared.dialog.Chosen.{Chosen}
 use Rattle.mc_ui.specs.declared.choosing.Choice.TheVariants.{File}
 use Rattle.mc_ui.specs.declared.reread.Reread.{Reread}

@@ -2,8 +2,8 @@
 use Rattle.std.specs.Prelude.{Bool, true, false, ◌||◌, List, [], ◌∷◌}
 use Rattle.tree_trait.specs.declared.calls.TreeError.{TreeError}
 use Rattle.tree_trait.specs.declared.calls.TreeError.TheVariants.{Fault}
-use Rattle.copy_move.specs.declared.history.Refusal.{Refusal}
-use Rattle.copy_move.specs.declared.history.Refusal.TheVariants.{Tree, Plan}
+use Rattle.session_history.specs.declared.refusal.Refusal.{Refusal}
+use Rattle.session_history.specs.declared.refusal.Refusal.TheVariants.{Tree, Plan, Begin}
 
 -- the tree failed at a call that was refused
 abbrev pub is_fault : TreeError → Bool
@@ -14,3 +14,4 @@ abbrev pub has_fault : List Refusal → Bool
 has_fault [] = false
 has_fault (Tree path e ∷ more) = is_fault e || has_fault more
 has_fault (Plan error ∷ more) = has_fault more
+has_fault (Begin error ∷ more) = has_fault more

@@ -1,24 +1,13 @@
-//! What a key asks of the desk.
-ghost use Rattle.std.specs.Prelude.{◌≡◌, Some, option_map};
-ghost use Rattle.copy_move.specs.Jobs.{first_work};
-ghost use Rattle.copy_move.specs.Told.{running};
-
-use copy_move::{Answer, Job, Refusals, Run};
-
-/// A job that was confirmed: its plan, and the job as it starts.
-#[derive(Debug, Drop)]
-pub struct Confirmed {
-    pub plan: Job,
-    pub run: Run,
-    ghost started: { option_map (running run.id) (first_work run.id plan) ≡ Some run },
-}
+//! What a key asks of the desk, and what it is told of that.
+use job_reports::{Answer, Job};
+use session_history::{Refusal, Refusals};
 
 /// What a key asks.
 #[derive(Debug, Drop)]
 pub enum Ask {
     Nothing,
     /// A job is to be begun.
-    Begin(Confirmed),
+    Begin { plan: Job, background: bool },
     /// The live job's trouble is answered.
     Answer(Answer),
     End,
@@ -29,4 +18,16 @@ pub enum Ask {
 pub struct KeyAct {
     pub ask: Ask,
     pub refusals: Refusals,
+}
+
+/// What became of a job that a key asked for, or of its answer to a trouble.
+#[derive(Debug, Drop)]
+pub enum Told {
+    /// It asked for neither.
+    Nothing,
+    /// It was carried out.
+    Done,
+    Refused(Refusal),
+    /// There was no memory.
+    Lost,
 }

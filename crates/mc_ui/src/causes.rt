@@ -2,8 +2,9 @@
 ghost use Rattle.std.specs.Prelude.{◌≡◌};
 ghost use Rattle.mc_ui.specs.Causes.{cause_words};
 
-use copy_move::{Cause, PlanError, Refusal};
+use job_reports::Cause;
 use mc_text::NoMemory;
+use session_history::{BeginError, PlanError, Refusal};
 use tree_trait::TreeError;
 
 /// What is said of a refused call.
@@ -27,14 +28,18 @@ pub fn cause_text(error: TreeError) -> &'static str
     }
 }
 
-/// What is said where all numbers of jobs were given.
-pub const NO_MORE_NUMBERS: &str = "too many jobs";
-
 /// What is said of a plan that can't be made.
 pub fn plan_text(error: &PlanError) -> &'static str {
     match error {
         PlanError::TargetThere(_) => "already there",
         PlanError::TargetTooLong => "path too long",
+    }
+}
+
+/// What is said of a job that can't be begun.
+pub fn begin_text(error: BeginError) -> &'static str {
+    match error {
+        BeginError::NoMoreIds => "too many jobs",
     }
 }
 
@@ -57,5 +62,6 @@ pub fn refusal_text(refusal: &Refusal) -> &'static str {
     match refusal {
         Refusal::Tree(_, error) => cause_text(*error),
         Refusal::Plan(error) => plan_text(error),
+        Refusal::Begin(error) => begin_text(*error),
     }
 }

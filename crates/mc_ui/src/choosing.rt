@@ -1,9 +1,10 @@
 //! The look at the thing under the cursor.
-ghost use Rattle.std.specs.Prelude.{◌≡◌, ◌≤◌, true, IfOk};
-ghost use Rattle.tree_trait.specs.Answers.{IfKnown, HasRisen};
+ghost use Rattle.std.specs.Prelude.{IfOk};
+ghost use Rattle.tree_trait.specs.Calls.{Stat};
 ghost use Rattle.mc_ui.specs.Panels.{current_path};
 ghost use Rattle.mc_ui.specs.Screens.{sight};
-ghost use Rattle.mc_ui.specs.Choices.{IsChoice, ChoiceCalls, is_faulty};
+ghost use Rattle.mc_ui.specs.Choices.{IsChoice, choice_refusals};
+ghost use Rattle.mc_ui.specs.Reading.{ReadsTree};
 
 use crate::dialog::Chosen;
 use crate::panel::Panel;
@@ -25,10 +26,8 @@ pub enum Choice {
 /// Looks at the thing under the cursor.
 pub fn choose<T: Tree>(alloc: Global, tree: &mut T, panel: &Panel) -> Result<Choice, NoMemory>
     ensures chosen { IfOk result (IsChoice (sight (T.contents tree.old)) (current_path panel.now)) }
-    ensures called { IfKnown (T.contents tree.old) (λ log. IfOk result (ChoiceCalls log)) }
-    ensures fault { IfOk result (λ choice. is_faulty choice ≡ true → HasRisen (T.fault_count tree.old) (T.fault_count tree.new)) }
-    ensures same { T.contents tree.new ≡ T.contents tree.old }
-    ensures later { T.fault_count tree.old ≤ T.fault_count tree.new }
+    ensures reads { ReadsTree Stat choice_refusals result (T.contents tree.old) (T.contents tree.new)
+        (T.fault_count tree.old) (T.fault_count tree.new) }
 {
     let path = match panel.current_path(alloc) {
         Ok(Some(path)) => path,

@@ -1,23 +1,25 @@
 //! The plans of the jobs that a box confirms.
-ghost use Rattle.std.specs.Prelude.{◌≡◌, ◌≢◌, ◌<◌, ◌≤◌, true, IfErr, IfOk, is_some, length};
+ghost use Rattle.std.specs.Prelude.{◌≡◌, ◌≢◌, ◌<◌, true, IfErr, IfOk, is_some, length};
 ghost use Rattle.mc_text.specs.Routes.{parent_of, spelled};
 ghost use Rattle.tree_trait.specs.Calls.{Stat};
 ghost use Rattle.tree_trait.specs.Change.{current};
-ghost use Rattle.tree_trait.specs.Answers.{HasCause, HasRisen, IfKnown, IsMeta, Reads};
+ghost use Rattle.tree_trait.specs.Answers.{HasCause, IfKnown, IsMeta, Reads};
+ghost use Rattle.job_reports.specs.Jobs.{is_workable};
 ghost use Rattle.mc_ui.specs.Screens.{IsTaken, IsVacant, copy_plan, delete_plan, sight, target_in};
-ghost use Rattle.mc_ui.specs.Choices.{AfterLook, PlanCalls, PlanLeads, has_plan_fault};
+ghost use Rattle.mc_ui.specs.Choices.{AfterLook, PlanLeads, plan_refusals};
+ghost use Rattle.mc_ui.specs.Reading.{ReadsTree};
 
-use crate::asks::Confirmed;
 use crate::dialog::Chosen;
-use copy_move::{Job, Pair, Pairs, PlanError, Refusal, Run};
+use job_reports::{Job, Pair, Pairs};
 use mc_text::{NoMemory, Path, PathError, Paths};
+use session_history::{PlanError, Refusal};
 use std::alloc::Global;
 use tree_trait::{Meta, Tree, TreeError};
 
 /// What planning a copy comes to.
 #[derive(Debug, Drop)]
 pub enum CopyPlan {
-    Begins(Confirmed),
+    Begins(Job),
     Refuses(Refusal),
 }
 
@@ -27,13 +29,10 @@ pub fn plan_copy<T: Tree>(
     tree: &mut T,
     chosen: &Chosen,
     folder: &Path,
-    next: u32,
 ) -> Result<CopyPlan, NoMemory>
-    ensures leads { IfOk result (PlanLeads (sight (T.contents tree.old)) next chosen.now.path (target_in folder.now chosen.now.path)) }
-    ensures called { IfKnown (T.contents tree.old) (λ log. IfOk result (PlanCalls log)) }
-    ensures fault { IfOk result (λ plan. has_plan_fault plan ≡ true → HasRisen (T.fault_count tree.old) (T.fault_count tree.new)) }
-    ensures same { T.contents tree.new ≡ T.contents tree.old }
-    ensures later { T.fault_count tree.old ≤ T.fault_count tree.new }
+    ensures leads { IfOk result (PlanLeads (sight (T.contents tree.old)) chosen.now.path (target_in folder.now chosen.now.path)) }
+    ensures reads { ReadsTree Stat plan_refusals result (T.contents tree.old) (T.contents tree.new)
+        (T.fault_count tree.old) (T.fault_count tree.new) }
 {
     let target = match target_of(alloc, &chosen.path, folder) {
         Ok(target) => target,
@@ -42,7 +41,7 @@ pub fn plan_copy<T: Tree>(
     };
     match look_at(alloc, tree, &target) {
         Ok(_) => Ok(CopyPlan::Refuses(Refusal::Plan(PlanError::TargetThere(target)))),
-        Err(error) => after_look(alloc, chosen, target, next, error),
+        Err(error) => after_look(alloc, chosen, target, error),
     }
 }
 
@@ -68,51 +67,41 @@ fn target_of(alloc: Global, path: &Path, folder: &Path) -> Result<Path, PathErro
     }
 }
 
-/// Begins the copy where the look at its target was refused because nothing is there.
+/// Plans the copy where the look at its target was refused because nothing is there.
 fn after_look(
     alloc: Global,
     chosen: &Chosen,
     target: Path,
-    next: u32,
     error: TreeError,
 ) -> Result<CopyPlan, NoMemory>
     requires within { is_some (parent_of target) ≡ true }
-    ensures { IfOk result (AfterLook error next chosen.now.path target) }
+    ensures { IfOk result (AfterLook error chosen.now.path target) }
 {
     match error {
-        TreeError::Missing => Ok(CopyPlan::Begins(begin_copy(alloc, chosen, target, next)?)),
+        TreeError::Missing => Ok(CopyPlan::Begins(copy_to(alloc, chosen, target)?)),
         TreeError::Memory => Err(NoMemory),
         error => Ok(CopyPlan::Refuses(Refusal::Tree(target, error))),
     }
 }
 
-/// The copy of a file, as it starts.
-fn begin_copy(
-    alloc: Global,
-    chosen: &Chosen,
-    target: Path,
-    next: u32,
-) -> Result<Confirmed, NoMemory>
+/// The copy of a file.
+fn copy_to(alloc: Global, chosen: &Chosen, target: Path) -> Result<Job, NoMemory>
     requires within { is_some (parent_of target) ≡ true }
-    ensures planned { IfOk result (λ confirmed. confirmed.plan ≡ copy_plan chosen.now.path target) }
-    ensures numbered { IfOk result (λ confirmed. confirmed.run.id ≡ next) }
+    ensures planned { IfOk result (λ plan. plan ≡ copy_plan chosen.now.path target) }
+    ensures workable { IfOk result (λ plan. is_workable plan ≡ true) }
 {
     let source = chosen.path.copy(alloc)?;
     let mut pairs = Vec::new(alloc);
     pairs.push(Pair { source, target })?;
-    let plan = Job::Copy(Pairs(pairs));
-    let run = Run::start(alloc, &plan, next)?;
-    Ok(Confirmed { plan, run })
+    Ok(Job::Copy(Pairs(pairs)))
 }
 
-/// The deletion of a file, as it starts.
-pub fn begin_deletion(alloc: Global, chosen: &Chosen, next: u32) -> Result<Confirmed, NoMemory>
-    ensures planned { IfOk result (λ confirmed. confirmed.plan ≡ delete_plan chosen.now.path) }
-    ensures numbered { IfOk result (λ confirmed. confirmed.run.id ≡ next) }
+/// The deletion of a file.
+pub fn deletion_of(alloc: Global, chosen: &Chosen) -> Result<Job, NoMemory>
+    ensures planned { IfOk result (λ plan. plan ≡ delete_plan chosen.now.path) }
+    ensures workable { IfOk result (λ plan. is_workable plan ≡ true) }
 {
     let mut paths = Paths::new(alloc);
     paths.push(chosen.path.copy(alloc)?)?;
-    let plan = Job::Delete(paths);
-    let run = Run::start(alloc, &plan, next)?;
-    Ok(Confirmed { plan, run })
+    Ok(Job::Delete(paths))
 }

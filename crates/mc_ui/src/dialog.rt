@@ -2,7 +2,7 @@
 ghost use Rattle.std.specs.Prelude.{◌≡◌, true, is_some};
 ghost use Rattle.mc_text.specs.Routes.{parent_of};
 
-use file_copy::Trouble;
+use job_reports::Trouble;
 use mc_text::Path;
 
 /// A file that was chosen. It lies in a folder.
@@ -16,7 +16,7 @@ pub struct Chosen {
 #[derive(Debug, Drop)]
 pub enum Dialog {
     Nothing,
-    /// Asks whether to delete this file.
+    /// ReadsTree whether to delete this file.
     Delete(Chosen),
     /// Shows which names of the source are copied, of a copy of this file.
     SourceMask(Chosen),

@@ -7,7 +7,7 @@ use crate::causes::write_cause;
 use crate::dialog::Dialog;
 use crate::panel::Panel;
 use crate::ui::Ui;
-use file_copy::Trouble;
+use job_reports::Trouble;
 use mc_text::{NoMemory, Path, drawn, fit};
 use std::alloc::Global;
 use tree_trait::{Sink, SinkError};
@@ -27,7 +27,7 @@ const PANEL_COLUMNS: usize = 39;
 /// The first column of the right panel.
 const RIGHT_COLUMN: usize = 41;
 
-/// Draws the whole screen. A refused call has put a front of the bytes. The answer is how many bytes they are.
+/// Draws the whole screen. A refused call has put a prefix of the bytes. The answer is how many bytes they are.
 pub fn draw<S: Sink>(alloc: Global, screen: &mut S, ui: &Ui) -> Result<usize, SinkError>
     ensures later { S.fault_count screen.old ≤ S.fault_count screen.new }
     ensures fault { result ≡ Err SinkError.Fault → HasRisen (S.fault_count screen.old) (S.fault_count screen.new) }

@@ -11,7 +11,7 @@ mod panel;
 mod reread;
 mod ui;
 
-pub use asks::{Ask, Confirmed, KeyAct};
+pub use asks::{Ask, KeyAct, Told};
 pub use causes::cause_text;
 pub use choosing::{Choice, choose};
 pub use copying::{CopyPlan, plan_copy};

@@ -1,13 +1,12 @@
 //! A panel's folder, read again after a job's end.
-ghost use Rattle.std.specs.Prelude.{◌≡◌, ◌≤◌, true, IfOk};
+ghost use Rattle.std.specs.Prelude.{IfOk};
 ghost use Rattle.tree_trait.specs.Calls.{ListFolder};
-ghost use Rattle.tree_trait.specs.Answers.{IfKnown, HasRisen};
-ghost use Rattle.copy_move.specs.Traces.{AreRefused};
+ghost use Rattle.mc_ui.specs.declared.reread.Reread.{Reread as RereadType};
+ghost use Rattle.mc_ui.specs.Reading.{ReadsTree};
 ghost use Rattle.mc_ui.specs.Screens.{IsReread, listed, sight};
-ghost use Rattle.mc_ui.specs.Refused.{has_fault};
 
-use copy_move::Refusal;
 use mc_text::{Names, NoMemory, Path};
+use session_history::Refusal;
 use std::alloc::Global;
 use tree_trait::{Tree, TreeError};
 
@@ -23,15 +22,13 @@ pub fn list_again<T: Tree>(
     alloc: Global,
     tree: &mut T,
     folder: &Path,
-    unseen: bool,
+    has_unseen_end: bool,
 ) -> Result<Reread, NoMemory>
-    ensures reread { IfOk result (IsReread (sight (T.contents tree.old)) unseen folder.now) }
-    ensures called { IfKnown (T.contents tree.old) (λ log. IfOk result (λ r. AreRefused ListFolder log (listed r.refused))) }
-    ensures fault { IfOk result (λ r. has_fault (listed r.refused) ≡ true → HasRisen (T.fault_count tree.old) (T.fault_count tree.new)) }
-    ensures same { T.contents tree.new ≡ T.contents tree.old }
-    ensures later { T.fault_count tree.old ≤ T.fault_count tree.new }
+    ensures reread { IfOk result (IsReread (sight (T.contents tree.old)) has_unseen_end folder.now) }
+    ensures reads { ReadsTree ListFolder (λ (r : RereadType). listed r.refused) result (T.contents tree.old) (T.contents tree.new)
+        (T.fault_count tree.old) (T.fault_count tree.new) }
 {
-    if !unseen {
+    if !has_unseen_end {
         return Ok(Reread {
             names: None,
             refused: None,

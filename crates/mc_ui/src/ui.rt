@@ -1,25 +1,24 @@
 //! What stands on the screen: two panels, the box over them, and a line of news.
-ghost use Rattle.std.specs.Prelude.{◌≡◌, ◌↔◌, ◌++◌, ◌≤◌, true, None, Some, OnErr, IfOk, option_map};
+ghost use Rattle.std.specs.Prelude.{◌≡◌, ◌++◌, [], true, List, None, OnErr, IfOk};
 ghost use Rattle.tree_trait.specs.Calls.{Stat, ListFolder};
-ghost use Rattle.tree_trait.specs.Answers.{IfKnown, HasRisen};
-ghost use Rattle.copy_move.specs.Told.{told};
-ghost use Rattle.copy_move.specs.Traces.{AreRefused};
-ghost use Rattle.mc_ui.specs.Refused.{has_fault};
-ghost use Rattle.mc_ui.specs.declared.asks.Ask.{Ask};
-ghost use Rattle.mc_ui.specs.Screens.{KeyLeads, LooksAgain, NoBox, WellAsked, listed, plain_base, seen_box, sight, with_ask, with_part, with_trouble};
+ghost use Rattle.session_history.specs.declared.refusal.Refusal.{Refusal as RefusalType};
+ghost use Rattle.mc_ui.specs.declared.asks.KeyAct.{KeyAct as KeyActType};
+ghost use Rattle.mc_ui.specs.LiveJobs.{shown_trouble as trouble_in};
+ghost use Rattle.mc_ui.specs.Reading.{ReadsTree};
+ghost use Rattle.mc_ui.specs.Screens.{KeyLeads, LookLeads, NoBox, WellAsked, is_request, listed, plain_base, seen_box, settled as screen_settled, sight, with_ask, with_part, with_trouble};
 
 mod boxes;
 mod panel_keys;
 
-use crate::asks::KeyAct;
+use crate::asks::{KeyAct, Told};
 use crate::causes::refusal_text;
 use crate::dialog::Dialog;
 use crate::panel::Panel;
 use crate::reread::{Reread, list_again};
-use copy_move::{Refusal, Refusals, Run};
-use file_copy::Trouble;
+use job_reports::{JobRows, Trouble};
 use key_screen::{Base, Key};
 use mc_text::{NoMemory, Path};
+use session_history::{Refusal, Refusals};
 use std::alloc::Global;
 use std::marker::Model;
 use std::mem;
@@ -82,63 +81,74 @@ impl Ui {
         self.news
     }
 
-    /// Works a key. `job` is the live one, and `next` the number of the one that is begun next, if one is left. What was
-    /// refused, the refusals say.
+    /// Works a key while these jobs are live. What was refused, the refusals say. Where the key asks for a job, or answers a
+    /// trouble, the screen stays as it is until `settle` tells what became of that.
     pub fn key<T: Tree>(
         &mut self,
         alloc: Global,
         tree: &mut T,
-        job: &Option<Run>,
-        next: Option<u32>,
+        rows: &JobRows,
         key: Key,
     ) -> Result<KeyAct, NoMemory>
-        ensures leads { IfOk result (λ act. KeyLeads (sight (T.contents tree.old)) (option_map told job.now)
-            next key act.refusals self.old (with_ask act.ask self.new)) }
-        ensures asked { IfOk result (λ act. WellAsked next job.now act.ask) }
-        ensures called { IfKnown (T.contents tree.old) (λ log. IfOk result (λ act. AreRefused Stat log act.refusals)) }
-        ensures fault { IfOk result (λ act. has_fault act.refusals ≡ true → HasRisen (T.fault_count tree.old) (T.fault_count tree.new)) }
+        ensures leads { IfOk result (λ act. KeyLeads (sight (T.contents tree.old)) rows.now key act.refusals
+            self.old (with_ask act.ask self.new)) }
+        ensures asked { IfOk result (λ act. WellAsked rows.now act.ask) }
+        ensures stays { IfOk result (λ act. is_request act.ask ≡ true → self.new ≡ self.old) }
+        ensures alone { IfOk result (λ act. is_request act.ask ≡ true → act.refusals ≡ []) }
         ensures left { self.new.left.folder ≡ self.old.left.folder }
         ensures right { self.new.right ≡ self.old.right }
         ensures settled { self.new.planned ≡ None }
         ensures lost { OnErr result (self.new ≡ self.old) }
-        ensures same { T.contents tree.new ≡ T.contents tree.old }
-        ensures later { T.fault_count tree.old ≤ T.fault_count tree.new }
+        ensures reads { ReadsTree Stat (λ (act : KeyActType). act.refusals) result (T.contents tree.old) (T.contents tree.new)
+            (T.fault_count tree.old) (T.fault_count tree.new) }
     {
         self.news = None;
         let base = plain_base(key);
         match mem::replace(&mut self.dialog, Dialog::Nothing) {
-            Dialog::Nothing => self.key_in_panel(alloc, tree, job, base),
-            Dialog::Delete(chosen) => self.key_in_delete(alloc, chosen, job, next, base),
+            Dialog::Nothing => self.key_in_panel(alloc, tree, rows, base),
+            Dialog::Delete(chosen) => self.key_in_delete(alloc, chosen, rows, base),
             Dialog::SourceMask(chosen) => Ok(self.key_in_mask(alloc, chosen, base)),
-            Dialog::CopyTo(chosen) => self.key_in_target(alloc, tree, chosen, job, next, base),
-            Dialog::Trouble(trouble) => Ok(self.key_in_trouble(alloc, trouble, job, base)),
+            Dialog::CopyTo(chosen) => self.key_in_target(alloc, tree, chosen, rows, base),
+            Dialog::Trouble(trouble) => Ok(self.key_in_trouble(alloc, trouble, rows, base)),
             Dialog::PartLeft(path) => Ok(self.key_in_message(alloc, path, base)),
         }
     }
 
-    /// Takes up what a job did. After a job's end, which `unseen` says, each panel is read again. A trouble gets its box, and
-    /// so does the part that the end left.
+    /// Tells what became of what the last key asked. Where it was carried out its box is shut; where it was refused, that is
+    /// said.
+    pub fn settle(&mut self, told: Told)
+        ensures { self.new ≡ screen_settled told self.old }
+    {
+        match told {
+            Told::Nothing => {}
+            Told::Done => self.dialog = Dialog::Nothing,
+            Told::Refused(refusal) => self.news = Some(refusal_text(&refusal)),
+            Told::Lost => {}
+        }
+    }
+
+    /// Takes up what the live jobs did. After a job's end, which `has_unseen_end` says, each panel is read again. A trouble gets its
+    /// box, and so does the part that the end left.
     pub fn look<T: Tree>(
         &mut self,
         alloc: Global,
         tree: &mut T,
-        unseen: bool,
-        trouble: Option<Trouble>,
+        rows: &JobRows,
+        has_unseen_end: bool,
         part: Option<Path>,
     ) -> Result<Refusals, NoMemory>
-        ensures leads { IfOk result (λ refusals. LooksAgain (sight (T.contents tree.old)) unseen trouble part refusals self.old self.new) }
-        ensures called { IfKnown (T.contents tree.old) (λ log. IfOk result (AreRefused ListFolder log)) }
-        ensures fault { IfOk result (λ refusals. has_fault refusals ≡ true → HasRisen (T.fault_count tree.old) (T.fault_count tree.new)) }
+        ensures leads { IfOk result (λ refusals. LookLeads (sight (T.contents tree.old)) rows.now has_unseen_end part refusals self.old self.new) }
         ensures left { self.new.left.folder ≡ self.old.left.folder }
         ensures right { self.new.right.folder ≡ self.old.right.folder }
         ensures settled { self.new.planned ≡ None }
         ensures lost { OnErr result (self.new ≡ self.old) }
-        ensures same { T.contents tree.new ≡ T.contents tree.old }
-        ensures later { T.fault_count tree.old ≤ T.fault_count tree.new }
+        ensures reads { ReadsTree ListFolder (λ (refusals : List RefusalType). refusals) result (T.contents tree.old) (T.contents tree.new)
+            (T.fault_count tree.old) (T.fault_count tree.new) }
     {
         let _news = &self.news;
-        let left = list_again(alloc, tree, self.left.folder(), unseen)?;
-        let right = list_again(alloc, tree, self.right.folder(), unseen)?;
+        let trouble = shown_trouble(alloc, rows)?;
+        let left = list_again(alloc, tree, self.left.folder(), has_unseen_end)?;
+        let right = list_again(alloc, tree, self.right.folder(), has_unseen_end)?;
         let Reread {
             names: left_names,
             refused: left_refused,
@@ -147,7 +157,7 @@ impl Ui {
             names: right_names,
             refused: right_refused,
         } = right;
-        let refusals = both(alloc, left_refused, right_refused)?;
+        let refusals = refusals_of(alloc, left_refused, right_refused)?;
         self.news = news_of(&refusals);
         self.left.take_names(left_names);
         self.right.take_names(right_names);
@@ -175,6 +185,19 @@ impl Ui {
     }
 }
 
+/// The trouble in which the live job waits.
+fn shown_trouble(alloc: Global, rows: &JobRows) -> Result<Option<Trouble>, NoMemory>
+    ensures { IfOk result (λ trouble. trouble ≡ trouble_in rows.now) }
+{
+    match rows.0.as_slice() {
+        [] => Ok(None),
+        [row, ..] => match &row.trouble {
+            None => Ok(None),
+            Some(trouble) => Ok(Some(trouble.copy(alloc)?)),
+        },
+    }
+}
+
 /// The key, or one that is unknown where it has meta.
 fn plain_base(key: Key) -> Base
     ensures { result ≡ plain_base key }
@@ -183,7 +206,7 @@ fn plain_base(key: Key) -> Base
 }
 
 /// Two refusals, as far as they are there.
-fn both(
+fn refusals_of(
     alloc: Global,
     first: Option<Refusal>,
     second: Option<Refusal>,

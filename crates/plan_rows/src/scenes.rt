@@ -2,11 +2,11 @@
 ghost use Rattle.std.specs.Bool.{OnTrue};
 ghost use Rattle.tree_trait.specs.Answers.{IsLinkText};
 
-use crate::fields::{first_field, repeated};
-use crate::requests::planned_in;
-use anyhow::{Result, bail};
+use crate::fields::repeated;
+use crate::requests::tell_planned;
 use mc_text::Path;
 use mem_tree::MemTree;
+use row_page::{Page, number, two_fields};
 use std::alloc::Global;
 use tree_trait::Tree;
 
@@ -47,119 +47,138 @@ const LINKS: &str = "/l -> t
 /gone -> missing
 /loop -> loop";
 
-/// What is planned of a request.
-pub fn planned(alloc: Global, row: &str) -> Result<String> {
-    let mut tree = MemTree::new(alloc, 0)?;
-    plant(alloc, &mut tree)?;
-    planned_in(alloc, &mut tree, row)
+/// What is planned of a row in a tree of its own.
+pub fn tell_plan(page: &mut Page, asked: &str, fields: &str, row: &str) {
+    match MemTree::new(page.alloc(), 0) {
+        Ok(tree) => tell_plan_in(page, tree, asked, fields, row),
+        Err(_error) => page.fail(),
+    }
+}
+
+fn tell_plan_in(page: &mut Page, tree: MemTree, asked: &str, fields: &str, row: &str) {
+    let mut tree = tree;
+    match asked {
+        "fault" => tell_with_fault(page, &mut tree, fields),
+        "removed" => tell_after_removal(page, &mut tree, fields),
+        "deep" => tell_in_deep_folder(page, &mut tree, number(fields)),
+        _ => {
+            plant(page, &mut tree);
+            tell_planned(page, &mut tree, row);
+        }
+    }
 }
 
 /// What is planned where a call fails: the first field says which, counted from the plan's first call on.
-pub fn planned_with_fault(alloc: Global, fields: &str) -> Result<String> {
-    let (number, row) = first_field(fields)?;
-    let number: u64 = number.parse()?;
-    let mut tree = MemTree::new(alloc, 0)?;
-    let calls = plant(alloc, &mut tree)?;
-    tree.fail_calls(alloc, &[calls.saturating_add(number)])?;
-    planned_in(alloc, &mut tree, row)
+fn tell_with_fault(page: &mut Page, tree: &mut MemTree, fields: &str) {
+    let (failing, row) = two_fields(fields, '|');
+    let calls = plant(page, tree).saturating_add(number(failing) as u64);
+    page.need(tree.fail_calls(page.alloc(), &[calls]).is_ok());
+    tell_planned(page, tree, row);
 }
 
 /// What is planned once a file has gone, which is the first field.
-pub fn planned_after_removal(alloc: Global, fields: &str) -> Result<String> {
-    let mut tree = MemTree::new(alloc, 0)?;
-    plant(alloc, &mut tree)?;
-    planned_without(alloc, &mut tree, fields)
+fn tell_after_removal<T: Tree>(page: &mut Page, tree: &mut T, fields: &str) {
+    let (gone, row) = two_fields(fields, '|');
+    plant(page, tree);
+    let Ok(gone) = Path::parse(page.alloc(), gone) else {
+        return page.fail();
+    };
+    page.need(tree.remove_file(page.alloc(), &gone).is_ok());
+    tell_planned(page, tree, row);
 }
 
-fn planned_without<T: Tree>(alloc: Global, tree: &mut T, fields: &str) -> Result<String> {
-    let (gone, row) = first_field(fields)?;
-    let gone = Path::parse(alloc, gone)?;
-    tree.remove_file(alloc, &gone)?;
-    planned_in(alloc, tree, row)
-}
-
-/// A file is copied to a name of so many letters in a folder whose path has 3,842 bytes; and a folder of that name is made there.
-pub fn planned_in_deep_folder(alloc: Global, letters: &str) -> Result<String> {
-    let name = repeated(alloc, "n", letters.parse()?)?;
-    let mut tree = MemTree::new(alloc, 0)?;
-    planned_below(alloc, &mut tree, name.as_str())
-}
-
-fn planned_below<T: Tree>(alloc: Global, tree: &mut T, name: &str) -> Result<String> {
-    let folder = plant_deep(alloc, tree)?;
-    let copy = format!(in alloc; "copy|/|*|/p|{folder}/{name}")?;
-    let made = format!(in alloc; "folder|/|{folder}/{name}")?;
-    let copy = planned_in(alloc, tree, copy.as_str())?;
-    let made = planned_in(alloc, tree, made.as_str())?;
-    Ok(format!(in alloc; "{copy}; {made}")?)
+/// A file is copied to a name of so many letters in a folder whose path has 3,842 bytes; and a folder of that name is made
+/// there.
+fn tell_in_deep_folder<T: Tree>(page: &mut Page, tree: &mut T, letters: usize) {
+    let name = repeated(page.alloc(), "n", letters);
+    let folder = plant_deep(page, tree);
+    let mut copy = Page::new(page.alloc());
+    copy.tell(format_args!("copy|/|*|/p|{}/{}", folder.text(), name.text()));
+    tell_planned(page, tree, copy.text());
+    page.put("; ");
+    let mut made = Page::new(page.alloc());
+    made.tell(format_args!("folder|/|{}/{}", folder.text(), name.text()));
+    tell_planned(page, tree, made.text());
 }
 
 /// Plants the folders, the files, the links, a file whose name has 130 letters, and takes all rights away from `/shut`.
 /// Gives the number of calls.
-fn plant<T: Tree>(alloc: Global, tree: &mut T) -> Result<u64> {
+fn plant<T: Tree>(page: &mut Page, tree: &mut T) -> u64 {
     let mut calls = 2u64;
     for folder in FOLDERS.lines() {
-        plant_folder(alloc, tree, folder)?;
+        plant_folder(page, tree, folder);
         calls = calls.saturating_add(1);
     }
     for file in FILES.lines() {
-        plant_file(alloc, tree, file)?;
+        plant_file(page, tree, file);
         calls = calls.saturating_add(1);
     }
     for link in LINKS.lines() {
-        plant_link(alloc, tree, link)?;
+        plant_link(page, tree, link);
         calls = calls.saturating_add(1);
     }
-    let long = repeated(alloc, "b", 130)?;
-    plant_file(alloc, tree, format!(in alloc; "/{long}")?.as_str())?;
-    shut(alloc, tree)?;
-    Ok(calls)
+    plant_long(page, tree);
+    shut(page, tree);
+    calls
+}
+
+fn plant_long<T: Tree>(page: &mut Page, tree: &mut T) {
+    let mut path = Page::new(page.alloc());
+    path.put("/");
+    path.put(repeated(page.alloc(), "b", 130).text());
+    plant_file(page, tree, path.text());
 }
 
 /// Plants the file `/p` and a folder within fifteen, whose path has 3,842 bytes, and gives that path.
-fn plant_deep<T: Tree>(alloc: Global, tree: &mut T) -> Result<String> {
-    plant_file(alloc, tree, "/p")?;
-    let name = repeated(alloc, "f", 255)?;
-    let mut path = String::new(alloc);
+fn plant_deep<T: Tree>(page: &mut Page, tree: &mut T) -> Page {
+    plant_file(page, tree, "/p");
+    let name = repeated(page.alloc(), "f", 255);
+    let mut path = Page::new(page.alloc());
     for _ in 0..15 {
-        path.push_str("/")?;
-        path.push_str(name.as_str())?;
-        plant_folder(alloc, tree, path.as_str())?;
+        path.put("/");
+        path.put(name.text());
+        plant_folder(page, tree, path.text());
     }
-    path.push_str("/f")?;
-    plant_folder(alloc, tree, path.as_str())?;
-    Ok(path)
+    path.put("/f");
+    plant_folder(page, tree, path.text());
+    path
 }
 
-fn plant_folder<T: Tree>(alloc: Global, tree: &mut T, path: &str) -> Result<()> {
-    let path = Path::parse(alloc, path)?;
-    tree.make_folder(alloc, &path, 0o755)?;
-    Ok(())
+fn plant_folder<T: Tree>(page: &mut Page, tree: &mut T, path: &str) {
+    let Ok(path) = Path::parse(page.alloc(), path) else {
+        return page.fail();
+    };
+    page.need(tree.make_folder(page.alloc(), &path, 0o755).is_ok());
 }
 
-fn plant_file<T: Tree>(alloc: Global, tree: &mut T, path: &str) -> Result<()> {
-    let path = Path::parse(alloc, path)?;
-    tree.make_file(alloc, &path, 0o644)?;
-    Ok(())
+fn plant_file<T: Tree>(page: &mut Page, tree: &mut T, path: &str) {
+    let Ok(path) = Path::parse(page.alloc(), path) else {
+        return page.fail();
+    };
+    page.need(tree.make_file(page.alloc(), &path, 0o644).is_ok());
 }
 
-fn shut<T: Tree>(alloc: Global, tree: &mut T) -> Result<()> {
-    let path = Path::parse(alloc, "/shut")?;
-    tree.set_mode(alloc, &path, 0)?;
-    Ok(())
+fn shut<T: Tree>(page: &mut Page, tree: &mut T) {
+    let Ok(path) = Path::parse(page.alloc(), "/shut") else {
+        return page.fail();
+    };
+    page.need(tree.set_mode(page.alloc(), &path, 0).is_ok());
 }
 
 /// Plants a link. An arrow stands between its path and its text.
-fn plant_link<T: Tree>(alloc: Global, tree: &mut T, line: &str) -> Result<()> {
-    let Some((path, text)) = line.split_once(" -> ") else {
-        bail!("a line without an arrow");
-    };
-    if !may_be_link_text(text) {
-        bail!("a link can't say this");
+fn plant_link<T: Tree>(page: &mut Page, tree: &mut T, line: &str) {
+    let (path, text) = line.split_once(" -> ").unwrap_or((line, ""));
+    let planted = may_be_link_text(text) && link(page.alloc(), tree, path, text);
+    page.need(planted);
+}
+
+fn link<T: Tree>(alloc: Global, tree: &mut T, path: &str, text: &str) -> bool
+    requires { IsLinkText text.now }
+{
+    match Path::parse(alloc, path) {
+        Ok(path) => tree.make_link(alloc, &path, text).is_ok(),
+        Err(_error) => false,
     }
-    let path = Path::parse(alloc, path)?;
-    tree.make_link(alloc, &path, text)?;
-    Ok(())
 }
 
 /// Whether a link may say this: 1 to 4,095 bytes and no NUL.

@@ -1,108 +1,105 @@
 //! Jobs and refusals, told on a line.
-use anyhow::Result;
 use mc_text::Path;
 use op_plan::{Job, Pair, PlanError};
 use resolving::ResolveError;
-use std::alloc::Global;
+use row_page::Page;
 use std::convert::AsStr;
 
 /// The most bytes of a text that is told whole.
 const MOST_SHOWN: usize = 200;
 
 /// A job, with its paths.
-pub fn told_job(alloc: Global, job: &Job) -> Result<String> {
+pub fn tell_job(page: &mut Page, job: &Job) {
     match job {
-        Job::Copy(pairs) => told_pairs(alloc, "copy", pairs.as_slice()),
-        Job::Move(pairs) => told_pairs(alloc, "move", pairs.as_slice()),
-        Job::Delete(paths) => told_paths(alloc, "delete", paths.as_slice()),
-        Job::MakeFolder(path) => told_path(alloc, "folder", path),
+        Job::Copy(pairs) => tell_pairs(page, "copy", pairs.as_slice()),
+        Job::Move(pairs) => tell_pairs(page, "move", pairs.as_slice()),
+        Job::Delete(paths) => tell_paths(page, "delete", paths.as_slice()),
+        Job::MakeFolder(path) => tell_at(page, "folder", path),
         Job::SetMode(paths, mode) => {
-            let word = format!(in alloc; "mode {mode:o}")?;
-            told_paths(alloc, word.as_str(), paths.as_slice())
+            page.tell(format_args!("mode {mode:o}"));
+            tell_paths(page, "", paths.as_slice());
         }
         Job::MakeLink(path, text) => {
-            let link = told_path(alloc, "link", path)?;
-            let says = shortened(alloc, text.as_str())?;
-            Ok(format!(in alloc; "{link} that says {says}")?)
+            tell_at(page, "link", path);
+            page.put(" that says ");
+            tell_short(page, text.as_str());
         }
         Job::Save(path, bytes) => {
-            let file = told_path(alloc, "save", path)?;
-            Ok(format!(in alloc; "{file} of {} bytes", bytes.0.len())?)
+            tell_at(page, "save", path);
+            page.tell(format_args!(" of {} bytes", bytes.0.len()));
         }
     }
 }
 
-fn told_pairs(alloc: Global, word: &str, pairs: &[Pair]) -> Result<String> {
-    let mut text = String::from_str(alloc, word)?;
+fn tell_pairs(page: &mut Page, word: &str, pairs: &[Pair]) {
+    page.put(word);
     for pair in pairs {
-        let source = shown(alloc, &pair.source)?;
-        let target = shown(alloc, &pair.target)?;
-        text.push_str(format!(in alloc; " {source} to {target}")?.as_str())?;
+        tell_path(page, &pair.source);
+        page.put(" to");
+        tell_path(page, &pair.target);
     }
-    Ok(text)
 }
 
-fn told_paths(alloc: Global, word: &str, paths: &[Path]) -> Result<String> {
-    let mut text = String::from_str(alloc, word)?;
+fn tell_paths(page: &mut Page, word: &str, paths: &[Path]) {
+    page.put(word);
     for path in paths {
-        let path = shown(alloc, path)?;
-        text.push_str(format!(in alloc; " {path}")?.as_str())?;
+        tell_path(page, path);
     }
-    Ok(text)
 }
 
-fn told_path(alloc: Global, word: &str, path: &Path) -> Result<String> {
-    let path = shown(alloc, path)?;
-    Ok(format!(in alloc; "{word} {path}")?)
+fn tell_at(page: &mut Page, word: &str, path: &Path) {
+    page.put(word);
+    tell_path(page, path);
 }
 
 /// A refusal, with its paths.
-pub fn told_refusal(alloc: Global, error: &PlanError) -> Result<String> {
+pub fn tell_refusal(page: &mut Page, error: &PlanError) {
     match error {
-        PlanError::NoSelection => Ok(String::from_str(alloc, "NoSelection")?),
-        PlanError::Nested(first, second) => told_two(alloc, "Nested", first, second),
+        PlanError::NoSelection => page.put("NoSelection"),
+        PlanError::Nested(first, second) => tell_two(page, "Nested", first, second),
         PlanError::Source(path, error) => {
-            let source = told_path(alloc, "Source", path)?;
-            Ok(format!(in alloc; "{source}: {error}")?)
+            tell_at(page, "Source", path);
+            page.tell(format_args!(": {error}"));
         }
-        PlanError::BadMask => Ok(String::from_str(alloc, "BadMask")?),
-        PlanError::Target(error) => told_target(alloc, error),
-        PlanError::TargetThere(path) => told_path(alloc, "TargetThere", path),
-        PlanError::SameFile(path) => told_path(alloc, "SameFile", path),
-        PlanError::IntoItself(source, target) => told_two(alloc, "IntoItself", source, target),
-        PlanError::TwoToOne(first, second) => told_two(alloc, "TwoToOne", first, second),
-        PlanError::BadLinkText => Ok(String::from_str(alloc, "BadLinkText")?),
-        PlanError::Memory => Ok(String::from_str(alloc, "Memory")?),
+        PlanError::BadMask => page.put("BadMask"),
+        PlanError::Target(error) => tell_target(page, error),
+        PlanError::TargetThere(path) => tell_at(page, "TargetThere", path),
+        PlanError::SameFile(path) => tell_at(page, "SameFile", path),
+        PlanError::IntoItself(source, target) => tell_two(page, "IntoItself", source, target),
+        PlanError::TwoToOne(first, second) => tell_two(page, "TwoToOne", first, second),
+        PlanError::BadLinkText => page.put("BadLinkText"),
+        PlanError::Memory => page.put("Memory"),
     }
 }
 
-fn told_two(alloc: Global, word: &str, first: &Path, second: &Path) -> Result<String> {
-    let first = shown(alloc, first)?;
-    let second = shown(alloc, second)?;
-    Ok(format!(in alloc; "{word} {first} {second}")?)
+fn tell_two(page: &mut Page, word: &str, first: &Path, second: &Path) {
+    page.put(word);
+    tell_path(page, first);
+    tell_path(page, second);
 }
 
-fn told_target(alloc: Global, error: &ResolveError) -> Result<String> {
-    match error {
-        ResolveError::Tree(path, _) => {
-            let target = told_path(alloc, "Target", path)?;
-            Ok(format!(in alloc; "{target}: {error}")?)
-        }
-        _ => Ok(format!(in alloc; "Target: {error}")?),
+fn tell_target(page: &mut Page, error: &ResolveError) {
+    page.put("Target");
+    if let ResolveError::Tree(path, _) = error {
+        tell_path(page, path);
     }
+    page.tell(format_args!(": {error}"));
 }
 
-/// A path's text.
-pub fn shown(alloc: Global, path: &Path) -> Result<String> {
-    let text = path.text(alloc)?;
-    shortened(alloc, text.as_str())
+/// A path's text behind a blank.
+pub fn tell_path(page: &mut Page, path: &Path) {
+    page.put(" ");
+    match path.text(page.alloc()) {
+        Ok(text) => tell_short(page, text.as_str()),
+        Err(_error) => page.fail(),
+    }
 }
 
 /// A text, or how long it is.
-fn shortened(alloc: Global, text: &str) -> Result<String> {
+fn tell_short(page: &mut Page, text: &str) {
     if text.len() <= MOST_SHOWN {
-        Ok(String::from_str(alloc, text)?)
+        page.put(text);
     } else {
-        Ok(format!(in alloc; "({} bytes)", text.len())?)
+        page.tell(format_args!("({} bytes)", text.len()));
     }
 }

@@ -1,8 +1,9 @@
 //! What came of a run, in one line.
 use anyhow::Result;
-use copy_move::{Cause, Did, Ending, Event, History};
+use job_reports::{Cause, Did, Ending};
 use key_screen::{Base, Key};
 use mc_text::{Name, Path};
+use session_history::{Event, History};
 use std::alloc::Global;
 use std::convert::AsStr;
 use tree_trait::{Tree, TreeError};

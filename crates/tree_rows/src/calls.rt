@@ -1,93 +1,91 @@
 //! Calls of a tree by their names, and what they answer.
-use anyhow::{Result, bail};
 use mc_text::Path;
+use row_page::{Page, two_fields};
 use std::alloc::Global;
+use std::convert::AsStr;
 use tree_trait::{Tree, TreeError};
 
 /// A line for each call: the call, and what it answers.
-pub fn answers<T: Tree>(alloc: Global, tree: &mut T, calls: &str) -> Result<String> {
-    let mut lines = String::new(alloc);
+pub fn tell_calls<T: Tree>(page: &mut Page, tree: &mut T, calls: &str) {
     for call in calls.lines() {
-        let answer = answer(alloc, tree, call)?;
-        lines.push_str(format!(in alloc; "{call}: {answer}\n")?.as_str())?;
+        page.put(call);
+        page.put(": ");
+        tell_call(page, tree, call);
+        page.put("\n");
     }
-    Ok(lines)
 }
 
 /// What a call answers, or why it is refused.
-pub fn answer<T: Tree>(alloc: Global, tree: &mut T, call: &str) -> Result<String> {
-    if call == "faults" {
-        return Ok(format!(in alloc; "{}", tree.faults())?);
-    }
-    let Some((name, paths)) = call.split_once(' ') else {
-        bail!("a call without a path");
-    };
-    match paths.split_once(' ') {
-        Some((from, to)) => moved(alloc, tree, from, to),
-        None => called(alloc, tree, name, paths),
-    }
-}
-
-fn moved<T: Tree>(alloc: Global, tree: &mut T, from: &str, to: &str) -> Result<String> {
-    let from = Path::parse(alloc, from)?;
-    let to = Path::parse(alloc, to)?;
-    let result = tree.rename(alloc, &from, &to);
-    told(alloc, result)
-}
-
-fn called<T: Tree>(alloc: Global, tree: &mut T, name: &str, path: &str) -> Result<String> {
-    let path = Path::parse(alloc, path)?;
-    if name == "mount" {
-        return Ok(format!(in alloc; "{}", tree.stat(alloc, &path)?.mount)?);
-    }
-    let result = match name {
-        "stat" | "list" | "read" => asked(alloc, tree, name, &path),
-        _ => changed(alloc, tree, name, &path),
-    };
-    told(alloc, result)
-}
-
-fn told(alloc: Global, answer: std::result::Result<(), TreeError>) -> Result<String> {
-    match answer {
-        Ok(()) => Ok(String::from_str(alloc, "done")?),
-        Err(refusal) => Ok(format!(in alloc; "{refusal:?}")?),
-    }
-}
-
-/// A call that changes nothing.
-fn asked<T: Tree>(
-    alloc: Global,
-    tree: &mut T,
-    name: &str,
-    path: &Path,
-) -> std::result::Result<(), TreeError> {
-    let mut room = [0; 4];
+pub fn tell_call<T: Tree>(page: &mut Page, tree: &mut T, call: &str) {
+    let (name, paths) = two_fields(call, ' ');
+    let (path, to) = two_fields(paths, ' ');
     match name {
-        "stat" => {
-            tree.stat(alloc, path)?;
-        }
-        "list" => {
-            tree.list(alloc, path)?;
-        }
-        _ => {
-            tree.read_at(alloc, path, 1, &mut room)?;
-        }
+        "faults" => page.tell(tree.faults()),
+        "rename" => tell_renaming(page, tree, path, to),
+        _ => tell_called(page, tree, name, path),
     }
-    Ok(())
+}
+
+fn tell_renaming<T: Tree>(page: &mut Page, tree: &mut T, from: &str, to: &str) {
+    let (Ok(from), Ok(to)) = (
+        Path::parse(page.alloc(), from),
+        Path::parse(page.alloc(), to),
+    ) else {
+        return page.fail();
+    };
+    tell_done(page, tree.rename(page.alloc(), &from, &to));
+}
+
+fn tell_called<T: Tree>(page: &mut Page, tree: &mut T, name: &str, path: &str) {
+    match Path::parse(page.alloc(), path) {
+        Ok(path) => tell_at(page, tree, name, &path),
+        Err(_error) => page.fail(),
+    }
+}
+
+fn tell_at<T: Tree>(page: &mut Page, tree: &mut T, name: &str, path: &Path) {
+    let alloc = page.alloc();
+    match name {
+        "mount" => tell_mount(page, tree, path),
+        "read-link" => tell_link(page, tree, path),
+        "stat" => tell_done(page, tree.stat(alloc, path)),
+        "list" => tell_done(page, tree.list(alloc, path)),
+        "read" => tell_done(page, tree.read_at(alloc, path, 1, &mut [0; 4])),
+        _ => tell_done(page, changed(alloc, tree, name, path)),
+    }
+}
+
+/// The number of the mount on which a thing stands.
+fn tell_mount<T: Tree>(page: &mut Page, tree: &mut T, path: &Path) {
+    match tree.stat(page.alloc(), path) {
+        Ok(meta) => page.tell(meta.mount),
+        Err(refusal) => page.tell(format_args!("{refusal:?}")),
+    }
+}
+
+fn tell_link<T: Tree>(page: &mut Page, tree: &mut T, path: &Path) {
+    match tree.read_link(page.alloc(), path) {
+        Ok(text) => page.put(text.as_str()),
+        Err(refusal) => page.tell(format_args!("{refusal:?}")),
+    }
+}
+
+/// That a call was made, or why it is refused.
+fn tell_done<A: Drop>(page: &mut Page, answer: Result<A, TreeError>) {
+    match answer {
+        Ok(_answer) => page.put("done"),
+        Err(refusal) => page.tell(format_args!("{refusal:?}")),
+    }
 }
 
 /// A call that may change something.
-fn changed<T: Tree>(
-    alloc: Global,
-    tree: &mut T,
-    name: &str,
-    path: &Path,
-) -> std::result::Result<(), TreeError> {
+fn changed<T: Tree>(alloc: Global, tree: &mut T, name: &str, path: &Path) -> Result<(), TreeError> {
     match name {
         "make" => tree.make_file(alloc, path, 0o644),
         "write" => tree.write_at(alloc, path, 7, b"zz"),
         "mode" => tree.set_mode(alloc, path, 0o600),
         "folder" => tree.make_folder(alloc, path, 0o700),
+        "link" => tree.make_link(alloc, path, "file"),
         "remove" => tree.remove_file(alloc, path),
         "remove-folder" => tree.remove_folder(alloc, path),
         "sync-file" => tree.sync_file(alloc, path),

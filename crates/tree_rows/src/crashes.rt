@@ -1,43 +1,41 @@
 //! What a crash leaves.
-use crate::calls::answer;
-use anyhow::{Result, bail};
+use crate::calls::tell_call;
 use mc_text::Bits;
 use mem_tree::{Choice, Fill, MemTree};
-use std::alloc::Global;
+use row_page::{Page, number, two_fields};
 
 /// A line for each row: a number of changing calls, a digit for each pending change (1 where it is kept), `then`, and a
 /// call; and what the call answers in the image.
-pub fn crash_answers(alloc: Global, tree: &MemTree, rows: &str) -> Result<String> {
-    let mut lines = String::new(alloc);
+pub fn tell_crashes(page: &mut Page, tree: &MemTree, rows: &str) {
     for row in rows.lines() {
-        let answer = crash_answer(alloc, tree, row)?;
-        lines.push_str(format!(in alloc; "{row}: {answer}\n")?.as_str())?;
+        page.put(row);
+        page.put(": ");
+        tell_crash(page, tree, row);
+        page.put("\n");
     }
-    Ok(lines)
 }
 
-fn crash_answer(alloc: Global, tree: &MemTree, row: &str) -> Result<String> {
-    let Some((crash, call)) = row.split_once(" then ") else {
-        bail!("a crash without a call");
-    };
-    let Some((count, kept)) = crash.split_once(' ') else {
-        bail!("nothing says what is kept");
-    };
-    let mut image = image_of(alloc, tree, count.parse()?, kept)?;
-    answer(alloc, &mut image, call)
+fn tell_crash(page: &mut Page, tree: &MemTree, row: &str) {
+    let (crash, call) = row.split_once(" then ").unwrap_or((row, ""));
+    let (count, kept) = two_fields(crash, ' ');
+    let calls = number(count) as u64;
+    if calls > tree.calls() {
+        return page.fail();
+    }
+    let choice = choice_of(page, kept);
+    match tree.image(page.alloc(), calls, &choice) {
+        Ok(mut image) => tell_call(page, &mut image, call),
+        Err(_error) => page.fail(),
+    }
 }
 
-fn image_of(alloc: Global, tree: &MemTree, count: u64, kept: &str) -> Result<MemTree> {
-    if count > tree.calls() {
-        bail!("no such call");
-    }
-    let mut keep = Vec::new(alloc);
+fn choice_of(page: &mut Page, kept: &str) -> Choice {
+    let mut keep = Vec::new(page.alloc());
     for digit in kept.chars() {
-        keep.push(digit == '1')?;
+        page.need(keep.push(digit == '1').is_ok());
     }
-    let choice = Choice {
+    Choice {
         keep: Bits(keep),
         fill: Fill::Written,
-    };
-    Ok(tree.image(alloc, count, &choice)?)
+    }
 }

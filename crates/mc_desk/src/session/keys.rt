@@ -1,18 +1,22 @@
 //! Keys and looks: what a session does for its user.
-ghost use Rattle.std.specs.Prelude.{◌≡◌, ◌+◌, ◌≤◌, ◌∷◌, ◌++◌, [], ℕ, List, true, false, if◌then◌else◌, IsTrue, IfOk, OnOk, OnErr, Ok, Err, Some, None};
+ghost use Rattle.std.specs.Prelude.{◌≡◌, ◌+◌, ◌≤◌, ◌∷◌, ◌++◌, [], ℕ, List, true, false, if◌then◌else◌, IsTrue, IfErr, IfOk, OnOk, OnErr, Ok, Err, Some, None};
 ghost use Rattle.copy_move.specs.Told.{IsReady};
-ghost use Rattle.mc_ui.specs.Screens.{ShowsTrouble, plain_base};
+ghost use Rattle.mc_ui.specs.Screens.{plain_base};
 ghost use Rattle.mc_desk.specs.Tallies.{can_step, keys_in, next_id as number_after};
-ghost use Rattle.mc_desk.specs.Desks.{BlamesScreen, CountsByte, failed_by, awaited, is_over, is_quit, HasTaken, TakesByte, KeepsKeys};
+ghost use Rattle.mc_desk.specs.Desks.{BlamesScreen, CountsByte, FailsClosed, failed_by, awaited, awaited_by, is_over, is_quit, HasTaken, TakesByte, KeepsKeys};
 
 use super::steps::{closed, closing};
 use super::{Due, Session};
+use crate::confirmed::Confirmed;
+use crate::granting::{Deed, Granted, grant, told};
 use crate::replies::{DeskError, DeskReply};
+use crate::rows::rows_of;
 use crate::tag::Tag;
-use copy_move::{Answer, Entry, Event, Job, JobOrder, Refusals, Run, Trouble};
+use copy_move::Run;
+use job_reports::{Answer, Job};
 use key_screen::{Base, Fed, Key};
-use mc_text::Path;
-use mc_ui::{Ask, Confirmed, KeyAct, draw};
+use mc_ui::draw;
+use session_history::{Entry, Event, JobOrder, Refusals};
 use std::alloc::Global;
 use tree_trait::{Sink, SinkError, Spawner, Tree};
 
@@ -29,6 +33,8 @@ impl<N: Tag, T: Tree, S: Sink, P: Spawner> Session<N, T, S, P> {
             → TakesByte result bytes byte self.old self.new }
         ensures counted { is_over self.old ≡ false → CountsByte result self.old.taken self.new.taken }
         ensures quit { IfOk result (λ reply. is_quit reply ≡ is_over self.new) }
+        ensures awaits { IfOk result (λ reply. awaited_by reply ≡ self.new.tally.due) }
+        ensures fails { IfErr result (λ error. FailsClosed error self.old self.new) }
         ensures unclosed { OnOk result (self.new.tally.closed ≡ self.old.tally.closed) }
     {
         if self.closed {
@@ -66,6 +72,7 @@ impl<N: Tag, T: Tree, S: Sink, P: Spawner> Session<N, T, S, P> {
         ensures dirty { self.new.dirty ≡ self.old.dirty }
         ensures screen_failed { BlamesScreen result self.new.failed }
         ensures looked { OnOk result (can_step self.old.tally.job ≡ false → self.new.tally.due ≡ None) }
+        ensures fails { IfErr result (λ error. FailsClosed error self.old self.new) }
         ensures unclosed { OnOk result (self.new.tally.closed ≡ self.old.tally.closed) }
         ensures quit { self.new.quit ≡ self.old.quit }
     {
@@ -81,10 +88,12 @@ impl<N: Tag, T: Tree, S: Sink, P: Spawner> Session<N, T, S, P> {
         let Ok(part) = self.log.part_left(alloc) else {
             return Err(DeskError::Memory);
         };
-        let trouble = shown_trouble(&self.job, self.stuck_at.take());
+        let Ok(rows) = rows_of(alloc, &self.job, &self.log) else {
+            return Err(DeskError::Memory);
+        };
         let Ok(refusals) = self
             .ui
-            .look(alloc, &mut self.tree, self.unseen, trouble, part)
+            .look(alloc, &mut self.tree, &rows, self.has_unseen_end, part)
         else {
             return Err(DeskError::Memory);
         };
@@ -98,7 +107,7 @@ impl<N: Tag, T: Tree, S: Sink, P: Spawner> Session<N, T, S, P> {
             shown: self.shown,
             what: Event::Look { refusals },
         });
-        self.unseen = false;
+        self.has_unseen_end = false;
         self.due = after_look(self.due, can_step(&self.job));
         match drawn {
             Ok(_) => Ok(()),
@@ -145,12 +154,20 @@ impl<N: Tag, T: Tree, S: Sink, P: Spawner> Session<N, T, S, P> {
         ensures unasked { OnOk result (plain_base key ≡ Base.Unknown → self.new.quit ≡ false) }
         ensures room { OnOk result (self.old.spare ≤ self.new.spare + 2) }
         ensures quit { IfOk result (λ reply. is_quit reply ≡ self.new.quit) }
+        ensures awaits { IfOk result (λ reply. awaited_by reply ≡ self.new.tally.due) }
     {
-        let next = next_id(self.last_id);
-        let Ok(act) = self.ui.key(alloc, &mut self.tree, &self.job, next, key) else {
+        let Ok(rows) = rows_of(alloc, &self.job, &self.log) else {
             return self.lose_key(alloc, key, now);
         };
-        let KeyAct { ask, refusals } = act;
+        let Ok(act) = self.ui.key(alloc, &mut self.tree, &rows, key) else {
+            return self.lose_key(alloc, key, now);
+        };
+        let next = next_id(self.last_id);
+        let Ok(granted) = grant(alloc, act, next) else {
+            return self.lose_key(alloc, key, now);
+        };
+        let Granted { deed, refusals } = granted;
+        self.ui.settle(told(&deed));
         let drawn = draw(alloc, &mut self.screen, &self.ui);
         self.shown = after_draw(self.shown, &drawn);
         self.failed = failed_by(self.failed, &drawn);
@@ -163,23 +180,27 @@ impl<N: Tag, T: Tree, S: Sink, P: Spawner> Session<N, T, S, P> {
             refusals,
         );
         self.log.note(entry);
-        match ask {
-            Ask::Nothing => self.finish(drawn, DeskReply::Go),
-            Ask::End => {
+        match deed {
+            Deed::Nothing => self.finish(drawn, DeskReply::Go),
+            Deed::Refuse => self.finish(drawn, DeskReply::Go),
+            Deed::End => {
                 self.quit = true;
                 self.finish(drawn, DeskReply::Quit)
             }
-            Ask::Begin(confirmed) => {
-                let Confirmed { plan, run } = confirmed;
+            Deed::Begin(confirmed) => {
+                let Confirmed {
+                    plan,
+                    background,
+                    run,
+                } = confirmed;
                 let number = run.id();
-                self.log
-                    .note(began(self.calls, self.tree.faults(), number, plan));
+                self.log.note(began(self.calls, self.tree.faults(), number, plan, background));
                 self.job = Some(run);
                 self.last_id = number;
                 self.due = Due::Job(number);
                 self.finish(drawn, DeskReply::Wait(number))
             }
-            Ask::Answer(answer) => {
+            Deed::Answer(answer) => {
                 let Some(mut job) = self.job.take() else {
                     unreachable!()
                 };
@@ -196,7 +217,7 @@ impl<N: Tag, T: Tree, S: Sink, P: Spawner> Session<N, T, S, P> {
         }
     }
 
-    /// Writes down that a key was lost for want of memory, and closes the session.
+    /// Writes down that a key was lost since memory ran out, and closes the session.
     fn lose_key(&mut self, alloc: Global, key: Key, now: u64) -> Result<DeskReply, DeskError>
         requires unclosed { self.old.tally.closed ≡ false }
         requires unasked { self.old.quit ≡ false }
@@ -240,7 +261,8 @@ impl<N: Tag, T: Tree, S: Sink, P: Spawner> Session<N, T, S, P> {
         ensures unclosed { OnOk result (self.new.tally.closed ≡ self.old.tally.closed) }
         ensures shut { OnErr result (self.new.tally.closed ≡ true) }
         ensures quit { self.new.quit ≡ self.old.quit }
-        ensures goes_on { IfOk result (λ reply. is_quit reply ≡ false) }
+        ensures goes_on { IfOk result (λ reply. reply ≡ DeskReply.Go) }
+        ensures due { OnOk result (self.new.tally.due ≡ self.old.tally.due) }
     {
         let drawn = draw(alloc, &mut self.screen, &self.ui);
         self.shown = after_draw(self.shown, &drawn);
@@ -314,8 +336,8 @@ fn keyed(calls: u64, faults: u64, shown: u128, key: Key, now: u64, refusals: Ref
 }
 
 /// The entry of a job that is begun.
-fn began(calls: u64, faults: u64, job: u32, plan: Job) -> Entry
-    ensures { result ≡ record { seat = 0; calls = calls; faults = faults; shown = 0; what = Event.Began job plan false } }
+fn began(calls: u64, faults: u64, job: u32, plan: Job, background: bool) -> Entry
+    ensures { result ≡ record { seat = 0; calls = calls; faults = faults; shown = 0; what = Event.Began job plan background } }
 {
     Entry {
         seat: 0,
@@ -325,7 +347,7 @@ fn began(calls: u64, faults: u64, job: u32, plan: Job) -> Entry
         what: Event::Began {
             job,
             plan,
-            background: false,
+            background,
         },
     }
 }
@@ -368,16 +390,6 @@ fn can_step(job: &Option<Run>) -> bool
     match job {
         None => false,
         Some(job) => !job.waits(),
-    }
-}
-
-/// The trouble of a job that waits, as it is shown, with the path at which it stands.
-fn shown_trouble(job: &Option<Run>, path: Option<Path>) -> Option<Trouble>
-    ensures { ShowsTrouble job.now result }
-{
-    match job {
-        None => None,
-        Some(job) => job.trouble(path),
     }
 }
 

@@ -1,9 +1,11 @@
 //! Steps of the job, and the end of a session.
 ghost use Rattle.std.specs.Prelude.{◌≡◌, ◌<◌, ◌≤◌, true, Option, Some, None, IsSome, ◌||◌, reverse, if◌then◌else◌};
 ghost use Rattle.std.specs.Option.{option_map};
+ghost use Rattle.session_history.specs.Entries.{is_closed};
 ghost use Rattle.copy_move.specs.Jobs.{closed_job};
 ghost use Rattle.copy_move.specs.Ranks.{rank_with};
-ghost use Rattle.copy_move.specs.Told.{if_closed, live_job, IsReady};
+ghost use Rattle.copy_move.specs.Told.{if_closed, IsReady};
+ghost use Rattle.history_laws.specs.ToldJob.{live_job};
 ghost use Rattle.history_laws.specs.Traces.{IsTracedTo};
 ghost use Rattle.mc_desk.specs.Sessions.{EndsSession};
 ghost use Rattle.mc_desk.specs.Tallies.{can_step, faults_in, keys_in, has_lost};
@@ -14,8 +16,10 @@ use super::{Due, Session};
 use crate::claims::NoClaims;
 use crate::replies::{Ended, StepReply};
 use crate::tag::Tag;
-use copy_move::{Did, Ending, Entry, Event, Run, Stepped, is_end, stuck_at};
+use copy_move::Run;
+use job_reports::{Did, Ending, StepResult, is_end};
 use mc_text::Path;
+use session_history::{Entry, Event};
 use std::alloc::Global;
 use tree_trait::{Sink, Spawner, Tree};
 
@@ -42,6 +46,7 @@ impl<N: Tag, T: Tree, S: Sink, P: Spawner> Session<N, T, S, P> {
     /// Makes one step of the job, if it is ready: `Did` where an entry was added. Without memory for the entry no call of
     /// the tree is made, and the job ends by the entry for which room was kept.
     pub fn step(&mut self, alloc: Global, seat: u32) -> StepReply
+        requires main { seat ≡ 0 }
         ensures screen { self.new.screen ≡ self.old.screen }
         ensures keys { KeepsKeys self.old self.new }
         ensures dirty { MovesDirty self.old.job self.new.newest self.old.dirty self.new.dirty }
@@ -70,13 +75,12 @@ impl<N: Tag, T: Tree, S: Sink, P: Spawner> Session<N, T, S, P> {
                     did: ended_without_memory(job.give_up()),
                 },
             });
-            self.unseen = true;
+            self.has_unseen_end = true;
             return StepReply::Did;
         }
-        let Stepped { did, calls } = job.step(alloc, &mut self.tree, &NoClaims, &mut self.dirty);
+        let StepResult { did, calls } = job.step(alloc, &mut self.tree, &NoClaims, &mut self.dirty);
         self.calls = self.calls.saturating_add(calls);
         let ended = is_end(&did);
-        self.stuck_at = stuck_at(alloc, &did);
         self.log.note(Entry {
             seat,
             calls: self.calls,
@@ -84,7 +88,7 @@ impl<N: Tag, T: Tree, S: Sink, P: Spawner> Session<N, T, S, P> {
             shown: 0,
             what: Event::Step { job: id, did },
         });
-        self.unseen = either(ended, self.unseen);
+        self.has_unseen_end = end_waits(ended, self.has_unseen_end);
         self.job = left(job, ended, self.closed);
         StepReply::Did
     }
@@ -130,8 +134,7 @@ impl<N: Tag, T: Tree, S: Sink, P: Spawner> Session<N, T, S, P> {
             last_id: _,
             calls: _,
             shown: _,
-            unseen: _,
-            stuck_at: _,
+            has_unseen_end: _,
             due: _,
             closed: _,
             quit,
@@ -162,10 +165,11 @@ fn idle(is_closed: bool) -> StepReply
     }
 }
 
-fn either(one: bool, other: bool) -> bool
-    ensures { result ≡ (one || other) }
+/// Whether a job's end waits for a look. The prover keeps no branch of a call.
+fn end_waits(ended: bool, waited: bool) -> bool
+    ensures { result ≡ (ended || waited) }
 {
-    one || other
+    ended || waited
 }
 
 fn ended_without_memory(part: Option<Path>) -> Did

@@ -1,22 +1,20 @@
 //! Keys while a box is open. Its dialog was taken out, and is put back where the box stays.
-ghost use Rattle.std.specs.Prelude.{◌≡◌, ◌≢◌, ◌≤◌, ◌&&◌, ℕ, [], false, true, Option, None, Some, OnErr, IfOk, if◌then◌else◌, is_none, option_map};
+ghost use Rattle.std.specs.Prelude.{◌≡◌, [], false, true, not, None, Some, OnErr, IfOk, if◌then◌else◌};
 ghost use Rattle.tree_trait.specs.Calls.{Stat};
-ghost use Rattle.tree_trait.specs.Answers.{IfKnown, HasRisen};
-ghost use Rattle.copy_move.specs.Told.{told};
-ghost use Rattle.copy_move.specs.Traces.{AreRefused};
-ghost use Rattle.mc_ui.specs.Refused.{has_fault};
 ghost use Rattle.key_screen.specs.declared.keys.Base.{Base as BaseType};
-ghost use Rattle.copy_move.specs.Jobs.{passes_over};
-ghost use Rattle.mc_ui.specs.Screens.{DeleteBox, InTargetBox, MaskBox, NoBox, PartLeftBox, PlansCopy, TargetBox, TroubleBox, WellAsked, answered_box, can_answer as may_answer, closes_message as does_close, confirms as number_for, in_delete_box, in_mask_box, in_message_box, in_trouble_box, is_cancel as does_cancel, is_enter as is_enter_key, letter_of as answer_of, seen_box, sight, target_in, with_ask};
+ghost use Rattle.job_reports.specs.Reports.{passes_over};
+ghost use Rattle.mc_ui.specs.declared.asks.KeyAct.{KeyAct as KeyActType};
+ghost use Rattle.mc_ui.specs.LiveJobs.{can_answer as may_answer, none_live as is_idle, takes_answer as may_take};
+ghost use Rattle.mc_ui.specs.Reading.{ReadsTree};
+ghost use Rattle.mc_ui.specs.Screens.{DeleteBox, InTargetBox, MaskBox, NoBox, PartLeftBox, PlansCopy, TargetBox, TroubleBox, WellAsked, answered_box, closes_message as does_close, confirms as does_confirm, in_delete_box, in_mask_box, in_message_box, in_trouble_box, is_cancel as does_cancel, is_enter as is_enter_key, is_request, letter_of as answer_of, seen_box, sight, target_in, with_ask};
 
 use super::Ui;
-use super::panel_keys::{asks, nothing, one_refusal};
+use super::panel_keys::{asking, asking_nothing, one_refusal};
 use crate::asks::{Ask, KeyAct};
-use crate::causes::{NO_MORE_NUMBERS, refusal_text};
-use crate::copying::{CopyPlan, begin_deletion, plan_copy};
+use crate::causes::refusal_text;
+use crate::copying::{CopyPlan, deletion_of, plan_copy};
 use crate::dialog::{Chosen, Dialog};
-use copy_move::{Answer, Run};
-use file_copy::Trouble;
+use job_reports::{Answer, Job, JobRow, JobRows, JobState, Trouble};
 use key_screen::Base;
 use mc_text::{NoMemory, Path};
 use std::alloc::Global;
@@ -28,33 +26,28 @@ impl Ui {
         &mut self,
         alloc: Global,
         chosen: Chosen,
-        job: &Option<Run>,
-        next: Option<u32>,
+        rows: &JobRows,
         base: Base,
     ) -> Result<KeyAct, NoMemory>
         requires clear { self.old.over ≡ NoBox }
         ensures leads { IfOk result (λ act. with_ask act.ask self.new
-            ≡ in_delete_box base (option_map told job.now) next chosen.path (record self.old { over = DeleteBox chosen.path })) }
+            ≡ in_delete_box base rows.now chosen.path (record self.old { over = DeleteBox chosen.path })) }
         ensures refusals { IfOk result (λ act. act.refusals ≡ []) }
-        ensures asked { IfOk result (λ act. WellAsked next job.now act.ask) }
+        ensures asked { IfOk result (λ act. WellAsked rows.now act.ask) }
+        ensures stays { IfOk result (λ act. is_request act.ask ≡ true → self.new ≡ record self.old { over = DeleteBox chosen.path }) }
         ensures left { self.new.left ≡ self.old.left }
         ensures right { self.new.right ≡ self.old.right }
         ensures settled { self.new.planned ≡ None }
         ensures lost { OnErr result (self.new ≡ record self.old { over = DeleteBox chosen.path }) }
     {
         let _news = &self.news;
-        if let Some(number) = confirms(base, job, next) {
-            return match begin_deletion(alloc, &chosen, number) {
-                Ok(confirmed) => Ok(asks(alloc, Ask::Begin(confirmed))),
-                Err(error) => {
-                    self.dialog = Dialog::Delete(chosen);
-                    Err(error)
-                }
-            };
+        if confirms(base, rows) {
+            let planned = deletion_of(alloc, &chosen);
+            self.dialog = Dialog::Delete(chosen);
+            return Ok(asking(alloc, begin(planned?)));
         }
-        self.news = news_without_number(base, job);
         self.dialog = unless_shut(base, Dialog::Delete(chosen));
-        Ok(nothing(alloc))
+        Ok(asking_nothing(alloc))
     }
 
     /// A key while the source mask is shown.
@@ -69,7 +62,7 @@ impl Ui {
         } else {
             unless_shut(base, Dialog::SourceMask(chosen))
         };
-        nothing(alloc)
+        asking_nothing(alloc)
     }
 
     /// A key while the target of a copy is shown.
@@ -78,71 +71,58 @@ impl Ui {
         alloc: Global,
         tree: &mut T,
         chosen: Chosen,
-        job: &Option<Run>,
-        next: Option<u32>,
+        rows: &JobRows,
         base: Base,
     ) -> Result<KeyAct, NoMemory>
         requires clear { self.old.over ≡ NoBox }
-        ensures leads { IfOk result (λ act. InTargetBox (sight (T.contents tree.old)) base (option_map told job.now) next chosen.path
+        ensures leads { IfOk result (λ act. InTargetBox (sight (T.contents tree.old)) base rows.now chosen.path
             act.refusals (record self.old { over = TargetBox chosen.path }) (with_ask act.ask self.new)) }
-        ensures asked { IfOk result (λ act. WellAsked next job.now act.ask) }
-        ensures called { IfKnown (T.contents tree.old) (λ log. IfOk result (λ act. AreRefused Stat log act.refusals)) }
-        ensures fault { IfOk result (λ act. has_fault act.refusals ≡ true → HasRisen (T.fault_count tree.old) (T.fault_count tree.new)) }
+        ensures asked { IfOk result (λ act. WellAsked rows.now act.ask) }
+        ensures stays { IfOk result (λ act. is_request act.ask ≡ true → self.new ≡ record self.old { over = TargetBox chosen.path }) }
+        ensures alone { IfOk result (λ act. is_request act.ask ≡ true → act.refusals ≡ []) }
         ensures left { self.new.left ≡ self.old.left }
         ensures right { self.new.right ≡ self.old.right }
         ensures settled { self.new.planned ≡ None }
         ensures lost { OnErr result (self.new ≡ record self.old { over = TargetBox chosen.path }) }
-        ensures same { T.contents tree.new ≡ T.contents tree.old }
-        ensures later { T.fault_count tree.old ≤ T.fault_count tree.new }
+        ensures reads { ReadsTree Stat (λ (act : KeyActType). act.refusals) result (T.contents tree.old) (T.contents tree.new)
+            (T.fault_count tree.old) (T.fault_count tree.new) }
     {
         let _news = &self.news;
-        if let Some(number) = confirms(base, job, next) {
-            return self.accept_target(alloc, tree, chosen, number);
+        if confirms(base, rows) {
+            return self.accept_target(alloc, tree, chosen);
         }
-        self.news = news_without_number(base, job);
         self.dialog = unless_shut(base, Dialog::CopyTo(chosen));
-        Ok(nothing(alloc))
+        Ok(asking_nothing(alloc))
     }
 
-    /// Enter on a target: the copy is planned, or it is refused, and then the box stays.
+    /// Enter on a target: the copy is planned, or it is refused. The box stays until the copy is begun.
     fn accept_target<T: Tree>(
         &mut self,
         alloc: Global,
         tree: &mut T,
         chosen: Chosen,
-        number: u32,
     ) -> Result<KeyAct, NoMemory>
         requires clear { self.old.over ≡ NoBox }
         ensures leads { IfOk result (λ act. PlansCopy (sight (T.contents tree.old)) chosen.path (target_in self.old.right.folder chosen.path)
             act.refusals (record self.old { over = TargetBox chosen.path }) (with_ask act.ask self.new)) }
-        ensures numbered { IfOk result (λ act. WellAsked (Some number) None act.ask) }
-        ensures called { IfKnown (T.contents tree.old) (λ log. IfOk result (λ act. AreRefused Stat log act.refusals)) }
-        ensures fault { IfOk result (λ act. has_fault act.refusals ≡ true → HasRisen (T.fault_count tree.old) (T.fault_count tree.new)) }
-        ensures left { self.new.left ≡ self.old.left }
-        ensures right { self.new.right ≡ self.old.right }
-        ensures settled { self.new.planned ≡ None }
-        ensures lost { OnErr result (self.new ≡ record self.old { over = TargetBox chosen.path }) }
-        ensures same { T.contents tree.new ≡ T.contents tree.old }
-        ensures later { T.fault_count tree.old ≤ T.fault_count tree.new }
+        ensures asked { IfOk result (λ act. WellAsked [] act.ask) }
+        ensures stays { self.new ≡ record self.old { over = TargetBox chosen.path } }
+        ensures alone { IfOk result (λ act. is_request act.ask ≡ true → act.refusals ≡ []) }
+        ensures reads { ReadsTree Stat (λ (act : KeyActType). act.refusals) result (T.contents tree.old) (T.contents tree.new)
+            (T.fault_count tree.old) (T.fault_count tree.new) }
     {
-        let _news = &self.news;
-        let planned = plan_copy(alloc, tree, &chosen, self.right.folder(), number);
+        let planned = plan_copy(alloc, tree, &chosen, self.right.folder());
+        self.dialog = Dialog::CopyTo(chosen);
         match planned {
-            Ok(CopyPlan::Begins(confirmed)) => Ok(asks(alloc, Ask::Begin(confirmed))),
+            Ok(CopyPlan::Begins(plan)) => Ok(asking(alloc, begin(plan))),
             Ok(CopyPlan::Refuses(refusal)) => {
-                self.dialog = Dialog::CopyTo(chosen);
-                let text = refusal_text(&refusal);
-                let refusals = one_refusal(alloc, refusal)?;
-                self.news = Some(text);
+                self.news = Some(refusal_text(&refusal));
                 Ok(KeyAct {
                     ask: Ask::Nothing,
-                    refusals,
+                    refusals: one_refusal(alloc, refusal)?,
                 })
             }
-            Err(error) => {
-                self.dialog = Dialog::CopyTo(chosen);
-                Err(error)
-            }
+            Err(error) => Err(error),
         }
     }
 
@@ -151,51 +131,50 @@ impl Ui {
         &mut self,
         alloc: Global,
         trouble: Trouble,
-        job: &Option<Run>,
+        rows: &JobRows,
         base: Base,
     ) -> KeyAct
         requires clear { self.old.over ≡ NoBox }
         ensures leads { with_ask result.ask self.new
-            ≡ in_trouble_box (option_map told job.now) base (record self.old { over = TroubleBox trouble }) }
+            ≡ in_trouble_box rows.now base (record self.old { over = TroubleBox trouble }) }
         ensures refusals { result.refusals ≡ [] }
-        ensures asked { (next : Option ℕ) → WellAsked next job.now result.ask }
+        ensures asked { WellAsked rows.now result.ask }
+        ensures stays { is_request result.ask ≡ true → self.new ≡ record self.old { over = TroubleBox trouble } }
         ensures left { self.new.left ≡ self.old.left }
         ensures right { self.new.right ≡ self.old.right }
         ensures settled { self.new.planned ≡ None }
     {
         let _news = &self.news;
         match letter_of(base) {
-            Some(answer) => self.answer_trouble(alloc, trouble, job, answer),
+            Some(answer) => self.answer_trouble(alloc, trouble, rows, answer),
             None => {
                 self.dialog = unless_shut(base, Dialog::Trouble(trouble));
-                nothing(alloc)
+                asking_nothing(alloc)
             }
         }
     }
 
-    /// A letter that answers the trouble, if it can.
+    /// A letter that answers the trouble, if it can. The box stays until the job is told.
     fn answer_trouble(
         &mut self,
         alloc: Global,
         trouble: Trouble,
-        job: &Option<Run>,
+        rows: &JobRows,
         answer: Answer,
     ) -> KeyAct
         requires clear { self.old.over ≡ NoBox }
         ensures leads { (base : BaseType) → with_ask result.ask self.new
-            ≡ answered_box (option_map told job.now) (Some answer) base (record self.old { over = TroubleBox trouble }) }
+            ≡ answered_box rows.now (Some answer) base (record self.old { over = TroubleBox trouble }) }
         ensures refusals { result.refusals ≡ [] }
-        ensures asked { (next : Option ℕ) → WellAsked next job.now result.ask }
-        ensures left { self.new.left ≡ self.old.left }
-        ensures right { self.new.right ≡ self.old.right }
-        ensures settled { self.new.planned ≡ None }
+        ensures asked { WellAsked rows.now result.ask }
+        ensures stays { self.new ≡ record self.old { over = TroubleBox trouble } }
     {
         let _news = &self.news;
-        if can_answer(job, answer) {
-            return asks(alloc, Ask::Answer(answer));
-        }
         self.dialog = Dialog::Trouble(trouble);
-        nothing(alloc)
+        if can_answer(rows, answer) {
+            return asking(alloc, Ask::Answer(answer));
+        }
+        asking_nothing(alloc)
     }
 
     /// A key while a message tells of a part that was left.
@@ -208,7 +187,7 @@ impl Ui {
         if !closes_message(base) {
             self.dialog = Dialog::PartLeft(path);
         }
-        nothing(alloc)
+        asking_nothing(alloc)
     }
 }
 
@@ -240,26 +219,27 @@ fn is_enter(base: Base) -> bool
     matches!(base, Base::Enter)
 }
 
-/// Whether a key asks for the job of its box: Enter, where none is live.
-fn asks_for_job(base: Base, job: &Option<Run>) -> bool
-    ensures { result ≡ (is_enter_key base && is_none (option_map told job.now)) }
+/// Whether no job is live.
+fn none_live(rows: &JobRows) -> bool
+    ensures { result ≡ is_idle rows.now }
 {
-    is_enter(base) && job.is_none()
+    rows.0.is_empty()
 }
 
-/// The number under which a key begins the job of its box.
-fn confirms(base: Base, job: &Option<Run>, next: Option<u32>) -> Option<u32>
-    ensures { result ≡ number_for base (option_map told job.now) next }
+/// Whether a key confirms the job of its box: Enter, where none is live.
+fn confirms(base: Base, rows: &JobRows) -> bool
+    ensures { result ≡ does_confirm base rows.now }
 {
-    if asks_for_job(base, job) { next } else { None }
+    is_enter(base) && none_live(rows)
 }
 
-/// What is said where a key begins no job: that no number is left, if it asks for one.
-fn news_without_number(base: Base, job: &Option<Run>) -> Option<&'static str> {
-    if asks_for_job(base, job) {
-        Some(NO_MORE_NUMBERS)
-    } else {
-        None
+/// The request for a job in the foreground.
+fn begin(plan: Job) -> Ask
+    ensures { result ≡ Ask.Begin plan false }
+{
+    Ask::Begin {
+        plan,
+        background: false,
     }
 }
 
@@ -284,19 +264,29 @@ fn letter_of(base: Base) -> Option<Answer>
     }
 }
 
-/// Whether the job's trouble can be answered so.
-fn can_answer(job: &Option<Run>, answer: Answer) -> bool
-    ensures { result ≡ may_answer (option_map told job.now) answer }
+/// Whether the live job can be answered so.
+fn can_answer(rows: &JobRows, answer: Answer) -> bool
+    ensures { result ≡ may_answer rows.now answer }
 {
-    match job {
-        None => false,
-        Some(run) => run.waits() && fits(run.is_at_barrier(), answer),
+    match rows.0.as_slice() {
+        [] => false,
+        [row, ..] => takes_answer(row, answer),
+    }
+}
+
+/// Whether a job is in a trouble that can be answered so.
+fn takes_answer(row: &JobRow, answer: Answer) -> bool
+    ensures { result ≡ may_take row.now answer }
+{
+    match (row.state, &row.trouble) {
+        (JobState::Troubled, Some(trouble)) => fits(trouble.barrier, answer),
+        _ => false,
     }
 }
 
 /// Whether an answer fits a trouble: at a barrier nothing is passed over.
 fn fits(at_barrier: bool, answer: Answer) -> bool
-    ensures { result ≡ (if passes_over answer then (if at_barrier then false else true) else true) }
+    ensures { result ≡ (if passes_over answer then not at_barrier else true) }
 {
     match answer {
         Answer::Skip | Answer::SkipAll => !at_barrier,

@@ -1,21 +1,20 @@
 //! Keys while no box is open.
-ghost use Rattle.std.specs.Prelude.{◌≡◌, ◌↔◌, ◌∷◌, ◌≤◌, ℕ, [], true, Option, None, OnErr, IfOk, option_map};
+ghost use Rattle.std.specs.Prelude.{◌≡◌, ◌∷◌, [], false, None, OnErr, IfOk};
 ghost use Rattle.tree_trait.specs.Calls.{Stat};
-ghost use Rattle.tree_trait.specs.Answers.{IfKnown, HasRisen};
-ghost use Rattle.copy_move.specs.Told.{told};
-ghost use Rattle.copy_move.specs.Traces.{AreRefused};
-ghost use Rattle.mc_ui.specs.Refused.{has_fault};
+ghost use Rattle.mc_ui.specs.declared.asks.KeyAct.{KeyAct as KeyActType};
 ghost use Rattle.mc_ui.specs.Panels.{current_path};
-ghost use Rattle.mc_ui.specs.Screens.{Chooses, InPanel, NoBox, WellAsked, box_of, seen_box, sight, with_ask};
+ghost use Rattle.mc_ui.specs.Reading.{ReadsTree};
+ghost use Rattle.mc_ui.specs.Screens.{Chooses, InPanel, NoBox, WellAsked, box_of, is_request, seen_box, sight, with_ask};
 
 use super::Ui;
 use crate::asks::{Ask, KeyAct};
 use crate::causes::cause_text;
 use crate::choosing::{Choice, choose};
 use crate::dialog::{Chosen, Dialog};
-use copy_move::{Refusal, Refusals, Run};
+use job_reports::JobRows;
 use key_screen::Base;
 use mc_text::NoMemory;
+use session_history::{Refusal, Refusals};
 use std::alloc::Global;
 use tree_trait::Tree;
 
@@ -31,32 +30,31 @@ impl Ui {
         &mut self,
         alloc: Global,
         tree: &mut T,
-        job: &Option<Run>,
+        rows: &JobRows,
         base: Base,
     ) -> Result<KeyAct, NoMemory>
         requires clear { self.old.over ≡ NoBox }
-        ensures leads { IfOk result (λ act. InPanel (sight (T.contents tree.old)) (option_map told job.now)
+        ensures leads { IfOk result (λ act. InPanel (sight (T.contents tree.old)) rows.now
             base act.refusals self.old (with_ask act.ask self.new)) }
-        ensures asked { IfOk result (λ act. (next : Option ℕ) → WellAsked next job.now act.ask) }
-        ensures called { IfKnown (T.contents tree.old) (λ log. IfOk result (λ act. AreRefused Stat log act.refusals)) }
-        ensures fault { IfOk result (λ act. has_fault act.refusals ≡ true → HasRisen (T.fault_count tree.old) (T.fault_count tree.new)) }
+        ensures asked { IfOk result (λ act. WellAsked rows.now act.ask) }
+        ensures unasked { IfOk result (λ act. is_request act.ask ≡ false) }
         ensures left { self.new.left.folder ≡ self.old.left.folder }
         ensures right { self.new.right ≡ self.old.right }
         ensures settled { self.new.planned ≡ None }
         ensures lost { OnErr result (self.new ≡ self.old) }
-        ensures same { T.contents tree.new ≡ T.contents tree.old }
-        ensures later { T.fault_count tree.old ≤ T.fault_count tree.new }
+        ensures reads { ReadsTree Stat (λ (act : KeyActType). act.refusals) result (T.contents tree.old) (T.contents tree.new)
+            (T.fault_count tree.old) (T.fault_count tree.new) }
     {
         let _news = &self.news;
         match base {
             Base::Down => {
                 self.left.move_down();
-                Ok(nothing(alloc))
+                Ok(asking_nothing(alloc))
             }
-            Base::F(5) => self.choose_current(alloc, tree, job, Opens::SourceMask),
-            Base::F(8) => self.choose_current(alloc, tree, job, Opens::Delete),
-            Base::F(10) => Ok(asks(alloc, Ask::End)),
-            _ => Ok(nothing(alloc)),
+            Base::F(5) => self.choose_current(alloc, tree, rows, Opens::SourceMask),
+            Base::F(8) => self.choose_current(alloc, tree, rows, Opens::Delete),
+            Base::F(10) => Ok(asking(alloc, Ask::End)),
+            _ => Ok(asking_nothing(alloc)),
         }
     }
 
@@ -65,31 +63,29 @@ impl Ui {
         &mut self,
         alloc: Global,
         tree: &mut T,
-        job: &Option<Run>,
+        rows: &JobRows,
         opens: Opens,
     ) -> Result<KeyAct, NoMemory>
         requires clear { self.old.over ≡ NoBox }
-        ensures leads { IfOk result (λ act. Chooses (box_of opens) (sight (T.contents tree.old)) (option_map told job.now)
+        ensures leads { IfOk result (λ act. Chooses (box_of opens) (sight (T.contents tree.old)) rows.now
             (current_path self.old.left) act.refusals self.old self.new) }
         ensures asks { IfOk result (λ act. act.ask ≡ Ask.Nothing) }
-        ensures called { IfKnown (T.contents tree.old) (λ log. IfOk result (λ act. AreRefused Stat log act.refusals)) }
-        ensures fault { IfOk result (λ act. has_fault act.refusals ≡ true → HasRisen (T.fault_count tree.old) (T.fault_count tree.new)) }
         ensures left { self.new.left ≡ self.old.left }
         ensures right { self.new.right ≡ self.old.right }
         ensures settled { self.new.planned ≡ None }
         ensures lost { OnErr result (self.new ≡ self.old) }
-        ensures same { T.contents tree.new ≡ T.contents tree.old }
-        ensures later { T.fault_count tree.old ≤ T.fault_count tree.new }
+        ensures reads { ReadsTree Stat (λ (act : KeyActType). act.refusals) result (T.contents tree.old) (T.contents tree.new)
+            (T.fault_count tree.old) (T.fault_count tree.new) }
     {
         let _news = &self.news;
-        if job.is_some() {
-            return Ok(nothing(alloc));
+        if !rows.0.is_empty() {
+            return Ok(asking_nothing(alloc));
         }
         match choose(alloc, tree, &self.left)? {
-            Choice::Nothing => Ok(nothing(alloc)),
+            Choice::Nothing => Ok(asking_nothing(alloc)),
             Choice::File(chosen) => {
                 self.dialog = opened(opens, chosen);
-                Ok(nothing(alloc))
+                Ok(asking_nothing(alloc))
             }
             Choice::Refused(path, error) => {
                 let refusals = one_refusal(alloc, Refusal::Tree(path, error))?;
@@ -114,14 +110,14 @@ fn opened(opens: Opens, chosen: Chosen) -> Dialog
 }
 
 /// A key that asks nothing.
-pub(super) fn nothing(alloc: Global) -> KeyAct
+pub(super) fn asking_nothing(alloc: Global) -> KeyAct
     ensures { result ≡ record { ask = Ask.Nothing; refusals = [] } }
 {
-    asks(alloc, Ask::Nothing)
+    asking(alloc, Ask::Nothing)
 }
 
 /// A key that asks this.
-pub(super) fn asks(alloc: Global, ask: Ask) -> KeyAct
+pub(super) fn asking(alloc: Global, ask: Ask) -> KeyAct
     ensures { result ≡ record { ask = ask; refusals = [] } }
 {
     KeyAct {

@@ -9,6 +9,6 @@ returns-in-Err-clause-known g c = λ log known.
     let same = ap length c.as_mut_slice.ensures.value in
     let len = c.in-Ok.ensures.len in
     let room = c.min-room.ensures in
-    let count : length c.as_mut_slice.result.now ≡ room_for c.args.said c.args.done = omega (arith, same, len, room) in
-    read_stops _ log c.source.result.now c.source-in-Err.result.now c.args.item.now.source c.args.said c.args.done (length c.as_mut_slice.result.now) c.in-Err.error c.refused.result
-    c.source.ensures c.source-in-Err.ensures count (c.in-Err.ensures.answer log known) c.refused.ensures
+    let count : length c.as_mut_slice.result.now ≡ room_for c.args.facts c.args.done = omega (arith, same, len, room) in
+    read_stops _ log c.source.result.now c.source-in-Err.result.now c.args.item.now.source c.args.facts c.args.done (length c.as_mut_slice.result.now) c.in-Err.error c.reading_trouble.result
+    c.source.ensures c.source-in-Err.ensures count (c.in-Err.ensures.answer log known) c.reading_trouble.ensures

@@ -3,7 +3,8 @@ use Rattle.std.proofs.Common.{◌≡◌, ◌∙◌, subst, None}
 use Rattle.tree_trait.specs.Calls.{Stat}
 use Rattle.tree_trait.specs.Change.{current}
 use Rattle.tree_trait.specs.Refusals.{refusal_of}
-use Rattle.file_copy.specs.Looking.{IsThere, StatStops}
+use Rattle.file_copy.specs.Looking.{IsThere}
+use Rattle.job_reports.specs.Reading.{StatStops}
 use Rattle.file_copy.proofs.LooksInOrder.{first_look, third_look, fourth_look}
 use Rattle.file_copy.proofs.looks.looks.Goals as goal
 

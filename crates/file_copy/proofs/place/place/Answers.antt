@@ -2,15 +2,15 @@
 use Rattle.std.proofs.Common.{[], ◌∷◌, false}
 use Rattle.tree_trait.specs.Calls.{SyncFile, Rename}
 use Rattle.file_copy.specs.CopyCalls.{moding}
-use Rattle.file_copy.specs.Stops.{Comes}
-use Rattle.file_copy.proofs.Runs.{ran_told, ran_stopped}
+use Rattle.job_reports.specs.Stops.{RanFolded}
+use Rattle.job_reports.proofs.Runs.{ran_told, ran_stopped}
 use Rattle.file_copy.proofs.place.place.Goals as goal
 
 pub returns-in-Ok : goal.returns-in-Ok
-unfolding Comes
+unfolding RanFolded
 returns-in-Ok g c =
     ran_told (moding c.args.part.now c.args.mode) (SyncFile c.args.part.now ∷ Rename c.args.part.now c.args.target.now ∷ []) false _ _ _ _ _ _
-    c.in-Ok.calls c.sync_and_rename.result c.then.result c.then.ensures c.in-Ok.ensures c.sync_and_rename.ensures
+    c.in-Ok.calls c.sync_and_rename.result c.after_calls.result c.after_calls.ensures c.in-Ok.ensures c.sync_and_rename.ensures
 
 pub returns-in-Err : goal.returns-in-Err
 returns-in-Err g c =

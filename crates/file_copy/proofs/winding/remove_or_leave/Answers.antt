@@ -8,5 +8,5 @@ returns-in-Ok g c = λ ending stage has.
 
 pub returns-in-Err : goal.returns-in-Err
 returns-in-Err g c = λ ending stage has.
-    winds_left ending c.args.item.now stage _ _ c.args.part has c.in-Err.error _ c.leave.result c.tried.result _ _ _ c.tried.ensures
+    winds_left ending c.args.item.now stage _ _ c.args.part has c.in-Err.error _ c.leave.result c.calls_made.result _ _ _ c.calls_made.ensures
     c.in-Err.ensures.answer c.in-Err.ensures.stays_unknown c.in-Err.ensures.cause.later c.leave.ensures

@@ -8,9 +8,9 @@ use Rattle.file_copy.proofs.winding.wind.Goals as goal
 
 pub returns-in-Fill : goal.returns-in-Fill
 returns-in-Fill g c =
-    let at = Fill c.in-Fill.part c.in-Fill.said c.in-Fill.done in
+    let at = Fill c.in-Fill.part c.in-Fill.facts c.in-Fill.done in
     winds_at c.args.ending c.args.item.now c.args.stage at c.args.folder c.remove_or_leave.result _ _ _ _ c.in-Fill.is
-    (dirty_fill c.args.stage c.args.folder c.in-Fill.part c.in-Fill.said c.in-Fill.done c.in-Fill.is c.requires) (c.remove_or_leave.ensures c.args.ending at refl)
+    (dirty_fill c.args.stage c.args.folder c.in-Fill.part c.in-Fill.facts c.in-Fill.done c.in-Fill.is c.requires) (c.remove_or_leave.ensures c.args.ending at refl)
 
 pub returns-in-Clean : goal.returns-in-Clean
 returns-in-Clean g c =

@@ -11,15 +11,15 @@ pub returns-in-Begin : goal.returns-in-Begin
 returns-in-Begin g c =
     moves_begin (λ path. g.P.PartTest.is_free c.args.parts.now path ≡ true) c.args.item.now c.args.stage c.args.folder c.begin.result _ _ _ _ c.in-Begin.is c.begin.ensures
 
-pub returns-then-done-said : goal.returns-then-done-said
-returns-then-done-said g c =
-    moves_at (λ _. ⊤) (λ path. g.P.PartTest.is_free c.args.parts.now path ≡ true) c.args.item.now c.args.stage (Fill c.in-Fill.part c.in-Fill.said c.in-Fill.done) c.args.folder Dirty c.fill.result _ _ _ _
-    c.in-Fill.is (dirty_fill c.args.stage c.args.folder c.in-Fill.part c.in-Fill.said c.in-Fill.done c.in-Fill.is c.requires.sound) (λ h. cc) c.fill.ensures
+pub returns-then-done-facts : goal.returns-then-done-facts
+returns-then-done-facts g c =
+    moves_at (λ _. ⊤) (λ path. g.P.PartTest.is_free c.args.parts.now path ≡ true) c.args.item.now c.args.stage (Fill c.in-Fill.part c.in-Fill.facts c.in-Fill.done) c.args.folder Dirty c.fill.result _ _ _ _
+    c.in-Fill.is (dirty_fill c.args.stage c.args.folder c.in-Fill.part c.in-Fill.facts c.in-Fill.done c.in-Fill.is c.requires.sound) (λ h. cc) c.fill.ensures
 
-pub returns-else-done-said : goal.returns-else-done-said
-returns-else-done-said g c =
-    moves_at (λ _. ⊤) (λ path. g.P.PartTest.is_free c.args.parts.now path ≡ true) c.args.item.now c.args.stage (Fill c.in-Fill.part c.in-Fill.said c.in-Fill.done) c.args.folder Dirty c.finish_part.result _ _ _ _
-    c.in-Fill.is (dirty_fill c.args.stage c.args.folder c.in-Fill.part c.in-Fill.said c.in-Fill.done c.in-Fill.is c.requires.sound) (λ h. cc) c.finish_part.ensures
+pub returns-else-done-facts : goal.returns-else-done-facts
+returns-else-done-facts g c =
+    moves_at (λ _. ⊤) (λ path. g.P.PartTest.is_free c.args.parts.now path ≡ true) c.args.item.now c.args.stage (Fill c.in-Fill.part c.in-Fill.facts c.in-Fill.done) c.args.folder Dirty c.finish_part.result _ _ _ _
+    c.in-Fill.is (dirty_fill c.args.stage c.args.folder c.in-Fill.part c.in-Fill.facts c.in-Fill.done c.in-Fill.is c.requires.sound) (λ h. cc) c.finish_part.ensures
 
 pub returns-in-Clean : goal.returns-in-Clean
 returns-in-Clean g c =

@@ -2,7 +2,7 @@
 use Rattle.std.proofs.Common.{reverse, ◌∙◌}
 use Rattle.mc_main.specs.Headline.{TookAll}
 use Rattle.mc_main.proofs.Taking.{reads}
-use Rattle.mc_main.proofs.Runs.{ran}
+use Rattle.mc_main.proofs.Runs.{ran_session}
 use Rattle.mc_main.proofs.endings.run_desk.Goals as goal
 
 pub returns-clause-keys : goal.returns-clause-keys
@@ -12,6 +12,6 @@ returns-clause-keys g c =
 
 pub returns-clause-session : goal.returns-clause-session
 returns-clause-session g c =
-    ran g.N.Tag.start g.N.Tag.opening g.N.Tag.tree_faults c.status_of.result (reverse c.end-tree.result.history.entries) (g.T.Tree.contents c.end-tree.result.tree) c.run_session-end.result c.end-tree.result.quit
+    ran_session g.N.Tag.start g.N.Tag.opening g.N.Tag.tree_faults c.status_of.result (reverse c.end-tree.result.history.entries) (g.T.Tree.contents c.end-tree.result.tree) c.run_session-end.result c.end-tree.result.quit
     c.end-tree.result.failed c.end-tree.result.lost (TookAll g.N.Tag.stream (g.K.Source.left c.run_session-end.new.keys)) c.end-tree.ensures.session c.status_of.ensures
     (λ by_key. c.end-tree.ensures.quit ∙ c.run_session-end.ensures.quit by_key) c.run_session-end.ensures.ended

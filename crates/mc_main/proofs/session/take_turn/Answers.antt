@@ -1,7 +1,7 @@
 -- What was taken is no more left, and the byte is the next.
 use Rattle.std.proofs.Common.{ℕ, sym, ◌∙◌, ap, Option, Result, Ok}
 use Rattle.tree_trait.specs.declared.devices.SourceFault.{SourceFault}
-use Rattle.mc_main.specs.Headline.{given, left_of}
+use Rattle.mc_main.specs.Headline.{bytes_given, left_of}
 use Rattle.mc_main.proofs.Taking.{next_byte, took_all}
 use Rattle.mc_main.proofs.session.take_turn.Goals as goal
 
@@ -9,7 +9,7 @@ pub returns-in-Ok-None-clause-ended : goal.returns-in-Ok-None-clause-ended
 returns-in-Ok-None-clause-ended g c ended known is =
     took_all g.N.Tag.stream (g.K.Source.left c.args.keys.now) (g.K.Source.left c.take_byte.new.keys) c.args.desk.now.taken c.requires.left
     (λ b k. sym c.in-Ok-None.field-0-is ∙ c.in-Ok-None.ensures.first b k)
-    (c.in-Ok-None.ensures.left ∙ ap (λ (o : Option ℕ). left_of (g.K.Source.left c.args.keys.now) (given (let r : Result (Option ℕ) SourceFault = Ok o in r))) c.in-Ok-None.field-0-is) known is
+    (c.in-Ok-None.ensures.left ∙ ap (λ (o : Option ℕ). left_of (g.K.Source.left c.args.keys.now) (bytes_given (let r : Result (Option ℕ) SourceFault = Ok o in r))) c.in-Ok-None.field-0-is) known is
 
 pub byte-requires-clause-next : goal.byte-requires-clause-next
 byte-requires-clause-next g c known is =

@@ -2,24 +2,25 @@
 use Rattle.std.proofs.Common.{ap, ◌∙◌, refl, arith, true}
 use Rattle.tree_trait.specs.declared.calls.TreeError.TheVariants as refused
 use Rattle.tree_trait.specs.Calls.{SyncFolder}
-use Rattle.file_copy.specs.declared.report.Did.TheVariants.{Troubled}
-use Rattle.file_copy.specs.declared.copy.Stepped.{Stepped}
+use Rattle.job_reports.specs.declared.report.Did.TheVariants.{Troubled}
+use Rattle.job_reports.specs.declared.report.StepResult.{StepResult}
 use Rattle.copy_move.specs.declared.deletion.Stage.TheVariants.{Finish}
-use Rattle.copy_move.specs.Deletions.{Deleting, call_of, trouble_at}
+use Rattle.copy_move.specs.Deletions.{Deleting, call_of}
+use Rattle.job_reports.specs.Stops.{trouble_at}
 use Rattle.copy_move.proofs.DeletionRuns.{steps_synced, steps_refused, steps_unmade, sync_at, sync_call, fault-cause, err_is}
 use Rattle.copy_move.proofs.deletion.Deletion.sync.Goals as goal
 
 pub returns-in_default : goal.returns-in_default
 returns-in_default g c =
     let t = trouble_at refused.Memory c.folder-owed.result.now true in
-    steps_unmade c.args.self.now _ _ _ _ _ c.without_call.result.did c.without_call.result.calls t (ap (λ (s : Stepped). s.did) c.without_call.ensures ∙ ap Troubled c.no_memory.ensures)
+    steps_unmade c.args.self.now _ _ _ _ _ c.without_call.result.did c.without_call.result.calls t (ap (λ (s : StepResult). s.did) c.without_call.ensures ∙ ap Troubled c.out_of_memory.ensures)
     (sync_at c.args.self.now c.folder-owed.result.now refused.Memory c.folder-owed.ensures.holds c.requires.stage) refl
-    (λ h. h) (omega arith) (λ h. absurd cc) (ap (λ (s : Stepped). s.calls) c.without_call.ensures) refl refl
+    (λ h. h) (omega arith) (λ h. absurd cc) (ap (λ (s : StepResult). s.calls) c.without_call.ensures) refl refl
 
 pub returns-in-Ok-sync_folder : goal.returns-in-Ok-sync_folder
 returns-in-Ok-sync_folder g c =
-    steps_synced c.args.self.now _ _ _ _ _ c.with_call.result.did c.with_call.result.calls c.folder-owed.result.now (ap (λ (s : Stepped). s.did) c.with_call.ensures)
-    (ap (λ (s : Stepped). s.calls) c.with_call.ensures)
+    steps_synced c.args.self.now _ _ _ _ _ c.with_call.result.did c.with_call.result.calls c.folder-owed.result.now (ap (λ (s : StepResult). s.did) c.with_call.ensures)
+    (ap (λ (s : StepResult). s.calls) c.with_call.ensures)
     c.requires.stage c.folder-owed.ensures.holds (ap (λ (d : Deleting). let k : Deleting = record d { stage = Finish } in k) c.self.view_is)
     (λ log known. c.in-Ok-sync_folder.ensures.answer log known)
     c.sync_folder.ensures.stays_unknown c.sync_folder.ensures.cause.later

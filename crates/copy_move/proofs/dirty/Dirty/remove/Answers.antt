@@ -1,7 +1,7 @@
 -- what is retained is what the closure's test keeps
 use Rattle.std.proofs.Common.{rules, ap, ◌∙◌}
 use Rattle.std.proofs.lemmas.Fn.{filter_same}
-use Rattle.copy_move.specs.Settling.{without}
+use Rattle.job_reports.specs.Paths.{without}
 use Rattle.copy_move.proofs.dirty.Dirty.remove.Goals as goal
 
 pub returns : goal.returns

@@ -1,8 +1,8 @@
 -- The step that may make the first change, or no memory for it.
 use Rattle.std.proofs.Common.{◌≡◌, ◌-◌, length, take, true, ap, ◌∙◌}
 use Rattle.std.specs.Prelude.{if◌then◌else◌}
-use Rattle.file_copy.specs.declared.copy.Stepped.{Stepped}
-use Rattle.file_copy.specs.declared.report.Did.TheVariants.{Troubled}
+use Rattle.job_reports.specs.declared.report.StepResult.{StepResult}
+use Rattle.job_reports.specs.declared.report.Did.TheVariants.{Troubled}
 use Rattle.copy_move.proofs.FolderSteps.{changed_first, unmade_first}
 use Rattle.copy_move.proofs.run.Run.change_first.Goals as goal
 
@@ -10,7 +10,7 @@ pub returns-in_default : goal.returns-in_default
 returns-in_default g c =
     record {
       steps = unmade_first (λ path. g.P.PartTest.is_free c.args.parts.now path ≡ true) _ _ _ _ _ _ _ _ _ _ c.self.view_is c.requires.course c.requires.fresh c.requires.settled
-          (ap (λ (s : Stepped). s.did) c.without_call.ensures ∙ ap Troubled c.no_memory.ensures) (ap (λ (s : Stepped). s.calls) c.without_call.ensures) c.in_default.ensures.refused;
+          (ap (λ (s : StepResult). s.did) c.without_call.ensures ∙ ap Troubled c.out_of_memory.ensures) (ap (λ (s : StepResult). s.calls) c.without_call.ensures) c.in_default.ensures.refused;
     }
 
 pub returns : goal.returns

@@ -1,7 +1,7 @@
 -- The end of keys is written down.
 use Rattle.std.proofs.Common.{rules, ◌≡◌, ◌∷◌, false, true, None, refl, ap, ◌∙◌, arith}
 use Rattle.std.specs.Option.{option_map}
-use Rattle.copy_move.specs.declared.history.Entry.{Entry}
+use Rattle.session_history.specs.declared.history.Entry.{Entry}
 use Rattle.copy_move.specs.Jobs.{closed_job}
 use Rattle.copy_move.specs.Told.{told}
 use Rattle.copy_move.proofs.Telling.{closed_told}
@@ -21,7 +21,7 @@ invariant_of-self g c =
     record {
       desk = desk_closed _ _ _ _ _ _ count c.self.invariant.desk unclosed (omega (arith, counted, had))
           (c.note.ensures.added ∙ ap (λ (e : Entry). e ∷ inside.log.newest) c.closing.ensures)
-          (ap (λ j. let t : Tally = record { job = j; last = inside.last_id; unseen = inside.unseen; closed = true; due = None; lost = inside.lost; calls = inside.calls } in t) (ap (option_map told) job ∙ closed_told true inside.job))
+          (ap (λ j. let t : Tally = record { job = j; last = inside.last_id; has_unseen_end = inside.has_unseen_end; closed = true; due = None; lost = inside.lost; calls = inside.calls } in t) (ap (option_map told) job ∙ closed_told true inside.job))
           job refl refl refl added refl;
       counted = search rules;
       screen = c.self.invariant.screen;

@@ -1,8 +1,8 @@
 -- The key is written down as lost, and the desk closed.
 use Rattle.std.proofs.Common.{rules, ◌≡◌, ◌≤◌, ◌∷◌, false, true, None, refl, ap, ◌∙◌, arith}
 use Rattle.std.specs.Option.{option_map}
-use Rattle.copy_move.specs.declared.history.Entry.{Entry}
-use Rattle.copy_move.specs.declared.history.Event.TheVariants.{Key}
+use Rattle.session_history.specs.declared.history.Entry.{Entry}
+use Rattle.session_history.specs.declared.history.Event.TheVariants.{Key}
 use Rattle.copy_move.specs.Jobs.{closed_job}
 use Rattle.copy_move.specs.Told.{told}
 use Rattle.copy_move.proofs.Telling.{closed_told}
@@ -27,7 +27,7 @@ invariant_of-self g c =
       desk = desk_lost _ _ _ _ _ _ _ count inside.shown c.args.key c.args.now c.self.invariant.desk unclosed unasked looked refl (omega (arith, counted, had))
           (c.note-2.ensures.added ∙ (ap (λ (e : Entry). e ∷ c.note.new.self.newest) c.closing.ensures
           ∙ ap (λ es. entry 0 inside.calls count 0 _ ∷ es) (c.note.ensures.added ∙ ap (λ rs. entry 0 inside.calls count inside.shown (Key c.args.key c.args.now rs true) ∷ inside.log.newest) c.new.ensures.items)))
-          (ap (λ j. let t : Tally = record { job = j; last = inside.last_id; unseen = inside.unseen; closed = true; due = None; lost = true; calls = inside.calls } in t) (ap (option_map told) job ∙ closed_told true inside.job))
+          (ap (λ j. let t : Tally = record { job = j; last = inside.last_id; has_unseen_end = inside.has_unseen_end; closed = true; due = None; lost = true; calls = inside.calls } in t) (ap (option_map told) job ∙ closed_told true inside.job))
           job refl refl refl room refl;
       counted = search rules;
       screen = c.self.invariant.screen;

@@ -4,10 +4,11 @@ use Rattle.std.specs.Prelude.{if◌then◌else◌}
 use Rattle.std.specs.Option.{option_map}
 use Rattle.std.proofs.lemmas.Bool.{both_ways}
 use Rattle.mc_text.specs.Routes.{Route}
-use Rattle.file_copy.specs.declared.report.Did.TheVariants.{Ended}
-use Rattle.file_copy.specs.declared.report.Ending.TheVariants.{NoMemory}
-use Rattle.copy_move.specs.declared.history.Event.TheVariants.{Step}
-use Rattle.copy_move.specs.Jobs.{Running, ends, waits_on}
+use Rattle.job_reports.specs.declared.report.Did.TheVariants.{Ended}
+use Rattle.job_reports.specs.declared.report.Ending.TheVariants.{NoMemory}
+use Rattle.session_history.specs.declared.history.Event.TheVariants.{Step}
+use Rattle.copy_move.specs.Jobs.{Running, waits_on}
+use Rattle.job_reports.specs.Reports.{ends}
 use Rattle.copy_move.specs.Ranks.{rank_with}
 use Rattle.copy_move.specs.Told.{if_closed, told}
 use Rattle.mc_desk.specs.Tallies.{Tally}
@@ -34,12 +35,12 @@ invariant_of-self-then-is_err g c =
     let counted = c.faults.ensures in
     let had = c.self.invariant.counted in
     record {
-      desk = desk_gave_up _ _ _ _ _ _ c.args.seat count c.in-Some.job c.give_up.result c.self.invariant.desk is ready c.give_up.ensures (omega (arith, counted, had))
+      desk = desk_gave_up _ _ _ _ _ _ c.args.seat count c.in-Some.job c.give_up.result c.requires.main c.self.invariant.desk is ready c.give_up.ensures (omega (arith, counted, had))
           (c.note.ensures.added ∙ (ap (λ n. entry c.args.seat inside.calls count 0 (Step n c.ended_without_memory.result) ∷ c.reserve.new.self.newest) c.id-id.ensures
           ∙ (ap (λ d. entry c.args.seat inside.calls count 0 (Step c.in-Some.job.id d) ∷ c.reserve.new.self.newest) c.ended_without_memory.ensures
           ∙ ap (λ es. entry c.args.seat inside.calls count 0 (Step c.in-Some.job.id (Ended NoMemory c.give_up.result)) ∷ es) c.reserve.ensures.same)))
           none
-          (ap (λ j. let t : Tally = record { job = option_map told j; last = inside.last_id; unseen = true; closed = inside.closed; due = awaited inside.due; lost = inside.lost; calls = inside.calls } in t) none)
+          (ap (λ j. let t : Tally = record { job = option_map told j; last = inside.last_id; has_unseen_end = true; closed = inside.closed; due = awaited inside.due; lost = inside.lost; calls = inside.calls } in t) none)
           refl refl (room_left inside.closed inside.job c.in-Some.job inside.log.spare c.reserve.new.self.spare c.note.new.self.spare is c.self.invariant.desk.room c.reserve.ensures.kept c.note.ensures.room) refl;
       counted = search rules;
       screen = c.self.invariant.screen;
@@ -65,10 +66,10 @@ invariant_of-self-2 g c =
     c.left.ensures ∙ ap (λ b. if_closed inside.closed (if b then None else Some c.step-did.new.self)) c.is_end-ended.ensures in
     record {
       desk = desk_stepped g.N.Tag.start g.N.Tag.opening (g.T.Tree.contents inside.tree) (g.T.Tree.contents c.step-did.new.tree) g.N.Tag.tree_faults _ _ c.args.seat count made calls _ _ c.in-Some.job c.step-did.new.self did
-          c.self.invariant.desk is c.step-did.ensures.steps fits c.saturating_add-self-inside.ensures c.self.invariant.counted (sym counted)
+          c.requires.main c.self.invariant.desk is c.step-did.ensures.steps fits c.saturating_add-self-inside.ensures c.self.invariant.counted (sym counted)
           more job
-          (ap (λ u. let t : Tally = record { job = option_map told c.left.result; last = inside.last_id; unseen = u; closed = inside.closed; due = awaited inside.due; lost = inside.lost; calls = calls } in t)
-          (c.either-self-inside.ensures ∙ ap (λ b. b || inside.unseen) c.is_end-ended.ensures))
+          (ap (λ u. let t : Tally = record { job = option_map told c.left.result; last = inside.last_id; has_unseen_end = u; closed = inside.closed; due = awaited inside.due; lost = inside.lost; calls = calls } in t)
+          (c.end_waits-self-inside.ensures ∙ ap (λ b. b || inside.has_unseen_end) c.is_end-ended.ensures))
           refl refl room;
       counted = search rules;
       screen = c.self.invariant.screen;

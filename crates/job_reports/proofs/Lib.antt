@@ -1,0 +1,4 @@
+pub mod CallAnswers
+pub mod PermittedCalls
+pub mod Reading
+pub mod Runs

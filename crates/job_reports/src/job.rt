@@ -1,0 +1,32 @@
+//! What a job is to do.
+use mc_text::{Path, Paths};
+use std::marker::Model;
+
+/// A file that is to be copied, and where to.
+#[derive(Debug, Drop)]
+pub struct Pair {
+    pub source: Path,
+    pub target: Path,
+}
+
+/// Some pairs.
+#[derive(Debug, Drop)]
+pub struct Pairs(pub Vec<Pair>);
+
+impl Model for Pairs {
+    ghost use Rattle.std.specs.Prelude.{List};
+    ghost use Rattle.job_reports.specs.declared.job.Pair.{Pair};
+
+    ghost Value = { List Pair };
+
+    ghost view = { λ l. l.0.items };
+}
+
+/// A job, as it was planned.
+#[derive(Debug, Drop)]
+pub enum Job {
+    /// Copies each source to its target.
+    Copy(Pairs),
+    /// Deletes these.
+    Delete(Paths),
+}

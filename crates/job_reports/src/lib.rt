@@ -1,0 +1,17 @@
+//! What a job is asked, what its steps may report, and what changing calls in a row come to. No machine is needed for these.
+#![tactic(auto)]
+
+mod answer;
+mod job;
+mod report;
+mod row;
+mod stop;
+
+pub use answer::{Answer, AnswerError};
+pub use job::{Job, Pair, Pairs};
+pub use report::{Cause, Did, Ending, LastStepResult, StepResult, Trouble, is_end, trouble_path};
+pub use row::{JobRow, JobRows, JobState};
+pub use stop::{
+    Stop, after_calls, calls_made, made_or_stopped, missing_or_trouble, out_of_memory,
+    reading_trouble, refusal_in, stopped_before, trouble_with_path,
+};

@@ -1,0 +1,125 @@
+//! What the step of a job reports.
+ghost use Rattle.std.specs.Prelude.{◌≡◌, IfOk, IfSome, Some};
+ghost use Rattle.job_reports.specs.Reports.{ends, path_of_trouble};
+
+use mc_text::{Kind, NoMemory, Path};
+use std::alloc::Global;
+use tree_trait::TreeError;
+
+/// Why a job can't go on.
+#[derive(Clone, Copy, Debug, Drop, PartialEq, Eq)]
+pub enum Cause {
+    /// A call of the tree was refused.
+    Tree(TreeError),
+    /// Something of this kind stands at the target.
+    TargetKind(Kind),
+    /// The source is no file.
+    SpecialSource,
+    /// All 1,000 names of a part are taken.
+    PartTaken,
+    /// The path of the part would have more than 4,096 bytes.
+    TooLong,
+    /// The source was said to have so many bytes, and gave so many.
+    Changed { said: u64, got: u64 },
+    /// No memory was left.
+    Memory,
+}
+
+/// A job in trouble: why, at which path, and whether it stands at a barrier, where nothing can be skipped.
+#[derive(Debug, Drop)]
+pub struct Trouble {
+    pub cause: Cause,
+    pub path: Option<Path>,
+    pub barrier: bool,
+}
+
+impl Trouble {
+    /// The same once more.
+    pub fn copy(&self, alloc: Global) -> Result<Trouble, NoMemory>
+        ensures { IfOk result (λ copy. copy ≡ self.now) }
+    {
+        Ok(Trouble {
+            cause: self.cause,
+            path: copy_of(alloc, &self.path)?,
+            barrier: self.barrier,
+        })
+    }
+}
+
+/// A path once more, if there is one.
+fn copy_of(alloc: Global, path: &Option<Path>) -> Result<Option<Path>, NoMemory>
+    ensures { IfOk result (λ copy. copy ≡ path.now) }
+{
+    match path {
+        None => Ok(None),
+        Some(path) => Ok(Some(path.copy(alloc)?)),
+    }
+}
+
+/// How a job ended.
+#[derive(Clone, Copy, Debug, Drop, PartialEq, Eq)]
+pub enum Ending {
+    Finished,
+    Aborted,
+    Killed,
+    /// There was no memory for a step's entry.
+    NoMemory,
+}
+
+/// What a step did.
+#[derive(Debug, Drop)]
+pub enum Did {
+    /// The part at this path was made, empty.
+    Began(Path),
+    /// So many bytes went to the part, 1 to 65,536.
+    Chunk(u32),
+    /// The part was renamed to this path, with all bytes and the mode of the source.
+    Placed(Path),
+    /// The thing at this path is gone from its folder.
+    Removed(Path),
+    /// The source at this path was left as it is.
+    Skipped(Path, Cause),
+    /// The part at this path was removed.
+    Cleaned(Path),
+    /// What was changed is on the disk, or in a job's last steps its sync was tried.
+    Barrier,
+    Troubled(Trouble),
+    /// The job ended; `part` is a part file that it could not remove.
+    Ended { ending: Ending, part: Option<Path> },
+}
+
+/// What a step did, and how many changing calls of the tree it made.
+#[derive(Debug, Drop)]
+pub struct StepResult {
+    pub did: Did,
+    pub calls: u64,
+}
+
+/// What a last step did, how many changing calls of the tree it made, and the refusal of a sync that was tried in vain:
+/// the folder then has names that no sync has brought onto the disk.
+#[derive(Debug, Drop)]
+pub struct LastStepResult {
+    pub did: Did,
+    pub calls: u64,
+    pub left: Option<TreeError>,
+}
+
+/// Whether a report is that of an end.
+pub fn is_end(did: &Did) -> bool
+    ensures { result ≡ ends did.now }
+{
+    matches!(did, Did::Ended { .. })
+}
+
+/// The path of the trouble that a report tells; none where there is no memory for it.
+pub fn trouble_path(alloc: Global, did: &Did) -> Option<Path>
+    ensures { IfSome result (λ path. path_of_trouble did.now ≡ Some path) }
+{
+    match did {
+        Did::Troubled(trouble) => match &trouble.path {
+            None => None,
+            Some(path) => path.copy(alloc).ok(),
+        },
+        _ => None,
+    }
+}

@@ -1,0 +1,39 @@
+//! What is seen of a live job.
+use crate::report::Trouble;
+use std::marker::Model;
+
+/// What a live job is at. `Asking` and `Stopped` come with questions and with the table of jobs; no job is in them yet.
+#[derive(Clone, Copy, Debug, Drop, PartialEq, Eq)]
+pub enum JobState {
+    /// It has a next step.
+    Ready,
+    /// It waits for the answer to a question.
+    Asking,
+    /// It waits for the answer to a trouble.
+    Troubled,
+    /// It waits until it is resumed.
+    Stopped,
+}
+
+/// A live job, as it is seen: its number, what it is at, and the trouble in which it waits.
+#[derive(Debug, Drop)]
+pub struct JobRow {
+    pub job: u32,
+    pub state: JobState,
+    /// Whether it works in the background, which none does yet.
+    pub background: bool,
+    pub trouble: Option<Trouble>,
+}
+
+/// The live jobs, in the order of their starts.
+#[derive(Debug, Drop)]
+pub struct JobRows(pub Vec<JobRow>);
+
+impl Model for JobRows {
+    ghost use Rattle.std.specs.Prelude.{List};
+    ghost use Rattle.job_reports.specs.declared.row.JobRow.{JobRow};
+
+    ghost Value = { List JobRow };
+
+    ghost view = { λ l. l.0.items };
+}

@@ -1,0 +1,99 @@
+//! What the desk does about what a key asks.
+ghost use Rattle.std.specs.Prelude.{◌≡◌, ◌∷◌, [], true, IfOk, OnErr, Some};
+ghost use Rattle.job_reports.specs.Jobs.{is_workable};
+ghost use Rattle.mc_ui.specs.Screens.{is_request};
+ghost use Rattle.mc_desk.specs.Granting.{CanBeWorked, IsGranted, told_of};
+
+use crate::confirmed::Confirmed;
+use copy_move::Run;
+use job_reports::{Answer, Job};
+use mc_text::NoMemory;
+use mc_ui::{Ask, KeyAct, Told};
+use session_history::{BeginError, Refusal, Refusals};
+use std::alloc::Global;
+
+/// What is done.
+#[derive(Debug, Drop)]
+pub enum Deed {
+    Nothing,
+    /// A job is begun.
+    Begin(Confirmed),
+    /// A job was asked for, and all numbers were given.
+    Refuse,
+    /// The live job's trouble is answered.
+    Answer(Answer),
+    End,
+}
+
+/// What is done about what a key asks, and what was refused to it.
+#[derive(Debug, Drop)]
+pub struct Granted {
+    pub deed: Deed,
+    pub refusals: Refusals,
+}
+
+/// Starts the job that a key asks for under the next number, or refuses it where none is left.
+pub fn grant(alloc: Global, act: KeyAct, next: Option<u32>) -> Result<Granted, NoMemory>
+    requires workable { CanBeWorked act.ask }
+    ensures granted { IfOk result (λ granted. IsGranted next act.ask act.refusals granted.deed granted.refusals) }
+    ensures lost { OnErr result (is_request act.ask ≡ true) }
+{
+    let KeyAct { ask, refusals } = act;
+    match ask {
+        Ask::Nothing => Ok(with_deed(Deed::Nothing, refusals)),
+        Ask::End => Ok(with_deed(Deed::End, refusals)),
+        Ask::Answer(answer) => Ok(with_deed(Deed::Answer(answer), refusals)),
+        Ask::Begin { plan, background } => match next {
+            None => refuse(alloc),
+            Some(number) => begin(alloc, plan, background, number, refusals),
+        },
+    }
+}
+
+/// What the screen is told of it.
+pub fn told(deed: &Deed) -> Told
+    ensures { result ≡ told_of deed.now }
+{
+    match deed {
+        Deed::Nothing | Deed::End => Told::Nothing,
+        Deed::Begin(_) | Deed::Answer(_) => Told::Done,
+        Deed::Refuse => Told::Refused(Refusal::Begin(BeginError::NoMoreIds)),
+    }
+}
+
+fn with_deed(deed: Deed, refusals: Refusals) -> Granted
+    ensures { result ≡ record { deed = deed; refusals = refusals } }
+{
+    Granted { deed, refusals }
+}
+
+/// No number is left.
+fn refuse(alloc: Global) -> Result<Granted, NoMemory>
+    ensures { IfOk result (λ granted. granted ≡ record { deed = Deed.Refuse; refusals = Refusal.Begin BeginError.NoMoreIds ∷ [] }) }
+{
+    let mut refusals = Vec::new(alloc);
+    refusals.push(Refusal::Begin(BeginError::NoMoreIds))?;
+    Ok(with_deed(Deed::Refuse, Refusals(refusals)))
+}
+
+/// Starts a job.
+fn begin(
+    alloc: Global,
+    plan: Job,
+    background: bool,
+    number: u32,
+    refusals: Refusals,
+) -> Result<Granted, NoMemory>
+    requires workable { is_workable plan ≡ true }
+    ensures { IfOk result (λ granted. IsGranted (Some number) (Ask.Begin plan background) refusals granted.deed granted.refusals) }
+{
+    let run = Run::start(alloc, &plan, number)?;
+    Ok(with_deed(
+        Deed::Begin(Confirmed {
+            plan,
+            background,
+            run,
+        }),
+        refusals,
+    ))
+}

@@ -1,0 +1,9 @@
+pub mod UnitLemmas
+pub mod LineLemmas
+pub mod RowLemmas
+pub mod LineTextLemmas
+pub mod LocalLemmas
+pub mod StartLemmas
+pub mod ReadingLemmas
+pub mod SightLemmas
+pub mod StepLemmas

@@ -1,0 +1,13 @@
+-- The tree stays, and its count of faults doesn't fall.
+use Rattle.std.proofs.Common.{◌≡◌, ◌≤◌}
+use Rattle.mc_viewer.proofs.lines.line_begin.Given as goal
+
+abbrev pub invariant-loop-end : goal.invariant-loop-end
+invariant-loop-end g l = record {
+  same : g.T.Tree.contents l.tree ≡ g.T.Tree.contents l.fn.tree;
+  later : g.T.Tree.fault_count l.fn.tree ≤ g.T.Tree.fault_count l.tree;
+  before : l.end ≤ l.at;
+}
+
+abbrev pub decreases-loop-end : goal.decreases-loop-end
+decreases-loop-end g l = l.end

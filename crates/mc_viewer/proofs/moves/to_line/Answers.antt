@@ -1,0 +1,17 @@
+-- The row where the line begins is the top.
+use Rattle.std.proofs.Common.{ℕ, ap, sym, ◌∙◌}
+use Rattle.mc_viewer.specs.declared.layout.Layout.{Layout}
+use Rattle.mc_viewer.specs.Viewing.{held}
+use Rattle.mc_viewer.specs.Rows.{row_holding, line_behind}
+use Rattle.mc_viewer.proofs.moves.to_line.Goals as goal
+
+pub returns-clause-shown : goal.returns-clause-shown
+returns-clause-shown g c = λ bytes known.
+    let size_is = c.in_ok-size.ensures.shown bytes known in
+    let still = ap (λ t. held t c.args.subject.now) c.in_ok-size.ensures.same ∙ known in
+    let later = ap (λ t. held t c.args.subject.now) c.in_ok-start.ensures.same ∙ still in
+    let layout = c.layout_of-layout.result in
+    let top_is = c.in_ok-top.ensures.shown bytes later (sym size_is)
+    ∙ ap (row_holding layout.shape layout.columns bytes) (c.in_ok-start.ensures.shown bytes still (sym size_is))
+    ∙ ap (λ (l : Layout). row_holding l.shape l.columns bytes (line_behind c.args.lines bytes 0)) c.layout_of-layout.ensures in
+    c.with_top.ensures ∙ ap (λ (t : ℕ). record c.args.state { top = t }) top_is

@@ -1,0 +1,18 @@
+-- The rows so far, and those that are left, are all rows.
+use Rattle.std.proofs.Common.{◌≡◌, ◌≤◌, ◌-◌, ◌++◌, map, take, drop}
+use Rattle.mc_viewer.specs.Viewing.{IfHeld}
+use Rattle.mc_viewer.specs.Rows.{row_starts}
+use Rattle.mc_viewer.specs.Pages.{shown_row}
+use Rattle.mc_viewer.proofs.pages.rows_from.Given as goal
+
+abbrev pub invariant-loop-row : goal.invariant-loop-row
+invariant-loop-row g l = record {
+  same : g.T.Tree.contents l.tree ≡ g.T.Tree.contents l.fn.tree;
+  later : g.T.Tree.fault_count l.fn.tree ≤ g.T.Tree.fault_count l.tree;
+  all : IfHeld (g.T.Tree.contents l.fn.tree) l.subject l.size (λ bytes.
+      l.rows ++ map (shown_row l.layout bytes) (take l.left (row_starts l.layout.shape l.layout.columns l.row 0 (drop l.row bytes)))
+      ≡ map (shown_row l.layout bytes) (take l.count (row_starts l.layout.shape l.layout.columns l.first 0 (drop l.first bytes))));
+}
+
+abbrev pub decreases-loop-row : goal.decreases-loop-row
+decreases-loop-row g l = l.size - l.row

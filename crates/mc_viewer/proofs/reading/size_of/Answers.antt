@@ -1,0 +1,8 @@
+-- The size of an output.
+use Rattle.std.proofs.Common.{length, ap, ◌∙◌}
+use Rattle.mc_viewer.proofs.ReadingLemmas.{held-output}
+use Rattle.mc_viewer.proofs.reading.size_of.Goals as goal
+
+pub returns-in-Output-clause-shown : goal.returns-in-Output-clause-shown
+returns-in-Output-clause-shown g c = λ bytes known.
+    c.output_size.ensures.value ∙ ap length (held-output (g.T.Tree.contents c.args.tree.now) c.args.subject.now _ bytes c.in-Output.is known)

@@ -1,0 +1,18 @@
+-- Each place is a row; the tree stays, and its count of faults doesn't fall.
+use Rattle.std.proofs.Common.{◌≡◌, ◌≤◌, ◌<◌, ◌-◌}
+use Rattle.mc_viewer.specs.Viewing.{IfHeld}
+use Rattle.mc_viewer.specs.Rows.{IsRow}
+use Rattle.mc_viewer.proofs.walking.walk.Given as goal
+
+abbrev pub invariant-loop-end : goal.invariant-loop-end
+invariant-loop-end g l = record {
+  same : g.T.Tree.contents l.tree ≡ g.T.Tree.contents l.fn.tree;
+  later : g.T.Tree.fault_count l.fn.tree ≤ g.T.Tree.fault_count l.tree;
+  inside : l.row < l.size;
+  before : l.row ≤ l.byte;
+  here : IfHeld (g.T.Tree.contents l.fn.tree) l.subject l.size (λ bytes.
+      IsRow l.layout.shape l.layout.columns bytes l.from → IsRow l.layout.shape l.layout.columns bytes l.row);
+}
+
+abbrev pub decreases-loop-end : goal.decreases-loop-end
+decreases-loop-end g l = l.size - l.row

@@ -1,0 +1,6 @@
+pub mod Units
+pub mod Rows
+pub mod Viewing
+pub mod Pages
+pub mod Windows
+pub mod Steps

@@ -1,0 +1,46 @@
+-- What is viewed: its bytes, where they are known, and why it can't be read.
+use Rattle.std.specs.Prelude.{◌≡◌, ◌≢◌, ℕ, ⊤, List, length, Option, Some, None}
+use Rattle.tree_trait.specs.declared.calls.TreeError.{TreeError}
+use Rattle.tree_trait.specs.declared.calls.TreeError.TheVariants as tree
+use Rattle.tree_trait.specs.Calls.{ReadAt}
+use Rattle.tree_trait.specs.FileSystem.{node}
+use Rattle.tree_trait.specs.Change.{CallLog, current, found}
+use Rattle.tree_trait.specs.Refusals.{refusal_of}
+use Rattle.mc_viewer.specs.declared.subject.Subject.{Subject}
+use Rattle.mc_viewer.specs.declared.subject.Subject.TheVariants.{File, Output}
+use Rattle.mc_viewer.specs.declared.error.ViewError.{ViewError}
+use Rattle.mc_viewer.specs.declared.error.ViewError.TheVariants.{Tree, NotFound, BadPattern, LineTooLong, Memory}
+
+-- the bytes of an output, or those of a file in a tree that is known
+unfoldable pub held : Option CallLog → Subject → Option (List ℕ)
+held contents (Output bytes) = Some bytes
+held None (File path) = None
+held (Some log) (File path) = Some (node (current log) (found (current log) path)).bytes
+
+-- a fact on the bytes that are viewed, where they are known and so many
+abbrev pub IfHeld : Option CallLog → Subject → ℕ → (List ℕ → Type 0) → Type 0
+IfHeld contents subject size P = (bytes : List ℕ) → held contents subject ≡ Some bytes → length bytes ≡ size → P bytes
+
+-- the error for a call that the tree refused
+abbrev pub refused_with : TreeError → ViewError
+refused_with tree.Memory = Memory
+refused_with e = Tree e
+
+-- reading the subject is refused so by a tree that is known: an output never, a file as the tree says, or by a fault
+unfoldable pub IsRefused : CallLog → Subject → TreeError → Type 0
+IsRefused log (Output bytes) e = ⊥
+IsRefused log (File path) tree.Fault = ⊤
+IsRefused log (File path) e = refusal_of (current log) (ReadAt path 0 0) ≡ Some e
+
+-- why a reading fails: a refusal of the tree, or want of memory, which the tree's refusals never carry
+abbrev pub IsReadError : ViewError → Type 0
+IsReadError (Tree e) = e ≢ tree.Memory
+IsReadError Memory = ⊤
+IsReadError NotFound = ⊥
+IsReadError BadPattern = ⊥
+IsReadError (LineTooLong at) = ⊥
+
+-- where the tree is known, a refusal of it is the one that it gives
+abbrev pub AsTheTreeSays : CallLog → Subject → ViewError → Type 0
+AsTheTreeSays log subject (Tree e) = IsRefused log subject e
+AsTheTreeSays log subject error = ⊤

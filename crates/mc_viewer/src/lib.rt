@@ -1,0 +1,22 @@
+//! A viewer of a file or an output: pages of rows and moves, that read no more of it than they have to.
+#![tactic(auto)]
+
+mod error;
+mod hex;
+mod layout;
+mod lines;
+mod moves;
+mod pages;
+mod reading;
+mod rows;
+mod state;
+mod subject;
+mod text;
+mod units;
+mod viewer;
+mod walking;
+
+pub use error::ViewError;
+pub use state::ViewStep;
+pub use subject::Subject;
+pub use viewer::Viewer;

@@ -1,0 +1,121 @@
+//! What a row shows.
+ghost use Rattle.std.specs.Prelude.{◌≡◌, ◌+◌, ◌-◌, ◌*◌, ◌<◌, ◌≤◌, ◌++◌, ◌∷◌, [], ◌^◌, length, drop, take, min, replicate, string_bytes, IfOk};
+ghost use Rattle.mc_viewer.specs.Units.{unit_text, columns_in_sight, piece_in_sight};
+ghost use Rattle.mc_viewer.specs.Pages.{line_in_sight, row_text};
+ghost use Rattle.mc_viewer.specs.Windows.{window_of};
+
+use crate::hex::hex_row;
+use crate::layout::{Layout, Shape};
+use crate::rows::wrapped_length;
+use crate::units::{front, rest_from, shown, unit_columns, unit_length};
+use mc_text::{NoMemory, Text};
+use std::alloc::{AllocError, Global};
+
+/// How many bytes from a row's start on show what the row shows, where so many are left. A character has four bytes at
+/// most and a column at least.
+pub fn window_bytes(layout: Layout, left: u64) -> usize
+    ensures { result ≡ min left (window_of layout.shape layout.columns layout.left) }
+{
+    let columns = layout.columns as u64;
+    let window = match layout.shape {
+        Shape::Wrapped => 4 * columns + 9,
+        Shape::Unwrapped => 4 * (layout.left as u64 + columns) + 9,
+        Shape::Hex => 16,
+    };
+    left.min(window) as usize
+}
+
+/// What the row shows that begins with these bytes.
+#[tactic(auto, unfolding(crate::specs::Pages::row_text))]
+pub fn row_text(alloc: Global, layout: Layout, at: u64, bytes: &[u8]) -> Result<Text, NoMemory>
+    requires { length bytes.now < 2 ^ 60 }
+    ensures { IfOk result (λ text. text ≡ row_text layout.shape layout.columns layout.left at bytes.now) }
+{
+    let columns = layout.columns as usize;
+    let left = layout.left as usize;
+    match layout.shape {
+        Shape::Wrapped => {
+            let row = front(bytes, wrapped_length(bytes, columns));
+            line_in_sight(alloc, row, 0, columns)
+        }
+        Shape::Unwrapped => line_in_sight(alloc, bytes, left, left + columns),
+        Shape::Hex => hex_row(alloc, columns, at, front(bytes, 16)),
+    }
+}
+
+/// What is in sight of a line, up to its newline, from one column up to another.
+fn line_in_sight(alloc: Global, bytes: &[u8], left: usize, right: usize) -> Result<Text, NoMemory>
+    requires small { length bytes.now < 2 ^ 60 }
+    requires narrow { right < 2 ^ 60 }
+    ensures { IfOk result (λ text. text ≡ line_in_sight left right 0 0 bytes.now) }
+{
+    let mut row = String::new(alloc);
+    let mut at = 0;
+    let mut column = 0;
+    while at < bytes.len() {
+        if bytes[at] == b'\n' {
+            return Ok(Text(row));
+        }
+        let rest = rest_from(bytes, at);
+        let length = unit_length(rest);
+        let unit = front(rest, length);
+        push_piece(&mut row, left, right, column, unit)?;
+        column += unit_columns(column, unit);
+        at += length;
+    }
+    Ok(Text(row))
+}
+
+/// Puts what is in sight of a unit behind the row.
+#[tactic(auto, unfolding(crate::specs::Units::piece_in_sight))]
+fn push_piece(
+    row: &mut String,
+    left: usize,
+    right: usize,
+    column: usize,
+    unit: &[u8],
+) -> Result<(), AllocError>
+    requires small { column < 2 ^ 63 }
+    requires narrow { right < 2 ^ 60 }
+    ensures { IfOk result (λ _. string_bytes row.new
+        ≡ string_bytes row.old ++ piece_in_sight left right column unit.now) }
+{
+    let columns = unit_columns(column, unit);
+    let in_sight = columns_in_sight(left, right, column, columns);
+    if in_sight == columns {
+        push_unit(row, columns, unit)
+    } else {
+        push_blanks(row, in_sight)
+    }
+}
+
+fn columns_in_sight(left: usize, right: usize, column: usize, columns: usize) -> usize
+    requires { column + columns < 2 ^ 64 }
+    ensures { result ≡ columns_in_sight left right column columns }
+{
+    right.min(column + columns).saturating_sub(left.max(column))
+}
+
+/// A unit as it is, blanks for a tab, and else a dot.
+#[tactic(auto, unfolding(crate::specs::Units::unit_text))]
+fn push_unit(row: &mut String, columns: usize, unit: &[u8]) -> Result<(), AllocError>
+    ensures { IfOk result (λ _. string_bytes row.new
+        ≡ string_bytes row.old ++ unit_text columns unit.now) }
+{
+    if unit == b"\t".as_slice() {
+        return push_blanks(row, columns);
+    }
+    match shown(unit) {
+        Some(text) => row.push_str(text),
+        None => row.push_str("."),
+    }
+}
+
+fn push_blanks(row: &mut String, count: usize) -> Result<(), AllocError>
+    ensures { IfOk result (λ _. string_bytes row.new ≡ string_bytes row.old ++ replicate count 32) }
+{
+    for _ in 0..count {
+        row.push(' ')?;
+    }
+    Ok(())
+}

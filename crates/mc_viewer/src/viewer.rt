@@ -1,0 +1,105 @@
+//! A viewer of a file or an output.
+ghost use Rattle.std.specs.Prelude.{◌≡◌, ◌≤◌, IfOk, IfErr, OnOk, OnErr};
+ghost use Rattle.tree_trait.specs.Answers.{IfKnown, HasCause};
+ghost use Rattle.mc_viewer.specs.Viewing.{held, IsReadError, AsTheTreeSays};
+ghost use Rattle.mc_viewer.specs.Steps.{begun, page_of, after_step};
+
+use crate::error::ViewError;
+use crate::moves::moved;
+use crate::pages::page_rows;
+use crate::reading::size_of;
+use crate::state::{State, ViewStep, layout_of, page_lines};
+use crate::subject::Subject;
+use mc_text::Rows;
+use std::alloc::Global;
+use std::marker::Model;
+use tree_trait::{Tree, TreeError};
+
+/// A viewer. It keeps none of what it shows: each call reads what it needs, as it stands then. Contracts see what is viewed,
+/// and where the viewer stands.
+#[derive(Debug, Drop)]
+pub struct Viewer {
+    subject: Subject,
+    state: State,
+}
+
+impl Model for Viewer {
+    ghost use Rattle.std.specs.Prelude.{◌≤◌};
+    ghost use Rattle.mc_viewer.specs.Steps.{Viewing};
+
+    ghost Value = { Viewing };
+
+    ghost view = { λ v. record { subject = v.subject; state = v.state } };
+
+    ghost invariant = { λ v. 1 ≤ v.state.columns };
+}
+
+impl Viewer {
+    /// Begins at the top, with lines wrapped. What can't be read is refused.
+    pub fn start<T: Tree>(
+        alloc: Global,
+        tree: &mut T,
+        subject: Subject,
+        lines: u16,
+        columns: u16,
+    ) -> Result<Viewer, ViewError>
+        requires lines { (10 ≤ lines) × (lines ≤ 200) }
+        requires columns { (40 ≤ columns) × (columns ≤ 400) }
+        ensures begun { IfOk result (λ viewer. viewer ≡ begun subject lines columns) }
+        ensures refused { IfKnown (T.contents tree.old) (λ log. IfErr result (AsTheTreeSays log subject)) }
+        ensures kinds { IfErr result IsReadError }
+        ensures same { T.contents tree.new ≡ T.contents tree.old }
+        ensures cause { HasCause (ViewError.Tree TreeError.Fault) (T.fault_count tree.old) (T.fault_count tree.new) result }
+    {
+        size_of(alloc, tree, &subject)?;
+        let state = State {
+            lines,
+            columns,
+            wraps: true,
+            is_hex: false,
+            left: 0,
+            top: 0,
+        };
+        Ok(Viewer { subject, state })
+    }
+
+    /// The rows that are shown.
+    pub fn page<T: Tree>(&self, alloc: Global, tree: &mut T) -> Result<Rows, ViewError>
+        ensures shown { IfKnown (held (T.contents tree.old) self.now.subject) (λ bytes.
+            IfOk result (λ rows. rows ≡ page_of bytes self.now.state)) }
+        ensures refused { IfKnown (T.contents tree.old) (λ log. IfErr result (AsTheTreeSays log self.now.subject)) }
+        ensures kinds { IfErr result IsReadError }
+        ensures same { T.contents tree.new ≡ T.contents tree.old }
+        ensures cause { HasCause (ViewError.Tree TreeError.Fault) (T.fault_count tree.old) (T.fault_count tree.new) result }
+    {
+        page_rows(
+            alloc,
+            tree,
+            &self.subject,
+            layout_of(self.state),
+            page_lines(self.state),
+            self.state.top,
+        )
+    }
+
+    /// Makes a step. A refused one leaves the viewer where it stood.
+    pub fn go<T: Tree>(
+        &mut self,
+        alloc: Global,
+        tree: &mut T,
+        step: ViewStep,
+    ) -> Result<(), ViewError>
+        ensures done { IfKnown (held (T.contents tree.old) self.old.subject) (λ bytes.
+            OnOk result (self.new.state ≡ after_step bytes step self.old.state)) }
+        ensures subject { self.new.subject ≡ self.old.subject }
+        ensures stays { OnErr result (self.new ≡ self.old) }
+        ensures refused { IfKnown (T.contents tree.old) (λ log. IfErr result (AsTheTreeSays log self.old.subject)) }
+        ensures kinds { IfErr result IsReadError }
+        ensures same { T.contents tree.new ≡ T.contents tree.old }
+        ensures cause { HasCause (ViewError.Tree TreeError.Fault) (T.fault_count tree.old) (T.fault_count tree.new) result }
+    {
+        let state = moved(alloc, tree, &self.subject, self.state, step)?;
+        self.state = state;
+        Ok(())
+    }
+}

@@ -1,0 +1,4 @@
+pub mod Entries
+pub mod LiveJobs
+pub mod Named
+pub mod Refusals

@@ -1,0 +1,98 @@
+-- Which paths the entries of a history name, as what was changed and as parts. Histories stand newest first here.
+use Rattle.std.specs.Prelude.{◌≡◌, ◌⊎◌, ℕ, ◌==◌, Bool, true, false, ◌||◌, ◌&&◌, List, [], ◌∷◌, Option, Some, None, if◌then◌else◌}
+use Rattle.std.specs.Option.{option_map_or}
+use Rattle.mc_text.specs.Routes.{Route, same_path}
+use Rattle.job_reports.specs.declared.report.Did.{Did}
+use Rattle.job_reports.specs.declared.report.Did.TheVariants.{Began, Chunk, Placed, Removed, Skipped, Cleaned, Barrier, Troubled, Ended}
+use Rattle.job_reports.specs.Paths.{without}
+use Rattle.session_history.specs.declared.history.Event.{Event}
+use Rattle.session_history.specs.declared.history.Event.TheVariants.{Key, Look, Order, Step, Closed}
+use Rattle.session_history.specs.declared.history.Event.TheVariants as event
+use Rattle.session_history.specs.declared.history.Entry.{Entry}
+
+-- a report names this path: as a part that was made, is gone, or is left, or as what was placed or removed
+abbrev pub names : Did → Route → Bool
+names (Began part) path = same_path path part
+names (Placed target) path = same_path path target
+names (Removed file) path = same_path path file
+names (Cleaned part) path = same_path path part
+names (Ended ending part) path = option_map_or (same_path path) part false
+names (Chunk count) path = false
+names (Skipped file cause) path = false
+names Barrier path = false
+names (Troubled trouble) path = false
+
+abbrev pub names_path : Event → Route → Bool
+names_path (Step id did) path = names did path
+names_path (Key key now refusals lost) path = false
+names_path (Look refusals) path = false
+names_path (event.Began id plan background) path = false
+names_path (Order id order) path = false
+names_path Closed path = false
+
+-- these entries are the older ones with more on top, of which none names this path
+abbrev pub IsUnnamedSince : List Entry → Route → List Entry → Type 0
+IsUnnamedSince older path [] = older ≡ []
+IsUnnamedSince older path (e ∷ entries) = (older ≡ e ∷ entries) ⊎ ((names_path e.what path ≡ false) × IsUnnamedSince older path entries)
+
+-- the path that a report says was placed or removed
+abbrev pub changed_by : Did → Option Route
+changed_by (Placed path) = Some path
+changed_by (Removed path) = Some path
+changed_by (Began part) = None
+changed_by (Chunk count) = None
+changed_by (Skipped path cause) = None
+changed_by (Cleaned part) = None
+changed_by Barrier = None
+changed_by (Troubled trouble) = None
+changed_by (Ended ending part) = None
+
+-- a path that is placed is a part no more
+abbrev pub named_by : Did → List Route → List Route
+named_by (Began part) before = part ∷ before
+named_by (Placed path) before = without path before
+named_by (Chunk count) before = before
+named_by (Removed path) before = before
+named_by (Skipped path cause) before = before
+named_by (Cleaned part) before = before
+named_by Barrier before = before
+named_by (Troubled trouble) before = before
+named_by (Ended ending part) before = before
+
+abbrev pub named_after : Event → List Route → List Route
+named_after (Step id did) before = named_by did before
+named_after (Key key now refusals lost) before = before
+named_after (Look refusals) before = before
+named_after (event.Began id plan background) before = before
+named_after (Order id order) before = before
+named_after Closed before = before
+
+-- the paths that these entries named as parts
+abbrev pub named_parts : List Entry → List Route
+named_parts [] = []
+named_parts (e ∷ older) = named_after e.what (named_parts older)
+
+-- a report of the first change that work makes: a part is made, or a file is removed
+abbrev pub begins_change : Did → Bool
+begins_change (Began part) = true
+begins_change (Removed path) = true
+begins_change (Chunk count) = false
+begins_change (Placed path) = false
+begins_change (Skipped path cause) = false
+begins_change (Cleaned part) = false
+begins_change Barrier = false
+begins_change (Troubled trouble) = false
+begins_change (Ended ending part) = false
+
+abbrev pub changed_after : ℕ → Event → Bool → Bool
+changed_after id (event.Began number plan background) before = if number == id then false else before
+changed_after id (Step number did) before = before || ((number == id) && begins_change did)
+changed_after id (Key key now refusals lost) before = before
+changed_after id (Look refusals) before = before
+changed_after id (Order number order) before = before
+changed_after id Closed before = before
+
+-- the job that was begun last with this number has changed something
+abbrev pub has_changed : ℕ → List Entry → Bool
+has_changed id [] = false
+has_changed id (e ∷ older) = changed_after id e.what (has_changed id older)

@@ -1,0 +1,8 @@
+//! What a session writes down of itself.
+#![tactic(auto)]
+
+mod history;
+mod refusal;
+
+pub use history::{Entries, Entry, Event, History, JobOrder};
+pub use refusal::{BeginError, PlanError, Refusal, Refusals};

@@ -1,0 +1,44 @@
+//! What a key or a look wanted and was refused.
+use mc_text::Path;
+use std::marker::Model;
+use tree_trait::TreeError;
+
+/// Why a plan could not be made.
+#[derive(Debug, Drop)]
+pub enum PlanError {
+    /// Something stands at the target.
+    TargetThere(Path),
+    /// The target's path would have more than 4,096 bytes.
+    TargetTooLong,
+}
+
+/// Why a job could not be begun.
+#[derive(Clone, Copy, Debug, Drop, PartialEq, Eq)]
+pub enum BeginError {
+    /// All numbers of jobs were given: there are 2^32 - 1, and none is given twice.
+    NoMoreIds,
+}
+
+/// What a key or a look wanted and was refused.
+#[derive(Debug, Drop)]
+pub enum Refusal {
+    /// This call of the tree.
+    Tree(Path, TreeError),
+    /// This plan of a job.
+    Plan(PlanError),
+    /// The beginning of a job.
+    Begin(BeginError),
+}
+
+/// The refusals of one key or look.
+#[derive(Debug, Drop)]
+pub struct Refusals(pub Vec<Refusal>);
+
+impl Model for Refusals {
+    ghost use Rattle.std.specs.Prelude.{List};
+    ghost use Rattle.session_history.specs.declared.refusal.Refusal.{Refusal};
+
+    ghost Value = { List Refusal };
+
+    ghost view = { λ l. l.0.items };
+}
