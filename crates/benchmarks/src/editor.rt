@@ -1,13 +1,12 @@
-//! Times the commands of an editor on one text of 10 MiB. With no word it does nothing; bench/editor/run judges it.
-#![tactic(auto)]
+//! Times the commands of an editor on one text of 10 MiB. bench/editor/run judges it.
 
+use crate::printing::{long_text, print_since};
 use anyhow::{Result, bail};
 use mc_edit::{EditCmd, Editor};
 use mc_text::Bytes;
 use std::alloc::Global;
-use std::rt::Runtime;
+use std::fs;
 use std::time::Instant;
-use std::{env, fs};
 
 /// The text is this line, again and again. bench/editor/yardstick.c makes the same one.
 const LINE: &[u8] =
@@ -19,29 +18,19 @@ const INSERTIONS: usize = 10_000;
 
 const MOVES: usize = 1_000;
 
-fn main(rt: HostRuntime) -> Result<()> {
-    let Some(work) = env::args(&rt)?.nth(1) else {
-        return Ok(());
-    };
-    match work.as_str() {
-        "times" => print_times(&rt),
-        "typed" => print_typed(&rt),
-        "replaced" => print_replaced(&rt),
+/// Prints times, or the memory that an editor keeps or takes.
+pub fn time_editor(rt: &HostRuntime, work: &str) -> Result<()> {
+    match work {
+        "times" => print_times(rt),
+        "typed" => print_typed(rt),
+        "replaced" => print_replaced(rt),
         _ => bail!("times, typed or replaced"),
     }
 }
 
-fn long_text(alloc: Global) -> Result<Vec<u8>> {
-    let mut bytes = Vec::with_capacity(alloc, SIZE)?;
-    for _ in 0..SIZE / LINE.len() {
-        bytes.extend_from_slice(LINE)?;
-    }
-    Ok(bytes)
-}
-
 /// An editor of the text, and what its start takes.
 fn timed_start(rt: &HostRuntime) -> Result<Editor> {
-    let text = long_text(rt.alloc())?;
+    let text = long_text(rt.alloc(), LINE, SIZE)?;
     let start = Instant::now(rt)?;
     let editor = Editor::start(rt.alloc(), text.as_slice());
     print_since(rt, "start", start)?;
@@ -144,11 +133,5 @@ fn print_memory(rt: &HostRuntime, name: &'static str) -> Result<()> {
             println!(rt; "{line}")?;
         }
     }
-    Ok(())
-}
-
-fn print_since(rt: &impl Runtime, name: &'static str, start: Instant) -> Result<()> {
-    let micros = start.elapsed(rt)?.as_micros();
-    println!(rt; "{name} {micros}")?;
     Ok(())
 }

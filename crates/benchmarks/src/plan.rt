@@ -1,26 +1,20 @@
-//! Times the planning of many sources on real files, by the processor time that it takes. With no words it does nothing;
-//! bench/plan/run makes the files.
-#![tactic(auto)]
+//! Times the planning of many sources on real files, by the processor time that it takes. bench/plan/run makes the files.
 
 use anyhow::{Result, bail};
 use host_tree::HostTree;
 use mc_text::{Path, Paths, Text};
 use op_plan::{Job, PlanError, Request, make_plan};
 use std::alloc::Global;
-use std::env;
 use std::time::CpuClock;
 
 /// A prime, so that the sources come in another order than that of their names.
 const STRIDE: u64 = 7919;
 
-fn main(rt: HostRuntime) -> Result<()> {
-    let mut words = env::args(&rt)?;
-    let (Some(folder), Some(count)) = (words.nth(1), words.next()) else {
-        return Ok(());
-    };
+/// Plans a copy of so many files, and a deletion that is refused.
+pub fn time_plans(rt: &HostRuntime, folder: &str, count: &str) -> Result<()> {
     let count: u64 = count.parse()?;
-    time_copy(&rt, folder.as_str(), count)?;
-    time_nested(&rt, folder.as_str(), count)
+    time_copy(rt, folder, count)?;
+    time_nested(rt, folder, count)
 }
 
 /// The files `s/f000000` and so on of the folder are to be copied into its folder `t`.

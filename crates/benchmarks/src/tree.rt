@@ -1,10 +1,8 @@
-//! Works on real files through the calls of a tree. With no words it does nothing; bench/tree/run compares it.
-#![tactic(auto)]
+//! Works on real files through the calls of a tree. bench/tree/run compares it.
 
 use anyhow::{Result, bail};
 use host_tree::HostTree;
 use mc_text::{Kind, Path};
-use std::env;
 use std::time::Instant;
 use tree_trait::Tree;
 
@@ -14,20 +12,17 @@ const CHUNK: usize = 65536;
 /// How often such a call is made: 1 GiB in all.
 const CHUNKS: u64 = 16384;
 
-fn main(rt: HostRuntime) -> Result<()> {
-    let mut words = env::args(&rt)?;
-    let (Some(work), Some(place)) = (words.nth(1), words.next()) else {
-        return Ok(());
-    };
-    let path = Path::parse(rt.alloc(), place.as_str())?;
-    let start = Instant::now(&rt)?;
-    match work.as_str() {
-        "write" => write_file(&rt, &path)?,
-        "read" => read_file(&rt, &path)?,
-        "list" => list_folder(&rt, &path)?,
+/// Does one piece of work at a place, and prints the microseconds that it took.
+pub fn time_work(rt: &HostRuntime, work: &str, place: &str) -> Result<()> {
+    let path = Path::parse(rt.alloc(), place)?;
+    let start = Instant::now(rt)?;
+    match work {
+        "write" => write_file(rt, &path)?,
+        "read" => read_file(rt, &path)?,
+        "list" => list_folder(rt, &path)?,
         _ => bail!("write, read or list"),
     }
-    let micros = start.elapsed(&rt)?.as_micros();
+    let micros = start.elapsed(rt)?.as_micros();
     println!(rt; "{micros}")?;
     Ok(())
 }
