@@ -1,9 +1,9 @@
 use Rattle.std.proofs.Common.{◌≡◌, ℕ, List, Option, Some, None, option_map, MatchOption, length, drop, ap, ◌∙◌, sym, ◌+◌}
 use denote.Ref.{Bor}
 use Rattle.std.specs.Str.Pattern.{FindsTextPrefix}
-use Rattle.user_menu.specs.Words.{behind_word}
-use Rattle.user_menu.proofs.WordLemmas.{behind_word-is, behind_word-none}
-use Rattle.user_menu.proofs.words.behind_word.Goals as goal
+use Rattle.text_scan.specs.Words.{behind_word}
+use Rattle.text_scan.proofs.WordLemmas.{behind_word-is, behind_word-none}
+use Rattle.text_scan.proofs.words.behind_word.Goals as goal
 
 by_bytes : (word text : List ℕ) (r : Option (Bor (List ℕ)))
     → MatchOption r (FindsTextPrefix word text None)

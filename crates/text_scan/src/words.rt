@@ -1,6 +1,6 @@
 //! A text behind the word or the white space with which it begins.
 ghost use Rattle.std.specs.Prelude.{◌≡◌, ◌++◌, ◌<◌, length, IfSome, option_map};
-ghost use Rattle.ext_rules.specs.Words.{behind_word, behind_indent, unindented};
+ghost use Rattle.text_scan.specs.Words.{behind_word, behind_indent, unindented};
 
 /// The text behind a word with which it begins.
 pub fn behind_word<'a>(text: &'a str, word: &str) -> Option<&'a str>

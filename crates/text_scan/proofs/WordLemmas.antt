@@ -1,7 +1,7 @@
 -- What stands behind a word.
 use Rattle.std.proofs.Common.{◌≡◌, ◌≢◌, ℕ, Bool, false, true, cond, ◌==◌, List, [], ◌∷◌, ◌++◌, Some, None, refl, ap, ◌∙◌, arith}
 use Rattle.std.proofs.lemmas.Bool.Decides.{nat_tests}
-use Rattle.user_menu.specs.Words.{behind_word}
+use Rattle.text_scan.specs.Words.{behind_word}
 
 same : (a b : ℕ) → (a == b) ≡ true → a ≡ b
 same a b is = grind (arith, nat_tests)

@@ -1,8 +1,8 @@
 use Rattle.std.proofs.Common.{◌≡◌, length}
 use denote.Text.{Utf8}
 use denote.Shadow.{shadow}
-use Rattle.ext_rules.specs.Words.{unindented}
-use Rattle.ext_rules.proofs.words.unindented.Given as goal
+use Rattle.text_scan.specs.Words.{unindented}
+use Rattle.text_scan.proofs.words.unindented.Given as goal
 
 abbrev pub invariant-loop-behind : goal.invariant-loop-behind
 invariant-loop-behind l = record {
