@@ -10,14 +10,14 @@ use Rattle.mc_frame.specs.Panes.{pane_pieces}
 use Rattle.mc_frame.specs.JobsLine.{jobs_text}
 use Rattle.mc_frame.specs.KeyBars.{bar_text}
 
--- what is written: the panes, in the last row but one the jobs, and in the last row the keys
-abbrev pub panels_pieces : ℕ → ℕ → Panes → JobCounts → List Piece
-panels_pieces lines columns panes jobs =
-    pane_pieces lines columns panes
-    ++ fitted_at (lines - 1) 1 columns (jobs_text jobs) Plain
+-- the last row but one has the jobs, and the last row the keys
+abbrev pub rows_below : ℕ → ℕ → JobCounts → List Piece
+rows_below lines columns jobs =
+    fitted_at (lines - 1) 1 columns (jobs_text jobs) Plain
     ∷ fitted_at lines 1 columns (bar_text Panels) Plain
     ∷ []
 
 -- a screen of so many lines and columns that shows the panels and the jobs
 unfoldable pub panels_frame : ℕ → ℕ → Panes → JobCounts → CellGrid
-panels_frame lines columns panes jobs = painted (blank_grid lines columns) (panels_pieces lines columns panes jobs)
+panels_frame lines columns panes jobs =
+    painted (blank_grid lines columns) (pane_pieces lines columns panes ++ rows_below lines columns jobs)

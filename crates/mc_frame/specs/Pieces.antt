@@ -18,7 +18,7 @@ pub record Piece : Type 0 where
   pub look : Attr
 
 -- a text is written from a cell on, where that lies on the screen
-abbrev pub written_at : CellGrid → ℕ → ℕ → List ℕ → Attr → CellGrid
+unfoldable pub written_at : CellGrid → ℕ → ℕ → List ℕ → Attr → CellGrid
 written_at grid row column text look =
     if is_within 1 grid.lines row && is_within 1 grid.columns column then written grid row column text look else grid
 

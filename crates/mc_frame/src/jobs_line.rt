@@ -1,12 +1,13 @@
 //! The line of jobs.
-ghost use Rattle.std.specs.Prelude.{◌≡◌, ◌<◌, ◌^◌, IfOk};
+ghost use Rattle.std.specs.Prelude.{◌≡◌, ◌<◌, ◌^◌, ◌++◌, string_bytes, IfOk, OnOk};
+ghost use Rattle.std.specs.Fmt.{decimal};
 ghost use Rattle.mc_frame.specs.JobsLine.{live_jobs, jobs_text};
 
 use mc_text::{NoMemory, Text};
-use std::alloc::Global;
+use std::alloc::{AllocError, Global};
 
 /// How many live jobs are in each state.
-#[derive(Clone, Copy, Debug, PartialEq, Eq)]
+#[derive(Clone, Copy)]
 pub struct JobCounts {
     pub ready: usize,
     pub asking: usize,
@@ -20,18 +21,23 @@ pub fn jobs_text(alloc: Global, jobs: &JobCounts) -> Result<Text, NoMemory>
     requires { live_jobs jobs.now < 2 ^ 64 }
     ensures { IfOk result (λ text. text ≡ jobs_text jobs.now) }
 {
-    let JobCounts {
-        ready,
-        asking,
-        troubled,
-        stopped,
-    } = *jobs;
-    let live = ready + asking + troubled + stopped;
+    let live = jobs.ready + jobs.asking + jobs.troubled + jobs.stopped;
     if live == 0 {
         return Text::from_str(alloc, "");
     }
-    let text = format!(in alloc;
-        "Jobs {live}: {ready} ready, {asking} asking, {troubled} in trouble, {stopped} stopped"
-    )?;
+    let mut text = String::from_str(alloc, "Jobs ")?;
+    push_count(&mut text, live, ": ")?;
+    push_count(&mut text, jobs.ready, " ready, ")?;
+    push_count(&mut text, jobs.asking, " asking, ")?;
+    push_count(&mut text, jobs.troubled, " in trouble, ")?;
+    push_count(&mut text, jobs.stopped, " stopped")?;
     Ok(Text(text))
+}
+
+/// Puts a count and what stands behind it at the end of a text.
+fn push_count(text: &mut String, count: usize, behind: &str) -> Result<(), AllocError>
+    ensures { OnOk result (string_bytes text.new ≡ string_bytes text.old ++ decimal count ++ behind.now) }
+{
+    write!(text, "{count}")?;
+    text.push_str(behind)
 }

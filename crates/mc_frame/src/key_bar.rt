@@ -7,7 +7,7 @@ use std::alloc::Global;
 use std::convert::AsStr;
 
 /// What the function keys do.
-#[derive(Clone, Copy, Debug, PartialEq, Eq)]
+#[derive(Clone, Copy)]
 pub enum KeyBar {
     Panels,
     Viewer,

@@ -12,13 +12,14 @@ use std::alloc::Global;
 use std::convert::AsStr;
 
 /// Where a pane stands: the column of its left wall, and the columns between its walls.
-#[derive(Clone, Copy, Debug)]
+#[derive(Clone, Copy)]
 struct Stand {
     column: u16,
     inside: u16,
 }
 
 /// Writes a pane of so many columns, from a column on.
+#[tactic(auto, using(crate::proofs::Painted::painted_append))]
 pub fn write_pane(
     grid: &mut Grid,
     alloc: Global,
@@ -77,6 +78,7 @@ fn write_heading(grid: &mut Grid, alloc: Global, stand: Stand, pane: &Pane) -> R
 }
 
 /// Writes its items, in rows of this height in all.
+#[tactic(auto, using(crate::proofs::Painted::item_rows_next))]
 fn write_items(
     grid: &mut Grid,
     alloc: Global,
@@ -134,29 +136,44 @@ fn write_row(
     first: &Item,
     second: &Item,
 ) -> Result<(), NoMemory>
-    requires { row < 2 ^ 18 }
     ensures { OnOk result (grid.new ≡ painted grid.old (items_in_row shape row stand.column stand.inside first.now second.now)) }
 {
-    let column = usize::from(stand.column);
-    let inside = usize::from(stand.inside);
-    let whole = Place {
-        row,
-        column,
-        room: inside,
-    };
-    if shape == Shape::Full {
-        return write_walled(grid, alloc, whole, first.text.as_str(), first.look);
+    match shape {
+        Shape::Full => {
+            let whole = Place {
+                row,
+                column: usize::from(stand.column),
+                room: usize::from(stand.inside),
+            };
+            write_walled(grid, alloc, whole, first.text.as_str(), first.look)
+        }
+        Shape::Brief => write_two(grid, alloc, stand, row, first, second),
     }
-    let both = inside.saturating_sub(1);
+}
+
+/// Writes two items between walls, of which they share the middle one.
+fn write_two(
+    grid: &mut Grid,
+    alloc: Global,
+    stand: Stand,
+    row: usize,
+    first: &Item,
+    second: &Item,
+) -> Result<(), NoMemory>
+    ensures { OnOk result (grid.new ≡ painted grid.old (items_in_row Shape.Brief row stand.column stand.inside first.now second.now)) }
+{
+    let column = usize::from(stand.column);
+    let inside = usize::from(stand.inside).saturating_sub(1);
+    let half = inside / 2;
     let left = Place {
         row,
         column,
-        room: both / 2,
+        room: half,
     };
     let right = Place {
         row,
-        column: column + 1 + both / 2,
-        room: both - both / 2,
+        column: column + 1 + half,
+        room: inside - half,
     };
     write_walled(grid, alloc, left, first.text.as_str(), first.look)?;
     write_walled(grid, alloc, right, second.text.as_str(), second.look)

@@ -1,9 +1,9 @@
 //! The frame of the panels.
-ghost use Rattle.std.specs.Prelude.{◌≡◌, ◌<◌, ◌^◌, [], ◌∷◌, OnOk, IfOk};
-ghost use Rattle.mc_frame.specs.Pieces.{painted, fitted_at};
+ghost use Rattle.std.specs.Prelude.{◌≡◌, ◌<◌, ◌^◌, OnOk, IfOk};
+ghost use Rattle.mc_frame.specs.Pieces.{painted};
 ghost use Rattle.mc_frame.specs.Panes.{pane_pieces};
 ghost use Rattle.mc_frame.specs.JobsLine.{live_jobs};
-ghost use Rattle.mc_frame.specs.Frames.{panels_frame};
+ghost use Rattle.mc_frame.specs.Frames.{rows_below, panels_frame};
 
 use crate::jobs_line::{JobCounts, jobs_text};
 use crate::key_bar::{KeyBar, bar_text};
@@ -17,6 +17,7 @@ use std::convert::AsStr;
 
 /// A screen of so many lines and columns that shows the panels and the live jobs. It takes time linear in the cells and in
 /// the texts.
+#[tactic(auto, unfolding(crate::specs::Frames::panels_frame))]
 pub fn paint_panels(
     alloc: Global,
     lines: u16,
@@ -30,15 +31,30 @@ pub fn paint_panels(
 {
     let mut grid = Grid::blank(alloc, lines, columns)?;
     write_panes(&mut grid, alloc, lines, columns, panes)?;
-    let said = jobs_text(alloc, jobs)?;
-    let keys = bar_text(alloc, KeyBar::Panels)?;
-    let above = lines.saturating_sub(1);
-    write_line(&mut grid, alloc, above, columns, said.as_str(), Attr::Plain)?;
-    write_line(&mut grid, alloc, lines, columns, keys.as_str(), Attr::Plain)?;
+    write_below(&mut grid, alloc, lines, columns, jobs)?;
     Ok(grid)
 }
 
+/// Writes the last two rows: the live jobs, and the keys.
+fn write_below(
+    grid: &mut Grid,
+    alloc: Global,
+    lines: u16,
+    columns: u16,
+    jobs: &JobCounts,
+) -> Result<(), NoMemory>
+    requires { live_jobs jobs.now < 2 ^ 64 }
+    ensures { OnOk result (grid.new ≡ painted grid.old (rows_below lines columns jobs.now)) }
+{
+    let said = jobs_text(alloc, jobs)?;
+    let keys = bar_text(alloc, KeyBar::Panels)?;
+    let row = lines.saturating_sub(1);
+    write_line(grid, alloc, row, columns, said.as_str(), Attr::Plain)?;
+    write_line(grid, alloc, lines, columns, keys.as_str(), Attr::Plain)
+}
+
 /// Writes the panes that are shown.
+#[tactic(auto, using(crate::proofs::Painted::painted_append))]
 fn write_panes(
     grid: &mut Grid,
     alloc: Global,

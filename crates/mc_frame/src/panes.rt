@@ -7,14 +7,14 @@ use std::alloc::Global;
 use std::marker::Model;
 
 /// A line of a listing.
-#[derive(Debug, Drop)]
+#[derive(Drop)]
 pub struct Item {
     pub text: Text,
     pub look: Attr,
 }
 
 /// Lines of a listing, from the first one that is shown.
-#[derive(Debug, Drop)]
+#[derive(Drop)]
 pub struct Items(pub Vec<Item>);
 
 impl Model for Items {
@@ -52,7 +52,7 @@ impl Items {
 }
 
 /// How many columns of items stand in a pane.
-#[derive(Clone, Copy, Debug, PartialEq, Eq)]
+#[derive(Clone, Copy)]
 pub enum Shape {
     /// One.
     Full,
@@ -61,7 +61,7 @@ pub enum Shape {
 }
 
 /// What one panel shows.
-#[derive(Debug, Drop)]
+#[derive(Drop)]
 pub struct Pane {
     /// The text of its folder's path.
     pub title: Text,
@@ -77,7 +77,7 @@ pub struct Pane {
 }
 
 /// The panels on the screen.
-#[derive(Debug, Drop)]
+#[derive(Drop)]
 pub enum Panes {
     /// The left one and the right one.
     Both(Pane, Pane),

@@ -9,7 +9,7 @@ use std::alloc::Global;
 use std::convert::AsStr;
 
 /// A text's row and its first column, both counted from 1, and the columns that it takes.
-#[derive(Clone, Copy, Debug)]
+#[derive(Clone, Copy)]
 pub struct Place {
     pub row: usize,
     pub column: usize,
@@ -17,6 +17,7 @@ pub struct Place {
 }
 
 /// Writes a text from a cell on, where that lies on the screen.
+#[tactic(auto, unfolding(crate::specs::Pieces::written_at))]
 pub fn write_at(
     grid: &mut Grid,
     alloc: Global,
