@@ -12,11 +12,11 @@ use Rattle.mc_frame.specs.declared.panes.Panes.{Panes}
 use Rattle.mc_frame.specs.declared.panes.Panes.TheVariants.{Both, Whole}
 use Rattle.mc_frame.specs.Pieces.{Piece, text_at, fitted_at, walled, edge, cut}
 
--- row 1: `+`, the drawn title, cut as `fitted` does, `-` in the columns that are left, and `+`; in reverse for the current
--- panel
+-- the first line of the current panel is in reverse
 abbrev pub title_look : Pane → Attr
 title_look pane = if pane.is_current then Reverse else Plain
 
+-- row 1: `+`, the drawn title, cut as `fitted` does, `-` in the columns that are left, and `+`
 abbrev pub title_row : ℕ → ℕ → Pane → List Piece
 title_row column inside pane =
     text_at 1 column (edge inside) (title_look pane)

@@ -1,4 +1,4 @@
-use Rattle.std.proofs.Common.{◌≡◌, ◌++◌, ap, sym, ◌∙◌}
+use Rattle.std.proofs.Common.{◌++◌, ap, sym, ◌∙◌}
 use Rattle.mc_frame.specs.Pieces.{painted}
 use Rattle.mc_frame.specs.Panes.{pane_pieces}
 use Rattle.mc_frame.specs.Frames.{panels_frame, rows_below}
