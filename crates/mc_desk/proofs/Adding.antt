@@ -41,7 +41,8 @@ use Rattle.mc_ui.specs.Refused.{has_fault}
 use Rattle.mc_desk.specs.Tallies.{Tally, faults_in, can_step, end_unseen_event, next_id, part_left}
 use Rattle.mc_desk.specs.Desks.{Seen, noted, stand_of, stand_with, with_end}
 use Rattle.mc_desk.specs.LiveRows.{row_of, rows_told, trouble_told}
-use Rattle.mc_desk.specs.Sessions.{KeyWorks, MayEnd}
+use Rattle.mc_desk.specs.Granting.{KeyWorks}
+use Rattle.mc_desk.specs.Sessions.{MayEnd}
 use Rattle.mc_desk.proofs.Answering.{part_told, waits_told}
 use Rattle.mc_desk.proofs.Keeping.{Adds, Leads, before}
 
@@ -134,7 +135,7 @@ module _ (contents contents_after : Option CallLog) (faults : ℕ) (old new : Se
   pub adds_key : (key : KeyType) (now : ℕ) (refusals : List Refusal) → new.newest ≡ entry seat old.tally.calls count shown (Key key now refusals false) ∷ old.newest → new.tally ≡ old.tally → new.job ≡ old.job
       → new.tally.job ≡ option_map told new.job → old.tally.closed ≡ false → old.tally.due ≡ None → old.tally.lost ≡ false → old.screen.planned ≡ None → contents_after ≡ contents
       → faults_in faults old.newest ≤ count → (has_fault refusals ≡ true → HasRisen (faults_in faults old.newest) count) → IfKnown contents (λ log. AreRefused Stat log refusals)
-      → KeyWorks (before contents old) key refusals (noted new) → old.quit ≡ false → new.dirty ≡ old.dirty
+      → KeyWorks (sight contents) (rows_told old.newest) (next_id old.tally.last) key refusals (noted old) (noted new) → old.quit ≡ false → new.dirty ≡ old.dirty
       → Adds contents contents_after faults old new (entry seat old.tally.calls count shown (Key key now refusals false))
   adds_key key now refusals more tally job tells unclosed looked unlost settled same later fault refused leads unasked dirty = record {
     more = more;

@@ -20,30 +20,30 @@ use Rattle.mc_desk.specs.Tallies.{Tally, tally, after_entry, most_calls, faults_
 use Rattle.mc_desk.specs.LiveRows.{rows_told}
 use Rattle.mc_desk.specs.Sessions.{Before, IsSession, Traces, BeginsIn, EventLeads, HasCauses, IsTimely, Counts, folders_of}
 use Rattle.mc_desk.specs.Starts.{IsOpened}
-use Rattle.mc_desk.specs.Desks.{Seen, IsWritten, IsDesk, noted, stand_of, stand_with}
+use Rattle.mc_desk.specs.declared.standing.Standing.{Standing}
+use Rattle.mc_desk.specs.Outputs.{Output}
+use Rattle.mc_desk.specs.Standings.{fresh_standing}
+use Rattle.mc_desk.specs.Desks.{Seen, IsWritten, IsDesk, noted, seen_of, stand_of, stand_with}
 
 -- a desk on which nothing happened yet
-abbrev pub fresh : Tally
-fresh = record { job = None; last = 0; has_unseen_end = false; closed = false; due = Some 0; lost = false; calls = 0 }
-
-pub kept_opening : (start : Option Start) (opening contents : Option CallLog) (faults : ℕ) (folders : Start) (screen : Screen) (log : Logged) (dirty : List Route) (taken : ℕ) (pending : List ℕ) (failed : Bool) → BeginsIn start folders
-    → contents ≡ opening → IsOpened contents folders.left folders.right screen log → dirty ≡ []
-    → IsDesk start opening contents faults
-    (record { newest = log.newest; spare = log.spare; screen = screen; job = None; dirty = dirty; tally = fresh; taken = taken; pending = pending; quit = false; failed = failed })
-kept_opening start opening contents faults folders screen log dirty taken pending failed named same opened none = record {
-  written = record {
-    session = subst (λ es. IsSession start opening faults es screen (stand_with None dirty) contents) (sym opened.empty)
-        (subst (λ o. IsSession start o faults [] screen (stand_with None dirty) contents) same (opened.opening, opened_in, ap (stand_with None) none, refl));
-    tally = ap tally (sym opened.empty);
-    told = refl;
-    calls = omega arith;
-  };
-  settled = opened.opening.planned;
-  asked = λ asked. absurd cc;
-  lost = λ lost. absurd cc;
-  shut = λ closed. absurd cc;
-  room = let h = opened.room in omega (arith, h);
-}
+pub kept_opening : (start : Option Start) (opening contents : Option CallLog) (faults : ℕ) (folders : Start) (screen : Screen) (log : Logged) (standing : Standing) (dirty : List Route) (out : Output) (taken : ℕ) (pending : List ℕ)
+    → BeginsIn start folders → contents ≡ opening → IsOpened contents folders.left folders.right screen log → standing ≡ fresh_standing → dirty ≡ []
+    → IsDesk start opening contents faults (seen_of log screen standing dirty out taken pending)
+kept_opening start opening contents faults folders screen log standing dirty out taken pending named same opened fresh none =
+    subst (λ s. IsDesk start opening contents faults (seen_of log screen s dirty out taken pending)) (sym fresh) (record {
+      written = record {
+        session = subst (λ es. IsSession start opening faults es screen (stand_with None dirty) contents) (sym opened.empty)
+            (subst (λ o. IsSession start o faults [] screen (stand_with None dirty) contents) same (opened.opening, opened_in, ap (stand_with None) none, refl));
+        tally = ap tally (sym opened.empty);
+        told = refl;
+        calls = omega arith;
+      };
+      settled = opened.opening.planned;
+      asked = λ asked. absurd cc;
+      lost = λ lost. absurd cc;
+      shut = λ closed. absurd cc;
+      room = let h = opened.room in omega (arith, h);
+    })
   where
     opened_in : BeginsIn start (folders_of screen)
     opened_in known is =

@@ -1,5 +1,5 @@
 -- The entries of a desk leave a whole desk.
-use Rattle.std.proofs.Common.{◌≡◌, ℕ, ◌+◌, ◌-◌, ◌^◌, ◌≤◌, min, Bool, true, false, ◌||◌, List, [], ◌∷◌, length, refl, sym, ◌∙◌, ap, subst, inl, inr, Option, Some, None, arith}
+use Rattle.std.proofs.Common.{◌≡◌, ℕ, ◌+◌, ◌-◌, ◌^◌, ◌≤◌, min, Bool, true, false, ◌||◌, List, [], ◌∷◌, ◌++◌, length, refl, sym, ◌∙◌, ap, subst, inl, inr, Option, Some, None, arith}
 use Rattle.std.specs.Prelude.{if◌then◌else◌}
 use Rattle.std.specs.Option.{option_map}
 use Rattle.key_screen.specs.declared.keys.Key.{Key as KeyType}
@@ -30,18 +30,17 @@ use Rattle.session_history.specs.Entries.{is_closed}
 use Rattle.copy_move.specs.Steps.{RunStep, step_made}
 use Rattle.session_history.specs.Refusals.{AreRefused}
 use Rattle.history_laws.specs.Traces.{IsUnclaimed}
-use Rattle.mc_ui.specs.declared.asks.Ask.{Ask}
 use Rattle.mc_ui.specs.LiveJobs.{takes_answer}
-use Rattle.mc_ui.specs.Screens.{Box, Screen, NoBox, DeleteBox, MaskBox, TargetBox, TroubleBox, PartLeftBox, Planned, Begins, Answers, ByBox, KeyLeads, LookLeads, plain_base, sight, with_ask}
+use Rattle.mc_ui.specs.Screens.{Box, Screen, NoBox, DeleteBox, MaskBox, TargetBox, TroubleBox, PartLeftBox, Begins, Answers, ByBox, KeyLeads, LookLeads, plain_base, sight}
 use Rattle.mc_ui.specs.Refused.{has_fault}
 use Rattle.mc_desk.specs.Tallies.{Tally, faults_in, can_step, next_id, part_left}
 use Rattle.mc_desk.specs.declared.starts.Start.{Start}
 use Rattle.mc_desk.specs.LiveRows.{row_of, rows_of, rows_told, trouble_told}
-use Rattle.mc_desk.specs.Sessions.{KeyWorks}
+use Rattle.mc_desk.specs.Granting.{KeyWorks}
 use Rattle.mc_desk.specs.Desks.{Seen, kept_room, IsWritten, IsDesk, noted, stand_of}
 use Rattle.mc_desk.proofs.Adding.{adds_began, adds_closed, adds_given_up, adds_key, adds_look, adds_lost, adds_order, adds_settled, adds_step, entry, unasked_screen}
 use Rattle.mc_desk.proofs.Answering.{rows_untold}
-use Rattle.mc_desk.proofs.Keeping.{before, written_more}
+use Rattle.mc_desk.proofs.Keeping.{written_more}
 use Rattle.mc_desk.proofs.Troubles.{WaitsIn, may_answer, session_waits}
 
 -- two entries are room enough
@@ -133,7 +132,7 @@ module _ (start : Option Start) (opening contents contents_after : Option CallLo
       (settled : new.screen.planned ≡ None) (room : 2 ≤ new.spare) where
     -- a key that was worked
     pub desk_keyed : new.newest ≡ entry 0 old.tally.calls count shown (Key key now refusals false) ∷ old.newest → new.tally ≡ old.tally → new.job ≡ old.job → new.tally.job ≡ option_map told new.job
-        → KeyWorks (before contents old) key refusals (noted new) → new.dirty ≡ old.dirty → IsDesk start opening contents_after faults new
+        → KeyWorks (sight contents) (rows_told old.newest) (next_id old.tally.last) key refusals (noted old) (noted new) → new.dirty ≡ old.dirty → IsDesk start opening contents_after faults new
     desk_keyed more is job tells works dirty =
         desk_of start opening contents_after faults new
         (written_more faults old new _ start opening contents contents_after desk.written
@@ -149,18 +148,18 @@ module _ (start : Option Start) (opening contents contents_after : Option CallLo
     abbrev pub keyed : Screen → Seen
     keyed screen = record old { newest = entry 0 old.tally.calls count shown (Key key now refusals false) ∷ old.newest; screen = screen }
 
-    keyed_written : (screen : Screen) → KeyWorks (before contents old) key refusals screen → IsWritten start opening contents_after faults (keyed screen)
+    keyed_written : (screen : Screen) → KeyWorks (sight contents) (rows_told old.newest) (next_id old.tally.last) key refusals (noted old) screen → IsWritten start opening contents_after faults (keyed screen)
     keyed_written screen works =
         written_more faults old (keyed screen) _ start opening contents contents_after desk.written
         (adds_key contents contents_after faults old (keyed screen) 0 count shown refl key now refusals refl refl refl desk.written.told unclosed looked (unlost start opening contents faults old desk unclosed) desk.settled same later fault
-        refused (subst (λ s. KeyWorks (before contents old) key refusals s) (sym (unasked_screen (keyed screen) unasked)) works) unasked refl)
+        refused (subst (λ s. KeyWorks (sight contents) (rows_told old.newest) (next_id old.tally.last) key refusals (noted old) s) (sym (unasked_screen (keyed screen) unasked)) works) unasked refl)
 
     -- a key that confirmed a job, and the job that it begins
     pub desk_began : (plan : Job) (background : Bool) (run : Running) (id began_count : ℕ) → run.id ≡ id → next_id old.tally.last ≡ Some run.id → old.job ≡ None → is_workable plan ≡ true
         → option_map (running run.id) (first_work run.id plan) ≡ Some run
         → new.newest ≡ entry 0 old.tally.calls began_count 0 (Began id plan background) ∷ (entry 0 old.tally.calls count shown (Key key now refusals false) ∷ old.newest)
         → count ≤ began_count → new.job ≡ Some run → new.tally ≡ record old.tally { job = Some (told run); last = id; due = Some id } → new.quit ≡ old.quit → new.dirty ≡ old.dirty
-        → KeyWorks (before contents old) key refusals (record new.screen { planned = Some (Begins plan background) }) → IsDesk start opening contents_after faults new
+        → KeyWorks (sight contents) (rows_told old.newest) (next_id old.tally.last) key refusals (noted old) (record new.screen { planned = Some (Begins plan background) }) → IsDesk start opening contents_after faults new
     desk_began plan background run id began_count number numbered idle workable started more counted job is quit dirty works =
         let written = keyed_written screen works in
         desk_of start opening contents_after faults new
@@ -180,7 +179,7 @@ module _ (start : Option Start) (opening contents contents_after : Option CallLo
         → new.newest ≡ entry 0 old.tally.calls order_count 0 (Order live.id (Answered answer)) ∷ (entry 0 old.tally.calls count shown (Key key now refusals false) ∷ old.newest)
         → count ≤ order_count → new.job ≡ Some (answered answer live)
         → new.tally ≡ record old.tally { job = Some (told (answered answer live)); due = Some live.id } → new.quit ≡ old.quit → new.dirty ≡ old.dirty
-        → KeyWorks (before contents old) key refusals (record new.screen { planned = Some (Answers answer) }) → IsDesk start opening contents_after faults new
+        → KeyWorks (sight contents) (rows_told old.newest) (next_id old.tally.last) key refusals (noted old) (record new.screen { planned = Some (Answers answer) }) → IsDesk start opening contents_after faults new
     desk_ordered answer live order_count was takes more counted job is quit dirty works =
         let written = keyed_written screen works in
         desk_of start opening contents_after faults new
@@ -264,7 +263,7 @@ room_left closed job live spare reserved left is had kept noted = go closed (sub
     go false had = omega (arith, had, kept, noted)
 
 -- a key that is unknown leaves the screen as it was
-unknown_stays : (tree : Option View) (rows : List JobRow) (key : KeyType) (refusals : List Refusal) (before after : Screen) → plain_base key ≡ Unknown → KeyLeads tree rows key refusals before after → after ≡ before
+pub unknown_stays : (tree : Option View) (rows : List JobRow) (key : KeyType) (refusals : List Refusal) (before after : Screen) → plain_base key ≡ Unknown → KeyLeads tree rows key refusals before after → after ≡ before
 unknown_stays tree rows key refusals before after unknown leads = go before.over (subst (λ b. ByBox before.over tree rows b refusals before after) unknown leads)
   where
     go : (over : Box) → ByBox over tree rows Unknown refusals before after → after ≡ before
@@ -275,12 +274,9 @@ unknown_stays tree rows key refusals before after unknown leads = go before.over
     go (TroubleBox trouble) h = h.1
     go (PartLeftBox path) h = h.1
 
--- so it asks for nothing that is to be carried out
-pub unknown_plans_nothing : (tree : Option View) (rows : List JobRow) (key : KeyType) (refusals : List Refusal) (before after : Screen) (asked : Ask) (planned : Planned) → plain_base key ≡ Unknown → before.planned ≡ None
-    → KeyLeads tree rows key refusals before (with_ask asked after) → (with_ask asked after).planned ≡ Some planned → ⊥
-unknown_plans_nothing tree rows key refusals before after asked planned unknown settled leads plans =
-    let none = ap (λ (s : Screen). s.planned) (unknown_stays tree rows key refusals before (with_ask asked after) unknown leads) ∙ settled in
-    cc
+pub append_no_keys : (keys : List KeyType) → keys ++ [] ≡ keys
+append_no_keys [] = refl
+append_no_keys (key ∷ keys) = ap (λ ks. key ∷ ks) (append_no_keys keys)
 
 -- the end of a job that ran out of memory, written down in the room that was kept for it
 pub desk_gave_up : (start : Option Start) (opening contents : Option CallLog) (faults : ℕ) (old new : Seen) (seat count : ℕ) (live : Running) (part : Option Route)

@@ -3,10 +3,8 @@ use Rattle.std.specs.Prelude.{◌≡◌, ◌⊎◌, ℕ, ◌+◌, ◌*◌, ◌�
 use Rattle.std.specs.Option.{option_map}
 use Rattle.mc_text.specs.Routes.{Route}
 use Rattle.tree_trait.specs.Change.{CallLog}
-use Rattle.tree_trait.specs.Answers.{HasRisen, IfKnown}
+use Rattle.tree_trait.specs.Answers.{IfKnown}
 use Rattle.tree_trait.specs.declared.devices.Command.{Command}
-use Rattle.tree_trait.specs.declared.devices.SinkError.{SinkError}
-use Rattle.tree_trait.specs.declared.devices.SinkError.TheVariants.{Fault, Memory}
 use Rattle.key_screen.specs.declared.keys.Key.{Key as KeyType}
 use Rattle.key_screen.specs.DecodedKeys.{decoded_keys}
 use Rattle.job_reports.specs.declared.report.Did.TheVariants.{Barrier}
@@ -18,10 +16,7 @@ use Rattle.copy_move.specs.Settling.{changed_folder}
 use Rattle.job_reports.specs.Paths.{without}
 use Rattle.history_laws.specs.Traces.{Stand, before_others}
 use Rattle.mc_ui.specs.Screens.{Screen, Ends}
-use Rattle.mc_desk.specs.declared.session.Due.{Due}
-use Rattle.mc_desk.specs.declared.session.Due.TheVariants.{Nothing, First, Job}
 use Rattle.mc_desk.specs.declared.replies.DeskReply.{DeskReply}
-use Rattle.mc_desk.specs.declared.replies.DeskReply.TheVariants.{Go, Wait, Quit}
 use Rattle.mc_desk.specs.declared.starts.Start.{Start}
 use Rattle.mc_desk.specs.declared.replies.DeskError.{DeskError}
 use Rattle.mc_desk.specs.declared.replies.DeskError.TheVariants as error
@@ -29,10 +24,14 @@ use Rattle.mc_desk.specs.declared.replies.StepReply.{StepReply}
 use Rattle.mc_desk.specs.declared.replies.StepReply.TheVariants.{Ended, Idle}
 use Rattle.mc_desk.specs.Tallies.{Tally, tally, faults_in, keys_in}
 use Rattle.mc_desk.specs.Sessions.{IsSession}
+use Rattle.mc_desk.specs.Logs.{Logged}
+use Rattle.mc_desk.specs.Outputs.{Output}
+use Rattle.mc_desk.specs.Standings.{tally_of}
+use Rattle.mc_desk.specs.declared.standing.Standing.{Standing}
 
 -- what can be seen of a desk: its entries, the newest first, and how many more find room; the screen; the live job; the dirty
 -- folders; what the history came to; how many bytes were taken, and those since the last key; whether the end was asked for; and
--- whether the screen failed
+-- what was put to the terminal
 pub record Seen : Type 0 where
   pub newest : List Entry
   pub spare : ℕ
@@ -43,13 +42,22 @@ pub record Seen : Type 0 where
   pub taken : ℕ
   pub pending : List ℕ
   pub quit : Bool
-  pub failed : Bool
+  pub out : Output
 
--- what is to be looked at before the next key, by its number
-abbrev pub awaited : Due → Option ℕ
-awaited Nothing = None
-awaited First = Some 0
-awaited (Job id) = Some id
+-- a session as it is seen, by its fields
+abbrev pub seen_of : Logged → Screen → Standing → List Route → Output → ℕ → List ℕ → Seen
+seen_of log screen standing dirty out taken pending = record {
+  newest = log.newest;
+  spare = log.spare;
+  screen = screen;
+  job = standing.job;
+  dirty = dirty;
+  tally = tally_of standing;
+  taken = taken;
+  pending = pending;
+  quit = standing.quit;
+  out = out;
+}
 
 -- room that is kept: for the entry that closes, and for the end of a live job
 abbrev pub kept_room : Bool → Option Running → ℕ
@@ -89,32 +97,20 @@ pub record IsDesk (start : Option Start) (opening contents : Option CallLog) (fa
   pub shut : desk.tally.closed ≡ true → desk.tally.due ≡ None
   pub room : kept_room desk.tally.closed desk.job ≤ desk.spare
 
--- whether a draw has failed by now: earlier, or this one
-abbrev pub failed_by : Bool → Result ℕ SinkError → Bool
-failed_by before (Err Fault) = true
-failed_by before (Err Memory) = before
-failed_by before (Ok bytes) = before
-
 -- an answer that names the screen comes only where it failed
 abbrev pub BlamesScreen : {A : Type 0} → Result A DeskError → Bool → Type 0
 BlamesScreen result failed = result ≡ Err error.Screen → failed ≡ true
-
--- A screen that failed has counted it since the opening; the count doesn't fall.
-abbrev pub Blames : Bool → ℕ → ℕ → Type 0
-Blames false opening now = opening ≤ now
-Blames true opening now = HasRisen opening now
 
 -- no command ran, and none failed
 pub record RanNothing (runs runs_now : Option (List Command)) (faults faults_now : ℕ) : Type 0 where
   pub ran : runs_now ≡ runs
   pub failed : faults_now ≡ faults
 
--- what a session keeps of its devices: its tree, its screen, and its spawner
-pub record KeepsDesk (start : Option Start) (opening contents : Option CallLog) (seen : Seen) (faults faults_now : ℕ) (failed : Bool) (sink_opening sink_now : ℕ)
+-- what a session keeps of its tree and its spawner
+pub record KeepsDesk (start : Option Start) (opening contents : Option CallLog) (seen : Seen) (faults faults_now : ℕ)
     (runs runs_now : Option (List Command)) (spawner_opening spawner_now : ℕ) : Type 0 where
   pub desk : IsDesk start opening contents faults seen
   pub counted : faults_in faults seen.newest ≤ faults_now
-  pub screen : Blames failed sink_opening sink_now
   pub spawner : RanNothing runs runs_now spawner_opening spawner_now
 
 -- the bytes that the keyboard gave are the keys of the history and those since the last key
@@ -159,18 +155,6 @@ pub record KeepsKeys (old new : Seen) : Type 0 where
 -- the session takes no more keys: it is closed, or its end was asked for
 abbrev pub is_over : Seen → Bool
 is_over desk = desk.tally.closed || desk.quit
-
--- the answer that the session is over
-abbrev pub is_quit : DeskReply → Bool
-is_quit Go = false
-is_quit (Wait job) = false
-is_quit Quit = true
-
--- what is to be looked at, by the answer
-abbrev pub awaited_by : DeskReply → Option ℕ
-awaited_by Go = None
-awaited_by (Wait job) = Some job
-awaited_by Quit = None
 
 -- An error closes the desk, unless memory ran out and all was left as it was; there may be more room for entries then.
 abbrev pub FailsClosed : DeskError → Seen → Seen → Type 0

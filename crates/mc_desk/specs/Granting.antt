@@ -1,10 +1,15 @@
 -- What the desk does about what a key asks.
-use Rattle.std.specs.Prelude.{◌≡◌, ℕ, Bool, true, ⊤, List, [], ◌∷◌, Option, Some, None}
+use Rattle.std.specs.Prelude.{◌≡◌, ◌⊎◌, ℕ, Bool, true, ⊤, List, [], ◌∷◌, Option, Some, None}
+use Rattle.tree_trait.specs.FileSystem.{View}
+use Rattle.key_screen.specs.declared.keys.Key.{Key as KeyType}
+use Rattle.job_reports.specs.declared.row.JobRow.{JobRow}
 use Rattle.job_reports.specs.declared.job.Job.{Job}
 use Rattle.job_reports.specs.Jobs.{is_workable}
 use Rattle.session_history.specs.declared.refusal.BeginError.TheVariants.{NoMoreIds}
 use Rattle.session_history.specs.declared.refusal.Refusal.{Refusal}
 use Rattle.session_history.specs.declared.refusal.Refusal.TheVariants as refusal
+use Rattle.mc_ui.specs.LiveJobs.{can_answer}
+use Rattle.mc_ui.specs.Screens.{Answers, Begins, Ends, KeyLeads, Screen, with_ask}
 use Rattle.mc_ui.specs.declared.asks.Ask.{Ask}
 use Rattle.mc_ui.specs.declared.asks.Ask.TheVariants as ask
 use Rattle.mc_ui.specs.declared.asks.Told.{Told}
@@ -22,6 +27,20 @@ CanBeWorked ask.End = ⊤
 -- why no job is begun once the last number was given
 abbrev pub no_more_ids : List Refusal
 no_more_ids = refusal.Begin NoMoreIds ∷ []
+
+-- a key asks for a job after all numbers were given: that is refused, and the screen stays
+pub record FindsNoNumber (tree : Option View) (rows : List JobRow) (next : Option ℕ) (key : KeyType) (refusals : List Refusal) (before after : Screen) : Type 0 where
+  pub plan : Job
+  pub background : Bool
+  pub asks : KeyLeads tree rows key [] before (with_ask (ask.Begin plan background) before)
+  pub none_left : next ≡ None
+  pub refused : refusals ≡ no_more_ids
+  pub stays : after ≡ before
+
+-- what a key comes to, while these jobs are live and the next job has this number
+abbrev pub KeyWorks : Option View → List JobRow → Option ℕ → KeyType → List Refusal → Screen → Screen → Type 0
+KeyWorks tree rows next key refusals before after =
+    KeyLeads tree rows key refusals before after ⊎ FindsNoNumber tree rows next key refusals before after
 
 -- What a key asks is done: a job is begun under the next number. Where there is none that is refused. All else that the key was
 -- refused is told as it was.
@@ -41,3 +60,25 @@ told_of (Begin confirmed) = told.Done
 told_of Refuse = told.Refused (refusal.Begin NoMoreIds)
 told_of (Answer answer) = told.Done
 told_of End = told.Nothing
+
+-- the screen with what is done noted on it
+abbrev pub with_deed : Deed → Screen → Screen
+with_deed Nothing screen = screen
+with_deed Refuse screen = screen
+with_deed End screen = record screen { planned = Some Ends }
+with_deed (Begin confirmed) screen = record screen { planned = Some (Begins confirmed.plan confirmed.background) }
+with_deed (Answer answer) screen = record screen { planned = Some (Answers answer) }
+
+-- it can be done: a job is begun while none is live, and a trouble answered as it may be
+abbrev pub CanBeDone : List JobRow → Option ℕ → Deed → Type 0
+CanBeDone rows next Nothing = ⊤
+CanBeDone rows next Refuse = ⊤
+CanBeDone rows next End = ⊤
+CanBeDone rows next (Begin confirmed) = (rows ≡ []) × (is_workable confirmed.plan ≡ true) × (next ≡ Some confirmed.run.id)
+CanBeDone rows next (Answer answer) = can_answer rows answer ≡ true
+
+-- a key was worked on the screen, and it was decided what is done about it
+pub record IsWorked (tree : Option View) (rows : List JobRow) (next : Option ℕ) (key : KeyType) (before after : Screen) (done : Deed) (refusals : List Refusal) : Type 0 where
+  pub works : KeyWorks tree rows next key refusals before (with_deed done after)
+  pub can : CanBeDone rows next done
+  pub settled : after.planned ≡ None

@@ -2,6 +2,8 @@ pub mod Desks
 pub mod Granting
 pub mod LiveRows
 pub mod Logs
+pub mod Outputs
 pub mod Sessions
+pub mod Standings
 pub mod Starts
 pub mod Tallies

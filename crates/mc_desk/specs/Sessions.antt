@@ -6,7 +6,6 @@ use Rattle.mc_text.specs.Routes.{Route}
 use Rattle.tree_trait.specs.Calls.{Stat, ListFolder}
 use Rattle.tree_trait.specs.Change.{CallLog}
 use Rattle.tree_trait.specs.Answers.{HasRisen, IfKnown}
-use Rattle.key_screen.specs.declared.keys.Key.{Key as KeyType}
 use Rattle.job_reports.specs.declared.answer.Answer.{Answer}
 use Rattle.job_reports.specs.declared.job.Job.{Job}
 use Rattle.job_reports.specs.declared.row.JobRow.{JobRow}
@@ -16,18 +15,16 @@ use Rattle.session_history.specs.declared.history.Event.{Event}
 use Rattle.session_history.specs.declared.history.Event.TheVariants.{Key, Look, Began, Order, Step, Closed}
 use Rattle.session_history.specs.declared.history.JobOrder.TheVariants.{Answered}
 use Rattle.session_history.specs.declared.history.Entry.{Entry}
-use Rattle.session_history.specs.declared.refusal.Refusal.{Refusal}
 use Rattle.copy_move.specs.Jobs.{Running}
 use Rattle.copy_move.specs.Told.{IsAllowedStep}
 use Rattle.session_history.specs.Refusals.{AreRefused}
 use Rattle.session_history.specs.Entries.{calls_in}
 use Rattle.history_laws.specs.Traces.{Follows, Stand, at_rest, nothing_live}
 use Rattle.mc_ui.specs.Refused.{has_fault}
-use Rattle.mc_ui.specs.declared.asks.Ask.TheVariants as ask
 use Rattle.mc_ui.specs.LiveJobs.{takes_answer}
-use Rattle.mc_ui.specs.Screens.{Screen, Planned, Begins, Answers, Ends, sight, KeyLeads, LookLeads, IsOpening, with_ask}
+use Rattle.mc_ui.specs.Screens.{Screen, Planned, Begins, Answers, Ends, sight, LookLeads, IsOpening}
 use Rattle.mc_desk.specs.declared.starts.Start.{Start}
-use Rattle.mc_desk.specs.Granting.{no_more_ids}
+use Rattle.mc_desk.specs.Granting.{KeyWorks}
 use Rattle.mc_desk.specs.LiveRows.{rows_told}
 use Rattle.mc_desk.specs.Tallies.{Tally, tally, most_calls, faults_in, next_id, part_left}
 
@@ -45,19 +42,6 @@ pub record Before : Type 0 where
   pub rows : List JobRow
   pub part : Option Route
   pub screen : Screen
-
--- a key asks for a job after all numbers were given: that is refused, and the screen stays
-pub record FindsNoNumber (was : Before) (key : KeyType) (refusals : List Refusal) (after : Screen) : Type 0 where
-  pub plan : Job
-  pub background : Bool
-  pub asks : KeyLeads was.tree was.rows key [] was.screen (with_ask (ask.Begin plan background) was.screen)
-  pub none_left : next_id was.tally.last ≡ None
-  pub refused : refusals ≡ no_more_ids
-  pub stays : after ≡ was.screen
-
--- what a key comes to
-abbrev pub KeyWorks : Before → KeyType → List Refusal → Screen → Type 0
-KeyWorks was key refusals after = KeyLeads was.tree was.rows key refusals was.screen after ⊎ FindsNoNumber was key refusals after
 
 -- Directly after the key that confirmed a job, and nowhere else, it is begun as it was planned, while no other is live, under
 -- the next number.
@@ -81,7 +65,7 @@ pub record IsOrdered (was : Before) (id : ℕ) (answer : Answer) (after : Screen
 -- live job as its newest report told it. A step is one that the live job may make.
 abbrev pub EventLeads : Before → Event → Screen → Type 0
 EventLeads was (Key key now refusals true) after = TakesKey was.tally × (after ≡ was.screen)
-EventLeads was (Key key now refusals false) after = TakesKey was.tally × KeyWorks was key refusals after
+EventLeads was (Key key now refusals false) after = TakesKey was.tally × KeyWorks was.tree was.rows (next_id was.tally.last) key refusals was.screen after
 EventLeads was (Look refusals) after = (was.tally.closed ≡ false) × LookLeads was.tree was.rows was.tally.has_unseen_end was.part refusals was.screen after
 EventLeads was (Began id plan background) after = IsBegun was id plan background after
 EventLeads was (Order id (Answered answer)) after = IsOrdered was id answer after

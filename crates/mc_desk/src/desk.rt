@@ -12,7 +12,9 @@ ghost use Rattle.mc_desk.specs.Logs.{jobs_begun};
 ghost use Rattle.mc_desk.specs.Sessions.{BeginsIn, EndsSession};
 ghost use Rattle.mc_desk.specs.Starts.{IsStartCause, is_start_fault};
 ghost use Rattle.mc_desk.specs.Tallies.{can_step, faults_in, has_lost};
-ghost use Rattle.mc_desk.specs.Desks.{Blames, BlamesScreen, CountsByte, FailsClosed, IsFresh, IsNext, KeepsKeys, MovesDirty, RanNothing, Reads, awaited_by, idle_reply, is_over, is_quit};
+ghost use Rattle.mc_desk.specs.Outputs.{Blames};
+ghost use Rattle.mc_desk.specs.Standings.{awaited_by, is_quit};
+ghost use Rattle.mc_desk.specs.Desks.{BlamesScreen, CountsByte, FailsClosed, IsFresh, IsNext, KeepsKeys, MovesDirty, RanNothing, Reads, idle_reply, is_over};
 
 use crate::replies::{DeskError, DeskReply, Ended, Refused, StepReply};
 use crate::session::Session;
@@ -87,7 +89,7 @@ impl<N: Tag, T: Tree, S: Sink, P: Spawner> Desk<N, T, S, P> {
         ensures taken { is_over self.old ≡ false → CountsByte result self.old.taken self.new.taken }
         ensures unclosed { OnOk result (self.new.tally.closed ≡ self.old.tally.closed) }
         ensures dirty { self.new.dirty ≡ self.old.dirty }
-        ensures screen_failed { BlamesScreen result self.new.failed }
+        ensures screen_failed { BlamesScreen result self.new.out.failed }
     {
         self.session.byte(alloc, byte, now)
     }
@@ -101,7 +103,7 @@ impl<N: Tag, T: Tree, S: Sink, P: Spawner> Desk<N, T, S, P> {
         ensures unclosed { OnOk result (self.new.tally.closed ≡ self.old.tally.closed) }
         ensures quit { self.new.quit ≡ self.old.quit }
         ensures dirty { self.new.dirty ≡ self.old.dirty }
-        ensures screen_failed { BlamesScreen result self.new.failed }
+        ensures screen_failed { BlamesScreen result self.new.out.failed }
     {
         self.session.look(alloc)
     }
@@ -144,7 +146,7 @@ impl<N: Tag, T: Tree, S: Sink, P: Spawner> Desk<N, T, S, P> {
         ensures screen { self.new.screen ≡ self.old.screen }
         ensures keys { KeepsKeys self.old self.new }
         ensures dirty { self.new.dirty ≡ self.old.dirty }
-        ensures failed { self.new.failed ≡ self.old.failed }
+        ensures out { self.new.out ≡ self.old.out }
         ensures quit { self.new.quit ≡ self.old.quit }
     {
         self.session.close();

@@ -1,16 +1,21 @@
 //! What the desk does about what a key asks.
 ghost use Rattle.std.specs.Prelude.{◌≡◌, ◌∷◌, [], true, IfOk, OnErr, Some};
 ghost use Rattle.job_reports.specs.Jobs.{is_workable};
-ghost use Rattle.mc_ui.specs.Screens.{is_request};
-ghost use Rattle.mc_desk.specs.Granting.{CanBeWorked, IsGranted, told_of};
+ghost use Rattle.tree_trait.specs.Calls.{Stat};
+ghost use Rattle.mc_ui.specs.Reading.{ReadsTree};
+ghost use Rattle.mc_ui.specs.Screens.{is_request, sight};
+ghost use Rattle.mc_desk.specs.declared.granting.Granted.{Granted as GrantedType};
+ghost use Rattle.mc_desk.specs.Granting.{CanBeWorked, IsGranted, IsWorked, told_of};
 
 use crate::confirmed::Confirmed;
 use copy_move::Run;
-use job_reports::{Answer, Job};
+use job_reports::{Answer, Job, JobRows};
+use key_screen::Key;
 use mc_text::NoMemory;
-use mc_ui::{Ask, KeyAct, Told};
+use mc_ui::{Ask, KeyAct, Told, Ui};
 use session_history::{BeginError, Refusal, Refusals};
 use std::alloc::Global;
+use tree_trait::Tree;
 
 /// What is done.
 #[derive(Debug, Drop)]
@@ -32,8 +37,29 @@ pub struct Granted {
     pub refusals: Refusals,
 }
 
+/// Works a key on the screen while these jobs are live, and decides what is done about what it asks. The screen is told of
+/// that; where memory runs out it is as it was.
+pub fn work<T: Tree>(
+    alloc: Global,
+    ui: &mut Ui,
+    tree: &mut T,
+    rows: &JobRows,
+    next: Option<u32>,
+    key: Key,
+) -> Result<Granted, NoMemory>
+    ensures worked { IfOk result (λ granted. IsWorked (sight (T.contents tree.old)) rows.now next key ui.old ui.new granted.deed granted.refusals) }
+    ensures lost { OnErr result (ui.new ≡ ui.old) }
+    ensures reads { ReadsTree Stat (λ (granted : GrantedType). granted.refusals) result (T.contents tree.old) (T.contents tree.new)
+        (T.fault_count tree.old) (T.fault_count tree.new) }
+{
+    let act = ui.key(alloc, tree, rows, key)?;
+    let granted = grant(alloc, act, next)?;
+    ui.settle(told(&granted.deed));
+    Ok(granted)
+}
+
 /// Starts the job that a key asks for under the next number, or refuses it where none is left.
-pub fn grant(alloc: Global, act: KeyAct, next: Option<u32>) -> Result<Granted, NoMemory>
+fn grant(alloc: Global, act: KeyAct, next: Option<u32>) -> Result<Granted, NoMemory>
     requires workable { CanBeWorked act.ask }
     ensures granted { IfOk result (λ granted. IsGranted next act.ask act.refusals granted.deed granted.refusals) }
     ensures lost { OnErr result (is_request act.ask ≡ true) }
@@ -51,7 +77,7 @@ pub fn grant(alloc: Global, act: KeyAct, next: Option<u32>) -> Result<Granted, N
 }
 
 /// What the screen is told of it.
-pub fn told(deed: &Deed) -> Told
+fn told(deed: &Deed) -> Told
     ensures { result ≡ told_of deed.now }
 {
     match deed {

@@ -10,8 +10,10 @@ mod opening;
 mod replies;
 mod rows;
 mod session;
+mod standing;
 mod starts;
 mod tag;
+mod terminal;
 
 pub use desk::Desk;
 pub use log::Log;

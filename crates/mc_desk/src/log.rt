@@ -1,6 +1,7 @@
 //! The history as it is written: entries are added in room that was made before, so that nothing is half written down.
 ghost use Rattle.std.specs.Prelude.{◌≡◌, ◌+◌, ◌-◌, ◌^◌, ◌≤◌, ◌<◌, [], ◌∷◌, length, IfOk, OnOk, OnErr, reverse};
 ghost use Rattle.mc_desk.specs.Logs.{begun_by, jobs_begun};
+ghost use Rattle.mc_desk.specs.Standings.{followed, plain_entry};
 ghost use Rattle.mc_desk.specs.LiveRows.{is_report as does_report, reported_trouble as trouble_in, trouble_told as last_trouble};
 ghost use Rattle.mc_desk.specs.Tallies.{is_end_or_look as ends_or_looks, named_part as part_named, part_left as last_part};
 
@@ -65,6 +66,17 @@ impl Log {
         let _added = self.entries.push(entry);
     }
 
+    /// Adds what is written directly after an entry, if there is something.
+    pub fn note_after(&mut self, calls: u64, faults: u64, what: Option<Event>)
+        requires { 0 < self.old.spare }
+        ensures added { self.new.newest ≡ followed calls faults what self.old.newest }
+        ensures room { self.old.spare ≤ self.new.spare + 1 }
+    {
+        if let Some(what) = what {
+            self.note(plain(calls, faults, what));
+        }
+    }
+
     /// The part that the last job's end left, if no look has taken this end up.
     pub fn part_left(&self, alloc: Global) -> Result<Option<Path>, NoMemory>
         ensures { IfOk result (λ part. part ≡ last_part self.now.newest) }
@@ -89,6 +101,19 @@ impl Log {
             started: jobs_begun(entries.as_slice()),
             entries: Entries(entries),
         }
+    }
+}
+
+/// An entry that draws nothing.
+pub fn plain(calls: u64, faults: u64, what: Event) -> Entry
+    ensures { result ≡ plain_entry calls faults what }
+{
+    Entry {
+        seat: 0,
+        calls,
+        faults,
+        shown: 0,
+        what,
     }
 }
 

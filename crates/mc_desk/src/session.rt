@@ -14,97 +14,41 @@ mod steps;
 use crate::log::Log;
 use crate::opening::open;
 use crate::replies::Refused;
+use crate::standing::Standing;
 use crate::starts::Start;
 use crate::tag::Tag;
-use copy_move::{Dirty, Run};
+use crate::terminal::Terminal;
+use copy_move::Dirty;
 use key_screen::KeyReader;
 use mc_ui::Ui;
 use std::alloc::Global;
 use std::marker::{Model, PhantomData};
 use tree_trait::{Sink, Spawner, Tree};
 
-/// What is to be looked at before the next key is taken.
-#[derive(Clone, Copy, Debug, Drop, PartialEq, Eq)]
-enum Due {
-    Nothing,
-    /// The opening frame.
-    First,
-    /// This job, once it isn't ready.
-    Job(u32),
-}
-
 /// A session. `N` names the world as it found it.
 #[derive(Drop)]
 pub struct Session<N: Tag, T: Tree, S: Sink, P: Spawner> {
     tree: T,
-    screen: S,
+    terminal: Terminal<N, S>,
     spawner: P,
     keys: KeyReader,
     ui: Ui,
-    job: Option<Run>,
+    standing: Standing,
     dirty: Dirty,
     log: Log,
     taken: u64,
-    last_id: u32,
-    calls: u64,
-    shown: u128,
-    has_unseen_end: bool,
-    due: Due,
-    closed: bool,
-    quit: bool,
-    failed: bool,
-    lost: bool,
     of: PhantomData<N>,
 }
 
 impl<N: Tag, T: Tree, S: Sink, P: Spawner> Model for Session<N, T, S, P> {
-    ghost use Rattle.std.specs.Option.{option_map};
-    ghost use Rattle.copy_move.specs.Told.{told};
-    ghost use Rattle.mc_desk.specs.Desks.{Seen, KeepsDesk, awaited};
+    ghost use Rattle.mc_desk.specs.Desks.{Seen, KeepsDesk, seen_of};
 
     ghost Value = { Seen };
 
-    ghost view = { λ d. record {
-      newest = d.log.newest;
-      spare = d.log.spare;
-      screen = d.ui;
-      job = d.job;
-      dirty = d.dirty;
-      tally = record {
-        job = option_map told d.job;
-        last = d.last_id;
-        has_unseen_end = d.has_unseen_end;
-        closed = d.closed;
-        due = awaited d.due;
-        lost = d.lost;
-        calls = d.calls;
-      };
-      taken = d.taken;
-      pending = d.keys;
-      quit = d.quit;
-      failed = d.failed;
-    } };
+    ghost view = { λ d. seen_of d.log d.ui d.standing d.dirty d.terminal d.taken d.keys };
 
-    ghost invariant = { λ d. KeepsDesk N.start N.opening (T.contents d.tree) (record {
-      newest = d.log.newest;
-      spare = d.log.spare;
-      screen = d.ui;
-      job = d.job;
-      dirty = d.dirty;
-      tally = record {
-        job = option_map told d.job;
-        last = d.last_id;
-        has_unseen_end = d.has_unseen_end;
-        closed = d.closed;
-        due = awaited d.due;
-        lost = d.lost;
-        calls = d.calls;
-      };
-      taken = d.taken;
-      pending = d.keys;
-      quit = d.quit;
-      failed = d.failed;
-    }) N.tree_faults (T.fault_count d.tree) d.failed N.sink_faults (S.fault_count d.screen)
+    ghost invariant = { λ d. KeepsDesk N.start N.opening (T.contents d.tree)
+        (seen_of d.log d.ui d.standing d.dirty d.terminal d.taken d.keys) N.tree_faults (T.fault_count d.tree)
         N.runs (P.runs d.spawner) N.spawner_faults (P.fault_count d.spawner) };
 }
 
@@ -146,23 +90,14 @@ impl<N: Tag, T: Tree, S: Sink, P: Spawner> Session<N, T, S, P> {
             }),
             Ok((ui, log)) => Ok(Session {
                 tree,
-                screen,
+                terminal: Terminal::new(screen),
                 spawner,
                 keys: KeyReader::new(),
                 ui,
-                job: None,
+                standing: Standing::new(),
                 dirty: Dirty::new(alloc),
                 log,
                 taken: 0,
-                last_id: 0,
-                calls: 0,
-                shown: 0,
-                has_unseen_end: false,
-                due: Due::First,
-                closed: false,
-                quit: false,
-                failed: false,
-                lost: false,
                 of: PhantomData,
             }),
         }

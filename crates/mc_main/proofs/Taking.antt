@@ -8,7 +8,8 @@ use Rattle.session_history.specs.declared.history.Entry.{Entry}
 use Rattle.mc_desk.specs.declared.replies.DeskReply.{DeskReply}
 use Rattle.mc_desk.specs.declared.replies.DeskReply.TheVariants.{Go, Wait, Quit}
 use Rattle.mc_desk.specs.Tallies.{keys_in}
-use Rattle.mc_desk.specs.Desks.{IsNext, Reads, is_quit}
+use Rattle.mc_desk.specs.Standings.{is_quit}
+use Rattle.mc_desk.specs.Desks.{IsNext, Reads}
 use Rattle.mc_main.specs.declared.session.SessionEnd.{SessionEnd}
 use Rattle.mc_main.specs.declared.session.SessionEnd.TheVariants.{ScreenFailed, NoMemory}
 use Rattle.mc_main.specs.Headline.{IsCut, IsCutShort, LeavesOthers, ReadsKeys, TookAll, left_of}

@@ -1,16 +1,16 @@
 -- What is printed where no session began.
-use Rattle.std.specs.Prelude.{◌≡◌, ℕ, ⊤, List, [], ◌∷◌, ◌++◌, Option, Some, None, codes}
+use Rattle.std.specs.Prelude.{◌≡◌, ℕ, ⊤, true, List, [], ◌∷◌, ◌++◌, Option, Some, None, codes}
 use Rattle.mc_text.specs.Drawn.{drawn}
 use Rattle.tree_trait.specs.declared.calls.TreeError.{TreeError}
 use Rattle.tree_trait.specs.Change.{CallLog, current}
-use Rattle.tree_trait.specs.Answers.{IfKnown}
+use Rattle.tree_trait.specs.Answers.{HasRisen, IfKnown}
 use Rattle.mc_ui.specs.Causes.{cause_words}
 use Rattle.mc_desk.specs.declared.starts.Side.{Side}
 use Rattle.mc_desk.specs.declared.starts.Side.TheVariants.{Left, Right}
 use Rattle.mc_desk.specs.declared.starts.StartError.{StartError}
 use Rattle.mc_desk.specs.declared.starts.StartError.TheVariants.{Tree, Memory}
 use Rattle.mc_desk.specs.declared.starts.Start.{Start}
-use Rattle.mc_desk.specs.Starts.{IsStartCause}
+use Rattle.mc_desk.specs.Starts.{IsStartCause, is_start_fault}
 use Rattle.mc_main.specs.Headline.{folders_in}
 
 -- how the program is called
@@ -38,9 +38,11 @@ abbrev pub IsCauseIn : CallLog → Option Start → StartError → Type 0
 IsCauseIn log None error = ⊤
 IsCauseIn log (Some start) error = IsStartCause (current log) start.left start.right error
 
--- the screen was given, after these bytes, the line for a folder that can't be listed, with the cause for that
-pub record PrintsStart (contents : Option CallLog) (words : List (List ℕ)) (before : List ℕ) (given : Option (List ℕ)) : Type 0 where
+-- The screen was given, after these bytes, the line for a folder that can't be listed, with the cause for that; a fault only where
+-- the tree has counted one since the run began.
+pub record PrintsStart (contents : Option CallLog) (words : List (List ℕ)) (faults faults_after : ℕ) (before : List ℕ) (given : Option (List ℕ)) : Type 0 where
   pub side : Side
   pub cause : TreeError
   pub is_cause : IfKnown contents (λ log. IsCauseIn log (folders_in words) (Tree side cause))
+  pub risen : is_start_fault (Tree side cause) ≡ true → HasRisen faults faults_after
   pub line : given ≡ Some (before ++ start_line words side cause)

@@ -111,7 +111,7 @@ pub fn mc_run<N: Tag, T: Tree, K: Source, S: Sink, P: Spawner, C: Clock, G: Gate
     ensures usage_line { result.status ≡ 1 → IfKnown (S.given screen) (λ before.
         S.given result.screen ≡ Some (before ++ line_of_usage)) }
     ensures start_line { result.status ≡ 2 → IfKnown (S.given screen) (λ before.
-        PrintsStart (T.contents tree) words.now before (S.given result.screen)) }
+        PrintsStart (T.contents tree) words.now (T.fault_count tree) (T.fault_count result.tree) before (S.given result.screen)) }
 
     // Statuses 3 and 4: only where the device's count of faults has risen. There are no others.
     ensures keyboard { result.status ≡ 3 → HasRisen (K.fault_count keys.old) (K.fault_count keys.new) }

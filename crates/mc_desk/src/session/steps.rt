@@ -1,20 +1,20 @@
 //! Steps of the job, and the end of a session.
 ghost use Rattle.std.specs.Prelude.{◌≡◌, ◌<◌, ◌≤◌, true, Option, Some, None, IsSome, ◌||◌, reverse, if◌then◌else◌};
-ghost use Rattle.std.specs.Option.{option_map};
-ghost use Rattle.session_history.specs.Entries.{is_closed};
-ghost use Rattle.copy_move.specs.Jobs.{closed_job};
 ghost use Rattle.copy_move.specs.Ranks.{rank_with};
 ghost use Rattle.copy_move.specs.Told.{if_closed, IsReady};
 ghost use Rattle.history_laws.specs.ToldJob.{live_job};
 ghost use Rattle.history_laws.specs.Traces.{IsTracedTo};
 ghost use Rattle.mc_desk.specs.Sessions.{EndsSession};
 ghost use Rattle.mc_desk.specs.Tallies.{can_step, faults_in, keys_in, has_lost};
-ghost use Rattle.mc_desk.specs.Desks.{Blames, KeepsKeys, MovesDirty, RanNothing, idle_reply};
+ghost use Rattle.mc_desk.specs.Outputs.{Blames};
+ghost use Rattle.mc_desk.specs.Desks.{KeepsKeys, MovesDirty, RanNothing, idle_reply};
 ghost use Rattle.mc_desk.specs.Logs.{jobs_begun};
 
-use super::{Due, Session};
+use super::Session;
 use crate::claims::NoClaims;
+use crate::log::plain;
 use crate::replies::{Ended, StepReply};
+use crate::standing::closed;
 use crate::tag::Tag;
 use copy_move::Run;
 use job_reports::{Did, Ending, StepResult, is_end};
@@ -31,16 +31,15 @@ impl<N: Tag, T: Tree, S: Sink, P: Spawner> Session<N, T, S, P> {
         ensures screen { self.new.screen ≡ self.old.screen }
         ensures keys { KeepsKeys self.old self.new }
         ensures dirty { self.new.dirty ≡ self.old.dirty }
-        ensures failed { self.new.failed ≡ self.old.failed }
+        ensures out { self.new.out ≡ self.old.out }
         ensures quit { self.new.quit ≡ self.old.quit }
     {
-        if self.closed {
+        if self.standing.closed {
             return;
         }
-        self.log.note(closing(self.calls, self.tree.faults()));
-        self.job = closed(self.job.take());
-        self.due = Due::Nothing;
-        self.closed = true;
+        let closing = plain(self.standing.calls, self.tree.faults(), Event::Closed);
+        self.log.note(closing);
+        self.standing.close();
     }
 
     /// Makes one step of the job, if it is ready: `Did` where an entry was added. Without memory for the entry no call of
@@ -56,18 +55,18 @@ impl<N: Tag, T: Tree, S: Sink, P: Spawner> Session<N, T, S, P> {
         ensures nearer { self.old.tally.closed ≡ true → IsSome self.old.job → rank_with self.new.dirty self.new.job < rank_with self.old.dirty self.old.job }
         ensures worked { IsReady self.old.job → rank_with self.new.dirty self.new.job < rank_with self.old.dirty self.old.job }
     {
-        let Some(mut job) = self.job.take() else {
-            return idle(self.closed);
+        let Some(mut job) = self.standing.job.take() else {
+            return idle(self.standing.closed);
         };
         if job.waits() {
-            self.job = Some(job);
-            return idle(self.closed);
+            self.standing.job = Some(job);
+            return idle(self.standing.closed);
         }
         let id = job.id();
         if self.log.reserve(3).is_err() {
             self.log.note(Entry {
                 seat,
-                calls: self.calls,
+                calls: self.standing.calls,
                 faults: self.tree.faults(),
                 shown: 0,
                 what: Event::Step {
@@ -75,21 +74,22 @@ impl<N: Tag, T: Tree, S: Sink, P: Spawner> Session<N, T, S, P> {
                     did: ended_without_memory(job.give_up()),
                 },
             });
-            self.has_unseen_end = true;
+            self.standing.has_unseen_end = true;
             return StepReply::Did;
         }
         let StepResult { did, calls } = job.step(alloc, &mut self.tree, &NoClaims, &mut self.dirty);
-        self.calls = self.calls.saturating_add(calls);
+        let calls = self.standing.calls.saturating_add(calls);
         let ended = is_end(&did);
         self.log.note(Entry {
             seat,
-            calls: self.calls,
+            calls,
             faults: self.tree.faults(),
             shown: 0,
             what: Event::Step { job: id, did },
         });
-        self.has_unseen_end = end_waits(ended, self.has_unseen_end);
-        self.job = left(job, ended, self.closed);
+        self.standing.calls = calls;
+        self.standing.has_unseen_end = end_waits(ended, self.standing.has_unseen_end);
+        self.standing.job = left(job, ended, self.standing.closed);
         StepReply::Did
     }
 
@@ -100,7 +100,7 @@ impl<N: Tag, T: Tree, S: Sink, P: Spawner> Session<N, T, S, P> {
         ensures keys { keys_in self.new.newest ≡ keys_in self.old.newest }
         ensures quit { self.new.quit ≡ self.old.quit }
     {
-        while self.job.is_some() {
+        while self.standing.job.is_some() {
             self.step(alloc, 0);
         }
     }
@@ -123,33 +123,25 @@ impl<N: Tag, T: Tree, S: Sink, P: Spawner> Session<N, T, S, P> {
         session.work_off(alloc);
         let Session {
             tree,
-            screen,
+            terminal,
             spawner,
             keys: _,
             ui: _,
-            job: _,
+            standing,
             dirty: _,
             log,
             taken: _,
-            last_id: _,
-            calls: _,
-            shown: _,
-            has_unseen_end: _,
-            due: _,
-            closed: _,
-            quit,
-            failed,
-            lost,
             of: _,
         } = session;
+        let (screen, failed) = terminal.into_parts();
         Ended {
             tree,
             screen,
             spawner,
             history: log.into_history(),
-            quit,
+            quit: standing.quit,
             failed,
-            lost,
+            lost: standing.lost,
         }
     }
 }
@@ -178,32 +170,6 @@ fn ended_without_memory(part: Option<Path>) -> Did
     Did::Ended {
         ending: Ending::NoMemory,
         part,
-    }
-}
-
-/// The entry that closes a session.
-pub(super) fn closing(calls: u64, faults: u64) -> Entry
-    ensures { result ≡ record { seat = 0; calls = calls; faults = faults; shown = 0; what = Event.Closed } }
-{
-    Entry {
-        seat: 0,
-        calls,
-        faults,
-        shown: 0,
-        what: Event::Closed,
-    }
-}
-
-/// The job of a session that closes.
-pub(super) fn closed(job: Option<Run>) -> Option<Run>
-    ensures { result ≡ option_map closed_job job }
-{
-    match job {
-        None => None,
-        Some(mut job) => {
-            job.close();
-            Some(job)
-        }
     }
 }
 

@@ -1,5 +1,6 @@
 -- A run is safe at each moment, what it finished stays done, the tree is what it tells, its keys are those of the bytes that were taken, and it is complete.
 use Rattle.std.proofs.Common.{rules, reverse, inl, refl, ◌≡◌, ◌≤◌, ◌∙◌, sym, subst, ap, IsSome, Option, Some, arith}
+use Rattle.tree_trait.specs.Answers.{HasRisen}
 use Rattle.history_laws.specs.Traces.{IsTracedTo}
 use Rattle.mc_desk.specs.declared.starts.Start.{Start}
 use Rattle.mc_desk.specs.Tallies.{faults_in}
@@ -122,6 +123,7 @@ returns-in-Err-clause-commands g c =
 
 pub returns-in-Err-clause-start_line : goal.returns-in-Err-clause-start_line
 returns-in-Err-clause-start_line g c two before known =
-    prints_start (g.T.Tree.contents c.args.tree) c.args.words.now c.in-Err.refused.error before (g.S.Sink.given c.refuse_start.result.screen) (c.refuse_start.ensures.cause two)
-    (λ log is. cause_in log (folders_in c.args.words.now) c.in-Ok.start c.in-Err.refused.error c.in-Ok.ensures.read (c.in-Err.ensures.cause log is))
+    prints_start (g.T.Tree.contents c.args.tree) c.args.words.now c.in-Err.refused.error (g.T.Tree.fault_count c.args.tree) (g.T.Tree.fault_count c.refuse_start.result.tree) before (g.S.Sink.given c.refuse_start.result.screen)
+    (c.refuse_start.ensures.cause two) (λ log is. cause_in log (folders_in c.args.words.now) c.in-Ok.start c.in-Err.refused.error c.in-Ok.ensures.read (c.in-Err.ensures.cause log is))
+    (λ faulty. subst (HasRisen (g.T.Tree.fault_count c.args.tree)) (sym (ap g.T.Tree.fault_count c.refuse_start.ensures.tree)) (c.in-Err.ensures.fault faulty))
     (c.refuse_start.ensures.line two before (ap g.S.Sink.given c.in-Err.ensures.same_screen ∙ known))

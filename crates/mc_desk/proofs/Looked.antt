@@ -1,0 +1,49 @@
+-- A look leaves a whole desk.
+use Rattle.std.proofs.Common.{◌≡◌, ℕ, ◌≤◌, ◌∷◌, Bool, true, false, List, [], refl, sym, ◌∙◌, ap, subst, Option, Some, None, arith}
+use Rattle.std.specs.Prelude.{if◌then◌else◌}
+use Rattle.mc_text.specs.Routes.{Route}
+use Rattle.tree_trait.specs.Calls.{ListFolder}
+use Rattle.tree_trait.specs.Change.{CallLog}
+use Rattle.tree_trait.specs.Answers.{IfKnown, HasRisen}
+use Rattle.job_reports.specs.declared.row.JobRow.{JobRow}
+use Rattle.session_history.specs.declared.history.Event.TheVariants.{Look}
+use Rattle.session_history.specs.declared.refusal.Refusal.{Refusal}
+use Rattle.session_history.specs.Refusals.{AreRefused}
+use Rattle.copy_move.specs.Told.{told}
+use Rattle.mc_ui.specs.Screens.{LookLeads, Screen, sight}
+use Rattle.mc_ui.specs.Refused.{has_fault}
+use Rattle.mc_desk.specs.declared.starts.Start.{Start}
+use Rattle.mc_desk.specs.declared.standing.Due.{Due}
+use Rattle.mc_desk.specs.declared.standing.Standing.{Standing}
+use Rattle.mc_desk.specs.LiveRows.{rows_of, trouble_told}
+use Rattle.mc_desk.specs.Logs.{Logged}
+use Rattle.mc_desk.specs.Outputs.{Output}
+use Rattle.mc_desk.specs.Standings.{after_look, awaited, tally_of}
+use Rattle.mc_desk.specs.Tallies.{Tally, can_step, faults_in, part_left}
+use Rattle.mc_desk.specs.Desks.{IsDesk, seen_of}
+use Rattle.mc_desk.proofs.Adding.{entry}
+use Rattle.mc_desk.proofs.Answering.{steps_told}
+use Rattle.mc_desk.proofs.Whole.{desk_looked}
+
+-- what is due after a look, by its number
+due_by_number : (steps : Bool) (due : Due) → awaited (after_look steps due) ≡ (if steps then awaited due else None)
+due_by_number true due = refl
+due_by_number false due = refl
+
+abbrev taken_up : Standing → Standing
+taken_up was = record was { has_unseen_end = false; due = after_look (can_step was.job) was.due }
+
+module _ (start : Option Start) (opening contents contents_after : Option CallLog) (faults : ℕ) (log log_after : Logged) (screen screen_after : Screen) (was now_is : Standing) (dirty : List Route) (out out_after : Output) (taken : ℕ)
+    (pending : List ℕ) (count shown : ℕ) (desk : IsDesk start opening contents faults (seen_of log screen was dirty out taken pending)) (unclosed : was.closed ≡ false) (unasked : was.quit ≡ false)
+    (same : contents_after ≡ contents) (later : faults_in faults log.newest ≤ count) where
+  pub looked_whole : (refusals : List Refusal) (rows : List JobRow) (part : Option Route) → rows ≡ rows_of was.job (trouble_told log.newest) → part ≡ part_left log.newest
+      → (has_fault refusals ≡ true → HasRisen (faults_in faults log.newest) count) → IfKnown contents (λ l. AreRefused ListFolder l refusals) → LookLeads (sight contents) rows was.has_unseen_end part refusals screen screen_after
+      → screen_after.planned ≡ None → log_after.newest ≡ entry 0 was.calls count shown (Look refusals) ∷ log.newest → 2 ≤ log_after.spare → now_is ≡ taken_up was
+      → IsDesk start opening contents_after faults (seen_of log_after screen_after now_is dirty out_after taken pending)
+  looked_whole refusals rows part rows_is part_is fault refused leads settled more room is =
+      subst (λ s. IsDesk start opening contents_after faults (seen_of log_after screen_after s dirty out_after taken pending)) (sym is)
+      (desk_looked start opening contents contents_after faults _ (seen_of log_after screen_after (taken_up was) dirty out_after taken pending) count shown refusals rows part rows_is part_is desk unclosed same later fault
+      refused leads more
+      (ap (λ d. let t : Tally = record (tally_of was) { has_unseen_end = false; due = d } in t)
+      (due_by_number (can_step was.job) was.due ∙ ap (λ b. if b then awaited was.due else None) (sym (steps_told was.job))))
+      refl refl settled refl room refl unasked)
