@@ -1,5 +1,5 @@
 -- what a put makes of cells at a place where no right half stands, and which cells are drawn
-use Rattle.std.proofs.Common.{◌≡◌, ℕ, ◌+◌, ◌≤◌, suc, Bool, true, false, ◌&&◌, ◌||◌, not, ◌==◌, if◌then◌else◌, List, [], ◌∷◌, ◌++◌, length, None, refl, sym, ◌∙◌, ap, subst, arith, append_assoc, length-append, length-set, All}
+use Rattle.std.proofs.Common.{◌≡◌, ℕ, ◌+◌, ◌≤◌, suc, Bool, true, false, ◌&&◌, ◌||◌, not, ◌==◌, if◌then◌else◌, List, [], ◌∷◌, ◌++◌, length, None, refl, sym, ◌∙◌, ap, subst, arith, append_assoc, length-append, length-set, All, Option, Some}
 use Rattle.std.specs.Prelude.{slice_set}
 use Rattle.std.proofs.lemmas.List.Elements.{All-nil, All-cons}
 use Rattle.std.proofs.lemmas.Slice.Eq.{bytes_eq-Decides}
@@ -11,12 +11,13 @@ use Rattle.key_screen.specs.declared.cells.Glyph.TheVariants.{Blank, Cluster, Ri
 use Rattle.key_screen.specs.declared.cells.Cell.{Cell}
 use Rattle.key_screen.specs.Cells.{is_right_half, put_narrow, put_wide}
 use Rattle.key_screen.specs.DrawnText.{cluster_columns, has_control, stands_alone, glyph_columns, put_glyph}
-use Rattle.key_screen.specs.Layout.{is_wide, IsDrawn, AreLaid}
+use Rattle.key_screen.specs.Layout.{is_wide, IsDrawn, AreLaid, half_behind}
 use Rattle.key_screen.proofs.LayoutLemmas.{cell, freed_front, freed_cell-same, drawn-apart, IsPutting, narrow_is_put, wide_is_put, put_narrow-first, put_wide-first}
 use Rattle.mc_screen.specs.declared.changes.Change.{Change}
 use Rattle.mc_screen.specs.Changes.{is_same_attr, is_same_glyph, is_same_cell, is_due, changes_from, with_changes, IsWithin}
 use Rattle.mc_screen.proofs.ReadingLemmas.{drawn-drawable}
 use Rattle.mc_screen.proofs.StrokeLemmas.{same_attr}
+use Rattle.mc_screen.proofs.TestLemmas.{and_left, and_right}
 
 -- a put into cells at a place where no right half stands
 put-at : (put : List Cell → ℕ → List Cell) (columns : ℕ) → IsPutting put columns → (xs : List Cell) (y : Cell) (ys : List Cell) (at : ℕ) → at ≡ length xs → columns ≤ length (y ∷ ys)
@@ -61,6 +62,11 @@ pub laid-front : (cells : List Cell) → AreLaid None cells → freed_front cell
 laid-front [] laid = refl
 laid-front (c ∷ cells) laid = ap (λ x. x ∷ cells) (freed_cell-same c (drawn-apart c.glyph laid.0))
 
+-- behind the first cell
+pub before_rest : (half : Option Attr) (c : Cell) (cells : List Cell) → AreLaid half (c ∷ cells) → (next : Option Attr) × AreLaid next cells
+before_rest None c cells laid = (half_behind c, laid.1)
+before_rest (Some attr) c cells laid = (None, laid.1)
+
 -- a test that is true of what is the same
 same_attr-itself : (a : Attr) → is_same_attr a a ≡ true
 same_attr-itself Plain = refl
@@ -85,14 +91,6 @@ same_glyph RightHalf Blank is = absurd (cc)
 same_glyph RightHalf (Cluster other) is = absurd (cc)
 same_glyph (Cluster text) Blank is = absurd (cc)
 same_glyph (Cluster text) RightHalf is = absurd (cc)
-
-and_left : (a b : Bool) → (a && b) ≡ true → a ≡ true
-and_left true b is = refl
-and_left false b is = absurd (cc)
-
-and_right : (a b : Bool) → (a && b) ≡ true → b ≡ true
-and_right true b is = is
-and_right false b is = absurd (cc)
 
 same_cell : (c f : Cell) → is_same_cell c f ≡ true → c ≡ f
 same_cell c f is =

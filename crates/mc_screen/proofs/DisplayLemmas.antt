@@ -1,18 +1,30 @@
 -- what a drawing puts draws the frame
-use Rattle.std.proofs.Common.{◌≡◌, ℕ, ◌*◌, ◌<◌, Bool, true, List, length, sym, ◌∙◌, ap, subst}
+use Rattle.std.proofs.Common.{◌≡◌, ℕ, ◌*◌, ◌<◌, Bool, true, List, length, sym, ◌∙◌, ap, subst, []}
 use Rattle.key_screen.specs.declared.cells.Cell.{Cell}
-use Rattle.key_screen.specs.Grids.{CellGrid}
+use Rattle.key_screen.specs.Grids.{CellGrid, blank_grid}
+use Rattle.key_screen.specs.Terminal.{shown_grid, blank_terminal}
 use Rattle.key_screen.specs.Layout.{IsLaidOut}
 use Rattle.mc_screen.specs.Changes.{changes_from}
 use Rattle.mc_screen.specs.DrawnBytes.{drawn_bytes}
-use Rattle.mc_screen.specs.Drawings.{Display, HasSizeOf, IsDrawing}
+use Rattle.mc_screen.specs.Drawings.{Shows, Display, HasSizeOf, IsDrawing}
 use Rattle.mc_screen.specs.Sparse.{IsSparse}
+use Rattle.mc_screen.proofs.ReadingLemmas.{text_read-none}
 use Rattle.mc_screen.proofs.FrameLemmas.{frame-drawn}
 use Rattle.mc_screen.proofs.SparseLemmas.{frame-sparse}
+
+-- a terminal that was given nothing shows a blank screen
+pub blank-shown : (lines columns : ℕ) → Shows [] (blank_grid lines columns)
+blank-shown lines columns = ap shown_grid (text_read-none (blank_terminal lines columns) 0)
 
 -- the bytes that a screen with these fields puts for a frame
 abbrev pub put_bytes : Bool → List Cell → CellGrid → List ℕ
 put_bytes has_drawn cells frame = drawn_bytes frame.columns (changes_from has_drawn 0 cells frame.cells)
+
+pub put-is : (columns : ℕ) (was cells : List Cell) (has_drawn : Bool) (kept : List Cell) (frame : CellGrid) → columns ≡ frame.columns → was ≡ kept → cells ≡ frame.cells
+    → drawn_bytes columns (changes_from has_drawn 0 was cells) ≡ put_bytes has_drawn kept frame
+put-is columns was cells has_drawn kept frame width before after =
+    ap (λ n. drawn_bytes n (changes_from has_drawn 0 was cells)) width ∙ ap (λ (x : List Cell). drawn_bytes frame.columns (changes_from has_drawn 0 x cells)) before
+    ∙ ap (λ (x : List Cell). drawn_bytes frame.columns (changes_from has_drawn 0 kept x)) after
 
 pub same_count : (lines columns : ℕ) (cells : List Cell) (screen : Display) (has_drawn : Bool) (frame : CellGrid)
     → record { grid = record { lines = lines; columns = columns; cells = cells }; has_drawn = has_drawn } ≡ screen → length cells ≡ lines * columns

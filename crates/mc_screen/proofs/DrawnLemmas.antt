@@ -16,12 +16,7 @@ use Rattle.mc_screen.specs.declared.strokes.Pen.TheVariants.{Behind, Typing}
 use Rattle.mc_screen.specs.DrawnBytes.{glyph_text, is_printable, approach_to, lead, stroke, pen_after, drawing}
 use Rattle.mc_screen.proofs.ReadingLemmas.{Leads, leads-nothing}
 use Rattle.mc_screen.proofs.StrokeLemmas.{state, Stands, leads-stroke, stands-after, drawing-begins}
-use Rattle.mc_screen.proofs.CellLemmas.{narrow-columns, wide-columns, put_glyph-narrow, put_glyph-wide, laid-front, not_due-same}
-
--- behind the first cell
-before_rest : (half : Option Attr) (c : Cell) (cells : List Cell) → AreLaid half (c ∷ cells) → (next : Option Attr) × AreLaid next cells
-before_rest None c cells laid = (half_behind c, laid.1)
-before_rest (Some attr) c cells laid = (None, laid.1)
+use Rattle.mc_screen.proofs.CellLemmas.{before_rest, narrow-columns, wide-columns, put_glyph-narrow, put_glyph-wide, laid-front, not_due-same}
 
 -- a cell that begins a cluster
 laid-drawn : (half : Option Attr) (c f : Cell) (cells : List Cell) → AreLaid half (c ∷ cells) → c ≡ f → IsDrawn f.glyph → AreLaid (half_behind f) cells

@@ -100,7 +100,9 @@ drawn-changes given was frame has_drawn same short narrow size laid some shows =
     let new = state frame.lines frame.columns frame.cells drawn.0 drawn.1 drawn.2 in
     let leads : Leads old bytes new =
     subst (λ (x : List Cell). Leads (state frame.lines frame.columns x terminal.at terminal.room terminal.mode) bytes new) (laid-front was.cells terminal.laid.halves) drawn.3 in
-    ap shown_grid (read-behind blank old new given bytes before (drawing-begins frame.columns Away (changes_from has_drawn 0 was.cells frame.cells)) leads)
+    let all : all_read blank (segments (given ++ bytes)) ≡ Ok new =
+    read-behind blank old new given bytes before (drawing-begins frame.columns Away (changes_from has_drawn 0 was.cells frame.cells)) leads in
+    ap shown_grid {x = all_read blank (segments (given ++ bytes))} {y = Ok new} all
 
 -- the bytes of a frame draw it on a terminal that shows the one before, and the first on any
 pub frame-drawn : (has_drawn : Bool) (grid frame : CellGrid) → length grid.cells ≡ length frame.cells → frame.lines < 65536 → frame.columns < 65536

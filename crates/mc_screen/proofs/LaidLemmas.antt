@@ -21,6 +21,7 @@ use Rattle.key_screen.specs.Terminal.{TerminalState, blank_terminal, can_show, w
 use Rattle.key_screen.proofs.RowLemmas.{blanks-laid_out, blank_room, row_end, cluster-laid_out, length-put_glyph}
 use Rattle.mc_screen.specs.Drawings.{Shows}
 use Rattle.mc_screen.proofs.StrokeLemmas.{state}
+use Rattle.mc_screen.proofs.TestLemmas.{and_left, and_right}
 
 -- what a terminal keeps
 record Keeps (t : TerminalState) : Type 0 where
@@ -37,14 +38,6 @@ KeepsTold (Err position) = ⊤
 abbrev KeepsSome : Option TerminalState → Type 0
 KeepsSome (Some t) = Keeps t
 KeepsSome None = ⊤
-
-and_left : (a b : Bool) → (a && b) ≡ true → a ≡ true
-and_left true b is = refl
-and_left false b is = absurd (cc)
-
-and_right : (a b : Bool) → (a && b) ≡ true → b ≡ true
-and_right true b is = is
-and_right false b is = absurd (cc)
 
 keeps-cluster : (t : TerminalState) (cluster : List ℕ) → Keeps t → can_show t cluster ≡ true → Keeps (with_cluster t cluster)
 keeps-cluster t cluster keeps shown =

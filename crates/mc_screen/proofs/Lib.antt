@@ -1,3 +1,4 @@
+pub mod TestLemmas
 pub mod EscapeLemmas
 pub mod NumberLemmas
 pub mod PrintableLemmas

@@ -1,5 +1,5 @@
 -- a placement, read by its digits
-use Rattle.std.proofs.Common.{◌≡◌, ℕ, ◌+◌, ◌*◌, ◌/◌, ◌%◌, ◌<◌, Bool, true, false, ◌&&◌, ◌==◌, nat_lt, if◌then◌else◌, List, [], ◌∷◌, ◌++◌, length, drop, Some, refl, ◌∙◌, ap, arith, length-append, append_assoc}
+use Rattle.std.proofs.Common.{◌≡◌, ℕ, ◌+◌, ◌*◌, ◌/◌, ◌%◌, ◌<◌, Bool, true, false, ◌==◌, nat_lt, if◌then◌else◌, List, [], ◌∷◌, ◌++◌, length, drop, Some, refl, ◌∙◌, ap, arith, length-append, append_assoc}
 use Rattle.std.specs.Prelude.{⊤}
 use Rattle.std.proofs.lemmas.Bool.Decides.{nat_tests}
 use Rattle.key_screen.specs.declared.control.Control.TheVariants.{Place}
@@ -7,6 +7,7 @@ use Rattle.key_screen.specs.declared.control.Number.{Number}
 use Rattle.key_screen.specs.Controls.{is_digit, with_digit, number_from, placed, placed_in_row, placement_of, bracketed, control_of}
 use Rattle.mc_screen.specs.DrawnBytes.{digit, digit_at, number}
 use Rattle.mc_screen.proofs.EscapeLemmas.{HasNoEscape, HasNoEscape-append}
+use Rattle.mc_screen.proofs.TestLemmas.{and_false}
 
 is_digit-digit : (n : ℕ) → is_digit (digit n) ≡ true
 is_digit-digit n = let low : n % 10 < 10 = omega arith in grind (arith, nat_tests)
@@ -104,10 +105,6 @@ placement-no_escape row column = (
   HasNoEscape-append (number row) (59 ∷ (number column ++ 72 ∷ [])) (digits-no_escape (number row) (number-digits row))
       (refl, HasNoEscape-append (number column) (72 ∷ []) (digits-no_escape (number column) (number-digits column)) (refl, tt)),
 )
-
-and_false : (a : Bool) → (a && false) ≡ false
-and_false true = refl
-and_false false = refl
 
 bracketed-other : (first second : ℕ) (bytes : List ℕ) → (second == 109) ≡ false → (second == 74) ≡ false → bracketed (first ∷ second ∷ bytes) ≡ placement_of (first ∷ second ∷ bytes)
 bracketed-other first second bytes no_look no_clear = simp (no_look, no_clear, and_false)

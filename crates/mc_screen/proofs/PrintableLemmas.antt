@@ -16,6 +16,7 @@ use Rattle.unicode_segmentation.specs.Grapheme.{graphemes, is_grapheme_break, is
 use Rattle.unicode_segmentation.specs.Segments.{cut, segments, prepend}
 use Rattle.key_screen.specs.DrawnText.{cluster_columns, is_drawable}
 use Rattle.key_screen.specs.Terminal.{TerminalState, with_cluster, clusters_read, text_read}
+use Rattle.mc_screen.proofs.TestLemmas.{and_false}
 
 -- a byte is printable ASCII
 abbrev pub is_typed : ℕ → Bool
@@ -56,10 +57,6 @@ unfolding ucd_derived
 typed-no_consonant c is =
     not_true _ (of_kind (is_typed c) _
     (Stepped-below indic_conjunct_break indic_conjunct_break_stepped (λ x v. not (is_typed x) || not (is_consonant v)) 128 refl c (typed-below c is)) is)
-
-and_false : (a : Bool) → (a && false) ≡ false
-and_false true = refl
-and_false false = refl
 
 -- between two such bytes is a break, whatever stands around them
 typed-break : (last next : ℕ) (before after : List ℕ) → is_typed last ≡ true → is_typed next ≡ true → is_grapheme_break true (last ∷ before) (next ∷ after) ≡ true

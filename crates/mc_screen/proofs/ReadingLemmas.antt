@@ -23,6 +23,7 @@ use Rattle.mc_screen.specs.DrawnBytes.{glyph_text, is_printable, look, place}
 use Rattle.mc_screen.proofs.EscapeLemmas.{HasNoEscape, segments-plain, first_segment, text-no_escape}
 use Rattle.mc_screen.proofs.NumberLemmas.{placement, placement-no_escape, control_of-placement, drop_placement}
 use Rattle.mc_screen.proofs.PrintableLemmas.{ArePrintable, first-typed}
+use Rattle.mc_screen.proofs.TestLemmas.{and_left, and_right}
 
 -- bytes that are cut at their escapes, read from a position on
 abbrev pub read_from : TerminalState → ℕ → List (List ℕ) → Result TerminalState ℕ
@@ -91,14 +92,6 @@ single : (xs : List (List ℕ)) (cluster : List ℕ) → (length xs == 1) ≡ tr
 single [] cluster one is = absurd (cc)
 single (x ∷ []) cluster one is = ap (λ c. c ∷ []) (sym (append-nil x) ∙ is)
 single (x ∷ y ∷ xs) cluster one is = absurd (let e : suc (suc (length xs)) ≡ 1 = grind (arith, nat_tests) in omega arith)
-
-and_left : (a b : Bool) → (a && b) ≡ true → a ≡ true
-and_left true b is = refl
-and_left false b is = absurd (cc)
-
-and_right : (a b : Bool) → (a && b) ≡ true → b ≡ true
-and_right true b is = is
-and_right false b is = absurd (cc)
 
 drawable-alone : (cluster : List ℕ) → is_drawable cluster ≡ true → stands_alone cluster ≡ true
 drawable-alone cluster is = and_right ((cluster_columns cluster == 1 || cluster_columns cluster == 2) && not (has_control cluster)) (stands_alone cluster) is

@@ -10,7 +10,7 @@ use Rattle.key_screen.specs.Cells.{is_right_half}
 use Rattle.key_screen.specs.Controls.{control_of}
 use Rattle.key_screen.specs.DrawnText.{glyph_columns}
 use Rattle.key_screen.specs.Grids.{CellGrid}
-use Rattle.key_screen.specs.Layout.{half_behind, AreLaid, IsLaidOut}
+use Rattle.key_screen.specs.Layout.{AreLaid, IsLaidOut}
 use Rattle.key_screen.specs.Terminal.{segments}
 use Rattle.mc_screen.specs.declared.changes.Change.{Change}
 use Rattle.mc_screen.specs.declared.strokes.Pen.{Pen}
@@ -24,7 +24,7 @@ use Rattle.mc_screen.proofs.EscapeLemmas.{HasNoEscape, segments-plain, first_seg
 use Rattle.mc_screen.proofs.NumberLemmas.{placement, placement-no_escape, control_of-placement}
 use Rattle.mc_screen.proofs.ReadingLemmas.{text-no_escapes}
 use Rattle.mc_screen.proofs.StrokeLemmas.{placed-there, row-within}
-use Rattle.mc_screen.proofs.CellLemmas.{due-differs, changes-none}
+use Rattle.mc_screen.proofs.CellLemmas.{before_rest, due-differs, changes-none}
 
 -- all that follows an escape has a property
 module _ (P : List ℕ → Type 0) where
@@ -163,10 +163,6 @@ module _ (was frame : CellGrid) (some : 1 ≤ frame.columns) (short : frame.line
   cell-plain : (half : Option Attr) (f : Cell) (fs : List Cell) → AreLaid half (f ∷ fs) → HasNoEscape (glyph_text f.glyph)
   cell-plain None f fs laid = text-no_escapes f.glyph laid.0
   cell-plain (Some attr) f fs laid = subst (λ (x : Cell). HasNoEscape (glyph_text x.glyph)) (sym laid.0) tt
-
-  before_rest : (half : Option Attr) (f : Cell) (fs : List Cell) → AreLaid half (f ∷ fs) → (next : Option Attr) × AreLaid next fs
-  before_rest None f fs laid = (half_behind f, laid.1)
-  before_rest (Some attr) f fs laid = (None, laid.1)
 
   drawn-changes : (half : Option Attr) (at : ℕ) (done_was done cs fs : List Cell) → at ≡ length done_was → at ≡ length done → done_was ++ cs ≡ was.cells → done ++ fs ≡ frame.cells
       → at + length fs ≡ frame.lines * frame.columns → AreLaid half fs → AreDrawnChanges (changes_from true at cs fs)

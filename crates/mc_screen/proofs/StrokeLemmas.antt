@@ -22,6 +22,7 @@ use Rattle.mc_screen.specs.DrawnBytes.{glyph_text, is_printable, look, place, is
 use Rattle.mc_screen.proofs.EscapeLemmas.{segments-plain, first_segment}
 use Rattle.mc_screen.proofs.PrintableLemmas.{ArePrintable}
 use Rattle.mc_screen.proofs.ReadingLemmas.{Leads, AreApart, after_glyph, placed_at, leads-look, leads-place, leads-glyph}
+use Rattle.mc_screen.proofs.TestLemmas.{and_left, and_right}
 
 -- looks that are the same
 pub same_attr : (a b : Attr) → is_same_attr a b ≡ true → a ≡ b
@@ -50,14 +51,6 @@ abbrev pub Approached : ℕ → Pen → Change → Approach → Type 0
 Approached columns pen change Approaches.Place = ⊤
 Approached columns pen change Approaches.Look = IsHereAt columns pen change.at
 Approached columns pen change Approaches.Type = IsHereAt columns pen change.at × (IsTypingAs pen change.cell.attr × (is_printable (glyph_text change.cell.glyph) ≡ true))
-
-and_left : (a b : Bool) → (a && b) ≡ true → a ≡ true
-and_left true b is = refl
-and_left false b is = absurd (cc)
-
-and_right : (a b : Bool) → (a && b) ≡ true → b ≡ true
-and_right true b is = is
-and_right false b is = absurd (cc)
 
 pub approached : (columns : ℕ) (pen : Pen) (change : Change) → Approached columns pen change (approach_to columns pen change)
 approached columns Away change = tt

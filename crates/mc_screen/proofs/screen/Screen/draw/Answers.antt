@@ -5,7 +5,7 @@ use Rattle.key_screen.proofs.RowLemmas.{given_back}
 use Rattle.mc_screen.specs.Changes.{changes_from, IsWithin, with_changes}
 use Rattle.mc_screen.specs.DrawnBytes.{drawn_bytes}
 use Rattle.mc_screen.proofs.CellLemmas.{changes-within, changes-give}
-use Rattle.mc_screen.proofs.DisplayLemmas.{put_bytes, same_count, is_drawing, drawn_screen}
+use Rattle.mc_screen.proofs.DisplayLemmas.{put_bytes, put-is, same_count, is_drawing, drawn_screen}
 use Rattle.mc_screen.proofs.screen.Screen.draw.Goals as goal
 
 pub returns-in_default-clause-shown : goal.returns-in_default-clause-shown
@@ -39,9 +39,7 @@ returns-in_err-put-clause-shown g c = λ given is.
     let width : c.from-columns.result ≡ frame.columns = c.from-columns.ensures ∙ c.columns.ensures in
     let bytes : c.deref-3.result.now ≡ put_bytes c.self.inside.has_drawn c.self.inside.cells.items frame =
     c.deref-3.ensures.value ∙ c.in-Ok-bytes_of.ensures ∙ ap (drawn_bytes c.from-columns.result) (c.deref-2.ensures.value ∙ c.in-Ok.ensures)
-    ∙ ap (λ n. drawn_bytes n (changes_from c.self.inside.has_drawn 0 c.deref.result.now c.cells.result.now)) width
-    ∙ ap (λ cells. drawn_bytes frame.columns (changes_from c.self.inside.has_drawn 0 cells c.cells.result.now)) c.deref.ensures.value
-    ∙ ap (λ cells. drawn_bytes frame.columns (changes_from c.self.inside.has_drawn 0 c.self.inside.cells.items cells)) c.cells.ensures.value in
+    ∙ put-is c.from-columns.result c.deref.result.now c.cells.result.now c.self.inside.has_drawn c.self.inside.cells.items frame width c.deref.ensures.value c.cells.ensures.value in
     rw p.1 (
       put_bytes c.self.inside.has_drawn c.self.inside.cells.items frame,
       put.0,
@@ -79,9 +77,7 @@ returns-clause-shown g c = λ given is.
     let width : c.from-columns.result ≡ frame.columns = c.from-columns.ensures ∙ c.columns.ensures in
     let bytes : c.in-Ok-bytes_of.bytes.items ≡ put_bytes c.self.inside.has_drawn c.self.inside.cells.items frame =
     c.in-Ok-bytes_of.ensures ∙ ap (drawn_bytes c.from-columns.result) (c.deref-2.ensures.value ∙ c.in-Ok.ensures)
-    ∙ ap (λ n. drawn_bytes n (changes_from c.self.inside.has_drawn 0 c.deref.result.now c.cells.result.now)) width
-    ∙ ap (λ cells. drawn_bytes frame.columns (changes_from c.self.inside.has_drawn 0 cells c.cells.result.now)) c.deref.ensures.value
-    ∙ ap (λ cells. drawn_bytes frame.columns (changes_from c.self.inside.has_drawn 0 c.self.inside.cells.items cells)) c.cells.ensures.value in
+    ∙ put-is c.from-columns.result c.deref.result.now c.cells.result.now c.self.inside.has_drawn c.self.inside.cells.items frame width c.deref.ensures.value c.cells.ensures.value in
     let size : length (put_bytes c.self.inside.has_drawn c.self.inside.cells.items frame) ≡ length c.deref-3.result.now = ap length (sym (c.deref-3.ensures.value ∙ bytes)) in
     let lent = c.deref-3.ensures.len in
     let count = c.len.ensures in (
