@@ -1,1 +1,4 @@
+pub mod BoxSizes
+pub mod RowLemmas
 pub mod Sights
+pub mod UnknownKeys
