@@ -1,4 +1,3 @@
 pub mod BoxSizes
-pub mod RowLemmas
 pub mod Sights
 pub mod UnknownKeys

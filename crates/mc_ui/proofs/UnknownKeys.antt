@@ -1,8 +1,7 @@
 -- A key that is none leaves the screen as it was, so it asks for nothing that is to be carried out.
-use Rattle.std.proofs.Common.{◌≡◌, Bool, true, false, List, [], refl, sym, ◌∙◌, ap, subst, Option, Some, None}
+use Rattle.std.proofs.Common.{◌≡◌, Bool, true, false, List, [], refl, sym, ◌∙◌, ap, subst, Option}
 use Rattle.std.specs.Prelude.{MatchBool, is_some}
 use Rattle.key_screen.specs.declared.keys.Key.{Key}
-use Rattle.key_screen.specs.declared.keys.Base.{Base}
 use Rattle.key_screen.specs.declared.keys.Base.TheVariants.{Unknown}
 use Rattle.tree_trait.specs.FileSystem.{View}
 use Rattle.job_reports.specs.declared.row.JobRow.{JobRow}

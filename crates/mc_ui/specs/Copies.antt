@@ -1,5 +1,5 @@
 -- What a box may ask of, and the plans that it confirms.
-use Rattle.std.specs.Prelude.{◌≡◌, ◌≢◌, ℕ, ◌<◌, Bool, false, ◌&&◌, nat_le, ⊤, List, [], ◌∷◌, length, IsSome, Option, Some, None}
+use Rattle.std.specs.Prelude.{◌≡◌, ◌≢◌, ◌<◌, Bool, false, ◌&&◌, nat_le, ⊤, [], ◌∷◌, length, IsSome, Option, Some, None}
 use Rattle.std.specs.Option.{option_map_or}
 use Rattle.mc_text.specs.Routes.{Route, spelled}
 use Rattle.tree_trait.specs.declared.calls.TreeError.TheVariants.{Missing}

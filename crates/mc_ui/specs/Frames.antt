@@ -1,5 +1,5 @@
 -- The frame of a screen: its panels with the line of jobs and the key bar, the box over them, and a message over all.
-use Rattle.std.specs.Prelude.{ℕ, ◌+◌, ◌-◌, ◌==◌, Bool, true, false, if◌then◌else◌, List, [], ◌∷◌, nat_lt, take, drop, codes, Option, Some, None}
+use Rattle.std.specs.Prelude.{ℕ, ◌+◌, ◌==◌, Bool, true, false, if◌then◌else◌, List, [], ◌∷◌, nat_lt, take, drop, codes, Option, Some, None}
 use Rattle.std.specs.Option.{option_map_or}
 use Rattle.mc_text.specs.Routes.{Route, path_text}
 use Rattle.job_reports.specs.declared.row.JobRow.{JobRow}

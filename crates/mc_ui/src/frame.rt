@@ -87,7 +87,6 @@ fn paint_message(grid: &mut Grid, alloc: Global, message: &Option<Message>) -> R
 }
 
 /// Paints an input line.
-#[tactic(auto, using(crate::proofs::BoxSizes::input_lines_same, crate::proofs::BoxSizes::input_columns_same))]
 fn paint_line(grid: &mut Grid, alloc: Global, line: &InputLine) -> Result<(), NoMemory>
     ensures field { OnOk result (grid.new ≡ with_input grid.old line.now) }
     ensures size { OnOk result ((grid.new.lines ≡ grid.old.lines) × (grid.new.columns ≡ grid.old.columns)) }
@@ -97,7 +96,6 @@ fn paint_line(grid: &mut Grid, alloc: Global, line: &InputLine) -> Result<(), No
 }
 
 /// Paints a box of plain lines.
-#[tactic(auto, using(crate::proofs::BoxSizes::box_lines_same, crate::proofs::BoxSizes::box_columns_same))]
 fn paint_lines(grid: &mut Grid, alloc: Global, lines: Rows) -> Result<(), NoMemory>
     requires { length lines < 2 ^ 48 }
     ensures painted { OnOk result (grid.new ≡ with_box grid.old (plain_lines_of lines)) }

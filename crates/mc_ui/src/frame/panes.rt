@@ -40,7 +40,6 @@ fn pane_of(alloc: Global, page: usize, is_current: bool, panel: &Panel) -> Resul
 }
 
 /// The items of a panel that are on the screen.
-#[tactic(auto, using(crate::proofs::RowLemmas::texts_from))]
 fn items_of(alloc: Global, page: usize, is_current: bool, panel: &Panel) -> Result<Items, NoMemory>
     requires { page < 2 ^ 16 }
     ensures { IfOk result (λ items. items ≡ items_from is_current panel.now.cursor panel.now.first (shown_texts page panel.now)) }

@@ -10,7 +10,7 @@ ghost use Rattle.mc_ui.specs.Panels.{with_names};
 use super::Ui;
 use crate::dialog::Dialog;
 use crate::message::Message;
-use crate::reread::{Reread, list_again};
+use crate::reread::{Reread, Rereads, list_both};
 use job_reports::{JobRows, Trouble};
 use mc_text::{Names, NoMemory, Path};
 use session_history::{Refusal, Refusals};
@@ -37,9 +37,10 @@ impl Ui {
         ensures reads { ReadsTree ListFolder (λ (refusals : List RefusalType). refusals) result (T.contents tree.old) (T.contents tree.new)
             (T.fault_count tree.old) (T.fault_count tree.new) }
     {
+        let _lines = &self.lines;
         let trouble = shown_trouble(alloc, rows)?;
-        let left = list_again(alloc, tree, self.left.folder(), has_unseen_end)?;
-        let right = list_again(alloc, tree, self.right.folder(), has_unseen_end)?;
+        let (left, right) = (self.left.folder(), self.right.folder());
+        let Rereads { left, right } = list_both(alloc, tree, left, right, has_unseen_end)?;
         let Reread {
             names: left_names,
             refused: left_refused,
