@@ -21,6 +21,7 @@ import time
 DOWN, F5, F8, F10, ENTER = b"\x1b[B", b"\x1b[15~", b"\x1b[19~", b"\x1b[21~", b"\r"
 COPY = [DOWN, F5, ENTER, ENTER]
 USAGE = b"usage: mc [-b] [-V] [-h] [-P FILE] [-v FILE | -e FILE | --drill N | DIR1 [DIR2]]"
+KEYS = b"F1 help  F2 menu  F3 view  F4 edit  F5 copy  F6 move  F7 mkdir  F8 delete  F9 options  F10 quit"
 PATIENCE = 20.0
 SOMEBODY = 65534
 
@@ -45,7 +46,7 @@ def own_terminal():
     return ours, theirs, termios.tcgetattr(theirs)
 
 
-def start(program, words, ours, theirs, largest=None, user=None, folders=None):
+def start(program, words, ours, theirs, largest=None, user=None, folders=None, folder=None):
     """Starts the program on a terminal, of which it is the session's leader."""
     child = os.fork()
     if child != 0:
@@ -66,6 +67,8 @@ def start(program, words, ours, theirs, largest=None, user=None, folders=None):
             os.setuid(user)
         if folders is not None:
             os.environ["PATH"] = folders
+        if folder is not None:
+            os.chdir(folder)
         os.execv(program, [program] + words)
     finally:  # a child that can't become the program goes no further
         os._exit(127)
@@ -76,7 +79,7 @@ def run(program, words, keys, **settings):
 
     Answers the exit status, what was written, and whether the terminal is as it was. In place of a key may stand what is to
     be done then; it is given the number of the process. With `largest` no file of the program may have more bytes than
-    that; with `user` it runs as that user; `folders` is where it looks for commands.
+    that; with `user` it runs as that user; `folders` is where it looks for commands, and `folder` where it is started.
     """
     ours, theirs, before = own_terminal()
     child = start(program, words, ours, theirs, **settings)
@@ -226,15 +229,15 @@ def check_stty(program, base, check):
             file.write(f'#!/bin/sh\necho "$1" >>{said}\n{broken}\nexec {real} "$@"\n')
         os.chmod(file.name, 0o755)
         folders = folder + os.pathsep + os.environ["PATH"]
-        for words in ([], ["relative"], ["/nowhere", "relative"]):
-            status, written, _ = run(program, words, [], folders=folders)
-            check(f"refused words {words} touch no terminal", status == 1 and USAGE in written and not os.path.exists(said))
+        for words, want in ([["-x"], 1], [["-v", "a"], 1], [["a", "b", "c"], 1], [["-V"], 0], [["-h"], 0]):
+            status, _, _ = run(program, words, [], folders=folders)
+            check(f"the words {words} touch no terminal", status == want and not os.path.exists(said))
         status, _, same = run(program, ["/"], [F10], folders=folders)
         with open(said) as file:
             lines = file.read().split()
         os.remove(said)
         ends_sane = lines[-1] == "sane"
-        check(f"where stty says {asked}", status == 0 and lines[:2] == ["-g", "raw"] and ends_sane != same and len(lines) == 3)
+        check(f"where stty says {asked}", status == 0 and lines[:3] == ["size", "-g", "raw"] and ends_sane != same and len(lines) == 4)
 
 
 def check_signals(starter, base, check):
@@ -256,7 +259,7 @@ def check_signals(starter, base, check):
             check(f"{sent.name} to {name}: the terminal is as it was", ended and same and written.endswith(b"\r\n"))
     status, _, same = run(starter, [base], [DOWN, F10])
     check("the starter ends with the program's status", status == 0 and same)
-    status, written, same = run(starter, ["relative"], [])
+    status, written, same = run(starter, ["-v", "x"], [])
     check("and says what the program says", status == 1 and USAGE in written and same)
 
 
@@ -305,6 +308,28 @@ def check_part_left(program, base, check):
     rows = re.findall(rb"\x1b\[(?:19|20);1H([^\x1b]*)", written)
     told = [b"part left".ljust(80), part.encode().ljust(80)]
     check("a part that stays is told", status == 0 and same and os.path.exists(part) and all(row in rows for row in told))
+
+
+def check_words(program, starter, base, check):
+    """No words, relative folders, and the words that ask for no session."""
+    folder = os.path.join(base, "words")
+    os.makedirs(os.path.join(folder, "below"))
+    inner = os.path.join(folder, "below")
+    for words, there in [([], folder), (["below"], inner), (["./below/../below//"], inner), (["-b", "--", "below"], inner), (["../words"], folder)]:
+        make_file(os.path.join(there, "!first"), 1, 0o644)
+        status, _, same = run(starter, words, [DOWN, F8, ENTER, F10], folder=folder)
+        check(f"{words} start in {os.path.basename(there)}", status == 0 and same and not os.path.exists(os.path.join(there, "!first")))
+    status, written, same = run(starter, ["nowhere"], [], folder=folder)
+    check("a relative folder is named as it was typed", status == 2 and same and b"mc: nowhere: no such file or folder" in written)
+    for words, want, lines in [
+        (["-V"], 0, b"mc profile 1\r\n"),
+        (["-h"], 0, USAGE + b"\r\n" + KEYS + b"\r\n"),
+        (["-V", "-h", "below"], 0, USAGE + b"\r\n" + KEYS + b"\r\n"),
+        (["-v", "x"], 1, USAGE + b"\r\n"),
+        (["--drill", "1"], 1, USAGE + b"\r\n"),
+    ]:
+        status, written, same = run(program, words, [], folder=folder)
+        check(f"{words} print their lines alone", status == want and same and written == lines)
 
 
 def check_failed_build(starter, base, check):
@@ -365,6 +390,7 @@ def main():
         check_part_left(program, base, check)
         check_set_id_bits(program, base, check)
         check_stty(program, base, check)
+        check_words(program, starter, base, check)
         check_signals(starter, base, check)
         check_failed_build(starter, base, check)
 
@@ -373,11 +399,10 @@ def main():
             (["/nowhere"], 2, b"mc: /nowhere: no such file or folder"),
             (["/no\x1b[31mwhere\n"], 2, b"mc: /no?[31mwhere?: no such file or folder"),
             ([os.path.join(base, "file")], 2, b"not a folder"),
-            ([], 1, USAGE),
-            (["-v", "a"], 1, USAGE),
-            (["relative"], 1, USAGE),
+            (["-x"], 1, USAGE),
+            (["-b", "-b"], 1, USAGE),
             ([folder, folder, folder], 1, USAGE),
-            ([folder, "relative"], 1, USAGE),
+            ([folder, "relative"], 2, b"mc: relative: no such file or folder"),
             ([folder, "/nowhere"], 2, b"mc: /nowhere: no such file or folder"),
             ([b"/\xff".decode("utf-8", "surrogateescape")], 1, USAGE),
         ]:
