@@ -9,24 +9,33 @@ mod printing;
 mod tree;
 
 use anyhow::{Result, bail};
+use std::convert::AsStr;
 use std::env;
 
 fn main(rt: HostRuntime) -> Result<()> {
-    let mut words = env::args(&rt)?.skip(1);
-    let Some(subject) = words.next() else {
-        return Ok(());
-    };
-    let first = words.next();
-    let second = words.next();
-    match (subject.as_str(), &first, &second) {
-        ("gap_text", None, None) => gap_text::time_gap_text(&rt),
-        ("editor", Some(work), None) => editor::time_editor(&rt, work.as_str()),
-        ("tree", Some(work), Some(place)) => tree::time_work(&rt, work.as_str(), place.as_str()),
-        ("plan", Some(folder), Some(count)) => plan::time_plans(
-            &rt,
+    let mut words = Vec::new(rt.alloc());
+    for word in env::args(&rt)?.skip(1) {
+        words.push(word)?;
+    }
+    match words.as_slice() {
+        [] => Ok(()),
+        [subject, words @ ..] => time(&rt, subject.as_str(), words),
+    }
+}
+
+/// Times one subject.
+fn time(rt: &HostRuntime, subject: &str, words: &[String]) -> Result<()> {
+    match (subject, words) {
+        ("gap_text", []) => gap_text::time_gap_text(rt),
+        ("editor", [work]) => editor::time_editor(rt, work.as_str()),
+        ("tree", [work, place]) => tree::time_work(rt, work.as_str(), place.as_str()),
+        ("plan", [folder, count, parts, stride]) => plan::time_plans(
+            rt,
             folder.as_str(),
             count.as_str(),
+            parts.as_str(),
+            stride.as_str(),
         ),
-        _ => bail!("gap_text, editor WORK, tree WORK PLACE, or plan FOLDER COUNT"),
+        _ => bail!("gap_text, editor WORK, tree WORK PLACE, or plan FOLDER COUNT PARTS STRIDE"),
     }
 }

@@ -6,64 +6,123 @@ use mc_text::{Path, Paths, Text};
 use op_plan::{Job, PlanError, Request, make_plan};
 use std::alloc::Global;
 use std::time::CpuClock;
+use tree_trait::Tree;
 
-/// A prime, so that the sources come in another order than that of their names.
-const STRIDE: u64 = 7919;
-
-/// Plans a copy of so many files, and a deletion that is refused.
-pub fn time_plans(rt: &HostRuntime, folder: &str, count: &str) -> Result<()> {
-    let count: u64 = count.parse()?;
-    time_copy(rt, folder, count)?;
-    time_nested(rt, folder, count)
+/// The files `s/f000000` and so on of a folder: so many, each of them `stride` behind the one before it in the order of names,
+/// in parts of one size.
+#[derive(Clone, Copy)]
+struct Files {
+    count: u64,
+    parts: u64,
+    stride: u64,
 }
 
-/// The files `s/f000000` and so on of the folder are to be copied into its folder `t`.
-fn time_copy(rt: &HostRuntime, folder: &str, count: u64) -> Result<()> {
+/// Plans copies of so many files in so many parts, looks at them, and plans a deletion that is refused.
+pub fn time_plans(
+    rt: &HostRuntime,
+    folder: &str,
+    count: &str,
+    parts: &str,
+    stride: &str,
+) -> Result<()> {
+    let files = Files {
+        count: count.parse()?,
+        parts: parts.parse()?,
+        stride: stride.parse()?,
+    };
+    time_copies(rt, folder, files)?;
+    time_looks(rt, folder, files)?;
+    time_nested(rt, folder, files)
+}
+
+/// The files are to be copied into the folder `t`, each part by a plan of its own. All jobs are kept until the end.
+fn time_copies(rt: &HostRuntime, folder: &str, files: Files) -> Result<()> {
     let alloc = rt.alloc();
+    let mut lists = Vec::new(alloc);
+    for part in 0..files.parts {
+        lists.push(sources(alloc, folder, files, part)?)?;
+    }
+    let mut tree = HostTree::new(*rt);
+    let start = rt.process_cpu_time()?;
+    let jobs = plan_each(alloc, &mut tree, folder, lists)?;
+    let micros = rt.process_cpu_time()?.saturating_sub(start).as_micros();
+    println!(rt; "copy {micros} {}", jobs.len())?;
+    Ok(())
+}
+
+fn plan_each<T: Tree>(
+    alloc: Global,
+    tree: &mut T,
+    folder: &str,
+    lists: Vec<Paths>,
+) -> Result<Vec<Job>> {
+    let mut jobs = Vec::new(alloc);
+    for sources in lists {
+        jobs.push(plan_copy(alloc, tree, folder, sources)?)?;
+    }
+    Ok(jobs)
+}
+
+fn plan_copy<T: Tree>(alloc: Global, tree: &mut T, folder: &str, sources: Paths) -> Result<Job> {
     let request = Request::Copy {
-        sources: Paths(sources(alloc, folder, count)?),
+        sources,
         mask: Text::from_str(alloc, "*")?,
         from: Path::parse(alloc, folder)?,
         to: Text::from_str(alloc, "t")?,
     };
+    Ok(make_plan(alloc, tree, request)?)
+}
+
+/// Each file is looked at, and nothing more.
+fn time_looks(rt: &HostRuntime, folder: &str, files: Files) -> Result<()> {
+    let alloc = rt.alloc();
+    let paths = sources(alloc, folder, files, 0)?;
     let mut tree = HostTree::new(*rt);
     let start = rt.process_cpu_time()?;
-    let answer = make_plan(alloc, &mut tree, request);
+    let found = found(alloc, &mut tree, paths.as_slice());
     let micros = rt.process_cpu_time()?.saturating_sub(start).as_micros();
-    match answer {
-        Ok(Job::Copy(_pairs)) => println!(rt; "copy {micros}")?,
-        Ok(_job) => bail!("another job"),
-        Err(error) => bail!("refused: {error}"),
-    }
+    println!(rt; "looks {micros} {found}")?;
     Ok(())
 }
 
-/// The same files are to be deleted, and at the end of the list one that would lie in the first of them.
-fn time_nested(rt: &HostRuntime, folder: &str, count: u64) -> Result<()> {
+/// How many of the paths the tree doesn't refuse to look at.
+fn found<T: Tree>(alloc: Global, tree: &mut T, paths: &[Path]) -> u64 {
+    let mut found = 0u64;
+    for path in paths {
+        if tree.stat(alloc, path).is_ok() {
+            found = found.saturating_add(1);
+        }
+    }
+    found
+}
+
+/// The files of the first part are to be deleted, and at the end of the list one that would lie in the first of them.
+fn time_nested(rt: &HostRuntime, folder: &str, files: Files) -> Result<()> {
     let alloc = rt.alloc();
-    let mut paths = sources(alloc, folder, count)?;
+    let mut sources = sources(alloc, folder, files, 0)?;
     let text = format!(in alloc; "{folder}/s/f000000/x")?;
-    paths.push(Path::parse(alloc, text.as_str())?)?;
-    let sources = Paths(paths);
+    sources.push(Path::parse(alloc, text.as_str())?)?;
     let mut tree = HostTree::new(*rt);
     let start = rt.process_cpu_time()?;
     let answer = make_plan(alloc, &mut tree, Request::Delete { sources });
     let micros = rt.process_cpu_time()?.saturating_sub(start).as_micros();
     match answer {
-        Err(PlanError::Nested(_first, _second)) => println!(rt; "nested {micros}")?,
+        Err(PlanError::Nested(_first, _second)) => println!(rt; "nested {micros} 1")?,
         Err(error) => bail!("refused otherwise: {error}"),
         Ok(_job) => bail!("not refused"),
     }
     Ok(())
 }
 
-/// The paths of so many files.
-fn sources(alloc: Global, folder: &str, count: u64) -> Result<Vec<Path>> {
+/// The paths of the files of a part.
+fn sources(alloc: Global, folder: &str, files: Files, part: u64) -> Result<Paths> {
+    let size = files.count / files.parts.max(1);
     let mut paths = Vec::new(alloc);
-    for i in 0..count {
-        let number = i.wrapping_mul(STRIDE) % count;
+    for i in 0..size {
+        let place = part.wrapping_mul(size).wrapping_add(i);
+        let number = place.wrapping_mul(files.stride) % files.count.max(1);
         let text = format!(in alloc; "{folder}/s/f{number:06}")?;
         paths.push(Path::parse(alloc, text.as_str())?)?;
     }
-    Ok(paths)
+    Ok(Paths(paths))
 }

@@ -5,8 +5,8 @@ use Rattle.std.specs.List.{list_any}
 use Rattle.std.proofs.lemmas.Bool.{false≢true, both_ways, or_cases, or_parts, or_from, or_left, or_right, and_parts, and_from, false_from_ne_true}
 use Rattle.mc_text.specs.Routes.{Route, is_prefix}
 use Rattle.op_plan.specs.Meeting.{meet}
-use Rattle.op_plan.specs.Claiming.{clash}
-use Rattle.job_laws.specs.Near.{clashes, is_written, is_near}
+use Rattle.op_plan.specs.Claiming.{clash, clashes}
+use Rattle.job_laws.specs.Near.{is_written, is_near}
 use Rattle.op_plan.specs.declared.claim.Claim.{Claim}
 use Rattle.job_laws.proofs.PathLemmas.{meet_up, under-trans}
 

@@ -2,13 +2,11 @@
 use Rattle.std.proofs.Common.{◌≡◌, Bool, false, List, [], ◌∷◌, refl, sym, ap, ◌∙◌}
 use Rattle.tree_trait.specs.FileSystem.{View}
 use Rattle.op_plan.specs.declared.job.Job.{Job}
-use Rattle.op_plan.specs.Claiming.{claims}
-use Rattle.job_laws.specs.Near.{clashes}
+use Rattle.op_plan.specs.Claiming.{claims, clashes}
 use Rattle.job_laws.specs.Works.{Work, does, after_works}
 use Rattle.job_laws.specs.Outcome.{done, outcome}
 use Rattle.job_laws.specs.Commuting.{WorksCommute, OutcomesCommute}
 use Rattle.job_laws.proofs.LocalLemmas.{order_law, work_law}
-use Rattle.job_laws.proofs.SoundLemmas.{sound-apart}
 use Rattle.job_laws.proofs.Whole.{fit_law}
 
 -- one work of mine and all of theirs
@@ -27,10 +25,8 @@ works_commute mine theirs (work ∷ works) their_works v apart =
 
 pub outcomes_commute : OutcomesCommute
 outcomes_commute mine theirs my_works their_works v apart my_sound their_sound my_fit their_fit =
-    let my_test = sound-apart mine my_sound in
-    let their_test = sound-apart theirs their_sound in
-    ap (λ (w : View). outcome w mine (done my_works)) (sym (fit_law theirs their_works v their_test their_fit))
-    ∙ (sym (fit_law mine my_works (after_works theirs their_works v) my_test my_fit)
+    ap (λ (w : View). outcome w mine (done my_works)) (sym (fit_law theirs their_works v their_sound their_fit))
+    ∙ (sym (fit_law mine my_works (after_works theirs their_works v) my_sound my_fit)
     ∙ (works_commute mine theirs my_works their_works v apart
-    ∙ (ap (after_works theirs their_works) (fit_law mine my_works v my_test my_fit)
-    ∙ fit_law theirs their_works (outcome v mine (done my_works)) their_test their_fit)))
+    ∙ (ap (after_works theirs their_works) (fit_law mine my_works v my_sound my_fit)
+    ∙ fit_law theirs their_works (outcome v mine (done my_works)) their_sound their_fit)))

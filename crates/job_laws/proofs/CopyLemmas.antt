@@ -12,7 +12,8 @@ use Rattle.op_plan.specs.declared.job.Pair.{Pair}
 use Rattle.op_plan.specs.declared.job.Job.TheVariants.{Copy}
 use Rattle.job_laws.specs.Works.{Part, Make, Place, Set, Remove, Work, Did, is_part, folder, with_mode, made_for, mode_or, source_of, from_source, copies, does, after_works}
 use Rattle.job_laws.specs.Outcome.{is_work, done, copied, outcome}
-use Rattle.job_laws.specs.Fits.{is_above, IsFree, MayFollow, Follow, all_apart}
+use Rattle.job_laws.specs.Fits.{is_above, IsFree, MayFollow, Follow}
+use Rattle.job_laws.proofs.Apart.{all_apart}
 use Rattle.op_plan.proofs.Paths.{same-true, same-self}
 use Rattle.job_laws.proofs.PathLemmas.{under-self}
 use Rattle.job_laws.proofs.PlaceLemmas.{source-is, home}

@@ -7,6 +7,7 @@ use Rattle.job_laws.specs.Works.{Remove, Place}
 use Rattle.job_laws.specs.Outcome.{Decisions, AtTarget, AtSource, is_carried, moved}
 use Rattle.job_laws.specs.Keeping.{KeptLaw}
 use Rattle.job_laws.proofs.PlaceLemmas.{home, at_target}
+use Rattle.job_laws.proofs.SoundLemmas.{sound_pairs}
 
 kept_by : (v : View) (d : Decisions) (pair : Pair) (rest : Route) (carried removed : Bool) → is_carried v d pair rest ≡ carried → d Remove (rest ++ pair.source) ≡ removed
     → (removed ≡ true → d Place (rest ++ pair.target) ≡ true)
@@ -18,7 +19,7 @@ kept_by v d pair rest false false is gone placed = inl (rw (is, gone) refl)
 
 pub kept_law : KeptLaw
 kept_law v pairs d sound placed pair rest at whole =
-    let h = home pairs pair sound (at_target pairs (rest ++ pair.target) pair rest at).among in
+    let h = home pairs pair (sound_pairs pairs sound) (at_target pairs (rest ++ pair.target) pair rest at).among in
     let s = h.sources rest in
     let k = kept_by v d pair rest (is_carried v d pair rest) (d Remove (rest ++ pair.source)) refl refl (λ r. placed pair rest at r whole) in
     elim k [

@@ -1,12 +1,13 @@
 pub mod PathLemmas
 pub mod ClaimLemmas
 pub mod LocalLemmas
+pub mod Apart
 pub mod PlaceLemmas
 pub mod CopyLemmas
 pub mod MoveLemmas
 pub mod OtherLemmas
-pub mod Whole
 pub mod SoundLemmas
+pub mod Whole
 pub mod CommutingLemmas
 pub mod PlannedLemmas
 pub mod KeepingLemmas

@@ -14,7 +14,8 @@ use Rattle.op_plan.specs.declared.job.Pair.{Pair}
 use Rattle.op_plan.specs.declared.job.Job.TheVariants.{Move}
 use Rattle.job_laws.specs.Works.{Part, Make, Place, Set, Remove, Work, Did, is_part, with_mode, made_for, mode_or, covers, sources, source_of, moves, does, after_works}
 use Rattle.job_laws.specs.Outcome.{Decisions, is_work, done, copied, Spotted, AtTarget, AtSource, Elsewhere, place, is_carried, moved, outcome}
-use Rattle.job_laws.specs.Fits.{is_above, is_near_work, IsFree, MayFollow, Follow, all_apart}
+use Rattle.job_laws.specs.Fits.{is_above, is_near_work, IsFree, MayFollow, Follow}
+use Rattle.job_laws.proofs.Apart.{all_apart}
 use Rattle.op_plan.proofs.Paths.{same-true, same-self}
 use Rattle.job_laws.proofs.PathLemmas.{under-self, under-some, under-from, under-way, under-trans, below-is, meet_above}
 use Rattle.job_laws.proofs.PlaceLemmas.{Among, IsAt, home, at_target, at_source, source-is, covered, covers-among}

@@ -10,7 +10,7 @@ use Rattle.job_laws.specs.Ways.{below}
 use Rattle.op_plan.specs.declared.job.Pair.{Pair}
 use Rattle.job_laws.specs.Works.{source_of, sources, covers}
 use Rattle.job_laws.specs.Outcome.{AtTarget, AtSource, place}
-use Rattle.job_laws.specs.Fits.{are_apart, all_apart}
+use Rattle.job_laws.proofs.Apart.{are_apart, all_apart}
 use Rattle.job_laws.proofs.PathLemmas.{below-is, below-append, under-from, under-below, under-way, meet_above}
 
 abbrev pub Among : List Pair → Pair → Type 0

@@ -5,13 +5,11 @@ use Rattle.std.specs.List.{list_any, list_all}
 use Rattle.std.proofs.lemmas.Bool.{or_parts, and_from}
 use Rattle.mc_text.specs.Routes.{Route}
 use Rattle.op_plan.specs.declared.job.Pair.{Pair}
-use Rattle.op_plan.specs.declared.job.Job.{Job}
-use Rattle.op_plan.specs.declared.job.Job.TheVariants.{Copy, Move, Delete, MakeFolder, SetMode, MakeLink, Save}
 use Rattle.op_plan.specs.Meeting.{meet, has_two}
 use Rattle.op_plan.specs.Checks.{sources_in, targets_from}
-use Rattle.op_plan.specs.Soundness.{ArePairsApart, IsSound}
+use Rattle.op_plan.specs.Soundness.{ArePairsApart}
 use Rattle.op_plan.proofs.Paths.{meet-turned}
-use Rattle.job_laws.specs.Fits.{are_apart, all_apart, is_sound}
+use Rattle.job_laws.proofs.Apart.{are_apart, all_apart}
 
 not_false : (b : Bool) → b ≡ false → not b ≡ true
 not_false true h = sym h
@@ -63,11 +61,5 @@ pairs_apart (pair ∷ pairs) ss tt st =
     (not_false (meet pair.source pair.target) d.0)
     (and_from (list_all (are_apart pair) pairs) (all_apart pairs) (each_apart pair pairs a.0 b.0 d.1 e.0) (pairs_apart pairs a.1 b.1 e.1))
 
-pub sound-apart : (job : Job) → IsSound job → is_sound job ≡ true
-sound-apart (Copy pairs) h = pairs_apart pairs h.sources h.targets h.across
-sound-apart (Move pairs) h = pairs_apart pairs h.sources h.targets h.across
-sound-apart (Delete paths) h = refl
-sound-apart (MakeFolder path) h = refl
-sound-apart (SetMode paths mode) h = refl
-sound-apart (MakeLink path text) h = refl
-sound-apart (Save path bytes) h = refl
+pub sound_pairs : (pairs : List Pair) → ArePairsApart pairs → all_apart pairs ≡ true
+sound_pairs pairs h = pairs_apart pairs h.sources h.targets h.across

@@ -10,6 +10,7 @@ use Rattle.job_laws.specs.Outcome.{Decisions, done, plain_left, outcome}
 use Rattle.job_laws.specs.Fits.{FitLaw}
 use Rattle.job_laws.proofs.CopyLemmas.{copy_fits}
 use Rattle.job_laws.proofs.MoveLemmas.{move_fits}
+use Rattle.job_laws.proofs.SoundLemmas.{sound_pairs}
 use Rattle.job_laws.proofs.OtherLemmas.{plain_step, plain_start, set_twice}
 
 plain_fits : (job : Job) (plain : Plain) → ((x : Option Value) → plain.new (plain.new x) ≡ plain.new x)
@@ -24,8 +25,8 @@ plain_fits job plain twice changes leaves (Did part p ∷ older) v =
     ∙ (plain_step v plain twice part p older ∙ sym (leaves v (done (Did part p ∷ older)))))
 
 pub fit_law : FitLaw
-fit_law (Copy pairs) works v sound fits = copy_fits pairs v sound works fits
-fit_law (Move pairs) works v sound fits = move_fits pairs v sound works fits
+fit_law (Copy pairs) works v sound fits = copy_fits pairs v (sound_pairs pairs sound) works fits
+fit_law (Move pairs) works v sound fits = move_fits pairs v (sound_pairs pairs sound) works fits
 fit_law (Delete paths) works v sound fits = plain_fits (Delete paths) (deleting paths) (λ x. refl) (λ v part p. refl) (λ v d. refl) works v
 fit_law (MakeFolder path) works v sound fits = plain_fits (MakeFolder path) (making path) (λ x. refl) (λ v part p. refl) (λ v d. refl) works v
 fit_law (SetMode paths mode) works v sound fits = plain_fits (SetMode paths mode) (setting paths mode) (set_twice mode) (λ v part p. refl) (λ v d. refl) works v

@@ -1,9 +1,10 @@
 -- Which works of a job may follow one another.
-use Rattle.std.specs.Prelude.{◌≡◌, Bool, true, false, ◌&&◌, not, List, [], ◌∷◌, Some}
-use Rattle.std.specs.List.{list_any, list_all}
+use Rattle.std.specs.Prelude.{◌≡◌, Bool, true, false, ◌&&◌, List, [], ◌∷◌, Some}
+use Rattle.std.specs.List.{list_any}
 use Rattle.mc_text.specs.Routes.{Route, is_prefix}
 use Rattle.tree_trait.specs.FileSystem.{View}
 use Rattle.op_plan.specs.Meeting.{meet}
+use Rattle.op_plan.specs.Soundness.{IsSound}
 use Rattle.op_plan.specs.declared.job.Pair.{Pair}
 use Rattle.op_plan.specs.declared.job.Job.{Job}
 use Rattle.op_plan.specs.declared.job.Job.TheVariants.{Copy, Move, Delete, MakeFolder, SetMode, MakeLink, Save}
@@ -47,23 +48,6 @@ Fits (SetMode paths mode) works = Unit {0}
 Fits (MakeLink path text) works = Unit {0}
 Fits (Save path bytes) works = Unit {0}
 
--- two pairs have nothing in common
-abbrev pub are_apart : Pair → Pair → Bool
-are_apart a b = not (meet a.source b.source) && (not (meet a.target b.target) && (not (meet a.source b.target) && not (meet a.target b.source)))
-
-abbrev pub all_apart : List Pair → Bool
-all_apart [] = true
-all_apart (pair ∷ pairs) = not (meet pair.source pair.target) && (list_all (are_apart pair) pairs && all_apart pairs)
-
-abbrev pub is_sound : Job → Bool
-is_sound (Copy pairs) = all_apart pairs
-is_sound (Move pairs) = all_apart pairs
-is_sound (Delete paths) = true
-is_sound (MakeFolder path) = true
-is_sound (SetMode paths mode) = true
-is_sound (MakeLink path text) = true
-is_sound (Save path bytes) = true
-
--- The works of a job, in any order in which they fit, leave its outcome.
+-- The works of a sound job, in any order in which they fit, leave its outcome.
 abbrev pub FitLaw : Type 0
-FitLaw = (job : Job) (works : List Work) (v : View) → is_sound job ≡ true → Fits job works → after_works job works v ≡ outcome v job (done works)
+FitLaw = (job : Job) (works : List Work) (v : View) → IsSound job → Fits job works → after_works job works v ≡ outcome v job (done works)

@@ -5,7 +5,7 @@ use Rattle.tree_trait.specs.FileSystem.{View}
 use Rattle.op_plan.specs.declared.job.Pair.{Pair}
 use Rattle.job_laws.specs.Works.{Remove, Place}
 use Rattle.job_laws.specs.Outcome.{Decisions, AtTarget, place, moved}
-use Rattle.job_laws.specs.Fits.{all_apart}
+use Rattle.op_plan.specs.Soundness.{ArePairsApart}
 use Rattle.job_laws.specs.Planned.{is_whole, is_special}
 use Rattle.op_plan.specs.declared.job.Job.TheVariants.{Move}
 use Rattle.job_laws.specs.Outcome.{outcome}
@@ -21,9 +21,9 @@ KeepsMoved start pairs now =
     (pair : Pair) (rest : Route) → place pairs (rest ++ pair.target) ≡ AtTarget pair rest
     → (is_whole (start (rest ++ pair.source)).value || is_special (start (rest ++ pair.source)).value) ≡ true → IsKept start pair rest now
 
--- Where nothing of a source is removed before it was placed, a thing that is moved is whole at its source or at its target.
+-- Where the pairs are apart and nothing of a source is removed before it was placed, a thing that is moved is whole at its source or at its target.
 abbrev pub KeptLaw : Type 0
-KeptLaw = (v : View) (pairs : List Pair) (d : Decisions) → all_apart pairs ≡ true
+KeptLaw = (v : View) (pairs : List Pair) (d : Decisions) → ArePairsApart pairs
     → ((pair : Pair) (rest : Route) → place pairs (rest ++ pair.target) ≡ AtTarget pair rest → d Remove (rest ++ pair.source) ≡ true
     → (is_whole (v (rest ++ pair.source)).value || is_special (v (rest ++ pair.source)).value) ≡ true → d Place (rest ++ pair.target) ≡ true)
     → KeepsMoved v pairs (outcome v (Move pairs) d)

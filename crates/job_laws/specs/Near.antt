@@ -1,14 +1,9 @@
--- What claims say of a path, and claims of which some clash.
+-- What claims say of a path.
 use Rattle.std.specs.Prelude.{Bool, ◌&&◌, List}
 use Rattle.std.specs.List.{list_any}
 use Rattle.mc_text.specs.Routes.{Route, is_prefix}
 use Rattle.op_plan.specs.declared.claim.Claim.{Claim}
 use Rattle.op_plan.specs.Meeting.{meet}
-use Rattle.op_plan.specs.Claiming.{clash}
-
--- a claim of mine clashes with one of theirs
-abbrev pub clashes : List Claim → List Claim → Bool
-clashes mine theirs = list_any (λ c. list_any (clash c) theirs) mine
 
 -- a path lies under a claim for writing
 abbrev pub is_written : List Claim → Route → Bool

@@ -154,7 +154,7 @@ two-map test f (x ∷ xs) =
 
 -- ---- positions
 
-any-position : {X : Type 0} (p : X → Bool) (xs : List X) → list_any p xs ≡ nat_lt (position_or_len p xs) (length xs)
+pub any-position : {X : Type 0} (p : X → Bool) (xs : List X) → list_any p xs ≡ nat_lt (position_or_len p xs) (length xs)
 any-position p [] = refl
 any-position p (x ∷ xs) = step (p x) (any-position p xs)
   where

@@ -31,6 +31,10 @@ claims (Save path bytes) = claim true path ∷ []
 abbrev pub clash : Claim → Claim → Bool
 clash mine theirs = (mine.writes || theirs.writes) && meet mine.path theirs.path
 
+-- some claim of mine clashes with one of theirs
+abbrev pub clashes : List Claim → List Claim → Bool
+clashes mine theirs = list_any (λ claim. list_any (clash claim) theirs) mine
+
 -- the first of mine that clashes with any of theirs, and the first of theirs with which it does
 abbrev pub first_clash : List Claim → List Claim → Option (ℕ × ℕ)
 first_clash mine theirs =

@@ -52,7 +52,7 @@ fn targets_in(alloc: Global, folder: &Path, names: &[Name]) -> Result<Paths, Pla
     ensures no_fault { IfErr result (λ e. is_fault e ≡ false) }
     ensures carried { IfErr result CarriesPlanCause }
 {
-    let mut targets = Vec::new(alloc);
+    let mut targets = Vec::with_capacity(alloc, names.len())?;
     for name in names {
         match target_in(alloc, folder, name) {
             Ok(target) => targets.push(target)?,

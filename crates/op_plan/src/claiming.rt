@@ -1,7 +1,7 @@
 //! What a job claims of the tree, and which claims clash.
-ghost use Rattle.std.specs.Prelude.{◌≡◌, ◌<◌, [], ◌∷◌, length, IfOk, IfSome};
+ghost use Rattle.std.specs.Prelude.{◌≡◌, ◌<◌, [], ◌∷◌, length, is_some, IfOk, IfSome};
 ghost use Rattle.std.specs.List.{list_any, position};
-ghost use Rattle.op_plan.specs.Claiming.{claims, clash, first_clash, of_pairs, all_written};
+ghost use Rattle.op_plan.specs.Claiming.{claims, clash, clashes, first_clash, of_pairs, all_written};
 
 use crate::claim::{Claim, Claims};
 use crate::job::{Job, Pair};
@@ -70,10 +70,16 @@ fn one_written(alloc: Global, path: &Path) -> Result<Claims, NoMemory>
 /// The first pair of positions at which two claims clash: the first of mine that clashes with any of theirs, and the
 /// first of those. It takes no memory, and a time that grows as the product of their numbers.
 pub fn clash(mine: &Claims, theirs: &Claims) -> Option<(usize, usize)>
+    ensures first { result ≡ first_clash mine.now theirs.now }
+    ensures found { is_some result ≡ clashes mine.now theirs.now }
+{
+    first_pair(mine.as_slice(), theirs.as_slice())
+}
+
+/// The first pair of positions at which two claims clash.
+fn first_pair(mine: &[Claim], theirs: &[Claim]) -> Option<(usize, usize)>
     ensures { result ≡ first_clash mine.now theirs.now }
 {
-    let mine = mine.as_slice();
-    let theirs = theirs.as_slice();
     let Some(i) = first_clashing(mine, theirs) else {
         return None;
     };

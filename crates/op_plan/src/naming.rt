@@ -1,6 +1,7 @@
 //! Which sources a mask leaves in, and the names of their targets.
 ghost use Rattle.std.specs.Prelude.{◌≡◌, ◌≢◌, false, filter, length, IfOk, IfErr, None, Some, chars};
 ghost use Rattle.op_plan.specs.Answering.{is_fault, CarriesPlanCause};
+ghost use Rattle.op_plan.specs.Masks.{keeps_name};
 ghost use Rattle.op_plan.specs.Naming.{pattern_in, chosen, has_match, target_text, target_name, all_of, names_for, checked_name};
 
 use crate::error::PlanError;
@@ -84,7 +85,7 @@ fn target_names(
     ensures no_fault { IfErr result (λ e. is_fault e ≡ false) }
     ensures carried { IfErr result CarriesPlanCause }
 {
-    let mut names = Vec::new(alloc);
+    let mut names = Vec::with_capacity(alloc, sources.len())?;
     for source in sources {
         match target_name(alloc, pattern, mask, source) {
             Ok(name) => names.push(name)?,
@@ -110,6 +111,9 @@ fn target_name(
     let Some(name) = source.last() else {
         return Err(PlanError::BadMask);
     };
+    if mask.keeps_name() {
+        return name_in(alloc, name);
+    }
     let text = target_text(alloc, pattern, mask, name)?;
     name_in(alloc, text.as_str())
 }
@@ -129,7 +133,7 @@ pub fn name_in(alloc: Global, text: &str) -> Result<Name, PlanError>
     }
 }
 
-/// What the mask makes of a name.
+/// What the mask makes of a name, where it isn't a star alone.
 #[tactic(auto, using(crate::proofs::MaskLemmas::stars_numbered))]
 fn target_text(
     alloc: Global,
@@ -137,15 +141,13 @@ fn target_text(
     mask: &Mask,
     name: &str,
 ) -> Result<Text, PlanError>
+    requires { keeps_name mask.now ≡ false }
     ensures made { IfOk result (λ text. target_text pattern.now mask.now name.now ≡ Some text) }
     ensures bad { IfErr result (λ e. e ≢ PlanError.Memory
         → (e ≡ PlanError.BadMask) × (target_text pattern.now mask.now name.now ≡ None)) }
     ensures no_fault { IfErr result (λ e. is_fault e ≡ false) }
     ensures carried { IfErr result CarriesPlanCause }
 {
-    if mask.keeps_name() {
-        return Ok(Text::from_str(alloc, name)?);
-    }
     match pattern.captures(alloc, name)? {
         Some(captures) => mask.fill(alloc, name, captures.as_slice()),
         None => Err(PlanError::BadMask),
