@@ -146,7 +146,7 @@ def check_copies(program, base, check):
     old = facts(os.path.join(target, "x"))
     status, written, _ = run(program, [source, target], COPY + [F10, F10])
     check("what is there is not overwritten", status == 0 and facts(os.path.join(target, "x")) == old and b"already there" in written)
-    status, written, _ = run(program, [source], COPY + [F10, F10])
+    status, written, _ = run(program, [source, source], COPY + [F10, F10])
     check("no file is copied onto itself", status == 0 and os.listdir(source) == ["x"] and b"already there" in written)
 
     os.remove(os.path.join(target, "x"))
@@ -184,7 +184,7 @@ def check_rows(program, base, check):
     folder = os.path.join(base, "l" * 60, "m" * 60)
     os.makedirs(folder)
     make_file(os.path.join(folder, "x"), 1, 0o644)
-    status, written, _ = run(program, [folder], [DOWN, F5, ENTER, F10, F10])
+    status, written, _ = run(program, [folder, folder], [DOWN, F5, ENTER, F10, F10])
     rows = re.findall(rb"\x1b\[20;1H([^\x1b]*)", written)
     cut = folder.encode()[:79] + b"~"
     check("a long path is cut in its box", status == 0 and cut in rows and all(len(row) == 80 for row in rows))
