@@ -5,18 +5,28 @@
 mod rows;
 mod running;
 mod scenes;
+mod sizes;
 mod telling;
 
 use anyhow::Result;
+use std::alloc::Global;
 
 fn main(rt: HostRuntime) -> Result<()> {
     let alloc = rt.alloc();
     for row in rt.lines(alloc) {
         let row = row?;
-        let told = rows::told_of(alloc, row.as_str())?;
+        let told = told_of(alloc, row.as_str())?;
         println!(rt; "{row}\n  {told}")?;
     }
     let cut = rows::cut_frames(alloc)?;
     println!(rt; "{cut}")?;
     Ok(())
+}
+
+/// What comes of a row: of a size, or of a run.
+fn told_of(alloc: Global, row: &str) -> Result<String> {
+    match row.strip_prefix("size of ") {
+        Some(said) => sizes::told_size(alloc, said),
+        None => rows::told_of(alloc, row),
+    }
 }
