@@ -14,6 +14,7 @@ use Rattle.mc_ui.specs.declared.asks.Ask.{Ask}
 use Rattle.mc_ui.specs.declared.asks.Ask.TheVariants as ask
 use Rattle.mc_ui.specs.declared.asks.Told.{Told}
 use Rattle.mc_ui.specs.declared.asks.Told.TheVariants as told
+use Rattle.mc_desk.specs.StandIn.{HasSameSize}
 use Rattle.mc_desk.specs.declared.granting.Deed.{Deed}
 use Rattle.mc_desk.specs.declared.granting.Deed.TheVariants.{Nothing, Begin, Refuse, Answer, End}
 
@@ -82,3 +83,4 @@ pub record IsWorked (tree : Option View) (rows : List JobRow) (next : Option ℕ
   pub works : KeyWorks tree rows next key refusals before (with_deed done after)
   pub can : CanBeDone rows next done
   pub settled : after.planned ≡ None
+  pub size : HasSameSize before after

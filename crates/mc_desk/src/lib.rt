@@ -10,6 +10,7 @@ mod opening;
 mod replies;
 mod rows;
 mod session;
+mod stand_in;
 mod standing;
 mod starts;
 mod tag;

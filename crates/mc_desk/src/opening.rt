@@ -1,10 +1,13 @@
 //! The opening of a session: the folders are listed, and room is made for the entry that will close it.
-ghost use Rattle.std.specs.Prelude.{◌≡◌, ◌≤◌, true, IfErr, IfOk};
+ghost use Rattle.std.specs.Prelude.{◌≡◌, ◌≤◌, [], true, IfErr, IfOk};
 ghost use Rattle.tree_trait.specs.Change.{current};
 ghost use Rattle.tree_trait.specs.Answers.{IfKnown, HasRisen};
+ghost use Rattle.mc_desk.specs.Outputs.{FitsScreen};
+ghost use Rattle.mc_desk.specs.StandIn.{Shows};
 ghost use Rattle.mc_desk.specs.Starts.{IsOpened, Starts, is_start_fault, start_error};
 
 use crate::log::Log;
+use crate::stand_in::Screen;
 use crate::starts::{Side, Start, StartError};
 use mc_text::NoMemory;
 use mc_ui::{Panel, Ui};
@@ -12,8 +15,14 @@ use std::alloc::Global;
 use tree_trait::{Tree, TreeError};
 
 /// The screen of two folders, with no box open, and an empty log. The left one is listed first.
-pub fn open<T: Tree>(alloc: Global, tree: &mut T, start: Start) -> Result<(Ui, Log), StartError>
+pub fn open<T: Tree>(
+    alloc: Global,
+    tree: &mut T,
+    start: Start,
+) -> Result<(Ui, Log, Screen), StartError>
     ensures opened { IfOk result (λ parts. IsOpened (T.contents tree.old) start.left start.right parts.0 parts.1) }
+    ensures blank { IfOk result (λ parts. Shows [] parts.2.grid) }
+    ensures fits { IfOk result (λ parts. FitsScreen parts.2.grid parts.0) }
     ensures cause { IfKnown (T.contents tree.old) (λ log. Starts (current log) start.left start.right result) }
     ensures fault { IfErr result (λ error. is_start_fault error ≡ true → HasRisen (T.fault_count tree.old) (T.fault_count tree.new)) }
     ensures same { T.contents tree.new ≡ T.contents tree.old }
@@ -21,6 +30,10 @@ pub fn open<T: Tree>(alloc: Global, tree: &mut T, start: Start) -> Result<(Ui, L
 {
     let log = match Log::new(alloc) {
         Ok(log) => log,
+        Err(NoMemory) => return Err(StartError::Memory),
+    };
+    let screen = match Screen::new(alloc, 24, 80) {
+        Ok(screen) => screen,
         Err(NoMemory) => return Err(StartError::Memory),
     };
     let Start { left, right } = start;
@@ -34,7 +47,8 @@ pub fn open<T: Tree>(alloc: Global, tree: &mut T, start: Start) -> Result<(Ui, L
     };
     let left_panel = Panel::new(left, left_names);
     let right_panel = Panel::new(right, right_names);
-    Ok((Ui::new(left_panel, right_panel), log))
+    let ui = Ui::new(left_panel, right_panel);
+    Ok((ui, log, screen))
 }
 
 /// Why a folder can't be listed.
