@@ -1,26 +1,31 @@
 """Tries the built program on a pseudo-terminal, as a person would: keys in, files looked at afterwards.
 
 Usage: terminal_check.py PROGRAM STARTER. The starter, `./mc`, starts the program and puts the terminal back after a signal.
-Needs the standard library of Python 3 alone.
+Needs the standard library of Python 3 alone. What stands on the screen is compared with frames.py, cell by cell.
 """
 import fcntl
 import os
 import pty
-import re
 import resource
 import select
 import shutil
 import signal
 import stat
+import struct
 import subprocess
 import sys
 import tempfile
 import termios
 import time
 
-DOWN, F5, F8, F10, ENTER = b"\x1b[B", b"\x1b[15~", b"\x1b[19~", b"\x1b[21~", b"\r"
+from frames import SMALL, SMALL_LOOKS, frame, with_box
+from terminal_screen import Screen
+
+UP, DOWN, END, TAB = b"\x1b[A", b"\x1b[B", b"\x1b[F", b"\t"
+F1, F5, F8, F10, ENTER, ESCAPE = b"\x1bOP", b"\x1b[15~", b"\x1b[19~", b"\x1b[21~", b"\r", b"\x1b\x1b"
 COPY = [DOWN, F5, ENTER, ENTER]
 USAGE = b"usage: mc [-b] [-V] [-h] [-P FILE] [-v FILE | -e FILE | --drill N | DIR1 [DIR2]]"
+KEYS = b"F1 help  F2 menu  F3 view  F4 edit  F5 copy  F6 move  F7 mkdir  F8 delete  F9 options  F10 quit"
 PATIENCE = 20.0
 SOMEBODY = 65534
 
@@ -35,9 +40,10 @@ def read_some(terminal, seconds):
         return b""
 
 
-def own_terminal():
+def own_terminal(size):
     """A terminal with settings that `stty sane` takes away: text of UTF-8, and an erase key of the user's own."""
     ours, theirs = pty.openpty()
+    fcntl.ioctl(theirs, termios.TIOCSWINSZ, struct.pack("HHHH", *size, 0, 0))
     modes = termios.tcgetattr(theirs)
     modes[0] |= getattr(termios, "IUTF8", 0x4000)
     modes[6][termios.VERASE] = b"\x08"
@@ -45,7 +51,7 @@ def own_terminal():
     return ours, theirs, termios.tcgetattr(theirs)
 
 
-def start(program, words, ours, theirs, largest=None, user=None, folders=None):
+def start(program, words, ours, theirs, largest=None, user=None, folders=None, inside=None, surroundings=()):
     """Starts the program on a terminal, of which it is the session's leader."""
     child = os.fork()
     if child != 0:
@@ -66,26 +72,48 @@ def start(program, words, ours, theirs, largest=None, user=None, folders=None):
             os.setuid(user)
         if folders is not None:
             os.environ["PATH"] = folders
+        if inside is not None:
+            os.chdir(inside)
+        for name in ("LINES", "COLUMNS"):
+            os.environ.pop(name, None)
+        os.environ.update(surroundings)
         os.execv(program, [program] + words)
     finally:  # a child that can't become the program goes no further
         os._exit(127)
 
 
-def run(program, words, keys, **settings):
+class Told:
+    """What a run told: the bytes that it wrote, and at each moment at which it was quiet their number, and the screen."""
+
+    def __init__(self, size):
+        self.size, self.written, self.counts, self.screens = size, b"", [], []
+
+    def keep(self):
+        self.counts.append(len(self.written))
+        self.screens.append(Screen(*self.size, self.written))
+
+    def __contains__(self, text):
+        """Whether a text was printed, or stood in a row."""
+        return text in self.written or any(text.decode() in row for screen in self.screens for row in screen.rows())
+
+
+def run(program, words, keys, size=(24, 80), **settings):
     """Runs the program on a terminal of its own; each key is sent once the screen has been quiet for a moment.
 
-    Answers the exit status, what was written, and whether the terminal is as it was. In place of a key may stand what is to
-    be done then; it is given the number of the process. With `largest` no file of the program may have more bytes than
-    that; with `user` it runs as that user; `folders` is where it looks for commands.
+    Answers the exit status, what it told, and whether the terminal is as it was. In place of a key may stand what is to be
+    done then; it is given the number of the process. With `largest` no file of the program may have more bytes than that;
+    with `user` it runs as that user; `folders` is where it looks for commands; it runs `inside` a folder, with these
+    `surroundings`.
     """
-    ours, theirs, before = own_terminal()
+    ours, theirs, before = own_terminal(size)
     child = start(program, words, ours, theirs, **settings)
-    written, status, waiting = b"", None, list(keys)
+    told, status, waiting = Told(size), None, list(keys)
     end = time.monotonic() + PATIENCE
     while status is None and time.monotonic() < end:
         got = read_some(ours, 0.2)
-        written += got
-        if not got and waiting and b"\x1b[2J" in written:
+        told.written += got
+        if not got and waiting and told.written:
+            told.keep()
             key = waiting.pop(0)
             if callable(key):
                 key(child)
@@ -102,10 +130,10 @@ def run(program, words, keys, **settings):
         got = read_some(ours, 0.1)
         if not got:
             break
-        written += got
+        told.written += got
     os.close(ours)
     os.close(theirs)
-    return status, written, same
+    return status, told, same
 
 
 def make_file(path, size, mode):
@@ -141,15 +169,15 @@ def check_copies(program, base, check):
     make_file(os.path.join(source, "x"), 9, 0o640)
     make_file(os.path.join(target, "x"), 3, 0o600)
     old = facts(os.path.join(target, "x"))
-    status, written, _ = run(program, [source, target], COPY + [F10, F10])
-    check("what is there is not overwritten", status == 0 and facts(os.path.join(target, "x")) == old and b"already there" in written)
-    status, written, _ = run(program, [source], COPY + [F10, F10])
-    check("no file is copied onto itself", status == 0 and os.listdir(source) == ["x"] and b"already there" in written)
+    status, told, _ = run(program, [source, target], COPY + [ENTER, F10, F10])
+    check("what is there is not overwritten", status == 0 and facts(os.path.join(target, "x")) == old and b"already there" in told)
+    status, told, _ = run(program, [source, source], COPY + [ENTER, F10, F10])
+    check("no file is copied onto itself", status == 0 and os.listdir(source) == ["x"] and b"already there" in told)
 
     os.remove(os.path.join(target, "x"))
     make_file(os.path.join(source, "x"), 100000, 0o640)
-    status, written, _ = run(program, [source, target], COPY + [b"s", F10], largest=70000)
-    check("a file that can't be written is skipped", status == 0 and os.listdir(target) == [] and b"r Retry  s Skip" in written)
+    status, told, _ = run(program, [source, target], COPY + [b"s", F10], largest=70000)
+    check("a file that can't be written is skipped", status == 0 and os.listdir(target) == [] and b"r Retry  s Skip" in told)
     status, _, _ = run(program, [source, target], COPY + [b"b", F10], largest=70000)
     check("its copy can be aborted", status == 0 and os.listdir(target) == [])
     status, _, _ = run(program, [source, target], COPY + [F10, F10], largest=70000)
@@ -158,8 +186,8 @@ def check_copies(program, base, check):
     taken = [f".mc.1.{number}.part" for number in range(1000)]
     for name in taken:
         make_file(os.path.join(target, name), 0, 0o600)
-    status, written, _ = run(program, [source, target], COPY + [b"s", F10])
-    check("with no free part name a copy is skipped", status == 0 and sorted(os.listdir(target)) == sorted(taken) and b"no free part name" in written)
+    status, told, _ = run(program, [source, target], COPY + [b"s", F10])
+    check("with no free part name a copy is skipped", status == 0 and sorted(os.listdir(target)) == sorted(taken) and b"no free part name" in told)
 
     small = os.path.join(base, "small")
     os.mkdir(small)
@@ -167,24 +195,99 @@ def check_copies(program, base, check):
         print("no mount of its own could be made: a full one was not tried")
         return
     try:
-        status, written, _ = run(program, [source, small], COPY + [b"s", F10])
-        check("on a full mount a copy is skipped", status == 0 and os.listdir(small) == [] and b"no space left" in written)
+        status, told, _ = run(program, [source, small], COPY + [b"s", F10])
+        check("on a full mount a copy is skipped", status == 0 and os.listdir(small) == [] and b"no space left" in told)
         subprocess.run(["mount", "-o", "remount,ro", small], check=True)
-        status, written, _ = run(program, [source, small], COPY + [b"s", F10])
-        check("on a read-only mount a copy is denied", status == 0 and os.listdir(small) == [] and b"permission denied" in written)
+        status, told, _ = run(program, [source, small], COPY + [b"s", F10])
+        check("on a read-only mount a copy is denied", status == 0 and os.listdir(small) == [] and b"permission denied" in told)
     finally:
         subprocess.run(["umount", small], check=True)
 
 
-def check_rows(program, base, check):
-    """A row of a box ends where the screen does."""
+def screens_of(program, words, keys, size, **settings):
+    """The screen after each of these keys, and how many bytes each took; then the program is ended."""
+    status, told, same = run(program, words, keys + [F10], size, **settings)
+    return status, told.screens, same
+
+
+def half_reverse(rows, row, columns):
+    """How the cells look where the left panel is current, with the cursor in this row."""
+    half = columns // 2
+    looks = [" " * columns] * rows
+    looks[0] = "r" * half + " " * (columns - half)
+    looks[row - 1] = " " + "r" * (half - 2) + " " * (columns - half + 1)
+    return looks
+
+
+def check_frames(program, base, check):
+    """What stands on the screen, at three sizes of a terminal, started without words in a folder."""
+    folder = os.path.join(base, "f")
+    os.mkdir(folder)
+    for name in ("a", "b.txt"):
+        make_file(os.path.join(folder, name), 3, 0o644)
+    items = ["..", "a", "b.txt"]
+    check("the frame of ten lines is as written out", frame(10, 40, ("/f", items, ".."), ("/f", items, "..")) == SMALL)
+    check("and so are its looks", half_reverse(10, 3, 40) == SMALL_LOOKS)
+
+    def wanted(size, current):
+        return frame(*size, (folder, items, current), (folder, items, ".."))
+
+    for size in [(24, 80), (50, 132), (10, 40)]:
+        what = f"on {size[0]} lines of {size[1]} columns"
+        status, screens, same = screens_of(program, [], [DOWN, F8, ESCAPE, F5, ESCAPE], size, inside=folder)
+        check(f"{what} it starts without words, and ends", status == 0 and same and len(screens) == 6)
+        opening, moved, asks, shut, mask, _ = screens + [None] * (6 - len(screens))
+        looks = lambda screen: [screen.looks(row + 1) for row in range(size[0])]
+        check(f"{what} the opening frame stands", opening.rows() == wanted(size, "..") and looks(opening) == half_reverse(size[0], 3, size[1]))
+        check(f"{what} Down moves the cursor", moved.rows() == wanted(size, "a") and looks(moved) == half_reverse(size[0], 4, size[1]))
+        box = ["Delete 1 things?", "y Delete  g Background  n No"]
+        check(f"{what} F8 asks", asks.rows() == with_box(wanted(size, "a"), box))
+        check(f"{what} Escape shuts the box", shut.rows() == moved.rows() and looks(shut) == looks(moved))
+        check(f"{what} F5 asks for the mask", mask.rows() == with_box(wanted(size, "a"), ["Source mask", "*"]))
+        check(f"{what} all that is written is read", all(not screen.unread for screen in screens))
+
+    for surroundings, size in [({"LINES": "9", "COLUMNS": "80"}, (24, 80)), ({"LINES": "10", "COLUMNS": "40"}, (10, 40))]:
+        _, screens, _ = screens_of(program, [], [], size, inside=folder, surroundings=surroundings)
+        check(f"{surroundings} is {size[0]} lines", screens[0].rows() == wanted(size, ".."))
+
+    check_cursor(program, base, check)
+
+
+def check_cursor(program, base, check):
+    """The cursor's keys in a folder of more names than a panel has lines, and what they put."""
+    folder = os.path.join(base, "many")
+    os.mkdir(folder)
+    names = [f"{number:02}" for number in range(40)]
+    for name in names:
+        make_file(os.path.join(folder, name), 0, 0o644)
+    items = [".."] + names
+    size = (24, 80)
+    _, told, _ = run(program, [folder, base], [END, UP, TAB, TAB, F10], size)
+    opening, end, up, other, back = told.screens[:5]
+    left = lambda screen: [row[:40] for row in screen.rows()[:22]]
+    pane = lambda first, current: [row[:40] for row in frame(*size, (folder, items[first:], current), (folder, [], ""))[:22]]
+    check("the first names are shown", left(opening) == pane(0, ".."))
+    check("End shows the last ones", left(end) == pane(len(items) - 18, "39"))
+    check("Up moves the cursor alone", left(up) == pane(len(items) - 18, "38"))
+    title = lambda screen: screen.looks(1)
+    check("Tab makes the other panel current", title(other) == " " * 40 + "r" * 40 and title(back) == title(up))
+
+    _, told, _ = run(program, [folder], [DOWN, DOWN, b"x", b"\x1b[", b"B", F10], size)
+    _, first, second, nothing, begun, third = (after - before for before, after in zip([0] + told.counts, told.counts))
+    check("Down puts at most 200 bytes", all(0 < count <= 200 for count in (first, second, third)))
+    check("a key that changes nothing puts none, and neither does half a key", nothing == 0 and begun == 0)
+
+
+def check_long_path(program, base, check):
+    """A path is cut in its box."""
     folder = os.path.join(base, "l" * 60, "m" * 60)
     os.makedirs(folder)
     make_file(os.path.join(folder, "x"), 1, 0o644)
-    status, written, _ = run(program, [folder], [DOWN, F5, ENTER, F10, F10])
-    rows = re.findall(rb"\x1b\[20;1H([^\x1b]*)", written)
-    cut = folder.encode()[:79] + b"~"
-    check("a long path is cut in its box", status == 0 and cut in rows and all(len(row) == 80 for row in rows))
+    make_file(os.path.join(base, "l" * 60, "x"), 1, 0o644)
+    _, told, _ = run(program, [os.path.join(base, "l" * 60), folder], [END, F5, ENTER, ENTER, ENTER, F10, F10])
+    rows = [row for screen in told.screens for row in screen.rows()]
+    cut = os.path.join(folder, "x")[:59] + "~"
+    check("a long path is cut in its box", any(f"| {cut} |" in row for row in rows))
 
 
 def for_somebody(program, base):
@@ -226,15 +329,15 @@ def check_stty(program, base, check):
             file.write(f'#!/bin/sh\necho "$1" >>{said}\n{broken}\nexec {real} "$@"\n')
         os.chmod(file.name, 0o755)
         folders = folder + os.pathsep + os.environ["PATH"]
-        for words in ([], ["relative"], ["/nowhere", "relative"]):
-            status, written, _ = run(program, words, [], folders=folders)
-            check(f"refused words {words} touch no terminal", status == 1 and USAGE in written and not os.path.exists(said))
+        for words, want in ([["-x"], 1], [["-v", "a"], 1], [["a", "b", "c"], 1], [["-V"], 0], [["-h"], 0]):
+            status, _, _ = run(program, words, [], folders=folders)
+            check(f"the words {words} touch no terminal", status == want and not os.path.exists(said))
         status, _, same = run(program, ["/"], [F10], folders=folders)
         with open(said) as file:
             lines = file.read().split()
         os.remove(said)
         ends_sane = lines[-1] == "sane"
-        check(f"where stty says {asked}", status == 0 and lines[:2] == ["-g", "raw"] and ends_sane != same and len(lines) == 3)
+        check(f"where stty says {asked}", status == 0 and lines[:3] == ["size", "-g", "raw"] and ends_sane != same and len(lines) == 4)
 
 
 def check_signals(starter, base, check):
@@ -251,13 +354,13 @@ def check_signals(starter, base, check):
     ]
     for sent in (signal.SIGTERM, signal.SIGHUP, signal.SIGINT):
         for name, aim in aims:
-            status, written, same = run(starter, [base], [DOWN, lambda process: aim(process, sent)])
+            status, told, same = run(starter, [base], [DOWN, lambda process: aim(process, sent)])
             ended = status is not None and status > 128
-            check(f"{sent.name} to {name}: the terminal is as it was", ended and same and written.endswith(b"\r\n"))
+            check(f"{sent.name} to {name}: the terminal is as it was", ended and same and told.written.endswith(b"\r\n"))
     status, _, same = run(starter, [base], [DOWN, F10])
     check("the starter ends with the program's status", status == 0 and same)
-    status, written, same = run(starter, ["relative"], [])
-    check("and says what the program says", status == 1 and USAGE in written and same)
+    status, told, same = run(starter, ["-v", "x"], [])
+    check("and says what the program says", status == 1 and USAGE in told and same)
 
 
 def check_dirty_folder(program, base, check):
@@ -277,11 +380,11 @@ def check_dirty_folder(program, base, check):
             os.chown(folder, user, user)
         shut, mended = (lambda _: os.chmod(folder, 0o300)), (lambda _: os.chmod(folder, mode))
         first = [DOWN, F8, shut, ENTER, b"b", lambda _: os.chmod(folder, 0o700), DOWN]
-        status, written, same = run(program, [folder], first + [F8, mended, ENTER, F10, F10], user=user)
+        status, told, same = run(program, [folder], first + [F8, mended, ENTER, F10, F10], user=user)
         os.chmod(folder, 0o700)
         what = f"a folder that an aborted job left, of mode {mode:o} then,"
         check(f"{what} comes before the next deletion", status == 0 and same and os.listdir(folder) == left)
-        check(f"{what} has its box", b"r Retry  b Abort" in written)
+        check(f"{what} has its box", b"r Retry  b Abort" in told)
 
 
 def check_part_left(program, base, check):
@@ -299,12 +402,33 @@ def check_part_left(program, base, check):
         for path in (source, target, file):
             os.chown(path, user, user)
     shut = lambda _: os.chmod(target, 0o500)
-    status, written, same = run(program, [source, target], COPY + [shut, b"b", F10, ENTER, F10], largest=70000, user=user)
+    status, told, same = run(program, [source, target], COPY + [shut, b"b", F10, ENTER, F10], largest=70000, user=user)
     os.chmod(target, 0o700)
     part = os.path.join(target, ".mc.1.0.part")
-    rows = re.findall(rb"\x1b\[(?:19|20);1H([^\x1b]*)", written)
-    told = [b"part left".ljust(80), part.encode().ljust(80)]
-    check("a part that stays is told", status == 0 and same and os.path.exists(part) and all(row in rows for row in told))
+    is_told = b"| part left " in told and b"| " + part.encode() + b" " in told
+    check("a part that stays is told", status == 0 and same and os.path.exists(part) and is_told)
+
+
+def check_words(program, starter, base, check):
+    """No words, relative folders, and the words that ask for no session."""
+    folder = os.path.join(base, "words")
+    os.makedirs(os.path.join(folder, "below"))
+    inner = os.path.join(folder, "below")
+    for words, there in [([], folder), (["below"], inner), (["./below/../below//"], inner), (["-b", "--", "below"], inner), (["../words"], folder)]:
+        make_file(os.path.join(there, "!first"), 1, 0o644)
+        status, _, same = run(starter, words, [DOWN, F8, ENTER, F10], inside=folder)
+        check(f"{words} start in {os.path.basename(there)}", status == 0 and same and not os.path.exists(os.path.join(there, "!first")))
+    status, told, same = run(starter, ["nowhere"], [], inside=folder)
+    check("a relative folder is named as it was typed", status == 2 and same and b"mc: nowhere: no such file or folder" in told)
+    for words, want, lines in [
+        (["-V"], 0, b"mc profile 1\r\n"),
+        (["-h"], 0, USAGE + b"\r\n" + KEYS + b"\r\n"),
+        (["-V", "-h", "below"], 0, USAGE + b"\r\n" + KEYS + b"\r\n"),
+        (["-v", "x"], 1, USAGE + b"\r\n"),
+        (["--drill", "1"], 1, USAGE + b"\r\n"),
+    ]:
+        status, told, same = run(program, words, [], inside=folder)
+        check(f"{words} print their lines alone", status == want and same and told.written == lines)
 
 
 def check_failed_build(starter, base, check):
@@ -348,9 +472,9 @@ def main():
             file.write("hi")
         status, _, same = run(program, [folder], [DOWN, F8, F10, F10])
         check("a box that is shut deletes nothing", status == 0 and os.listdir(folder) == ["x"] and same)
-        status, written, same = run(program, [folder], [DOWN, F8, ENTER, F10])
+        status, told, same = run(program, [folder], [DOWN, F8, ENTER, F10])
         check("the status is 0", status == 0)
-        check("the name was shown", b"x" in written)
+        check("the name was shown", b"x" in told)
         check("the file is deleted", os.listdir(folder) == [])
         check("the terminal is as it was", same)
 
@@ -360,11 +484,13 @@ def main():
         check("a folder is not deleted", status == 0 and os.path.isdir(os.path.join(base, "b", "d")))
 
         check_copies(program, base, check)
-        check_rows(program, base, check)
+        check_frames(program, base, check)
+        check_long_path(program, base, check)
         check_dirty_folder(program, base, check)
         check_part_left(program, base, check)
         check_set_id_bits(program, base, check)
         check_stty(program, base, check)
+        check_words(program, starter, base, check)
         check_signals(starter, base, check)
         check_failed_build(starter, base, check)
 
@@ -373,18 +499,17 @@ def main():
             (["/nowhere"], 2, b"mc: /nowhere: no such file or folder"),
             (["/no\x1b[31mwhere\n"], 2, b"mc: /no?[31mwhere?: no such file or folder"),
             ([os.path.join(base, "file")], 2, b"not a folder"),
-            ([], 1, USAGE),
-            (["-v", "a"], 1, USAGE),
-            (["relative"], 1, USAGE),
+            (["-x"], 1, USAGE),
+            (["-b", "-b"], 1, USAGE),
             ([folder, folder, folder], 1, USAGE),
-            ([folder, "relative"], 1, USAGE),
+            ([folder, "relative"], 2, b"mc: relative: no such file or folder"),
             ([folder, "/nowhere"], 2, b"mc: /nowhere: no such file or folder"),
             ([b"/\xff".decode("utf-8", "surrogateescape")], 1, USAGE),
         ]:
             if words and words[0].endswith("/file"):
                 open(words[0], "w").close()
-            status, written, same = run(program, words, [])
-            check(f"{words} ends with {want}", status == want and line in written and same)
+            status, told, same = run(program, words, [])
+            check(f"{words} ends with {want}", status == want and line in told and same)
     finally:
         shutil.rmtree(base)
     print(f"terminal: {passed} passed, {failed} failed")

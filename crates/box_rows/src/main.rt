@@ -3,6 +3,7 @@
 #![tactic(auto)]
 
 mod answers;
+mod frames;
 mod keys;
 mod painting;
 mod screens;

@@ -2,6 +2,7 @@
 ghost use Rattle.std.specs.Prelude.{◌≡◌, IfOk};
 
 use crate::answers::rows_of;
+use crate::frames;
 use crate::keys::keys_of;
 use crate::screens::{dotted, shown};
 use anyhow::{Result, bail};
@@ -18,6 +19,9 @@ pub fn painted(alloc: Global, kind: &str, fields: &str) -> Result<String> {
         "question over dots" => question_over_dots(alloc, fields),
         "list" => list(alloc, fields),
         "line" => line(alloc, fields),
+        "panels" => frames::both(alloc, fields),
+        "panel" => frames::whole(alloc, fields),
+        "page" => frames::page(alloc, fields),
         _ => bail!("no such box"),
     }
 }

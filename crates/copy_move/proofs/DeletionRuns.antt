@@ -1,18 +1,20 @@
 -- A step of a deletion is one call of the tree, with its answer.
-use Rattle.std.proofs.Common.{◌≡◌, ℕ, ◌≤◌, true, false, [], ◌∷◌, length, length-append, refl, sym, ◌∙◌, ap, subst, Option, Some, None, Result, Ok, Err, arith}
+use Rattle.std.proofs.Common.{◌≡◌, ℕ, ◌≤◌, true, false, [], ◌∷◌, refl, sym, ◌∙◌, ap, subst, Option, Some, None, Result, Ok, Err, arith}
 use Rattle.mc_text.specs.Routes.{Route, parent_of}
 use Rattle.tree_trait.specs.declared.calls.TreeError.{TreeError}
 use Rattle.tree_trait.specs.declared.calls.TreeError.TheVariants as refused
 use Rattle.tree_trait.specs.Calls.{Call, RemoveFile, SyncFolder}
-use Rattle.tree_trait.specs.Change.{Change, CallLog, with_change}
-use Rattle.tree_trait.specs.Answers.{IfKnown, HasRisen, Performs}
+use Rattle.tree_trait.specs.Change.{CallLog}
+use Rattle.tree_trait.specs.Answers.{IfKnown, HasCause, HasRisen, Performs}
 use Rattle.job_reports.specs.declared.report.Cause.TheVariants.{Tree}
 use Rattle.job_reports.specs.declared.report.Trouble.{Trouble}
 use Rattle.job_reports.specs.declared.report.Ending.{Ending}
 use Rattle.job_reports.specs.declared.report.Did.{Did}
 use Rattle.job_reports.specs.declared.report.Did.TheVariants.{Removed, Barrier, Troubled}
 use Rattle.job_reports.specs.CallRuns.{HasMore}
-use Rattle.job_reports.specs.Stops.{refusal_in, sync_answer, calls_made_for, cause_of, trouble_at}
+use Rattle.job_reports.specs.Stops.{refusal_in, calls_made_for, cause_of, trouble_at}
+use Rattle.job_reports.proofs.Runs.{no_more}
+use Rattle.job_reports.proofs.Tried.{answered, counts_try, fault_tried, tries_few}
 use Rattle.copy_move.specs.declared.deletion.Stage.TheVariants.{Remove, Sync, Finish}
 use Rattle.copy_move.specs.Deletions.{Deleting, Answers, IsTroubleAt, call_of}
 use Rattle.copy_move.specs.DeletionSteps.{DeletionStep, LastDeletionStep}
@@ -42,39 +44,13 @@ pub sync_call : (path folder : Route) → parent_of path ≡ Some folder → cal
 sync_call [] folder h = absurd cc
 sync_call (name ∷ up) folder h = let same : up ≡ folder = cc in ap (λ q. Some (SyncFolder q)) same
 
--- one change more, or none where there was no memory
-one_more : (log : CallLog) (c : Change) (now : CallLog) → (let o : Option CallLog = Some (with_change log c) in o) ≡ Some now → HasMore log 1 now
-one_more log c now h =
-    let is : with_change log c ≡ now = cc in
-    ap (λ (l : CallLog). length l.changes) (sym is) ∙ length-append log.changes (c ∷ [])
-
-no_more : (log now : CallLog) → (let o : Option CallLog = Some log in o) ≡ Some now → HasMore log 0 now
-no_more log now h = let is : log ≡ now = cc in let same = ap (λ (l : CallLog). length l.changes) (sym is) in omega (arith, same)
-
-pub counts_call : (log now : CallLog) (call : Call) (answer : Result (Unit {0}) TreeError) (after : Option CallLog) → Performs {A = Unit {0}} log call answer after → after ≡ Some now
-    → HasMore log (calls_made_for answer) now
-counts_call log now call (Ok done) after h is = one_more log _ now (sym h.1.1 ∙ is)
-counts_call log now call (Err refused.Memory) after h is = no_more log now (sym h ∙ is)
-counts_call log now call (Err refused.Fault) after h is = one_more log _ now (sym h.1.1 ∙ is)
-counts_call log now call (Err e) after h is = one_more log _ now (sym h.1 ∙ is)
-
-pub few_calls : (answer : Result (Unit {0}) TreeError) → calls_made_for answer ≤ 1
-few_calls (Ok done) = omega arith
-few_calls (Err refused.Memory) = omega arith
-few_calls (Err e) = omega arith
-
--- an answer, by its refusal
-answered : (answer : Result (Unit {0}) TreeError) (left : Option TreeError) → left ≡ refusal_in answer → answer ≡ sync_answer left
-answered (Ok done) left is = subst (λ l. Ok done ≡ sync_answer l) (sym is) refl
-answered (Err e) left is = subst (λ l. Err e ≡ sync_answer l) (sym is) refl
-
 module _ (old new : Deleting) (before after : Option CallLog) (faults faults_after : ℕ) where
   -- the call that a deletion makes, where its tree is known
   abbrev Called : Call → Result (Unit {0}) TreeError → Type 0
   Called call answer = IfKnown before (λ log. Performs {A = Unit {0}} log call answer after)
 
   counted : (call : Call) (answer : Result (Unit {0}) TreeError) (calls : ℕ) → calls ≡ calls_made_for answer → Called call answer → IfKnown before (λ log. IfKnown after (HasMore log calls))
-  counted call answer calls count called log known now is = subst (λ n. HasMore log n now) (sym count) (counts_call log now call answer after (called log known) is)
+  counted call answer calls count called log known now is = subst (λ n. HasMore log n now) (sym count) (counts_try call answer log now after (called log known) is)
 
   -- no call was made
   none_counted : (calls : ℕ) → calls ≡ 0 → after ≡ before → IfKnown before (λ log. IfKnown after (HasMore log calls))
@@ -112,9 +88,10 @@ module _ (old new : Deleting) (before after : Option CallLog) (faults faults_aft
 
   -- the last sync was tried
   pub steps_tried : (ending : Ending) (did : Did) (calls : ℕ) (left : Option TreeError) (folder : Route) (answer : Result (Unit {0}) TreeError) → did ≡ Barrier → calls ≡ calls_made_for answer
-      → left ≡ refusal_in answer → old.stage ≡ Sync → parent_of old.path ≡ Some folder → new ≡ record old { stage = Finish } → Called (SyncFolder folder) answer → (before ≡ None → after ≡ None) → faults ≤ faults_after
+      → left ≡ refusal_in answer → old.stage ≡ Sync → parent_of old.path ≡ Some folder → new ≡ record old { stage = Finish } → Called (SyncFolder folder) answer → (before ≡ None → after ≡ None)
+      → HasCause refused.Fault faults faults_after answer
       → LastDeletionStep ending old new did calls left before after faults faults_after
-  steps_tried ending did calls left folder answer is count left_is stage within new_is called unknown later =
+  steps_tried ending did calls left folder answer is count left_is stage within new_is called unknown cause =
       subst (λ d. LastDeletionStep ending old new d calls left before after faults faults_after) (sym is) record {
         tells = (stage, new_is);
         called = λ log known. (answer, subst (λ call. Answers log call answer after) (sym (sync_call old.path folder within)) (called log known));
@@ -122,9 +99,10 @@ module _ (old new : Deleting) (before after : Option CallLog) (faults faults_aft
             subst (λ a. Answers log (call_of Sync old.path) a after) (answered answer left left_is)
             (subst (λ call. Answers log call answer after) (sym (sync_call old.path folder within)) (called log known));
         counted = counted (SyncFolder folder) answer calls count called;
-        few = let most = few_calls answer in omega (arith, count, most);
+        few = let most = tries_few answer in omega (arith, count, most);
         unknown = unknown;
-        later = later;
+        later = cause.later;
+        fault = fault_tried answer left faults faults_after left_is cause;
       }
 
   module _ (did : Did) (calls : ℕ) (t : Trouble) (is : did ≡ Troubled t) (at : IsTroubleAt old.stage old.path t) (new_is : new ≡ old)
@@ -137,7 +115,7 @@ module _ (old new : Deleting) (before after : Option CallLog) (faults faults_aft
           tells = (at, new_is);
           called = λ log known. (e, cause, subst (λ o. Answers log o (Err e) after) (sym next) (called log known));
           counted = counted call (Err e) calls count called;
-          few = let most = few_calls (Err e) in omega (arith, count, most);
+          few = let most = tries_few (Err e) in omega (arith, count, most);
           unknown = unknown;
           later = later;
           fault = fault;

@@ -41,7 +41,9 @@ use Rattle.copy_move.specs.Jobs.{Running, CallsOn, TellsOn, WorkTells, WorkWinds
 use Rattle.copy_move.specs.Ranks.{rank_on}
 use Rattle.copy_move.specs.Settling.{NoneOwed, after_try, changed_folder, is_dirty, with_change}
 use Rattle.copy_move.specs.Steps.{LeavesDirty, OwnStep, OwedSyncStep, SkipSteps, WindingStep, WorkSteps, WorkWindsUp, step_made}
-use Rattle.copy_move.proofs.DeletionRuns.{counts_call, fault-cause, few_calls}
+use Rattle.job_reports.proofs.Runs.{risen_before}
+use Rattle.job_reports.proofs.Tried.{counts_try, tries_few}
+use Rattle.copy_move.proofs.DeletionRuns.{fault-cause}
 use Rattle.copy_move.proofs.Falling.{passing_falls, trouble_falls, waiting_falls}
 use Rattle.copy_move.proofs.RunSteps.{run_ends, run_goes}
 
@@ -209,6 +211,12 @@ ends_not ending h = cc
 skips_not : (cause : Cause) → Skips cause ≡ GoesOn → ⊥
 skips_not cause h = cc
 
+skips_no_end : (cause : Cause) (ending : Ending) → Skips cause ≡ Ends ending → ⊥
+skips_no_end cause ending h = cc
+
+same_ending : (ending how : Ending) → Ends ending ≡ Ends how → ending ≡ how
+same_ending ending how h = cc
+
 -- there was no memory for the first change: no call was made
 no_first : (work : Work) → is_fresh work ≡ true → WorkTells work (Troubled (out_of_memory_at false)) work
 no_first (Copy c) h = go c.stage c.folder refl h
@@ -271,6 +279,7 @@ module _ (unclaimed : Route → Type 0) (did : Did) (calls : ℕ) (dirty dirty_a
         settled = λ now fresh. absurd (true≢false (sym fresh ∙ changed));
         leaves = subst (λ c. LeavesDirty c job.work did work dirty dirty_after before after) (sym goes)
             (leaves ∙ ap (λ w. with_change (is_dirty w) (is_dirty work) (changed_folder w) dirty) same);
+        winds = λ ending ends. absurd (ends_not ending (sym ends ∙ goes));
       }
 
   -- the step that may make the first change
@@ -288,6 +297,7 @@ module _ (unclaimed : Route → Type 0) (did : Did) (calls : ℕ) (dirty dirty_a
         settled = λ now still. settled;
         leaves = subst (λ c. LeavesDirty c job.work did work dirty dirty_after before after) (sym goes)
             (leaves ∙ ap (λ w. with_change (is_dirty w) (is_dirty work) (changed_folder w) dirty) same);
+        winds = λ ending ends. absurd (ends_not ending (sym ends ∙ goes));
       }
 
   -- a last step
@@ -296,6 +306,7 @@ module _ (unclaimed : Route → Type 0) (did : Did) (calls : ℕ) (dirty dirty_a
     own = run_ends unclaimed job new did calls before after f0 f1 ending job.work new.work w.left refl ends w.winds w.new_is;
     settled = λ goes fresh. absurd (ends_not ending (sym ends ∙ goes));
     leaves = subst (λ c. LeavesDirty c job.work did new.work dirty dirty_after before after) (sym ends) (w.left, w.leaves, w.winds.synced);
+    winds = λ how is. subst (λ e. WindingStep e (step_made job new did calls dirty dirty_after before after f0 f1)) (same_ending ending how (sym ends ∙ is)) w;
   }
 
 -- there was no memory for the first change
@@ -326,6 +337,7 @@ module _ (unclaimed : Route → Type 0) (dirty : List Route) (contents : Option 
         settled = λ now still. settled;
         leaves = subst (λ c. LeavesDirty c job.work did old dirty dirty_after contents contents) (sym goes)
             (same_dirty ∙ (unchanged (is_dirty old) (is_dirty old) (changed_folder old) dirty refl ∙ ap (λ w. with_change (is_dirty w) (is_dirty old) (changed_folder w) dirty) same));
+        winds = λ ending ends. absurd (ends_not ending (sym ends ∙ goes));
       }
 
   -- the report of a skip, or that there is no memory for it
@@ -357,6 +369,7 @@ module _ (unclaimed : Route → Type 0) (dirty : List Route) (contents : Option 
         settled = λ goes fresh. absurd (skips_not cause (sym skips ∙ goes));
         leaves = subst (λ c. LeavesDirty c job.work did new.work dirty dirty contents contents) (sym skips)
             (unchanged (is_dirty job.work) (is_dirty new.work) (changed_folder job.work) dirty (ap (λ (n : Running). is_dirty n.work) is ∙ clean));
+        winds = λ ending ends. absurd (skips_no_end cause ending (sym skips ∙ ends));
       }
 
 -- a last step of the work
@@ -375,7 +388,7 @@ winding_step ending id old work course job did calls left folder dirty dirty_aft
 module _ (folder : Route) (dirty dirty_after : List Route) (job : Running) (goes : job.course ≡ GoesOn) (fresh : is_fresh job.work ≡ true) (owed : Among dirty folder) (before after : Option CallLog) (f0 f1 : ℕ)
     (unknown : before ≡ None → after ≡ None) (later : f0 ≤ f1) where
   counted : (answer : Result (Unit {0}) TreeError) (calls : ℕ) → calls ≡ calls_made_for answer → IfKnown before (λ log. Performs {A = Unit {0}} log (SyncFolder folder) answer after) → IfKnown before (λ log. IfKnown after (HasMore log calls))
-  counted answer calls is called log known now has = subst (λ n. HasMore log n now) (sym is) (counts_call log now (SyncFolder folder) answer after (called log known) has)
+  counted answer calls is called log known now has = subst (λ n. HasMore log n now) (sym is) (counts_try (SyncFolder folder) answer log now after (called log known) has)
 
   pub settled_folder : (did : Did) (calls : ℕ) → did ≡ Barrier → calls ≡ 1 → dirty_after ≡ without folder dirty → IfKnown before (λ log. Performs {A = Unit {0}} log (SyncFolder folder) (Ok tt) after)
       → OwedSyncStep (step_made job job did calls dirty dirty_after before after f0 f1)
@@ -401,15 +414,31 @@ module _ (folder : Route) (dirty dirty_after : List Route) (job : Running) (goes
     owed = owed;
     synced = inr (e, is, new_is, after_is, called);
     counted = counted (Err e) calls count called;
-    few = let most = few_calls (Err e) in omega (arith, count, most);
+    few = let most = tries_few (Err e) in omega (arith, count, most);
     unknown = unknown;
     later = later;
     fault = λ h. risen (fault-cause e (subst IsFault is h));
   }
 
 -- a step after looks at the tree, which may have met faults
-risen_before : (f0 f1 f2 : ℕ) → f0 ≤ f1 → HasRisen f1 f2 → HasRisen f0 f2
-risen_before f0 f1 f2 later risen = omega (arith, later, risen)
+winding_later : (ending : Ending) (job new : Running) (did : Did) (calls : ℕ) (dirty dirty_after : List Route) (before after : Option CallLog) (f0 f1 f2 : ℕ) → f0 ≤ f1
+    → WindingStep ending (step_made job new did calls dirty dirty_after before after f1 f2) → WindingStep ending (step_made job new did calls dirty dirty_after before after f0 f2)
+winding_later ending job new did calls dirty dirty_after before after f0 f1 f2 later w = record {
+  left = w.left;
+  winds = record {
+    tells = w.winds.tells;
+    called = w.winds.called;
+    synced = w.winds.synced;
+    counted = w.winds.counted;
+    few = w.winds.few;
+    unknown = w.winds.unknown;
+    later = let more = w.winds.later in omega (arith, later, more);
+    fault = λ h. risen_before f0 f1 f2 later (w.winds.fault h);
+    falls = w.winds.falls;
+  };
+  new_is = w.new_is;
+  leaves = w.leaves;
+}
 
 pub own_later : (unclaimed : Route → Type 0) (job new : Running) (did : Did) (calls : ℕ) (dirty dirty_after : List Route) (first before after : Option CallLog) (f0 f1 f2 : ℕ) → before ≡ first → f0 ≤ f1
     → OwnStep unclaimed (step_made job new did calls dirty dirty_after before after f1 f2) → OwnStep unclaimed (step_made job new did calls dirty dirty_after first after f0 f2)
@@ -426,6 +455,7 @@ own_later unclaimed job new did calls dirty dirty_after first before after f0 f1
   };
   settled = o.settled;
   leaves = o.leaves;
+  winds = λ ending ends. winding_later ending job new did calls dirty dirty_after before after f0 f1 f2 later (o.winds ending ends);
 }
 
 pub settling_later : (job new : Running) (did : Did) (calls : ℕ) (dirty dirty_after : List Route) (first before after : Option CallLog) (f0 f1 f2 : ℕ) → before ≡ first → f0 ≤ f1

@@ -1,7 +1,8 @@
 -- What a step of a deletion does: its report, the deletion after it, its call of the tree, and how many changing calls that
 -- was.
-use Rattle.std.specs.Prelude.{◌≡◌, ◌⊎◌, ℕ, ◌≤◌, Option, None}
+use Rattle.std.specs.Prelude.{◌≡◌, ◌⊎◌, ℕ, ◌≤◌, Option, Some, None}
 use Rattle.tree_trait.specs.declared.calls.TreeError.{TreeError}
+use Rattle.tree_trait.specs.declared.calls.TreeError.TheVariants.{Fault}
 use Rattle.tree_trait.specs.Change.{CallLog}
 use Rattle.tree_trait.specs.Answers.{IfKnown, HasRisen}
 use Rattle.job_reports.specs.declared.report.Cause.{Cause}
@@ -24,7 +25,7 @@ pub record DeletionStep (old new : Deleting) (did : Did) (calls : ℕ) (before a
   pub later : faults ≤ faults_after
   pub fault : IsFault did → HasRisen faults faults_after
 
--- A last step, likewise. It tells the refusal of a sync that was tried in vain.
+-- A last step, likewise. It tells the refusal of a sync that was tried in vain, a fault only where the count has risen.
 pub record LastDeletionStep (ending : Ending) (old new : Deleting) (did : Did) (calls : ℕ) (left : Option TreeError) (before after : Option CallLog) (faults faults_after : ℕ) : Type 0 where
   pub tells : Winds ending old did new
   pub called : IfKnown before (λ log. LastCalls old did log after)
@@ -33,6 +34,7 @@ pub record LastDeletionStep (ending : Ending) (old new : Deleting) (did : Did) (
   pub few : calls ≤ 1
   pub unknown : before ≡ None → after ≡ None
   pub later : faults ≤ faults_after
+  pub fault : left ≡ Some Fault → HasRisen faults faults_after
 
 -- a skip reports the file as skipped, or that there is no memory for the report, and then it changes nothing
 abbrev pub DeletionSkips : Cause → Deleting → Did → Deleting → Type 0

@@ -1,6 +1,6 @@
 -- The order in which a file is deleted: what a step may report where the deletion stands, and where it stands then; and
 -- what a report says of the tree's calls. Its name is removed, its folder is synced, and only then is it finished.
-use Rattle.std.specs.Prelude.{◌≡◌, ◌≢◌, ℕ, Bool, true, false, [], ◌∷◌, Option, Some, None, Result, Ok, Err}
+use Rattle.std.specs.Prelude.{◌≡◌, ◌≢◌, Bool, true, false, [], ◌∷◌, Option, Some, None, Result, Ok, Err}
 use Rattle.mc_text.specs.Routes.{Route}
 use Rattle.tree_trait.specs.Calls.{Call, RemoveFile, SyncFolder}
 use Rattle.tree_trait.specs.Change.{CallLog}

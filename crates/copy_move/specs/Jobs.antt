@@ -4,7 +4,6 @@ use Rattle.std.specs.Prelude.{◌≡◌, ◌⊎◌, ℕ, ⊤, Bool, true, false,
 use Rattle.mc_text.specs.Routes.{Route, parent_of}
 use Rattle.tree_trait.specs.Change.{CallLog}
 use Rattle.job_reports.specs.declared.report.Cause.TheVariants.{Memory}
-use Rattle.job_reports.specs.declared.report.Trouble.{Trouble}
 use Rattle.job_reports.specs.declared.report.Ending.{Ending}
 use Rattle.job_reports.specs.declared.report.Ending.TheVariants.{Aborted}
 use Rattle.job_reports.specs.declared.report.Did.{Did}
@@ -189,14 +188,6 @@ waits_on (OwedSyncFailed cause) = true
 waits_on GoesOn = false
 waits_on (Skips cause) = false
 waits_on (Ends ending) = false
-
--- the trouble of a job that waits
-abbrev pub trouble_on : Course → Work → Option Route → Option Trouble
-trouble_on (InTrouble cause) work path = Some (record { cause = cause; path = path; barrier = at_barrier work })
-trouble_on (OwedSyncFailed cause) work path = Some (record { cause = cause; path = path; barrier = true })
-trouble_on GoesOn work path = None
-trouble_on (Skips cause) work path = None
-trouble_on (Ends ending) work path = None
 
 -- a trouble can be answered so: at a barrier nothing is passed over
 pub record MayAnswer (job : Running) (answer : Answer) : Type 0 where

@@ -2,6 +2,7 @@
 use Rattle.std.specs.Prelude.{◌≡◌, ◌⊎◌, ℕ, ◌<◌, ◌≤◌, true, false, List, Option, Some, None, Ok, Err}
 use Rattle.mc_text.specs.Routes.{Route}
 use Rattle.tree_trait.specs.declared.calls.TreeError.{TreeError}
+use Rattle.tree_trait.specs.declared.calls.TreeError.TheVariants.{Fault}
 use Rattle.tree_trait.specs.Calls.{SyncFolder}
 use Rattle.tree_trait.specs.Change.{CallLog, current}
 use Rattle.tree_trait.specs.Answers.{IfKnown, HasRisen, Performs}
@@ -59,11 +60,57 @@ abbrev pub step_made : Running → Running → Did → ℕ → List Route → Li
 step_made old new did calls dirty dirty_after before after faults faults_after =
     record { old = old; new = new; did = did; calls = calls; dirty = dirty; dirty_after = dirty_after; before = before; after = after; faults = faults; faults_after = faults_after }
 
--- A step of the job's own: one that may make its first change is made only where no dirty folder lies on that mount.
+-- A piece of work, likewise. Fewer steps are left then, and at most three where it is refused.
+pub record WorkSteps (unclaimed : Route → Type 0) (old new : Work) (did : Did) (calls : ℕ) (before after : Option CallLog) (faults faults_after : ℕ) : Type 0 where
+  pub tells : WorkTells old did new
+  pub called : IfKnown before (λ log. WorkCalls unclaimed old did new log after)
+  pub counted : IfKnown before (λ log. IfKnown after (HasMore log calls))
+  pub few : calls ≤ 3
+  pub unknown : before ≡ None → after ≡ None
+  pub later : faults ≤ faults_after
+  pub fault : IsFault did → HasRisen faults faults_after
+  pub falls : ends did ≡ false → rank_on (course_after did) new < work_rank old
+
+-- One of the last pieces of work. It tells the refusal of a sync that was tried in vain, a fault only where the count of faults
+-- has risen.
+pub record WorkWindsUp (ending : Ending) (old new : Work) (did : Did) (calls : ℕ) (left : Option TreeError) (before after : Option CallLog) (faults faults_after : ℕ) : Type 0 where
+  pub tells : WorkWinds ending old did new
+  pub called : IfKnown before (λ log. WorkLastCalls old did log after)
+  pub synced : IfKnown before (λ log. TellsFolder old did left log after)
+  pub counted : IfKnown before (λ log. IfKnown after (HasMore log calls))
+  pub few : calls ≤ 2
+  pub unknown : before ≡ None → after ≡ None
+  pub later : faults ≤ faults_after
+  pub fault : left ≡ Some Fault → HasRisen faults faults_after
+  pub falls : ends did ≡ false → last_rank new < last_rank old
+
+-- a skip reports the file as skipped, or that there is no memory for the report, and then it changes nothing
+abbrev pub WorkSkips : Cause → Work → Did → Work → Type 0
+WorkSkips cause old did new =
+    ((did ≡ Skipped (file_of old) cause) × (new ≡ skipped old))
+    ⊎ ((did ≡ Troubled (out_of_memory_at (at_barrier old))) × (new ≡ old))
+
+-- the step of a job that passes over its file: it makes no call
+pub record SkipSteps (cause : Cause) (old new : Running) (did : Did) (calls : ℕ) : Type 0 where
+  pub work : Work
+  pub skips : WorkSkips cause old.work did work
+  pub new_is : new ≡ record old { work = work; course = course_after did }
+  pub none : calls ≡ 0
+
+-- a last step of a job: one of its work, which leaves the folder among the dirty ones where the one try of its sync was refused
+pub record WindingStep (ending : Ending) (step : StepMade) : Type 0 where
+  pub left : Option TreeError
+  pub winds : WorkWindsUp ending step.old.work step.new.work step.did step.calls left step.before step.after step.faults step.faults_after
+  pub new_is : step.new ≡ record step.old { work = step.new.work }
+  pub leaves : step.dirty_after ≡ after_try step.did left (changed_folder step.old.work) step.dirty
+
+-- A step of the job's own: one that may make its first change is made only where no dirty folder lies on that mount, and a job
+-- that is to end makes one of its last steps.
 pub record OwnStep (unclaimed : Route → Type 0) (step : StepMade) : Type 0 where
   pub own : StepsOn unclaimed step.old step.new step.did step.calls step.before step.after step.faults step.faults_after
   pub settled : step.old.course ≡ GoesOn → is_fresh step.old.work ≡ true → IfKnown step.before (λ log. NoneOwed (current log) (changed_folder step.old.work) step.dirty)
   pub leaves : LeavesDirty step.old.course step.old.work step.did step.new.work step.dirty step.dirty_after step.before step.after
+  pub winds : (ending : Ending) → step.old.course ≡ Ends ending → WindingStep ending step
 
 -- a dirty folder was synced, and the job stands where it stood; or that was refused, and the job waits for an answer
 abbrev pub SyncsFolder : Running → Route → Did → Running → List Route → List Route → Option CallLog → Option CallLog → Type 0
@@ -88,45 +135,3 @@ pub record OwedSyncStep (step : StepMade) : Type 0 where
 -- what a step of a job may be: one of its own, or the sync of a folder that an ended job left
 abbrev pub RunStep : (Route → Type 0) → StepMade → Type 0
 RunStep unclaimed step = OwnStep unclaimed step ⊎ OwedSyncStep step
-
--- A piece of work, likewise. Fewer steps are left then, and at most three where it is refused.
-pub record WorkSteps (unclaimed : Route → Type 0) (old new : Work) (did : Did) (calls : ℕ) (before after : Option CallLog) (faults faults_after : ℕ) : Type 0 where
-  pub tells : WorkTells old did new
-  pub called : IfKnown before (λ log. WorkCalls unclaimed old did new log after)
-  pub counted : IfKnown before (λ log. IfKnown after (HasMore log calls))
-  pub few : calls ≤ 3
-  pub unknown : before ≡ None → after ≡ None
-  pub later : faults ≤ faults_after
-  pub fault : IsFault did → HasRisen faults faults_after
-  pub falls : ends did ≡ false → rank_on (course_after did) new < work_rank old
-
--- One of the last pieces of work. It tells the refusal of a sync that was tried in vain.
-pub record WorkWindsUp (ending : Ending) (old new : Work) (did : Did) (calls : ℕ) (left : Option TreeError) (before after : Option CallLog) (faults faults_after : ℕ) : Type 0 where
-  pub tells : WorkWinds ending old did new
-  pub called : IfKnown before (λ log. WorkLastCalls old did log after)
-  pub synced : IfKnown before (λ log. TellsFolder old did left log after)
-  pub counted : IfKnown before (λ log. IfKnown after (HasMore log calls))
-  pub few : calls ≤ 2
-  pub unknown : before ≡ None → after ≡ None
-  pub later : faults ≤ faults_after
-  pub falls : ends did ≡ false → last_rank new < last_rank old
-
--- a skip reports the file as skipped, or that there is no memory for the report, and then it changes nothing
-abbrev pub WorkSkips : Cause → Work → Did → Work → Type 0
-WorkSkips cause old did new =
-    ((did ≡ Skipped (file_of old) cause) × (new ≡ skipped old))
-    ⊎ ((did ≡ Troubled (out_of_memory_at (at_barrier old))) × (new ≡ old))
-
--- the step of a job that passes over its file: it makes no call
-pub record SkipSteps (cause : Cause) (old new : Running) (did : Did) (calls : ℕ) : Type 0 where
-  pub work : Work
-  pub skips : WorkSkips cause old.work did work
-  pub new_is : new ≡ record old { work = work; course = course_after did }
-  pub none : calls ≡ 0
-
--- a last step of a job: one of its work, which leaves the folder among the dirty ones where the one try of its sync was refused
-pub record WindingStep (ending : Ending) (step : StepMade) : Type 0 where
-  pub left : Option TreeError
-  pub winds : WorkWindsUp ending step.old.work step.new.work step.did step.calls left step.before step.after step.faults step.faults_after
-  pub new_is : step.new ≡ record step.old { work = step.new.work }
-  pub leaves : step.dirty_after ≡ after_try step.did left (changed_folder step.old.work) step.dirty

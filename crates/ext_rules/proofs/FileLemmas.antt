@@ -10,7 +10,7 @@ use Rattle.ext_rules.specs.declared.error.ExtError.{ExtError}
 use Rattle.ext_rules.specs.declared.error.ExtError.TheVariants.{NotText}
 use Rattle.ext_rules.specs.declared.line.LineRead.{LineRead}
 use Rattle.ext_rules.specs.declared.line.LineRead.TheVariants.{Passed, Rule}
-use Rattle.ext_rules.specs.Words.{behind_word, behind_indent, unindented}
+use Rattle.text_scan.specs.Words.{behind_word, behind_indent, unindented}
 use Rattle.ext_rules.specs.FileRules.{FileRule}
 use Rattle.ext_rules.specs.ExtLines.{reading_of, action_line, rule_line}
 use Rattle.ext_rules.specs.ExtFiles.{ext_fault, fault_from, readings, leading_actions, rules_said, IsExtFile}

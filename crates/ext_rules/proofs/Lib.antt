@@ -1,4 +1,3 @@
-pub mod WordLemmas
 pub mod DraftLemmas
 pub mod FileLemmas
 pub mod KeyLemmas

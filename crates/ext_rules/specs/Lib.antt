@@ -1,4 +1,3 @@
-pub mod Words
 pub mod Conditions
 pub mod FileRules
 pub mod Actions

@@ -9,7 +9,6 @@ mod file;
 mod line;
 mod pattern;
 mod rule;
-mod words;
 
 pub use act::{Act, action};
 pub use error::ExtError;

@@ -6,9 +6,9 @@ ghost use Rattle.ext_rules.specs.ExtLines.{reading_of, action_line, rule_line, s
 use crate::actions::{Action, Key};
 use crate::condition::{Case, Condition};
 use crate::pattern::pattern_in;
-use crate::words::{behind_indent, behind_word, unindented};
 use mc_text::{NoMemory, Text};
 use std::alloc::Global;
+use text_scan::{behind_indent, behind_word, unindented};
 
 /// What a line says: nothing, a rule, an action, an action that is ignored, no rule, or a rule whose text is no regular
 /// expression.

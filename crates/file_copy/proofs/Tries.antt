@@ -1,11 +1,11 @@
 -- The last steps: a part is removed or stays, and the folder's sync is tried.
-use Rattle.std.proofs.Common.{◌≡◌, ℕ, ◌+◌, ◌<◌, ◌≤◌, false, refl, sym, ◌∙◌, ap, subst, Option, Some, None, Result, Ok, Err, arith}
+use Rattle.std.proofs.Common.{◌≡◌, ℕ, ◌+◌, ◌<◌, ◌≤◌, false, refl, sym, ap, subst, Option, Some, None, Result, Ok, Err, arith}
 use Rattle.mc_text.specs.Routes.{Route}
 use Rattle.tree_trait.specs.declared.calls.TreeError.{TreeError}
 use Rattle.tree_trait.specs.declared.calls.TreeError.TheVariants as refused
 use Rattle.tree_trait.specs.Calls.{Call, RemoveFile, SyncFolder}
 use Rattle.tree_trait.specs.Change.{CallLog}
-use Rattle.tree_trait.specs.Answers.{IfKnown, HasCause, Performs}
+use Rattle.tree_trait.specs.Answers.{IfKnown, HasCause, HasRisen, Performs}
 use Rattle.job_reports.specs.declared.report.Ending.{Ending}
 use Rattle.job_reports.specs.declared.report.Did.{Did}
 use Rattle.job_reports.specs.declared.report.Did.TheVariants.{Began, Chunk, Placed, Removed, Skipped, Cleaned, Barrier, Troubled, Ended}
@@ -18,32 +18,15 @@ use Rattle.job_reports.specs.CallRuns.{HasMore}
 use Rattle.file_copy.specs.Copying.{Copying, IsSound, Places, copying}
 use Rattle.job_reports.specs.Paths.{folder_of}
 use Rattle.file_copy.specs.LastSteps.{Leaves, SyncAnswers, SyncTried, WindMoves, Winds, WindsOn, given_up, last_steps, let_go, removable}
-use Rattle.job_reports.specs.Stops.{refusal_in, sync_answer, calls_made_for}
-use Rattle.job_reports.proofs.Runs.{one_more, no_more, ran_one}
-
--- a call that was tried counts
-counts_try : (call : Call) (answer : Result (Unit {0}) TreeError) (log now : CallLog) (after : Option CallLog)
-    → Performs {A = Unit {0}} log call answer after → after ≡ Some now → HasMore log (calls_made_for answer) now
-counts_try call (Ok done) log now after h is = one_more log _ now (sym h.1.1 ∙ is)
-counts_try call (Err refused.Memory) log now after h is = no_more log now (sym h ∙ is)
-counts_try call (Err refused.Fault) log now after h is = one_more log _ now (sym h.1.1 ∙ is)
-counts_try call (Err e) log now after h is = one_more log _ now (sym h.1 ∙ is)
-
-tries_few : (answer : Result (Unit {0}) TreeError) → calls_made_for answer ≤ 1
-tries_few (Ok done) = omega arith
-tries_few (Err refused.Memory) = omega arith
-tries_few (Err e) = omega arith
+use Rattle.job_reports.specs.Stops.{refusal_in, calls_made_for}
+use Rattle.job_reports.proofs.Runs.{ran_one, risen_before}
+use Rattle.job_reports.proofs.Tried.{answered, counts_try, fault_tried, tries_few}
 
 -- a refused call leaves a log
 err_some : (call : Call) (e : TreeError) (log : CallLog) (after : Option CallLog) → Performs {A = Unit {0}} log call (Err e) after → (now : CallLog) × (after ≡ Some now)
 err_some call refused.Memory log after h = (log, h)
 err_some call refused.Fault log after h = (_, h.1.1)
 err_some call e log after h = (_, h.1)
-
--- an answer, by its refusal
-answered : (answer : Result (Unit {0}) TreeError) (left : Option TreeError) → left ≡ refusal_in answer → answer ≡ sync_answer left
-answered (Ok done) left is = subst (λ l. Ok done ≡ sync_answer l) (sym is) refl
-answered (Err e) left is = subst (λ l. Err e ≡ sync_answer l) (sym is) refl
 
 -- with no part to be removed
 settled_same : (stage : Stage) → removable stage ≡ None → given_up stage ≡ stage
@@ -78,9 +61,9 @@ three_left Decided part h = absurd cc
 module _ (ending : Ending) (p : Places) (stage : Stage) (before after : Option CallLog) where
   -- the sync of the folder was tried
   pub winds_tried : (folder : FolderState) (at : Route) (answer : Result (Unit {0}) TreeError) (calls : ℕ) (left : Option TreeError) (f0 f1 : ℕ) → removable stage ≡ None → folder ≡ Dirty → at ≡ folder_of p.target
-      → calls ≡ calls_made_for answer → left ≡ refusal_in answer → IfKnown before (λ log. Performs {A = Unit {0}} log (SyncFolder at) answer after) → (before ≡ None → after ≡ None) → f0 ≤ f1
+      → calls ≡ calls_made_for answer → left ≡ refusal_in answer → IfKnown before (λ log. Performs {A = Unit {0}} log (SyncFolder at) answer after) → (before ≡ None → after ≡ None) → HasCause refused.Fault f0 f1 answer
       → WindsOn ending (copying p stage folder) (copying p stage Synced) Barrier calls left before after f0 f1
-  winds_tried folder at answer calls left f0 f1 settled owed at_is calls_is left_is called unknown later = record {
+  winds_tried folder at answer calls left f0 f1 settled owed at_is calls_is left_is called unknown cause = record {
     tells = (owed, ap (λ s. copying p s Synced) (sym (settled_same stage settled)));
     called = λ log known.
         subst (λ part. SyncTried (copying p stage folder) part log after) (sym settled)
@@ -92,7 +75,8 @@ module _ (ending : Ending) (p : Places) (stage : Stage) (before after : Option C
     counted = λ log known now is. subst (λ n. HasMore log n now) (sym calls_is) (counts_try (SyncFolder at) answer log now after (called log known) is);
     few = let few = tries_few answer in omega (arith, few, calls_is);
     unknown = unknown;
-    later = later;
+    later = cause.later;
+    fault = fault_tried answer left f0 f1 left_is cause;
     falls = subst (λ f. last_steps stage Synced < last_steps stage f) (sym owed) (settled_fewer stage settled);
   }
 
@@ -112,15 +96,16 @@ module _ (ending : Ending) (p : Places) (stage : Stage) (before after : Option C
           few = omega arith;
           unknown = unknown;
           later = cause.later;
+          fault = λ h. absurd cc;
           falls = omega (arith, three);
         }
 
     -- the part stays, and the sync of the folder was tried
     winds_stays : (e : TreeError) (mid : Option CallLog) (answer : Result (Unit {0}) TreeError) (left : Option TreeError) (calls total f0 f1 f2 : ℕ) → calls ≡ calls_made_for (Err e) → total ≡ calls + calls_made_for answer
         → left ≡ refusal_in answer → IfKnown before (λ log. Performs {A = Unit {0}} log (RemoveFile part) (Err e) mid) → IfKnown mid (λ log. Performs {A = Unit {0}} log (SyncFolder (folder_of p.target)) answer after)
-        → (before ≡ None → after ≡ None) → f0 ≤ f2
+        → (before ≡ None → after ≡ None) → f0 ≤ f2 → (left ≡ Some refused.Fault → HasRisen f0 f2)
         → WindsOn ending (copying p stage Dirty) (copying p (Left part) Synced) Barrier total left before after f0 f2
-    winds_stays e mid answer left calls total f0 f1 f2 calls_is total_is left_is removed synced unknown later =
+    winds_stays e mid answer left calls total f0 f1 f2 calls_is total_is left_is removed synced unknown later fault =
         let three = three_left stage part has in
         record {
           tells = (refl, ap (λ s. copying p s Synced) (sym (left_after stage part has)));
@@ -144,6 +129,7 @@ module _ (ending : Ending) (p : Places) (stage : Stage) (before after : Option C
           few = let one = tries_few (Err e) in let two = tries_few answer in omega (arith, one, two, calls_is, total_is);
           unknown = unknown;
           later = later;
+          fault = fault;
           falls = omega (arith, three);
         }
 
@@ -151,7 +137,8 @@ module _ (ending : Ending) (p : Places) (stage : Stage) (before after : Option C
         → IfKnown before (λ log. Performs {A = Unit {0}} log (RemoveFile part) (Err e) mid) → (before ≡ None → mid ≡ None) → f0 ≤ f1 → Leaves p part calls last_step mid after f1 f2
         → WindMoves ending (copying p stage Dirty) last_step before after f0 f2
     winds_left e mid last_step calls f0 f1 f2 calls_is removed unknown later l =
-        let stays = winds_stays e mid l.tried.0 last_step.left calls last_step.calls f0 f1 f2 calls_is l.tried.1 l.tried.2 removed l.tried.3 (λ h. l.unknown (unknown h)) (let more = l.later in omega (arith, later, more)) in
+        let stays = winds_stays e mid l.tried.0 last_step.left calls last_step.calls f0 f1 f2 calls_is l.tried.1 l.tried.2 removed l.tried.3 (λ h. l.unknown (unknown h)) (let more = l.later in omega (arith, later, more))
+        (λ h. risen_before f0 f1 f2 later (l.fault h)) in
         let at_stage = subst (λ s. WindsOn ending (copying p stage Dirty) (copying p s Synced) Barrier last_step.calls last_step.left before after f0 f2) (sym l.stage) stays in
         let at_folder = subst (λ f. WindsOn ending (copying p stage Dirty) (copying p last_step.stage f) Barrier last_step.calls last_step.left before after f0 f2) (sym l.folder) at_stage in
         subst (λ d. WindsOn ending (copying p stage Dirty) (copying p last_step.stage last_step.folder) d last_step.calls last_step.left before after f0 f2) (sym l.did) at_folder

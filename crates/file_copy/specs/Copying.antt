@@ -1,5 +1,5 @@
 -- The order in which a file is copied: what a step may report where the copy stands, and where it stands then.
-use Rattle.std.specs.Prelude.{◌≡◌, ℕ, ◌+◌, ◌-◌, ◌^◌, ◌≤◌, ⊤, Bool, true, false, not, [], ◌∷◌, Option, Some, None}
+use Rattle.std.specs.Prelude.{◌≡◌, ℕ, ◌+◌, ◌-◌, ◌^◌, ◌≤◌, ⊤, Bool, true, false, not, Option, Some, None}
 use Rattle.mc_text.specs.Routes.{Route}
 use Rattle.job_reports.specs.declared.report.Ending.TheVariants.{Finished}
 use Rattle.job_reports.specs.declared.report.Did.{Did}

@@ -2,9 +2,10 @@
 use Rattle.std.specs.Prelude.{◌≡◌, ℕ, ◌+◌, ◌<◌, ◌≤◌, ⊤, [], ◌∷◌, Option, Some, None, Result, Err}
 use Rattle.mc_text.specs.Routes.{Route}
 use Rattle.tree_trait.specs.declared.calls.TreeError.{TreeError}
+use Rattle.tree_trait.specs.declared.calls.TreeError.TheVariants.{Fault}
 use Rattle.tree_trait.specs.Calls.{RemoveFile, SyncFolder}
 use Rattle.tree_trait.specs.Change.{CallLog}
-use Rattle.tree_trait.specs.Answers.{IfKnown, Performs}
+use Rattle.tree_trait.specs.Answers.{IfKnown, HasRisen, Performs}
 use Rattle.job_reports.specs.declared.report.Ending.{Ending}
 use Rattle.job_reports.specs.declared.report.Did.{Did}
 use Rattle.job_reports.specs.declared.report.Did.TheVariants.{Began, Chunk, Placed, Removed, Skipped, Cleaned, Barrier, Troubled, Ended}
@@ -111,7 +112,8 @@ GoesDown (Ended how part) old new = ⊤
 GoesDown did old new = last_steps new.stage new.folder < last_steps old.stage old.folder
 
 -- A last step: what it reports is allowed, the copy is then as it says, and it made the calls that it says, which it
--- counts. It is always one of at most three. It tells the refusal of a sync that was tried in vain.
+-- counts. It is always one of at most three. It tells the refusal of a sync that was tried in vain, and a fault only where
+-- the tree's count has risen.
 pub record WindsOn (ending : Ending) (old new : Copying) (did : Did) (calls : ℕ) (left : Option TreeError) (before after : Option CallLog) (faults faults_after : ℕ) : Type 0 where
   pub tells : Winds ending old did new
   pub called : IfKnown before (λ log. WindCalls old did log after)
@@ -120,6 +122,7 @@ pub record WindsOn (ending : Ending) (old new : Copying) (did : Did) (calls : �
   pub few : calls ≤ 2
   pub unknown : before ≡ None → after ≡ None
   pub later : faults ≤ faults_after
+  pub fault : left ≡ Some Fault → HasRisen faults faults_after
   pub falls : GoesDown did old new
 
 -- the same of a step that says where it left the copy
@@ -141,6 +144,7 @@ pub record Leaves (p : Places) (part : Route) (calls : ℕ) (last_step : AfterLa
       × IfKnown before (λ log. Performs {A = Unit {0}} log (SyncFolder (folder_of p.target)) answer after)
   pub unknown : before ≡ None → after ≡ None
   pub later : faults ≤ faults_after
+  pub fault : last_step.left ≡ Some Fault → HasRisen faults faults_after
 
 -- the part that a stage has is removed, or it stays and the folder's sync is tried
 abbrev pub Removes : Places → Route → AfterLastStep → Option CallLog → Option CallLog → ℕ → ℕ → Type 0

@@ -2,3 +2,4 @@ pub mod CallAnswers
 pub mod PermittedCalls
 pub mod Reading
 pub mod Runs
+pub mod Tried

@@ -1,6 +1,5 @@
 -- What is seen of a report, and of an answer to a trouble.
-use Rattle.std.specs.Prelude.{◌≡◌, Bool, true, false, Option, None}
-use Rattle.mc_text.specs.Routes.{Route}
+use Rattle.std.specs.Prelude.{◌≡◌, Bool, true, false}
 use Rattle.tree_trait.specs.declared.calls.TreeError.TheVariants as refused
 use Rattle.job_reports.specs.declared.answer.Answer.{Answer}
 use Rattle.job_reports.specs.declared.answer.Answer.TheVariants.{Retry, Skip, SkipAll, Abort}
@@ -19,18 +18,6 @@ ends (Skipped path cause) = false
 ends (Cleaned part) = false
 ends Barrier = false
 ends (Troubled trouble) = false
-
--- the path of the trouble that a report tells
-abbrev pub path_of_trouble : Did → Option Route
-path_of_trouble (Troubled trouble) = trouble.path
-path_of_trouble (Began part) = None
-path_of_trouble (Chunk count) = None
-path_of_trouble (Placed path) = None
-path_of_trouble (Removed path) = None
-path_of_trouble (Skipped path cause) = None
-path_of_trouble (Cleaned part) = None
-path_of_trouble Barrier = None
-path_of_trouble (Ended ending part) = None
 
 -- the report says that the device failed
 abbrev pub IsFault : Did → Type 0

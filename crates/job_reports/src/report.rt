@@ -1,6 +1,6 @@
 //! What the step of a job reports.
-ghost use Rattle.std.specs.Prelude.{◌≡◌, IfOk, IfSome, Some};
-ghost use Rattle.job_reports.specs.Reports.{ends, path_of_trouble};
+ghost use Rattle.std.specs.Prelude.{◌≡◌, IfOk};
+ghost use Rattle.job_reports.specs.Reports.{ends};
 
 use mc_text::{Kind, NoMemory, Path};
 use std::alloc::Global;
@@ -109,17 +109,4 @@ pub fn is_end(did: &Did) -> bool
     ensures { result ≡ ends did.now }
 {
     matches!(did, Did::Ended { .. })
-}
-
-/// The path of the trouble that a report tells; none where there is no memory for it.
-pub fn trouble_path(alloc: Global, did: &Did) -> Option<Path>
-    ensures { IfSome result (λ path. path_of_trouble did.now ≡ Some path) }
-{
-    match did {
-        Did::Troubled(trouble) => match &trouble.path {
-            None => None,
-            Some(path) => path.copy(alloc).ok(),
-        },
-        _ => None,
-    }
 }

@@ -1,7 +1,9 @@
 -- A screen of cells, and what a text that is written on it makes of it.
-use Rattle.std.specs.Prelude.{ℕ, ◌+◌, ◌-◌, ◌*◌, ◌≤◌, true, List, map, replicate}
+use Rattle.std.specs.Prelude.{ℕ, ◌+◌, ◌-◌, ◌*◌, ◌≤◌, true, List, [], ◌∷◌, ◌++◌, drop, map, replicate, take}
 use Rattle.unicode_segmentation.specs.Grapheme.{graphemes}
 use Rattle.key_screen.specs.declared.cells.Attr.{Attr}
+use Rattle.key_screen.specs.declared.cells.Glyph.{Glyph}
+use Rattle.key_screen.specs.declared.cells.Glyph.TheVariants.{Blank, Cluster, RightHalf}
 use Rattle.key_screen.specs.declared.cells.Cell.{Cell}
 use Rattle.key_screen.specs.Cells.{blank_cell}
 use Rattle.key_screen.specs.DrawnText.{drawn_glyph, put_glyphs}
@@ -38,3 +40,17 @@ written grid row column text attr =
       cells = put_glyphs grid.cells (place_of grid row column) (room_from grid column)
           (map drawn_glyph (graphemes true text)) attr;
     }
+
+-- the cells of a row, counted from 1
+abbrev pub row_cells : CellGrid → ℕ → List Cell
+row_cells grid row = take grid.columns (drop ((row - 1) * grid.columns) grid.cells)
+
+-- what is read in cells: a blank in each blank one, and each cluster once
+abbrev pub glyph_text : Glyph → List ℕ
+glyph_text Blank = 32 ∷ []
+glyph_text (Cluster cluster) = cluster
+glyph_text RightHalf = []
+
+abbrev pub cells_text : List Cell → List ℕ
+cells_text [] = []
+cells_text (cell ∷ cells) = glyph_text cell.glyph ++ cells_text cells

@@ -1,14 +1,14 @@
 //! A screen of cells.
-ghost use Rattle.std.specs.Prelude.{◌≡◌, ◌↔◌, ◌<◌, ◌≤◌, ◌+◌, ◌-◌, ◌*◌, length, map, replicate, true, IsTrue, IfOk, OnOk, OnErr};
+ghost use Rattle.std.specs.Prelude.{◌≡◌, ◌↔◌, ◌<◌, ◌≤◌, ◌+◌, ◌-◌, ◌*◌, ◌++◌, length, map, replicate, string_bytes, true, IsTrue, IfOk, OnOk, OnErr};
 ghost use Rattle.unicode_segmentation.specs.Grapheme.{graphemes};
 ghost use Rattle.key_screen.specs.Cells.{blank_cell};
 ghost use Rattle.key_screen.specs.DrawnText.{drawn_glyph, glyph_columns, put_glyph, put_glyphs};
-ghost use Rattle.key_screen.specs.Grids.{blank_grid, written, IsOnGrid};
+ghost use Rattle.key_screen.specs.Grids.{blank_grid, cells_text, glyph_text, row_cells, written, IsOnGrid};
 ghost use Rattle.key_screen.specs.Layout.{IsLaidOut};
 
 use crate::cells::{Attr, Cell, Glyph, are_same, put_one, put_two};
 use crate::drawn::{columns_of_glyph, drawn};
-use mc_text::NoMemory;
+use mc_text::{NoMemory, Text};
 use std::alloc::{AllocError, Global};
 use std::marker::Model;
 use thiserror::Error;
@@ -110,6 +110,18 @@ impl Grid {
         write_cells(&mut self.cells, alloc, at, room, text, attr)
     }
 
+    /// The text of a row, counted from 1: a blank for each blank cell, and each cluster once.
+    pub fn row_text(&self, alloc: Global, row: u16) -> Result<Text, NoMemory>
+        requires from { 1 ≤ row }
+        requires to { row ≤ self.now.lines }
+        ensures { IfOk result (λ text. text ≡ cells_text (row_cells self.now row)) }
+    {
+        let columns = usize::from(self.columns);
+        let (_, from) = self.cells.split_at(usize::from(row - 1) * columns);
+        let (cells, _) = from.split_at(columns);
+        text_of(alloc, cells)
+    }
+
     /// Whether another screen has the same size and the same cells.
     pub fn same(&self, other: &Grid) -> bool
         ensures { IsTrue result ↔ (self.now ≡ other.now) }
@@ -118,6 +130,29 @@ impl Grid {
             && self.columns == other.columns
             && are_same(self.cells.as_slice(), other.cells.as_slice())
     }
+}
+
+/// The text that cells show.
+fn text_of(alloc: Global, cells: &[Cell]) -> Result<Text, NoMemory>
+    ensures { IfOk result (λ text. text ≡ cells_text cells.now) }
+{
+    let mut text = String::new(alloc);
+    for cell in cells {
+        push_glyph(&mut text, &cell.glyph)?;
+    }
+    Ok(Text(text))
+}
+
+/// Adds the text of a glyph.
+fn push_glyph(text: &mut String, glyph: &Glyph) -> Result<(), NoMemory>
+    ensures { OnOk result (string_bytes text.new ≡ string_bytes text.old ++ glyph_text glyph.now) }
+{
+    match glyph {
+        Glyph::Blank => text.push(' ')?,
+        Glyph::Cluster(cluster) => text.push_str(cluster.0.as_str())?,
+        Glyph::RightHalf => {}
+    }
+    Ok(())
 }
 
 /// Blank and plain cells.

@@ -1,13 +1,13 @@
 //! The program: the real devices, the terminal made raw and put back, and one run.
 #![tactic(auto)]
 
+mod surroundings;
 mod terminal;
 
-use crate::terminal::{
-    Terminal, begin_line, clear_screen, make_raw, put_back, put_usage, words_of,
-};
+use crate::surroundings::{NoWords, fill_size, surroundings, words_of};
+use crate::terminal::{Terminal, begin_line, clear_screen, make_raw, put_back, put_usage};
 use host_tree::{HostClock, HostTree, ShSpawner, StdinSource, StdoutSink};
-use mc_main::{Env, Gate, WordsError, mc_run, read_words};
+use mc_main::{Beginning, Env, Gate, beginning_of, mc_run};
 use mc_text::Text;
 use std::alloc::Global;
 use std::io;
@@ -22,25 +22,26 @@ impl Gate for Open {
 }
 
 fn main(rt: HostRuntime) -> io::Result<ExitCode> {
-    let Some(words) = words_of(&rt) else {
-        put_usage(&rt)?;
-        return Ok(ExitCode::from(1));
+    let words = match words_of(&rt) {
+        Ok(words) => words,
+        Err(NoWords::Memory) => return Ok(ExitCode::from(5)),
+        Err(NoWords::NotText) => {
+            put_usage(&rt)?;
+            return Ok(ExitCode::from(1));
+        }
     };
-    let env = Env {
-        folder: Text(String::new(rt.alloc())),
-        lines: None,
-        columns: None,
-        home: None,
-        workers: None,
+    let Ok(mut env) = surroundings(&rt) else {
+        return Ok(ExitCode::from(5));
     };
     let tree = HostTree::new(rt);
     let screen = StdoutSink::new(rt);
     let mut keys = StdinSource::new(rt);
     let spawner = ShSpawner::new(rt);
     let clock = HostClock::new(rt);
-    let terminal = if are_refused(rt.alloc(), words.as_slice()) {
+    let terminal = if prints_alone(rt.alloc(), words.as_slice(), &env) {
         Terminal::Untouched
     } else {
+        let _filled = fill_size(&rt, &mut env);
         make_raw(&rt)
     };
     let outcome = mc_run::<
@@ -63,20 +64,27 @@ fn main(rt: HostRuntime) -> io::Result<ExitCode> {
         &Open,
     );
     let status = outcome.status;
-    match status {
-        // The usage line stands in a terminal that wasn't touched.
-        1 => {}
-        2 => begin_line(&rt),
-        _ => clear_screen(&rt),
-    }
-    put_back(&rt, &terminal);
+    leave(&rt, &terminal, status);
     Ok(ExitCode::from(status))
 }
 
-/// Whether a run on these words prints the usage line, and does nothing else.
-fn are_refused(alloc: Global, words: &[Text]) -> bool {
-    match read_words(alloc, words) {
-        Ok(_) => false,
-        Err(error) => error == WordsError::Usage,
+/// Whether a run on these words prints a text, and does nothing else.
+fn prints_alone(alloc: Global, words: &[Text], env: &Env) -> bool {
+    match beginning_of(alloc, words, env) {
+        Ok(Beginning::Print(_)) => true,
+        Ok(Beginning::Session { .. }) | Err(_) => false,
     }
+}
+
+/// Leaves the terminal as it was. The line of a folder that was refused stays.
+fn leave(rt: &HostRuntime, terminal: &Terminal, status: u8) {
+    if let Terminal::Untouched = terminal {
+        return;
+    }
+    if status == 2 {
+        begin_line(rt);
+    } else {
+        clear_screen(rt);
+    }
+    put_back(rt, terminal);
 }

@@ -1,13 +1,12 @@
-//! The terminal that the program runs in, asked through `stty`, whose failures are ignored; and the program's words.
-use mc_main::USAGE;
-use mc_text::Text;
+//! The terminal that the program runs in, asked through `stty`, whose failures are ignored.
+use mc_main::Printed;
 use std::io;
 use std::process::{Command, Stdio};
 
 /// What a run did to the terminal, and so what has to be done at its end.
 #[derive(Drop)]
 pub enum Terminal {
-    /// Nothing: the words were refused.
+    /// Nothing: the words ask for no session.
     Untouched,
     /// It was made raw, and this is what it was like before, as `stty` says it.
     RawAfter(String),
@@ -15,26 +14,10 @@ pub enum Terminal {
     Raw,
 }
 
-/// The words after the program's name, or none where they are not UTF-8 or find no memory.
-pub fn words_of(rt: &HostRuntime) -> Option<Vec<Text>> {
-    let Ok(all) = std::env::args(rt) else {
-        return None;
-    };
-    let mut words = Vec::new(rt.alloc());
-    let mut is_program = true;
-    for word in all {
-        if is_program {
-            is_program = false;
-        } else if words.push(Text(word)).is_err() {
-            return None;
-        }
-    }
-    Some(words)
-}
-
 /// Prints the usage line.
 pub fn put_usage(rt: &HostRuntime) -> io::Result<()> {
-    print!(rt; "{USAGE}")
+    let usage = Printed::Usage.text();
+    print!(rt; "{usage}")
 }
 
 /// Lets each byte of the keyboard come at once, and not be shown.

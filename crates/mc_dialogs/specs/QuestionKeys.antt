@@ -31,9 +31,13 @@ question_closed letters (Char code) = if is_letter_of letters code then Closed (
 question_closed letters Enter = Closed (first_letter letters)
 question_closed letters base = if cancels base then Closed Cancel else Stay
 
+-- what a box with these letters answers to a key
+abbrev pub letters_shut : List ℕ → Key → Shut
+letters_shut letters key = if key.meta then Stay else question_closed letters key.base
+
 -- what a question box answers to a key; it stays as it is
 abbrev pub question_shut : QuestionState → Key → Shut
-question_shut s key = if key.meta then Stay else question_closed s.letters key.base
+question_shut s key = letters_shut s.letters key
 
 -- the lines of a question box
 abbrev pub plain_lines : List (List ℕ) → List Line

@@ -11,8 +11,9 @@ mod mode_box;
 mod question_box;
 mod shut;
 
+pub use frame::{Line, paint_box};
 pub use input_line::InputLine;
-pub use list_box::ListBox;
+pub use list_box::{ListBox, moved, scrolled};
 pub use mode_box::ModeBox;
-pub use question_box::QuestionBox;
+pub use question_box::{QuestionBox, answer_by_letters, plain_lines};
 pub use shut::{Reply, Shut};

@@ -199,7 +199,7 @@ fn begins_with(row: &str, code: char) -> bool
 }
 
 /// The row that a key makes current, of so many.
-fn moved(count: usize, page: usize, current: usize, base: Base) -> usize
+pub fn moved(count: usize, page: usize, current: usize, base: Base) -> usize
     requires current { current < 2 ^ 60 }
     requires page { page < 2 ^ 16 }
     ensures value { result ≡ moved_to count page current base }
@@ -217,12 +217,13 @@ fn moved(count: usize, page: usize, current: usize, base: Base) -> usize
     }
 }
 
-/// The first row shown.
-fn scrolled(page: usize, first: usize, current: usize) -> usize
+/// The first row shown: the least change of the old one that shows the current row.
+pub fn scrolled(page: usize, first: usize, current: usize) -> usize
     requires first { first < 2 ^ 60 }
     requires current { current < 2 ^ 60 }
     requires page { page < 2 ^ 16 }
     ensures value { result ≡ scrolled_to page first current }
+    ensures near { result ≤ current + 1 }
     ensures bound { (last : ℕ) → first ≤ last → current + 1 ≤ last → result ≤ last }
 {
     if current < first {

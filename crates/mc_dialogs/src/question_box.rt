@@ -1,6 +1,6 @@
 //! The box that asks a question.
 ghost use Rattle.std.specs.Prelude.{◌≡◌, ◌≤◌, if◌then◌else◌, length, IfOk, OnOk};
-ghost use Rattle.mc_dialogs.specs.QuestionKeys.{is_letter_of, first_letter, plain_lines, question_shut};
+ghost use Rattle.mc_dialogs.specs.QuestionKeys.{is_letter_of, first_letter, letters_shut, plain_lines as lines_of, question_shut};
 ghost use Rattle.mc_dialogs.specs.Boxes.{with_box};
 
 use crate::frame::{Line, paint_box};
@@ -45,30 +45,37 @@ impl QuestionBox {
         ensures state { self.new ≡ self.old }
         ensures shut { result ≡ Ok (question_shut self.old key) }
     {
-        if key.meta {
-            return Ok(Shut::Stay);
-        }
-        match key.base {
-            Base::Char(code) => Ok(letter_shut(&self.letters, code)),
-            Base::Enter => Ok(Shut::Closed(first_reply(&self.letters))),
-            Base::Escape => Ok(Shut::Closed(Reply::Cancel)),
-            Base::F(10) => Ok(Shut::Closed(Reply::Cancel)),
-            _ => Ok(Shut::Stay),
-        }
+        Ok(answer_by_letters(&self.letters, key))
     }
 
     /// Paints it over a screen. Where memory is wanting, a part of it may stand.
     pub fn paint(&self, alloc: Global, grid: &mut Grid) -> Result<(), NoMemory>
-        ensures { OnOk result (grid.new ≡ with_box grid.old (plain_lines self.now.lines)) }
+        ensures { OnOk result (grid.new ≡ with_box grid.old (lines_of self.now.lines)) }
     {
-        let lines = lines_of(alloc, self.lines.as_slice())?;
+        let lines = plain_lines(alloc, self.lines.as_slice())?;
         paint_box(grid, alloc, &lines)
     }
 }
 
+/// What a box with these letters answers to a key. It takes no memory.
+pub fn answer_by_letters(letters: &[u8], key: Key) -> Shut
+    ensures { result ≡ letters_shut letters.now key }
+{
+    if key.meta {
+        return Shut::Stay;
+    }
+    match key.base {
+        Base::Char(code) => letter_shut(letters, code),
+        Base::Enter => Shut::Closed(first_reply(letters)),
+        Base::Escape => Shut::Closed(Reply::Cancel),
+        Base::F(10) => Shut::Closed(Reply::Cancel),
+        _ => Shut::Stay,
+    }
+}
+
 /// Lines of these texts, all plain.
-fn lines_of(alloc: Global, texts: &[Text]) -> Result<Vec<Line>, NoMemory>
-    ensures value { IfOk result (λ lines. lines.items ≡ plain_lines texts.now) }
+pub fn plain_lines(alloc: Global, texts: &[Text]) -> Result<Vec<Line>, NoMemory>
+    ensures value { IfOk result (λ lines. lines.items ≡ lines_of texts.now) }
     ensures count { IfOk result (λ lines. length lines.items ≡ length texts.now) }
 {
     let mut lines = Vec::new(alloc);

@@ -1,19 +1,141 @@
--- The line for a folder that can't be listed has the cause for which the session doesn't start.
-use Rattle.std.proofs.Common.{◌≡◌, ◌≢◌, ℕ, true, List, refl, sym, subst, Option, Some}
+-- What is printed in place of a session, and where none starts.
+use Rattle.std.proofs.Common.{◌≡◌, ◌≢◌, ◌<◌, ◌≤◌, ℕ, true, List, ◌++◌, refl, sym, subst, ap, ◌∙◌, inl, inr, Option, Some, None, IsSome, arith}
 use Rattle.tree_trait.specs.Change.{CallLog, current}
 use Rattle.tree_trait.specs.Answers.{HasRisen, IfKnown}
+use Rattle.mc_text.specs.Routes.{Route}
+use Rattle.start_words.specs.Asked.{asked_by}
+use Rattle.start_words.specs.Folders.{started_in}
+use Rattle.start_words.specs.declared.words.Words.{Words}
+use Rattle.start_words.specs.declared.words.Words.TheVariants.{Panels, NotBuilt}
+use Rattle.start_words.specs.declared.words.Words.TheVariants as asks
+use Rattle.mc_desk.specs.declared.starts.Side.TheVariants.{Left, Right}
 use Rattle.mc_desk.specs.declared.starts.StartError.{StartError}
 use Rattle.mc_desk.specs.declared.starts.StartError.TheVariants.{Tree, Memory}
 use Rattle.mc_desk.specs.declared.starts.Start.{Start}
 use Rattle.mc_desk.specs.Starts.{IsStartCause, is_start_fault}
-use Rattle.mc_main.specs.Headline.{folders_in}
-use Rattle.mc_main.specs.Printed.{IsCauseIn, PrintsCause, PrintsStart}
+use Rattle.mc_main.specs.declared.words.Printed.{Printed}
+use Rattle.mc_main.specs.declared.words.Printed.TheVariants.{Usage, Help, Version}
+use Rattle.mc_main.specs.declared.words.Typed.{Typed}
+use Rattle.mc_main.specs.declared.words.Beginning.{Beginning}
+use Rattle.mc_main.specs.declared.words.Beginning.TheVariants.{Session, Print}
+use Rattle.mc_main.specs.Beginnings.{IsBeginning, asked_in, folder_word, printed_for, session_folders, status_with, text_of}
+use Rattle.mc_main.specs.Headline.{BeginsNone, IsComplete, IsStatusOr, RefusesStart}
+use Rattle.mc_main.specs.Printed.{IsCauseIn, PrintsCause, PrintsStart, start_line}
 
-pub cause_in : (log : CallLog) (o : Option Start) (start : Start) (error : StartError) → o ≡ Some start → IsStartCause (current log) start.left start.right error → IsCauseIn log o error
-cause_in log o start error is cause = subst (λ (o : Option Start). IsCauseIn log o error) (sym is) cause
+-- the line for a folder that can't be listed has the cause for which the session doesn't start
+pub prints_start : (contents : Option CallLog) (asked : Option Words) (start : Start) (typed : Typed) (error : StartError) (faults faults_after : ℕ) (before : List ℕ) (given : Option (List ℕ)) → IsBeginning asked (Session start typed) → error ≢ Memory
+    → IfKnown contents (λ log. IsStartCause (current log) start.left start.right error) → (is_start_fault error ≡ true → HasRisen faults faults_after) → PrintsCause typed error before given
+    → PrintsStart contents asked faults faults_after before given
+prints_start contents asked start typed Memory faults faults_after before given is some why risen prints = absurd (some refl)
+prints_start contents asked start typed (Tree Left cause) faults faults_after before given is some why risen prints = record {
+  side = Left;
+  cause = cause;
+  is_cause = λ log known. subst (λ o. IsCauseIn log (session_folders o) (Tree Left cause)) (sym is) (why log known);
+  risen = risen;
+  line = subst (λ o. given ≡ Some (before ++ start_line (folder_word Left o) cause)) (sym is) prints;
+}
+prints_start contents asked start typed (Tree Right cause) faults faults_after before given is some why risen prints = record {
+  side = Right;
+  cause = cause;
+  is_cause = λ log known. subst (λ o. IsCauseIn log (session_folders o) (Tree Right cause)) (sym is) (why log known);
+  risen = risen;
+  line = subst (λ o. given ≡ Some (before ++ start_line (folder_word Right o) cause)) (sym is) prints;
+}
 
-pub prints_start : (contents : Option CallLog) (words : List (List ℕ)) (error : StartError) (faults faults_after : ℕ) (before : List ℕ) (given : Option (List ℕ)) → error ≢ Memory
-    → IfKnown contents (λ log. IsCauseIn log (folders_in words) error) → (is_start_fault error ≡ true → HasRisen faults faults_after) → PrintsCause words error before given
-    → PrintsStart contents words faults faults_after before given
-prints_start contents words Memory faults faults_after before given some is risen prints = absurd (some refl)
-prints_start contents words (Tree side cause) faults faults_after before given some is risen prints = record { side = side; cause = cause; is_cause = is; risen = risen; line = prints }
+-- how a run begins that was told as a match gives it
+pub print_is : (asked : Option Words) (beginning : Beginning) (printed : Printed) → IsBeginning asked beginning → beginning ≡ Print printed → printed_for asked ≡ Some printed
+print_is asked beginning printed is same = subst (λ b. IsBeginning asked b) same is
+
+pub session_is : (asked : Option Words) (beginning : Beginning) (start : Start) (typed : Typed) → IsBeginning asked beginning → beginning ≡ Session start typed → IsBeginning asked (Session start typed)
+session_is asked beginning start typed is same = subst (λ b. IsBeginning asked b) same is
+
+-- no text has a status above 1
+pub status_few : (printed : Printed) → status_with printed < 2
+status_few Usage = omega arith
+status_few Help = omega arith
+status_few Version = omega arith
+
+-- what was read of the words is what they ask for
+pub asked_read : (folder text : List ℕ) (words : List (List ℕ)) (started : Route) (asked : Option Words) → started ≡ started_in text → text ≡ folder → asked_by started words ≡ asked → asked_in folder words ≡ asked
+unfolding asked_in
+asked_read folder text words started asked is same read = sym (ap (λ route. asked_by route words) (is ∙ ap started_in same)) ∙ read
+
+-- a session begins in the folders of its start, and nothing is printed in its place
+pub starts_in : (asked : Option Words) (start : Start) (typed : Typed) → IsBeginning asked (Session start typed) → session_folders asked ≡ Some start
+starts_in asked start typed is = subst (λ o. session_folders o ≡ Some start) (sym is) refl
+
+pub prints_none : (asked : Option Words) (start : Start) (typed : Typed) → IsBeginning asked (Session start typed) → printed_for asked ≡ None
+prints_none asked start typed is = subst (λ o. printed_for o ≡ None) (sym is) refl
+
+-- where a text is printed there are no folders
+pub no_folders : (asked : Option Words) (printed : Printed) → printed_for asked ≡ Some printed → session_folders asked ≡ None
+no_folders None printed is = refl
+no_folders (Some asks.Help) printed is = refl
+no_folders (Some asks.Version) printed is = refl
+no_folders (Some (Panels left right)) printed is = cc
+no_folders (Some NotBuilt) printed is = refl
+
+-- only the usage line has status 1
+pub usage_printed : (printed : Printed) (status : ℕ) → IsStatusOr (status_with printed) status → status ≡ 1 → printed ≡ Usage
+usage_printed Usage status is one = refl
+usage_printed Help status (inl is) one = absurd (omega (arith, is, one))
+usage_printed Help status (inr (inl is)) one = absurd (omega (arith, is, one))
+usage_printed Help status (inr (inr is)) one = absurd (omega (arith, is, one))
+usage_printed Version status (inl is) one = absurd (omega (arith, is, one))
+usage_printed Version status (inr (inl is)) one = absurd (omega (arith, is, one))
+usage_printed Version status (inr (inr is)) one = absurd (omega (arith, is, one))
+
+-- the status of a run in which a text was printed
+pub begins_none : (asked : Option Words) (printed : Printed) (status : ℕ) → printed_for asked ≡ Some printed → IsStatusOr (status_with printed) status → BeginsNone asked status
+begins_none asked Usage status is (inl one) = inr (inl one)
+begins_none asked Help status is (inl zero_status) = inl (zero_status, subst (λ (o : Option Printed). IsSome o) (sym is) refl)
+begins_none asked Version status is (inl zero_status) = inl (zero_status, subst (λ (o : Option Printed). IsSome o) (sym is) refl)
+begins_none asked printed status is (inr cut) = inr (inr (inr cut))
+
+-- a run that printed a text has its status, 4 or 5
+pub not_at : (own status at : ℕ) → own < 2 → 2 ≤ at → at < 4 → IsStatusOr own status → status ≢ at
+not_at own status at few least most (inl is) same = absurd (omega (arith, few, least, is, same))
+not_at own status at few least most (inr (inl is)) same = absurd (omega (arith, most, is, same))
+not_at own status at few least most (inr (inr is)) same = absurd (omega (arith, most, is, same))
+
+pub at_most_five : (own status : ℕ) → own < 2 → IsStatusOr own status → status ≤ 5
+at_most_five own status few (inl is) = omega (arith, few, is)
+at_most_five own status few (inr (inl is)) = omega (arith, is)
+at_most_five own status few (inr (inr is)) = omega (arith, is)
+
+-- what is said of the text that is printed
+pub prints_it : (asked : Option Words) (printed other : Printed) (status : ℕ) → printed_for asked ≡ Some printed → printed_for asked ≡ Some other → IsStatusOr (status_with printed) status → IsStatusOr (status_with other) status
+prints_it asked printed other status is known at =
+    let both : Some printed ≡ Some other = sym is ∙ known in
+    let same : printed ≡ other = cc in
+    subst (λ p. IsStatusOr (status_with p) status) same at
+
+pub text_given : (asked : Option Words) (printed other : Printed) (before text : List ℕ) (given : Option (List ℕ)) → printed_for asked ≡ Some printed → printed_for asked ≡ Some other → text ≡ text_of printed → given ≡ Some (before ++ text) → given ≡ Some (before ++ text_of other)
+text_given asked printed other before text given is known says line =
+    let both : Some printed ≡ Some other = sym is ∙ known in
+    let same : printed ≡ other = cc in
+    line ∙ ap (λ t. Some (before ++ t)) (says ∙ ap text_of same)
+
+pub below_four : (asked : Option Words) (printed other : Printed) (status : ℕ) → printed_for asked ≡ Some printed → printed_for asked ≡ Some other → status_with printed < 2 → status ≡ status_with other → status < 4
+below_four asked printed other status is known few at =
+    let both : Some printed ≡ Some other = sym is ∙ known in
+    let same : printed ≡ other = cc in
+    let less : status_with other < 2 = subst (λ p. status_with p < 2) same few in
+    omega (arith, less, at)
+
+pub usage_asked : (asked : Option Words) (printed : Printed) (status : ℕ) → printed_for asked ≡ Some printed → IsStatusOr (status_with printed) status → status ≡ 1 → printed_for asked ≡ Some Usage
+usage_asked asked printed status is at one = is ∙ ap (λ p. Some p) (usage_printed printed status at one)
+
+-- nothing is printed, so nothing is said of it
+pub prints_not : {A : Type 0} (asked : Option Words) (start : Start) (typed : Typed) (other : Printed) → IsBeginning asked (Session start typed) → printed_for asked ≡ Some other → A
+prints_not asked start typed other is known = absurd (let none = prints_none asked start typed is in cc)
+
+pub some_prints_not : {A : Type 0} (asked : Option Words) (start : Start) (typed : Typed) → IsBeginning asked (Session start typed) → IsSome (printed_for asked) → A
+some_prints_not asked start typed is some = absurd (let none = prints_none asked start typed is in cc)
+
+-- no session was asked for, so no start is refused
+pub refuses_none : (log : CallLog) (asked : Option Words) (printed : Printed) (status : ℕ) → printed_for asked ≡ Some printed → RefusesStart log (session_folders asked) status
+refuses_none log asked printed status is = subst (λ o. RefusesStart log o status) (sym (no_folders asked printed is)) tt
+
+pub completes_none : (log : CallLog) (asked : Option Words) (printed : Printed) (status : ℕ) (failed : Type 0) → printed_for asked ≡ Some printed → IsComplete log (session_folders asked) status failed
+completes_none log asked printed status failed is = subst (λ o. IsComplete log o status failed) (sym (no_folders asked printed is)) tt

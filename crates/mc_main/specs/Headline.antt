@@ -1,7 +1,7 @@
 -- What a run of the file manager promises.
-use Rattle.std.specs.Prelude.{◌≡◌, ◌≢◌, ◌⊎◌, ℕ, ◌+◌, ◌≤◌, Bool, true, false, is_none, ⊤, if◌then◌else◌, List, [], ◌∷◌, length, take, drop, Option, Some, None, IsSome, Result, Ok, Err}
+use Rattle.std.specs.Prelude.{◌≡◌, ◌≢◌, ◌⊎◌, ℕ, ◌+◌, ◌≤◌, Bool, true, false, ⊤, List, [], length, take, drop, Option, Some, None, IsSome, Result, Ok, Err}
 use Rattle.std.specs.Option.{option_map}
-use Rattle.mc_text.specs.Routes.{Route, path_fault, route_of}
+use Rattle.mc_text.specs.Routes.{Route}
 use Rattle.tree_trait.specs.declared.file_system.FileSystem.{FileSystem}
 use Rattle.tree_trait.specs.FileSystem.{visible_tree}
 use Rattle.tree_trait.specs.Calls.{ListFolder}
@@ -22,28 +22,10 @@ use Rattle.mc_desk.specs.Tallies.{keys_in}
 use Rattle.mc_desk.specs.declared.starts.Start.{Start}
 use Rattle.mc_desk.specs.Sessions.{EndsSession}
 use Rattle.mc_desk.specs.Desks.{LacksSecond}
+use Rattle.start_words.specs.declared.words.Words.{Words}
+use Rattle.mc_main.specs.Beginnings.{printed_for, session_folders}
 use Rattle.mc_main.specs.declared.session.SessionEnd.{SessionEnd}
 use Rattle.mc_main.specs.declared.session.SessionEnd.TheVariants.{Quit, KeysEnded, KeysFailed, ScreenFailed, NoMemory}
-
--- the folder that a word names: it is an absolute path
-abbrev pub folder_of : List ℕ → Option Route
-folder_of word = if is_none (path_fault word) then Some (route_of word) else None
-
--- the folders of the two panels
-abbrev pub panels : Route → Route → Start
-panels left right = record { left = left; right = right }
-
-abbrev pub beside : Option Route → Option Route → Option Start
-beside None right = None
-beside (Some left) None = None
-beside (Some left) (Some right) = Some (panels left right)
-
--- the folders that the words name: they are one or two absolute paths, and with one both panels show it
-abbrev pub folders_in : List (List ℕ) → Option Start
-folders_in [] = None
-folders_in (word ∷ []) = beside (folder_of word) (folder_of word)
-folders_in (first ∷ second ∷ []) = beside (folder_of first) (folder_of second)
-folders_in (first ∷ second ∷ third ∷ words) = None
 
 -- a run that can't be had has one of these statuses: its own, 4 where its line couldn't be printed, or 5 where memory ran out
 abbrev pub IsStatusOr : ℕ → ℕ → Type 0
@@ -63,9 +45,9 @@ abbrev pub RefusesStart : CallLog → Option Start → ℕ → Type 0
 RefusesStart log None status = ⊤
 RefusesStart log (Some start) status = CantList log start → IsStatusOr 2 status
 
--- the statuses of a run in which no session began
-abbrev pub BeginsNone : ℕ → Type 0
-BeginsNone status = (status ≡ 1) ⊎ (status ≡ 2) ⊎ (status ≡ 4) ⊎ (status ≡ 5)
+-- the statuses of a run in which no session began; 0 only where a text was asked for in its place
+abbrev pub BeginsNone : Option Words → ℕ → Type 0
+BeginsNone asked status = ((status ≡ 0) × IsSome (printed_for asked)) ⊎ ((status ≡ 1) ⊎ (status ≡ 2) ⊎ (status ≡ 4) ⊎ (status ≡ 5))
 
 -- A session in these folders, where they are known. At status 0 its end was asked for, or all that the keyboard gives was
 -- taken.
@@ -77,9 +59,10 @@ pub record RanSession (folders : Option Start) (opening : Option CallLog) (fault
   pub not_start : status ≢ 2
 
 -- what a run wrote down, the newest first: a session in the folders that the words name, or nothing where none began
-abbrev pub IsRun : Option Start → Option CallLog → ℕ → ℕ → List Entry → Option CallLog → Type 0 → Type 0
-IsRun folders opening faults status newest contents all_taken =
-    (IsSome folders × RanSession folders opening faults status newest contents all_taken) ⊎ ((newest ≡ []) × BeginsNone status)
+abbrev pub IsRun : Option Words → Option CallLog → ℕ → ℕ → List Entry → Option CallLog → Type 0 → Type 0
+IsRun asked opening faults status newest contents all_taken =
+    (IsSome (session_folders asked) × RanSession (session_folders asked) opening faults status newest contents all_taken)
+    ⊎ ((newest ≡ []) × BeginsNone asked status)
 
 -- the run ended as the screen failed, or memory ran out
 abbrev pub IsCutShort : ℕ → Type 0

@@ -1,19 +1,19 @@
 //! How a run ends: after its session, or before one began.
-ghost use Rattle.std.specs.Prelude.{◌≡◌, ◌≢◌, ◌≤◌, ◌<◌, ◌++◌, [], true, IfOk, OnOk, Option, None, Some, codes, reverse, string_bytes};
-ghost use Rattle.mc_text.specs.Drawn.{drawn as drawn_text};
+ghost use Rattle.std.specs.Prelude.{◌≡◌, ◌≢◌, ◌≤◌, ◌<◌, ◌++◌, [], true, IfOk, Option, None, Some, reverse, string_bytes};
 ghost use Rattle.tree_trait.specs.Answers.{IfKnown, HasRisen};
 ghost use Rattle.history_laws.specs.ToldJob.{live_job};
 ghost use Rattle.history_laws.specs.Traces.{IsTracedTo};
 ghost use Rattle.mc_desk.specs.Logs.{jobs_begun};
 ghost use Rattle.mc_desk.specs.Tallies.{faults_in, has_lost};
 ghost use Rattle.mc_desk.specs.Desks.{IsFresh, RanNothing};
-ghost use Rattle.mc_main.specs.Printed.{PrintsCause, folder_word, start_line as line_for};
+ghost use Rattle.mc_main.specs.Printed.{PrintsCause, start_line as line_for};
 ghost use Rattle.mc_main.specs.Headline.{IsStatusOr, IsStatusOf, RanSession, ReadsKeys, TookAll};
 
 use crate::outcome::Outcome;
 use crate::session::{SessionEnd, run_session};
+use crate::words::Typed;
 use mc_desk::{Desk, Ended, Refused, Side, StartError, Tag, cause_text};
-use mc_text::{NoMemory, Text, drawn};
+use mc_text::{NoMemory, drawn};
 use session_history::{Entries, History};
 use std::alloc::Global;
 use tree_trait::{Clock, Sink, SinkError, Source, Spawner, Tree, TreeError};
@@ -106,13 +106,13 @@ pub fn refuse<T, S: Sink, P>(
 /// terminal, and the cause.
 pub fn refuse_start<T, S: Sink, P>(
     alloc: Global,
-    words: &[Text],
+    typed: &Typed,
     refused: Refused<T, S, P>,
 ) -> Outcome<T, S, P>
     ensures status { IsStatusOr 2 result.status }
     ensures cause { result.status ≡ 2 → refused.error ≢ StartError.Memory }
     ensures line { result.status ≡ 2 → IfKnown (S.given refused.screen) (λ before.
-        PrintsCause words.now refused.error before (S.given result.screen)) }
+        PrintsCause typed.now refused.error before (S.given result.screen)) }
     ensures screen { result.status ≡ 4 → HasRisen (S.fault_count refused.screen) (S.fault_count result.screen) }
     ensures tree { result.tree ≡ refused.tree }
     ensures spawner { result.spawner ≡ refused.spawner }
@@ -127,51 +127,26 @@ pub fn refuse_start<T, S: Sink, P>(
     } = refused;
     match error {
         StartError::Memory => without_session(alloc, 5, tree, screen, spawner),
-        StartError::Tree(side, error) => match start_line(alloc, words, side, error) {
-            Ok(line) => refuse(alloc, 2, line.as_str(), tree, screen, spawner),
-            Err(NoMemory) => without_session(alloc, 5, tree, screen, spawner),
-        },
+        StartError::Tree(side, error) => {
+            match start_line(alloc, typed.word_for(side), error) {
+                Ok(line) => refuse(alloc, 2, line.as_str(), tree, screen, spawner),
+                Err(NoMemory) => without_session(alloc, 5, tree, screen, spawner),
+            }
+        }
     }
 }
 
 /// The line for a folder that was refused.
-fn start_line(
-    alloc: Global,
-    words: &[Text],
-    side: Side,
-    error: TreeError,
-) -> Result<String, NoMemory>
-    ensures { IfOk result (λ line. string_bytes line ≡ line_for words.now side error) }
+fn start_line(alloc: Global, word: &str, error: TreeError) -> Result<String, NoMemory>
+    ensures { IfOk result (λ line. string_bytes line ≡ line_for word.now error) }
 {
     let mut line = String::from_str(alloc, "mc: ")?;
-    push_named(alloc, &mut line, words, side)?;
+    let shown = drawn(alloc, word)?;
+    line.push_str(shown.0.as_str())?;
+    line.push_str(": ")?;
     line.push_str(cause_text(error))?;
     line.push('\n')?;
     Ok(line)
-}
-
-/// Adds the word that names the folder of a panel, and a colon.
-fn push_named(alloc: Global, line: &mut String, words: &[Text], side: Side) -> Result<(), NoMemory>
-    ensures { OnOk result (string_bytes line.new ≡ string_bytes line.old ++ folder_word side words.now) }
-{
-    match words {
-        [] => Ok(()),
-        [word] => push_word(alloc, line, word),
-        [first, second, ..] => match side {
-            Side::Left => push_word(alloc, line, first),
-            Side::Right => push_word(alloc, line, second),
-        },
-    }
-}
-
-/// Adds a word as it is drawn, and a colon.
-fn push_word(alloc: Global, line: &mut String, word: &Text) -> Result<(), NoMemory>
-    ensures { OnOk result (string_bytes line.new ≡ string_bytes line.old ++ (drawn_text word.now ++ codes ": ")) }
-{
-    let shown = drawn(alloc, word.0.as_str())?;
-    line.push_str(shown.0.as_str())?;
-    line.push_str(": ")?;
-    Ok(())
 }
 
 /// A run in which no session began.

@@ -9,4 +9,4 @@ mod words;
 
 pub use outcome::Outcome;
 pub use run::{Env, Gate, mc_run};
-pub use words::{USAGE, WordsError, read_words};
+pub use words::{Beginning, Printed, Typed, beginning_of};

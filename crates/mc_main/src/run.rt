@@ -1,19 +1,20 @@
 //! One run of the file manager over its devices.
-ghost use Rattle.std.specs.Prelude.{◌≡◌, ◌⊎◌, ◌≤◌, ◌++◌, true, Option, None, Some, reverse};
+ghost use Rattle.std.specs.Prelude.{◌≡◌, ◌⊎◌, ◌≤◌, ◌++◌, true, [], Option, None, Some, IsSome, reverse};
 ghost use Rattle.tree_trait.specs.Answers.{IfKnown, HasRisen};
 ghost use Rattle.history_laws.specs.ToldJob.{live_job};
 ghost use Rattle.history_laws.specs.Traces.{IsTracedTo};
 ghost use Rattle.mc_desk.specs.Logs.{jobs_begun};
 ghost use Rattle.mc_desk.specs.Tallies.{faults_in, has_lost};
 ghost use Rattle.mc_desk.specs.Desks.{RanNothing};
-ghost use Rattle.mc_main.specs.Headline.{folders_in, IsStatusOr, MayRefuseStart, RefusesStart, IsRun, ReadsKeys, TookAll, IsSafeRun, IsFinishedRun, IsCalmedRun, IsReplayedRun, IsComplete};
-ghost use Rattle.mc_main.specs.Printed.{PrintsStart, usage_line as line_of_usage};
+ghost use Rattle.mc_main.specs.Beginnings.{asked_in, folders_in, printed_for, status_with, text_of};
+ghost use Rattle.mc_main.specs.Headline.{IsStatusOr, MayRefuseStart, RefusesStart, IsRun, ReadsKeys, TookAll, IsSafeRun, IsFinishedRun, IsCalmedRun, IsReplayedRun, IsComplete};
+ghost use Rattle.mc_main.specs.Printed.{PrintsStart};
 
 use crate::endings::{refuse, refuse_start, run_desk, without_session};
 use crate::outcome::Outcome;
-use crate::words::{USAGE, WordsError, read_words};
+use crate::words::{Beginning, Printed, beginning_of};
 use mc_desk::{Desk, Tag};
-use mc_text::Text;
+use mc_text::{NoMemory, Text};
 use std::alloc::Global;
 use tree_trait::{Clock, Sink, Source, Spawner, Tree};
 
@@ -35,12 +36,13 @@ pub trait Gate {
 
 /// Runs the file manager: reads the words, opens the session, works its keys and steps its jobs, and ends it.
 ///
-/// The status is 0 at the quit key or the end of the keys, 1 where the words can't be read, 2 where a folder is refused, 3
-/// where the keyboard failed, 4 where the screen did, and 5 where memory ran out. For 1 and 2 one line is printed.
+/// The status is 0 at the quit key or the end of the keys, 1 where the words can't be read or ask for what isn't built yet, 2 where
+/// a folder is refused, 3 where the keyboard failed, 4 where the screen did, and 5 where memory ran out. For 1 and 2 one line is
+/// printed. The words may also ask for the help or the version, which is printed with status 0.
 pub fn mc_run<N: Tag, T: Tree, K: Source, S: Sink, P: Spawner, C: Clock, G: Gate>(
     alloc: Global,
     words: &[Text],
-    _env: &Env,
+    env: &Env,
     tree: T,
     screen: S,
     keys: &mut K,
@@ -49,7 +51,7 @@ pub fn mc_run<N: Tag, T: Tree, K: Source, S: Sink, P: Spawner, C: Clock, G: Gate
     _gate: &G,
 ) -> Outcome<T, S, P>
     // The type names the world as the run finds it.
-    requires start { N.start ≡ folders_in words.now }
+    requires start { N.start ≡ folders_in env.now.folder words.now }
     requires opening { T.contents tree ≡ N.opening }
     requires stream { K.left keys.old ≡ N.stream }
     requires given { S.given screen ≡ N.given }
@@ -84,7 +86,7 @@ pub fn mc_run<N: Tag, T: Tree, K: Source, S: Sink, P: Spawner, C: Clock, G: Gate
     // Each entry of a step is a piece of the job's work with the calls that belong to it, or the sync of a folder that an ended
     // job left. A tree that tells what it holds is handed back telling it.
     ensures traced { IsTracedTo (T.contents tree) (T.contents result.tree) (reverse result.history.entries) }
-    ensures session { IsRun (folders_in words.now) (T.contents tree) (T.fault_count tree) result.status
+    ensures session { IsRun (asked_in env.now.folder words.now) (T.contents tree) (T.fault_count tree) result.status
         (reverse result.history.entries) (T.contents result.tree) (TookAll (K.left keys.old) (K.left keys.new)) }
     ensures idle { live_job (reverse result.history.entries) ≡ None }
     ensures counted { result.history.started ≡ jobs_begun result.history.entries }
@@ -100,34 +102,43 @@ pub fn mc_run<N: Tag, T: Tree, K: Source, S: Sink, P: Spawner, C: Clock, G: Gate
         (reverse result.history.entries)) }
     ensures lost { has_lost (reverse result.history.entries) ≡ true → result.status ≡ 5 }
 
-    // Statuses 1 and 2.
-    ensures usage { result.status ≡ 1 → folders_in words.now ≡ None }
-    ensures refuses_words { folders_in words.now ≡ None → IsStatusOr 1 result.status }
-    ensures start { result.status ≡ 2 → IfKnown (T.contents tree) (λ log.
-        MayRefuseStart log (folders_in words.now) (T.fault_count tree) (T.fault_count result.tree)) }
-    ensures refuses_start { IfKnown (T.contents tree) (λ log. RefusesStart log (folders_in words.now) result.status) }
+    // Words that ask for no session: how the program is called, with status 1, or the help or the version, with status 0. Then
+    // nothing else is done.
+    ensures usage { result.status ≡ 1 → printed_for (asked_in env.now.folder words.now) ≡ Some Printed.Usage }
+    ensures prints { IfKnown (printed_for (asked_in env.now.folder words.now)) (λ printed.
+        IsStatusOr (status_with printed) result.status) }
+    ensures printed_text { IfKnown (printed_for (asked_in env.now.folder words.now)) (λ printed.
+        result.status ≡ status_with printed → IfKnown (S.given screen) (λ before.
+        S.given result.screen ≡ Some (before ++ text_of printed))) }
+    ensures untouched { IsSome (printed_for (asked_in env.now.folder words.now)) →
+        (result.tree ≡ tree) × (result.history.entries ≡ []) }
 
-    // What is printed then.
-    ensures usage_line { result.status ≡ 1 → IfKnown (S.given screen) (λ before.
-        S.given result.screen ≡ Some (before ++ line_of_usage)) }
+    // Status 2, and what is printed then.
+    ensures start { result.status ≡ 2 → IfKnown (T.contents tree) (λ log.
+        MayRefuseStart log (folders_in env.now.folder words.now) (T.fault_count tree) (T.fault_count result.tree)) }
+    ensures refuses_start { IfKnown (T.contents tree) (λ log. RefusesStart log (folders_in env.now.folder words.now) result.status) }
     ensures start_line { result.status ≡ 2 → IfKnown (S.given screen) (λ before.
-        PrintsStart (T.contents tree) words.now (T.fault_count tree) (T.fault_count result.tree) before (S.given result.screen)) }
+        PrintsStart (T.contents tree) (asked_in env.now.folder words.now) (T.fault_count tree) (T.fault_count result.tree) before (S.given result.screen)) }
 
     // Statuses 3 and 4: only where the device's count of faults has risen. There are no others.
     ensures keyboard { result.status ≡ 3 → HasRisen (K.fault_count keys.old) (K.fault_count keys.new) }
     ensures screen { result.status ≡ 4 → HasRisen (S.fault_count screen) (S.fault_count result.screen) }
-    ensures complete { IfKnown (T.contents tree) (λ log. IsComplete log (folders_in words.now) result.status
+    ensures complete { IfKnown (T.contents tree) (λ log. IsComplete log (folders_in env.now.folder words.now) result.status
         (HasRisen (T.fault_count tree) (T.fault_count result.tree)
         ⊎ (HasRisen (K.fault_count keys.old) (K.fault_count keys.new) ⊎ HasRisen (S.fault_count screen) (S.fault_count result.screen)))) }
     ensures statuses { result.status ≤ 5 }
 {
-    let start = match read_words(alloc, words) {
-        Ok(start) => start,
-        Err(WordsError::Usage) => return refuse(alloc, 1, USAGE, tree, screen, spawner),
-        Err(WordsError::Memory) => return without_session(alloc, 5, tree, screen, spawner),
-    };
-    match Desk::<N, T, S, P>::begin(alloc, start, tree, screen, spawner) {
-        Ok(desk) => run_desk(alloc, desk, keys, clock),
-        Err(refused) => refuse_start(alloc, words, refused),
+    match beginning_of(alloc, words, env) {
+        Err(NoMemory) => without_session(alloc, 5, tree, screen, spawner),
+        Ok(Beginning::Print(printed)) => {
+            let (status, text) = (printed.status(), printed.text());
+            refuse(alloc, status, text, tree, screen, spawner)
+        }
+        Ok(Beginning::Session { start, typed }) => {
+            match Desk::<N, T, S, P>::begin(alloc, start, tree, screen, spawner) {
+                Ok(desk) => run_desk(alloc, desk, keys, clock),
+                Err(refused) => refuse_start(alloc, &typed, refused),
+            }
+        }
     }
 }

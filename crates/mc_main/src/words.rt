@@ -1,54 +1,105 @@
-//! The words that the program is called with.
-ghost use Rattle.std.specs.Prelude.{◌≡◌, Err, None, Some, IfOk};
-ghost use Rattle.mc_main.specs.Headline.{folder_of, folders_in};
+//! How a run begins, by its words.
+ghost use Rattle.std.specs.Prelude.{◌≡◌, ◌<◌, Some, IfOk};
+ghost use Rattle.mc_main.specs.Beginnings.{IsBeginning, asked_in, status_with, text_of, word_for as word_of};
 
-use mc_desk::Start;
-use mc_text::{Path, PathError, Text};
+use crate::run::Env;
+use mc_desk::{Side, Start};
+use mc_text::{NoMemory, Text};
+use start_words::{Words, WordsError, read_words, started_folder};
 use std::alloc::Global;
-use thiserror::Error;
 
-/// What is printed where the words can't be read.
-pub const USAGE: &str =
-    "usage: mc [-b] [-V] [-h] [-P FILE] [-v FILE | -e FILE | --drill N | DIR1 [DIR2]]\n";
-
-/// Why the words aren't read.
-#[derive(Clone, Copy, Debug, Drop, Error, PartialEq, Eq)]
-pub enum WordsError {
-    #[error("not in the profile")]
+/// A text that is printed in place of a session.
+#[derive(Clone, Copy, Debug, Drop, PartialEq, Eq)]
+pub enum Printed {
+    /// How the program is called, where the words can't be read, or ask for what isn't built yet.
     Usage,
-    #[error("out of memory")]
-    Memory,
+    /// How it is called, and what its keys do.
+    Help,
+    Version,
 }
 
-/// Reads the words: one or two absolute paths, the folders of the left and the right panel. With one the right panel shows the
-/// first's. All others are not in the profile yet.
-pub fn read_words(alloc: Global, words: &[Text]) -> Result<Start, WordsError>
-    ensures read { IfOk result (λ start. folders_in words.now ≡ Some start) }
-    ensures usage { result ≡ Err WordsError.Usage → folders_in words.now ≡ None }
-{
-    match words {
-        [word] => {
-            let left = read_folder(alloc, word)?;
-            let right = read_folder(alloc, word)?;
-            Ok(Start { left, right })
+impl Printed {
+    pub fn text(self) -> &'static str
+        ensures { result.now ≡ text_of self }
+    {
+        match self {
+            Printed::Usage => {
+                "usage: mc [-b] [-V] [-h] [-P FILE] [-v FILE | -e FILE | --drill N | DIR1 [DIR2]]\n"
+            }
+            Printed::Help => {
+                "usage: mc [-b] [-V] [-h] [-P FILE] [-v FILE | -e FILE | --drill N | DIR1 [DIR2]]\nF1 help  F2 menu  F3 view  F4 edit  F5 copy  F6 move  F7 mkdir  F8 delete  F9 options  F10 quit\n"
+            }
+            Printed::Version => "mc profile 1\n",
         }
-        [first, second] => {
-            let left = read_folder(alloc, first)?;
-            let right = read_folder(alloc, second)?;
-            Ok(Start { left, right })
+    }
+
+    /// The status of a run that printed it.
+    pub fn status(self) -> u8
+        ensures value { result ≡ status_with self }
+        ensures few { result < 2 }
+    {
+        match self {
+            Printed::Usage => 1,
+            Printed::Help | Printed::Version => 0,
         }
-        _ => Err(WordsError::Usage),
     }
 }
 
-/// Reads a word that names a folder.
-fn read_folder(alloc: Global, word: &Text) -> Result<Path, WordsError>
-    ensures read { IfOk result (λ folder. folder_of word.now ≡ Some folder) }
-    ensures usage { result ≡ Err WordsError.Usage → folder_of word.now ≡ None }
+/// What was typed for the folders of the two panels.
+#[derive(Debug, Drop)]
+pub struct Typed {
+    pub left: Text,
+    pub right: Text,
+}
+
+impl Typed {
+    /// What was typed for a panel.
+    pub fn word_for(&self, side: Side) -> &str
+        ensures { result.now ≡ word_of side self.now }
+    {
+        match side {
+            Side::Left => self.left.0.as_str(),
+            Side::Right => self.right.0.as_str(),
+        }
+    }
+}
+
+/// How a run begins.
+#[derive(Debug, Drop)]
+pub enum Beginning {
+    Print(Printed),
+    Session { start: Start, typed: Typed },
+}
+
+/// How a run on these words begins.
+pub fn beginning_of(alloc: Global, words: &[Text], env: &Env) -> Result<Beginning, NoMemory>
+    ensures { IfOk result (λ beginning. IsBeginning (asked_in env.now.folder words.now) beginning) }
 {
-    match Path::parse(alloc, word.0.as_str()) {
-        Ok(folder) => Ok(folder),
-        Err(PathError::Memory) => Err(WordsError::Memory),
-        Err(_) => Err(WordsError::Usage),
+    let started = started_folder(alloc, env.folder.0.as_str())?;
+    match read_words(alloc, words, &started) {
+        Ok(asked) => Ok(begun_by(asked)),
+        Err(WordsError::Usage) => Ok(Beginning::Print(Printed::Usage)),
+        Err(WordsError::Memory) => Err(NoMemory),
+    }
+}
+
+/// How a run begins that was asked for.
+fn begun_by(asked: Words) -> Beginning
+    ensures { IsBeginning (Some asked) result }
+{
+    match asked {
+        Words::Help => Beginning::Print(Printed::Help),
+        Words::Version => Beginning::Print(Printed::Version),
+        Words::Panels { left, right } => Beginning::Session {
+            start: Start {
+                left: left.path,
+                right: right.path,
+            },
+            typed: Typed {
+                left: left.typed,
+                right: right.typed,
+            },
+        },
+        Words::NotBuilt => Beginning::Print(Printed::Usage),
     }
 }

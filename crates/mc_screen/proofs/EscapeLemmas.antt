@@ -1,5 +1,5 @@
 -- bytes that are cut at their escapes
-use Rattle.std.proofs.Common.{◌≡◌, ℕ, ◌<◌, Bool, true, false, ◌||◌, ◌==◌, if◌then◌else◌, List, [], ◌∷◌, ◌++◌, length, refl, sym, ◌∙◌, ap, subst, arith, append_assoc, append-nil}
+use Rattle.std.proofs.Common.{◌≡◌, ℕ, ◌<◌, Bool, true, false, ◌||◌, ◌==◌, if◌then◌else◌, List, [], ◌∷◌, ◌++◌, length, refl, sym, ◌∙◌, ap, subst, arith}
 use Rattle.std.specs.Prelude.{⊤}
 use Rattle.std.specs.List.{list_any}
 use Rattle.std.specs.Str.{chars, is_utf8, encode_utf8_all}
@@ -8,47 +8,22 @@ use Rattle.std.proofs.lemmas.Str.{IsUtf8-from_is_utf8, chars-encodes}
 use Rattle.std.proofs.lemmas.Bool.Decides.{nat_tests}
 use Rattle.key_screen.specs.DrawnText.{has_control}
 use Rattle.key_screen.specs.Terminal.{segments, in_front}
-use Rattle.key_screen.specs.declared.cells.Attr.{Attr}
-use Rattle.key_screen.specs.declared.cells.Attr.TheVariants.{Plain, Bold, Reverse}
-use Rattle.mc_screen.specs.DrawnBytes.{escaped, looking}
 
 -- no byte is an escape
 abbrev pub HasNoEscape : List ℕ → Type 0
 HasNoEscape [] = ⊤
 HasNoEscape (byte ∷ bytes) = ((byte == 27) ≡ false) × HasNoEscape bytes
 
-abbrev pub HaveNoEscape : List (List ℕ) → Type 0
-HaveNoEscape [] = ⊤
-HaveNoEscape (bytes ∷ more) = HasNoEscape bytes × HaveNoEscape more
-
 pub HasNoEscape-append : (xs ys : List ℕ) → HasNoEscape xs → HasNoEscape ys → HasNoEscape (xs ++ ys)
 HasNoEscape-append [] ys none more = more
 HasNoEscape-append (x ∷ xs) ys none more = (none.0, HasNoEscape-append xs ys none.1 more)
 
-pub HaveNoEscape-append : (xs ys : List (List ℕ)) → HaveNoEscape xs → HaveNoEscape ys → HaveNoEscape (xs ++ ys)
-HaveNoEscape-append [] ys none more = more
-HaveNoEscape-append (x ∷ xs) ys none more = (none.0, HaveNoEscape-append xs ys none.1 more)
-
--- what is put behind each other
-pub escaped-append : (xs ys : List (List ℕ)) → escaped (xs ++ ys) ≡ escaped xs ++ escaped ys
-escaped-append [] ys = refl
-escaped-append (x ∷ xs) ys =
-    ap (λ bytes. 27 ∷ (x ++ bytes)) (escaped-append xs ys) ∙ ap (λ bytes. 27 ∷ bytes) (sym (append_assoc x (escaped xs) (escaped ys)))
-
 -- bytes with no escape stand in front of what follows
-segments-plain : (bytes rest : List ℕ) (segment : List ℕ) (more : List (List ℕ)) → HasNoEscape bytes → segments rest ≡ segment ∷ more → segments (bytes ++ rest) ≡ (bytes ++ segment) ∷ more
+pub segments-plain : (bytes rest : List ℕ) (segment : List ℕ) (more : List (List ℕ)) → HasNoEscape bytes → segments rest ≡ segment ∷ more → segments (bytes ++ rest) ≡ (bytes ++ segment) ∷ more
 segments-plain [] rest segment more none is = is
 segments-plain (byte ∷ bytes) rest segment more none is =
     ap (λ test. if test then [] ∷ segments (bytes ++ rest) else in_front byte (segments (bytes ++ rest))) none.0
     ∙ ap (in_front byte) (segments-plain bytes rest segment more none.1 is)
-
--- sequences behind bytes with no escape
-segments-escaped : (bytes : List ℕ) (sequences : List (List ℕ)) → HasNoEscape bytes → HaveNoEscape sequences → segments (bytes ++ escaped sequences) ≡ bytes ∷ sequences
-segments-escaped bytes [] none all = segments-plain bytes [] [] [] none refl ∙ ap (λ b. b ∷ []) (append-nil bytes)
-segments-escaped bytes (sequence ∷ sequences) none all =
-    segments-plain bytes (escaped (sequence ∷ sequences)) [] (sequence ∷ sequences) none
-    (ap (λ s. [] ∷ s) (segments-escaped sequence sequences all.0 all.1))
-    ∙ ap (λ b. b ∷ sequence ∷ sequences) (append-nil bytes)
 
 -- bytes have a first segment
 pub segments-some : (bytes : List ℕ) → 0 < length (segments bytes)
@@ -62,21 +37,27 @@ segments-some (byte ∷ bytes) = by_test (byte == 27) where
   by_test true = omega arith
   by_test false = by_segments (segments bytes)
 
+pub first_segment : (bytes : List ℕ) → (segment : List ℕ) × (more : List (List ℕ)) × (segments bytes ≡ segment ∷ more)
+first_segment bytes = by_segments (segments bytes) refl (segments-some bytes) where
+  by_segments : (s : List (List ℕ)) → segments bytes ≡ s → 0 < length s → (segment : List ℕ) × (more : List (List ℕ)) × (segments bytes ≡ segment ∷ more)
+  by_segments [] is some = absurd (omega arith)
+  by_segments (segment ∷ more) is some = (segment, more, is)
+
 in_front-append : (byte : ℕ) (xs ys : List (List ℕ)) → 0 < length xs → in_front byte (xs ++ ys) ≡ in_front byte xs ++ ys
 in_front-append byte [] ys some = absurd (omega arith)
 in_front-append byte (x ∷ xs) ys some = refl
 
--- sequences that are put behind any bytes
-pub segments-append : (bytes : List ℕ) (sequences : List (List ℕ)) → HaveNoEscape sequences → segments (bytes ++ escaped sequences) ≡ segments bytes ++ sequences
-segments-append [] sequences all = segments-escaped [] sequences tt all
-segments-append (byte ∷ bytes) sequences all = go_on (segments-append bytes sequences all) where
-  by_test : (test : Bool) → (if test then [] ∷ (segments bytes ++ sequences) else in_front byte (segments bytes ++ sequences))
-      ≡ (if test then [] ∷ segments bytes else in_front byte (segments bytes)) ++ sequences
+-- bytes that begin with an escape, behind any others
+pub segments-behind : (bytes rest : List ℕ) → segments (bytes ++ 27 ∷ rest) ≡ segments bytes ++ segments rest
+segments-behind [] rest = refl
+segments-behind (byte ∷ bytes) rest = go_on (segments-behind bytes rest) where
+  by_test : (test : Bool) → (if test then [] ∷ (segments bytes ++ segments rest) else in_front byte (segments bytes ++ segments rest))
+      ≡ (if test then [] ∷ segments bytes else in_front byte (segments bytes)) ++ segments rest
   by_test true = refl
-  by_test false = in_front-append byte (segments bytes) sequences (segments-some bytes)
+  by_test false = in_front-append byte (segments bytes) (segments rest) (segments-some bytes)
 
-  go_on : segments (bytes ++ escaped sequences) ≡ segments bytes ++ sequences → segments ((byte ∷ bytes) ++ escaped sequences) ≡ segments (byte ∷ bytes) ++ sequences
-  go_on rest = ap (λ s. if byte == 27 then [] ∷ s else in_front byte s) rest ∙ by_test (byte == 27)
+  go_on : segments (bytes ++ 27 ∷ rest) ≡ segments bytes ++ segments rest → segments ((byte ∷ bytes) ++ 27 ∷ rest) ≡ segments (byte ∷ bytes) ++ segments rest
+  go_on is = ap (λ s. if byte == 27 then [] ∷ s else in_front byte s) is ∙ by_test (byte == 27)
 
 -- a character that is no control has no escape among its bytes
 char-no_escape : (c : ℕ) → is_control c ≡ false → HasNoEscape (encode_utf8 c)
@@ -101,9 +82,3 @@ text-no_escape text utf8 none =
     let is = IsUtf8-from_is_utf8 text utf8 in
     let same : chars text ≡ is.0 = ap chars (sym is.1.1) ∙ chars-encodes is.0 is.1.0 in
     subst HasNoEscape is.1.1 (no_escapes is.0 (ap (list_any is_control) (sym same) ∙ none))
-
--- nor has a look with such a text
-pub looking-no_escape : (attr : Attr) (text : List ℕ) → HasNoEscape text → HaveNoEscape (looking attr text)
-looking-no_escape Plain text none = ((refl, (refl, (refl, none))), tt)
-looking-no_escape Bold text none = ((refl, (refl, (refl, tt))), ((refl, (refl, (refl, none))), tt))
-looking-no_escape Reverse text none = ((refl, (refl, (refl, tt))), ((refl, (refl, (refl, none))), tt))

@@ -1,5 +1,12 @@
+pub mod TestLemmas
 pub mod EscapeLemmas
+pub mod NumberLemmas
+pub mod PrintableLemmas
 pub mod ReadingLemmas
-pub mod RowsLemmas
+pub mod StrokeLemmas
+pub mod CellLemmas
+pub mod DrawnLemmas
+pub mod LaidLemmas
 pub mod FrameLemmas
-pub mod DrawnCells
+pub mod SparseLemmas
+pub mod DisplayLemmas

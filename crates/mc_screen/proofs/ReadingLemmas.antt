@@ -1,5 +1,5 @@
--- what a terminal makes of the sequences of a drawing
-use Rattle.std.proofs.Common.{◌≡◌, ℕ, ◌+◌, ◌-◌, ◌*◌, ◌/◌, ◌%◌, ◌<◌, ◌≤◌, suc, Bool, true, false, ◌&&◌, ◌||◌, not, ◌==◌, nat_le, if◌then◌else◌, List, [], ◌∷◌, ◌++◌, length, take, drop, Some, None, Result, Ok, Err, refl, sym, ◌∙◌, ap, subst, arith, append-nil}
+-- what a terminal makes of the bytes of a drawing
+use Rattle.std.proofs.Common.{◌≡◌, ℕ, ◌+◌, ◌-◌, ◌*◌, ◌<◌, ◌≤◌, suc, Bool, true, false, ◌&&◌, ◌||◌, not, ◌==◌, nat_le, if◌then◌else◌, List, [], ◌∷◌, ◌++◌, length, take, Some, None, Result, Ok, Err, refl, sym, ◌∙◌, ap, subst, arith, append-nil, length-append, inl, inr, ◌⊎◌}
 use Rattle.std.specs.List.{concat}
 use Rattle.std.specs.Str.{is_utf8}
 use Rattle.std.specs.Str.Lossy.{utf8_valid_len}
@@ -13,33 +13,79 @@ use Rattle.key_screen.specs.declared.cells.Attr.TheVariants.{Plain, Bold, Revers
 use Rattle.key_screen.specs.declared.cells.Glyph.{Glyph}
 use Rattle.key_screen.specs.declared.cells.Glyph.TheVariants.{Blank, Cluster, RightHalf}
 use Rattle.key_screen.specs.declared.control.Control.TheVariants.{Place}
-use Rattle.key_screen.specs.declared.control.Number.{Number}
-use Rattle.key_screen.specs.Controls.{is_digit, with_digit, number_from, placed_in_row, placement_of, bracketed, control_of}
+use Rattle.key_screen.specs.declared.control.Sequence.{Sequence}
 use Rattle.key_screen.specs.DrawnText.{cluster_columns, has_control, stands_alone, is_drawable, is_blank, drawn_glyph, glyph_columns, put_glyph}
 use Rattle.key_screen.specs.KeySpelling.{is_within}
 use Rattle.key_screen.specs.Layout.{IsDrawn}
-use Rattle.key_screen.specs.Terminal.{TerminalState, with_cluster, clusters_read, text_read, up_to_fault, behind_control, behind_sequence, sequence_read, sequences_read}
+use Rattle.key_screen.specs.Terminal.{TerminalState, with_cluster, clusters_read, text_read, up_to_fault, behind_control, behind_sequence, sequence_read, sequences_read, segments}
 use Rattle.key_screen.proofs.DrawnGlyphs.{question_mark-drawable, blank-drawable, blank_columns}
-use Rattle.mc_screen.specs.DrawnBytes.{looking, drawing, digit, placing}
+use Rattle.mc_screen.specs.DrawnBytes.{glyph_text, is_printable, look, place}
+use Rattle.mc_screen.proofs.EscapeLemmas.{HasNoEscape, segments-plain, first_segment, text-no_escape}
+use Rattle.mc_screen.proofs.NumberLemmas.{placement, placement-no_escape, control_of-placement, drop_placement}
+use Rattle.mc_screen.proofs.PrintableLemmas.{ArePrintable, first-typed}
+use Rattle.mc_screen.proofs.TestLemmas.{and_left, and_right}
 
--- a terminal reads sequences, and is then so
-abbrev pub Leads : TerminalState → List (List ℕ) → TerminalState → Type 0
-Leads t sequences new = (position : ℕ) → sequences_read (Ok t) position sequences ≡ Ok new
+-- bytes that are cut at their escapes, read from a position on
+abbrev pub read_from : TerminalState → ℕ → List (List ℕ) → Result TerminalState ℕ
+read_from t position [] = Ok t
+read_from t position (text ∷ sequences) = sequences_read (text_read t position text) (position + length text) sequences
 
--- sequences behind those that were read
-pub sequences_read-behind : (told : Result TerminalState ℕ) (position : ℕ) (xs ys : List (List ℕ)) (t new : TerminalState) → sequences_read told position xs ≡ Ok t → Leads t ys new
-    → sequences_read told position (xs ++ ys) ≡ Ok new
-sequences_read-behind told position [] ys t new is leads = ap (λ r. sequences_read r position ys) is ∙ leads position
-sequences_read-behind (Ok s) position (x ∷ xs) ys t new is leads = sequences_read-behind (sequence_read s position x) (position + 1 + length x) xs ys t new is leads
-sequences_read-behind (Err e) position (x ∷ xs) ys t new is leads = absurd (cc)
-
-pub Leads-append : (t between new : TerminalState) (xs ys : List (List ℕ)) → Leads t xs between → Leads between ys new → Leads t (xs ++ ys) new
-Leads-append t between new xs ys first then_on = λ position. sequences_read-behind (Ok t) position xs ys between new (first position) then_on
+-- a terminal reads bytes, and is then so
+abbrev pub Leads : TerminalState → List ℕ → TerminalState → Type 0
+Leads t bytes new = (position : ℕ) → read_from t position (segments bytes) ≡ Ok new
 
 -- no text
-text_read-none : (t : TerminalState) (position : ℕ) → text_read t position [] ≡ Ok t
+pub text_read-none : (t : TerminalState) (position : ℕ) → text_read t position [] ≡ Ok t
 unfolding is_utf8 unicode_segmentation
 text_read-none t position = refl
+
+pub leads-nothing : (t : TerminalState) → Leads t [] t
+leads-nothing t = λ position. text_read-none t position
+
+-- a control, and what stands behind it
+leads-escape : (t between new : TerminalState) (control rest : List ℕ) → HasNoEscape control
+    → ((position : ℕ) (segment : List ℕ) → sequence_read t position (control ++ segment) ≡ text_read between (position + 1 + length control) segment)
+    → Leads between rest new → Leads t (27 ∷ (control ++ rest)) new
+leads-escape t between new control rest none obeys leads = λ position.
+    let first = first_segment rest in
+    let segment : List ℕ = first.0 in
+    let more : List (List ℕ) = first.1 in
+    let cut : segments (27 ∷ (control ++ rest)) ≡ [] ∷ (control ++ segment) ∷ more = ap (λ (s : List (List ℕ)). [] ∷ s) (segments-plain control rest segment more none first.2) in
+    let next : position + 0 + 1 + length (control ++ segment) ≡ position + 0 + 1 + length control + length segment = omega (arith, length-append control segment) in
+    ap (read_from t position) cut
+    ∙ ap (λ told. sequences_read told (position + 0) ((control ++ segment) ∷ more)) (text_read-none t position)
+    ∙ ap (λ told. sequences_read told (position + 0 + 1 + length (control ++ segment)) more) (obeys (position + 0) segment)
+    ∙ ap (λ n. sequences_read (text_read between (position + 0 + 1 + length control) segment) n more) next
+    ∙ ap (read_from between (position + 0 + 1 + length control)) (sym first.2)
+    ∙ leads (position + 0 + 1 + length control)
+
+-- a look
+pub leads-look : (t new : TerminalState) (attr : Attr) (rest : List ℕ) → Leads (record t { mode = attr }) rest new → Leads t (look attr ++ rest) new
+leads-look t new Plain rest leads =
+    leads-escape t (record t { mode = Plain }) new (91 ∷ 48 ∷ 109 ∷ []) rest (refl, (refl, (refl, tt))) (λ position segment. refl) leads
+leads-look t new Bold rest leads =
+    leads-escape t (record t { mode = Plain }) new (91 ∷ 48 ∷ 109 ∷ []) (27 ∷ 91 ∷ 49 ∷ 109 ∷ rest) (refl, (refl, (refl, tt))) (λ position segment. refl)
+    (leads-escape (record t { mode = Plain }) (record t { mode = Bold }) new (91 ∷ 49 ∷ 109 ∷ []) rest (refl, (refl, (refl, tt))) (λ position segment. refl) leads)
+leads-look t new Reverse rest leads =
+    leads-escape t (record t { mode = Plain }) new (91 ∷ 48 ∷ 109 ∷ []) (27 ∷ 91 ∷ 55 ∷ 109 ∷ rest) (refl, (refl, (refl, tt))) (λ position segment. refl)
+    (leads-escape (record t { mode = Plain }) (record t { mode = Reverse }) new (91 ∷ 55 ∷ 109 ∷ []) rest (refl, (refl, (refl, tt))) (λ position segment. refl) leads)
+
+-- a terminal whose next cluster goes there
+abbrev pub placed_at : TerminalState → ℕ → ℕ → TerminalState
+placed_at t row column = record t { at = (row - 1) * t.columns + (column - 1); room = t.columns - (column - 1) }
+
+pub leads-place : (t new : TerminalState) (row column : ℕ) (rest : List ℕ) → 1 ≤ row → row ≤ t.lines → 1 ≤ column → column ≤ t.columns → t.lines < 65536 → t.columns < 65536
+    → Leads (placed_at t row column) rest new → Leads t (place row column ++ rest) new
+leads-place t new row column rest first last left right small narrow leads =
+    leads-escape t (placed_at t row column) new (placement row column) rest (placement-no_escape row column) obeys leads where
+      obeys : (position : ℕ) (segment : List ℕ) → sequence_read t position (placement row column ++ segment)
+          ≡ text_read (placed_at t row column) (position + 1 + length (placement row column)) segment
+      obeys position segment =
+          let within : (is_within 1 t.lines row && is_within 1 t.columns column) ≡ true = grind (arith, nat_tests) in
+          let sequence : Sequence = record { control = Place row column; bytes = length (placement row column) } in
+          ap (behind_sequence t position (placement row column ++ segment)) (control_of-placement row column segment (omega arith) (omega arith))
+          ∙ ap (λ test. behind_control position (placement row column ++ segment) sequence (if test then Some (placed_at t row column) else None)) within
+          ∙ ap (text_read (placed_at t row column) (position + 1 + length (placement row column))) (drop_placement row column segment)
 
 -- one cluster
 single : (xs : List (List ℕ)) (cluster : List ℕ) → (length xs == 1) ≡ true → concat xs ≡ cluster → xs ≡ cluster ∷ []
@@ -47,24 +93,16 @@ single [] cluster one is = absurd (cc)
 single (x ∷ []) cluster one is = ap (λ c. c ∷ []) (sym (append-nil x) ∙ is)
 single (x ∷ y ∷ xs) cluster one is = absurd (let e : suc (suc (length xs)) ≡ 1 = grind (arith, nat_tests) in omega arith)
 
-and_left : (a b : Bool) → (a && b) ≡ true → a ≡ true
-and_left true b is = refl
-and_left false b is = absurd (cc)
-
-and_right : (a b : Bool) → (a && b) ≡ true → b ≡ true
-and_right true b is = is
-and_right false b is = absurd (cc)
-
-pub drawable-alone : (cluster : List ℕ) → is_drawable cluster ≡ true → stands_alone cluster ≡ true
+drawable-alone : (cluster : List ℕ) → is_drawable cluster ≡ true → stands_alone cluster ≡ true
 drawable-alone cluster is = and_right ((cluster_columns cluster == 1 || cluster_columns cluster == 2) && not (has_control cluster)) (stands_alone cluster) is
 
-pub drawable-plain : (cluster : List ℕ) → is_drawable cluster ≡ true → has_control cluster ≡ false
+drawable-plain : (cluster : List ℕ) → is_drawable cluster ≡ true → has_control cluster ≡ false
 drawable-plain cluster is = by_test (has_control cluster) (and_right (cluster_columns cluster == 1 || cluster_columns cluster == 2) (not (has_control cluster)) (and_left _ (stands_alone cluster) is)) where
   by_test : (test : Bool) → not test ≡ true → test ≡ false
   by_test true no_test = absurd (cc)
   by_test false is_false = refl
 
-pub alone-utf8 : (cluster : List ℕ) → stands_alone cluster ≡ true → is_utf8 cluster ≡ true
+alone-utf8 : (cluster : List ℕ) → stands_alone cluster ≡ true → is_utf8 cluster ≡ true
 unfolding stands_alone
 alone-utf8 cluster is = and_left (is_utf8 cluster) (length (graphemes true cluster) == 1) is
 
@@ -73,6 +111,9 @@ unfolding stands_alone
 alone-one cluster is =
     single (graphemes true cluster) cluster (and_right (is_utf8 cluster) (length (graphemes true cluster) == 1) is)
     (concat-segments (is_grapheme_break true) cluster (IsUtf8-from_is_utf8 cluster (and_left (is_utf8 cluster) (length (graphemes true cluster) == 1) is)))
+
+pub drawable-no_escape : (cluster : List ℕ) → is_drawable cluster ≡ true → HasNoEscape cluster
+drawable-no_escape cluster is = text-no_escape cluster (alone-utf8 cluster (drawable-alone cluster is)) (drawable-plain cluster is)
 
 text_read-cluster : (t : TerminalState) (position : ℕ) (cluster : List ℕ) → is_drawable cluster ≡ true → cluster_columns cluster ≤ t.room → text_read t position cluster ≡ Ok (with_cluster t cluster)
 text_read-cluster t position cluster drawable fits =
@@ -84,45 +125,36 @@ text_read-cluster t position cluster drawable fits =
     ∙ ap (λ test. if test && nat_le (cluster_columns cluster) t.room then Ok (with_cluster t cluster) else Err position) drawable
     ∙ ap (λ test. if test then Ok (with_cluster t cluster) else Err position) room
 
--- a look, and the text behind it
-leads-plain : (t : TerminalState) (text : List ℕ) (new : TerminalState) → ((position : ℕ) → text_read (record t { mode = Plain }) position text ≡ Ok new)
-    → Leads t ((91 ∷ 48 ∷ 109 ∷ text) ∷ []) new
-leads-plain t text new is = λ position. is (position + 1 + 3)
+-- a text doesn't become one with the first text of what follows
+abbrev pub AreApart : List ℕ → List (List ℕ) → Type 0
+AreApart cluster [] = ⊥
+AreApart cluster (segment ∷ more) = (segment ≡ []) ⊎ ((is_printable cluster ≡ true) × ArePrintable segment)
 
-leads-bold : (t : TerminalState) (text : List ℕ) (new : TerminalState) → ((position : ℕ) → text_read (record t { mode = Bold }) position text ≡ Ok new)
-    → Leads (record t { mode = Plain }) ((91 ∷ 49 ∷ 109 ∷ text) ∷ []) new
-leads-bold t text new is = λ position. is (position + 1 + 3)
+both_read : (t : TerminalState) (position : ℕ) (cluster segment : List ℕ) → is_drawable cluster ≡ true → cluster_columns cluster ≤ t.room
+    → (segment ≡ []) ⊎ ((is_printable cluster ≡ true) × ArePrintable segment)
+    → text_read t position (cluster ++ segment) ≡ text_read (with_cluster t cluster) (position + length cluster) segment
+both_read t position cluster segment drawable fits (inl none) =
+    ap (λ s. text_read t position (cluster ++ s)) none ∙ ap (text_read t position) (append-nil cluster)
+    ∙ text_read-cluster t position cluster drawable fits
+    ∙ sym (text_read-none (with_cluster t cluster) (position + length cluster)) ∙ ap (text_read (with_cluster t cluster) (position + length cluster)) (sym none)
+both_read t position [] segment drawable fits (inr both) = absurd (let e = both.0 in cc)
+both_read t position (byte ∷ []) segment drawable fits (inr both) = first-typed t position byte segment both drawable fits
+both_read t position (byte ∷ other ∷ bytes) segment drawable fits (inr both) = absurd (let e = both.0 in cc)
 
-leads-reverse : (t : TerminalState) (text : List ℕ) (new : TerminalState) → ((position : ℕ) → text_read (record t { mode = Reverse }) position text ≡ Ok new)
-    → Leads (record t { mode = Plain }) ((91 ∷ 55 ∷ 109 ∷ text) ∷ []) new
-leads-reverse t text new is = λ position. is (position + 1 + 3)
-
-leads-looking : (t : TerminalState) (attr : Attr) (text : List ℕ) (new : TerminalState) → ((position : ℕ) → text_read (record t { mode = attr }) position text ≡ Ok new)
-    → Leads t (looking attr text) new
-leads-looking t Plain text new is = leads-plain t text new is
-leads-looking t Bold text new is =
-    Leads-append t (record t { mode = Plain }) new ((91 ∷ 48 ∷ 109 ∷ []) ∷ []) ((91 ∷ 49 ∷ 109 ∷ text) ∷ [])
-    (leads-plain t [] (record t { mode = Plain }) (text_read-none (record t { mode = Plain }))) (leads-bold t text new is)
-leads-looking t Reverse text new is =
-    Leads-append t (record t { mode = Plain }) new ((91 ∷ 48 ∷ 109 ∷ []) ∷ []) ((91 ∷ 55 ∷ 109 ∷ text) ∷ [])
-    (leads-plain t [] (record t { mode = Plain }) (text_read-none (record t { mode = Plain }))) (leads-reverse t text new is)
-
--- a terminal after a glyph
-abbrev pub after_glyph : TerminalState → Glyph → Attr → TerminalState
-after_glyph t glyph attr =
-    record t { cells = put_glyph t.cells t.at glyph attr; at = t.at + glyph_columns glyph; room = t.room - glyph_columns glyph; mode = attr }
-
-shown_as : (t : TerminalState) (attr : Attr) (cluster : List ℕ) (glyph : Glyph) → drawn_glyph cluster ≡ glyph → cluster_columns cluster ≡ glyph_columns glyph
-    → with_cluster (record t { mode = attr }) cluster ≡ after_glyph t glyph attr
-shown_as t attr cluster glyph is width =
-    ap (λ g. record t { cells = put_glyph t.cells t.at g attr; at = t.at + cluster_columns cluster; room = t.room - cluster_columns cluster; mode = attr }) is
-    ∙ ap (λ n. record t { cells = put_glyph t.cells t.at glyph attr; at = t.at + n; room = t.room - n; mode = attr }) width
-
-leads-cluster : (t : TerminalState) (attr : Attr) (cluster : List ℕ) (glyph : Glyph) → is_drawable cluster ≡ true → drawn_glyph cluster ≡ glyph → cluster_columns cluster ≡ glyph_columns glyph
-    → glyph_columns glyph ≤ t.room → Leads t (looking attr cluster) (after_glyph t glyph attr)
-leads-cluster t attr cluster glyph drawable is width fits =
-    leads-looking t attr cluster (after_glyph t glyph attr)
-    (λ position. text_read-cluster (record t { mode = attr }) position cluster drawable (omega arith) ∙ ap (λ s. Ok s) (shown_as t attr cluster glyph is width))
+-- a cluster, and what stands behind it
+leads-cluster : (t new : TerminalState) (cluster rest : List ℕ) → is_drawable cluster ≡ true → cluster_columns cluster ≤ t.room → AreApart cluster (segments rest)
+    → Leads (with_cluster t cluster) rest new → Leads t (cluster ++ rest) new
+leads-cluster t new cluster rest drawable fits apart leads = λ position.
+    let first = first_segment rest in
+    let segment : List ℕ = first.0 in
+    let more : List (List ℕ) = first.1 in
+    let cut : segments (cluster ++ rest) ≡ (cluster ++ segment) ∷ more = segments-plain cluster rest segment more (drawable-no_escape cluster drawable) first.2 in
+    let next : position + length (cluster ++ segment) ≡ position + length cluster + length segment = omega (arith, length-append cluster segment) in
+    ap (read_from t position) cut
+    ∙ ap (λ told. sequences_read told (position + length (cluster ++ segment)) more) (both_read t position cluster segment drawable fits (subst (AreApart cluster) first.2 apart))
+    ∙ ap (λ n. sequences_read (text_read (with_cluster t cluster) (position + length cluster) segment) n more) next
+    ∙ ap (read_from (with_cluster t cluster) (position + length cluster)) (sym first.2)
+    ∙ leads (position + length cluster)
 
 -- what is drawn as it is can be drawn
 pub drawn-drawable : (cluster : List ℕ) → drawn_glyph cluster ≡ Cluster cluster → is_drawable cluster ≡ true
@@ -137,49 +169,28 @@ drawn-drawable cluster is = by_test (is_drawable cluster) refl where
 blank-drawn : drawn_glyph (32 ∷ []) ≡ Blank
 blank-drawn = ap (λ test. if not test then Cluster (63 ∷ []) else if is_blank (32 ∷ []) then Blank else Cluster (32 ∷ [])) blank-drawable
 
-pub leads-glyph : (t : TerminalState) (glyph : Glyph) (attr : Attr) → IsDrawn glyph → glyph_columns glyph ≤ t.room → Leads t (drawing glyph attr) (after_glyph t glyph attr)
-leads-glyph t Blank attr drawn fits = leads-cluster t attr (32 ∷ []) Blank blank-drawable blank-drawn blank_columns fits
-leads-glyph t (Cluster cluster) attr drawn fits = leads-cluster t attr cluster (Cluster cluster) (drawn-drawable cluster drawn) drawn refl fits
-leads-glyph t RightHalf attr drawn fits = absurd drawn
+pub text-no_escapes : (glyph : Glyph) → IsDrawn glyph → HasNoEscape (glyph_text glyph)
+text-no_escapes Blank drawn = (refl, tt)
+text-no_escapes (Cluster cluster) drawn = drawable-no_escape cluster (drawn-drawable cluster drawn)
+text-no_escapes RightHalf drawn = absurd drawn
 
--- digits of a number
-pub is_digit-digit : (n : ℕ) → is_digit (digit n) ≡ true
-is_digit-digit n = let low : n % 10 < 10 = omega arith in grind (arith, nat_tests)
+-- a terminal after a glyph
+abbrev pub after_glyph : TerminalState → Glyph → TerminalState
+after_glyph t glyph = record t { cells = put_glyph t.cells t.at glyph t.mode; at = t.at + glyph_columns glyph; room = t.room - glyph_columns glyph }
 
-number-next : (n digits m value : ℕ) (rest : List ℕ) → n * 10 + m % 10 ≡ value → value < 65536 → number_from n digits (digit m ∷ rest) ≡ number_from value (digits + 1) rest
-number-next n digits m value rest is small =
-    let worth : with_digit n (digit m) ≡ value = omega arith in
-    ap (λ test. if test then number_from (with_digit n (digit m)) (digits + 1) rest else record { value = n; digits = digits }) (is_digit-digit m)
-    ∙ ap (λ v. number_from v (digits + 1) rest) worth
+shown_as : (t : TerminalState) (cluster : List ℕ) (glyph : Glyph) → drawn_glyph cluster ≡ glyph → cluster_columns cluster ≡ glyph_columns glyph
+    → after_glyph t glyph ≡ with_cluster t cluster
+shown_as t cluster glyph is width = sym
+    (ap (λ g. record t { cells = put_glyph t.cells t.at g t.mode; at = t.at + cluster_columns cluster; room = t.room - cluster_columns cluster }) is
+    ∙ ap (λ n. record t { cells = put_glyph t.cells t.at glyph t.mode; at = t.at + n; room = t.room - n }) width)
 
-number-row : (row : ℕ) (rest : List ℕ) → row < 65536
-    → number_from 0 0 (digit (row / 10000) ∷ digit (row / 1000) ∷ digit (row / 100) ∷ digit (row / 10) ∷ digit row ∷ 59 ∷ rest) ≡ record { value = row; digits = 5 }
-number-row row rest small =
-    number-next 0 0 (row / 10000) (row / 10000) (digit (row / 1000) ∷ digit (row / 100) ∷ digit (row / 10) ∷ digit row ∷ 59 ∷ rest) (omega arith) (omega arith)
-    ∙ number-next (row / 10000) 1 (row / 1000) (row / 1000) (digit (row / 100) ∷ digit (row / 10) ∷ digit row ∷ 59 ∷ rest) (omega arith) (omega arith)
-    ∙ number-next (row / 1000) 2 (row / 100) (row / 100) (digit (row / 10) ∷ digit row ∷ 59 ∷ rest) (omega arith) (omega arith)
-    ∙ number-next (row / 100) 3 (row / 10) (row / 10) (digit row ∷ 59 ∷ rest) (omega arith) (omega arith)
-    ∙ number-next (row / 10) 4 row row (59 ∷ rest) (omega arith) small
-
-and_false : (a : Bool) → (a && false) ≡ false
-and_false true = refl
-and_false false = refl
-
-bracketed-other : (first second : ℕ) (bytes : List ℕ) → (second == 109) ≡ false → (second == 74) ≡ false → bracketed (first ∷ second ∷ bytes) ≡ placement_of (first ∷ second ∷ bytes)
-bracketed-other first second bytes no_look no_clear = simp (no_look, no_clear, and_false)
-
-pub control_of-placing : (row : ℕ) → row < 65536 → control_of (placing row) ≡ Some (record { control = Place row 1; bytes = 9 })
-control_of-placing row small =
-    let low : (row / 1000) % 10 < 10 = omega arith in
-    bracketed-other (digit (row / 10000)) (digit (row / 1000)) (digit (row / 100) ∷ digit (row / 10) ∷ digit row ∷ 59 ∷ 49 ∷ 72 ∷ []) (grind (arith, nat_tests)) (grind (arith, nat_tests))
-    ∙ ap (λ (n : Number). placed_in_row n (drop n.digits (drop 1 (placing row)))) (number-row row (49 ∷ 72 ∷ []) small)
-
--- a placement
-pub leads-placing : (t : TerminalState) (row : ℕ) → row < 65536 → 1 ≤ row → row ≤ t.lines → 1 ≤ t.columns
-    → Leads t (placing row ∷ []) (record t { at = (row - 1) * t.columns + (1 - 1); room = t.columns - (1 - 1) })
-leads-placing t row small first last some = λ position.
-    let new : TerminalState = record t { at = (row - 1) * t.columns + (1 - 1); room = t.columns - (1 - 1) } in
-    let within : (is_within 1 t.lines row && is_within 1 t.columns 1) ≡ true = grind (arith, nat_tests) in
-    ap (behind_sequence t position (placing row)) (control_of-placing row small)
-    ∙ ap (λ test. behind_control position (placing row) (record { control = Place row 1; bytes = 9 }) (if test then Some new else None)) within
-    ∙ text_read-none new (position + 1 + 9)
+-- a glyph, and what stands behind it
+pub leads-glyph : (t new : TerminalState) (glyph : Glyph) (rest : List ℕ) → IsDrawn glyph → glyph_columns glyph ≤ t.room → AreApart (glyph_text glyph) (segments rest)
+    → Leads (after_glyph t glyph) rest new → Leads t (glyph_text glyph ++ rest) new
+leads-glyph t new Blank rest drawn fits apart leads =
+    leads-cluster t new (32 ∷ []) rest blank-drawable (omega (arith, blank_columns)) apart
+    (subst (λ (s : TerminalState). Leads s rest new) (shown_as t (32 ∷ []) Blank blank-drawn blank_columns) leads)
+leads-glyph t new (Cluster cluster) rest drawn fits apart leads =
+    leads-cluster t new cluster rest (drawn-drawable cluster drawn) fits apart
+    (subst (λ (s : TerminalState). Leads s rest new) (shown_as t cluster (Cluster cluster) drawn refl) leads)
+leads-glyph t new RightHalf rest drawn fits apart leads = absurd drawn

@@ -1,2 +1,4 @@
+pub mod Changes
 pub mod DrawnBytes
+pub mod Sparse
 pub mod Drawings

@@ -1,96 +1,112 @@
 //! A screen that draws frames.
-ghost use Rattle.std.specs.Prelude.{◌≡◌, None, IfOk, OnOk, OnErr};
+ghost use Rattle.std.specs.Prelude.{◌≡◌, ◌*◌, length, replicate, true, false, Ok, None, IfOk, OnOk, OnErr};
 ghost use Rattle.tree_trait.specs.Answers.{HasCause, IfKnown};
+ghost use Rattle.tree_trait.specs.Devices.{HasPut};
+ghost use Rattle.key_screen.specs.Cells.{blank_cell};
 ghost use Rattle.key_screen.specs.Grids.{blank_grid};
 ghost use Rattle.mc_screen.specs.Drawings.{HasSizeOf, HasDrawn};
 
-use crate::bytes::bytes_of;
-use key_screen::{Cell, Glyph, Grid};
+use crate::changes::{changes_of, take_over};
+use crate::strokes::bytes_of;
+use key_screen::{Attr, Cell, Glyph, Grid};
 use mc_text::NoMemory;
-use std::alloc::Global;
+use std::alloc::{AllocError, Global};
 use std::marker::Model;
 use tree_trait::{Sink, SinkError};
 
-/// A screen. Contracts see it as the frame that was drawn last.
+/// A screen. Contracts see it as the frame that was drawn last, and whether one was.
 #[derive(Debug, Drop)]
 pub struct Screen {
-    drawn: Grid,
+    lines: u16,
+    columns: u16,
+    cells: Vec<Cell>,
+    has_drawn: bool,
 }
 
 impl Model for Screen {
-    ghost use Rattle.key_screen.specs.Grids.{CellGrid};
-    ghost use Rattle.mc_screen.specs.Drawings.{IsGrid};
+    ghost use Rattle.std.specs.Prelude.{◌≡◌, ◌*◌, length};
+    ghost use Rattle.mc_screen.specs.Drawings.{Display};
 
-    ghost Value = { CellGrid };
+    ghost Value = { Display };
 
-    ghost view = { λ s. s.drawn };
+    ghost view = { λ s. record { grid = record { lines = s.lines; columns = s.columns; cells = s.cells.items }; has_drawn = s.has_drawn } };
 
-    ghost invariant = { λ s. IsGrid s.drawn };
+    ghost invariant = { λ s. length s.cells.items ≡ s.lines * s.columns };
 }
 
 impl Screen {
     /// A screen of this size on which nothing was drawn: each cell is blank.
     pub fn new(alloc: Global, lines: u16, columns: u16) -> Result<Screen, NoMemory>
-        ensures { IfOk result (λ screen. screen ≡ blank_grid lines columns) }
+        ensures { IfOk result (λ screen. screen ≡ record { grid = blank_grid lines columns; has_drawn = false }) }
     {
+        let cells = blank_cells(alloc, usize::from(lines) * usize::from(columns))?;
         Ok(Screen {
-            drawn: Grid::blank(alloc, lines, columns)?,
+            lines,
+            columns,
+            cells,
+            has_drawn: false,
         })
     }
 
-    /// Draws a frame. All its bytes are put by one call, after the memory was found that it takes.
+    /// Draws a frame: all of the first one, and then what differs from the one before. Tells how many bytes were put. They
+    /// are put by one call, after the memory was found that the drawing takes; where nothing differs there is no call.
+    /// It takes time proportional to the cells, and memory proportional to those that differ.
     pub fn draw<S: Sink>(
         &mut self,
         alloc: Global,
         frame: &Grid,
         sink: &mut S,
-    ) -> Result<(), SinkError>
-        requires { HasSizeOf self.old frame.now }
+    ) -> Result<usize, SinkError>
+        requires { HasSizeOf self.old.grid frame.now }
 
         // What the screen then is, and what a terminal shows that showed it before.
-        ensures done { OnOk result (self.new ≡ frame.now) }
+        ensures done { OnOk result (self.new ≡ record { grid = frame.now; has_drawn = true }) }
         ensures refused { OnErr result (self.new ≡ self.old) }
         ensures shown { IfKnown (S.given sink.old)
-            (λ given. HasDrawn given self.old frame.now result (S.given sink.new)) }
+            (λ given. HasDrawn self.old frame.now given result (S.given sink.new)) }
 
         // The device.
+        ensures silent { result ≡ Ok 0 → sink.new ≡ sink.old }
         ensures stays_unknown { S.given sink.old ≡ None → S.given sink.new ≡ None }
         ensures cause { HasCause SinkError.Fault (S.fault_count sink.old) (S.fault_count sink.new) result }
     {
-        let _drawn = &self.drawn;
-        let Ok(bytes) = bytes_of(alloc, frame) else {
+        let columns = usize::from(frame.columns());
+        let Ok(changes) = changes_of(alloc, self.has_drawn, &self.cells, frame.cells()) else {
             return Err(SinkError::Memory);
         };
-        let Ok(copy) = copy_of(alloc, frame) else {
+        let Ok(bytes) = bytes_of(alloc, columns, &changes) else {
             return Err(SinkError::Memory);
         };
-        sink.put(alloc, &bytes)?;
-        self.drawn = copy;
-        Ok(())
+        put(alloc, &bytes, sink)?;
+        take_over(&mut self.cells, changes);
+        self.has_drawn = true;
+        Ok(bytes.len())
     }
 }
 
-/// The same screen of cells once more.
-fn copy_of(alloc: Global, frame: &Grid) -> Result<Grid, NoMemory>
-    ensures { IfOk result (λ copy. copy ≡ frame.now) }
+/// Puts bytes, if there are any.
+fn put<S: Sink>(alloc: Global, bytes: &[u8], sink: &mut S) -> Result<(), SinkError>
+    ensures answer { IfKnown (S.given sink.old) (λ given. HasPut given bytes.now result (S.given sink.new)) }
+    ensures silent { length bytes.now ≡ 0 → sink.new ≡ sink.old }
+    ensures stays_unknown { S.given sink.old ≡ None → S.given sink.new ≡ None }
+    ensures cause { HasCause SinkError.Fault (S.fault_count sink.old) (S.fault_count sink.new) result }
+{
+    if bytes.is_empty() {
+        return Ok(());
+    }
+    sink.put(alloc, bytes)
+}
+
+/// Blank and plain cells.
+fn blank_cells(alloc: Global, count: usize) -> Result<Vec<Cell>, AllocError>
+    ensures { IfOk result (λ cells. cells.items ≡ replicate count blank_cell) }
 {
     let mut cells = Vec::new(alloc);
-    for cell in frame.cells() {
+    for _ in 0..count {
         cells.push(Cell {
-            glyph: glyph_copy(alloc, &cell.glyph)?,
-            attr: cell.attr,
+            glyph: Glyph::Blank,
+            attr: Attr::Plain,
         })?;
     }
-    Ok(Grid::of_cells(frame.lines(), frame.columns(), cells))
-}
-
-/// The same glyph once more.
-fn glyph_copy(alloc: Global, glyph: &Glyph) -> Result<Glyph, NoMemory>
-    ensures { IfOk result (λ copy. copy ≡ glyph.now) }
-{
-    match glyph {
-        Glyph::Blank => Ok(Glyph::Blank),
-        Glyph::Cluster(text) => Ok(Glyph::Cluster(text.copy(alloc)?)),
-        Glyph::RightHalf => Ok(Glyph::RightHalf),
-    }
+    Ok(cells)
 }

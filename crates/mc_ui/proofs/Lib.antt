@@ -1,1 +1,3 @@
+pub mod BoxSizes
 pub mod Sights
+pub mod UnknownKeys

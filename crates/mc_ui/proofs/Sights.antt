@@ -21,7 +21,8 @@ use Rattle.mc_ui.specs.declared.choosing.Choice.TheVariants.{File}
 use Rattle.mc_ui.specs.declared.reread.Reread.{Reread}
 use Rattle.mc_ui.specs.Choices.{IsChoice}
 use Rattle.mc_ui.specs.Panels.{ListsFolder}
-use Rattle.mc_ui.specs.Screens.{IsReread, IsTaken, IsVacant, MayAsk, is_file_spot, sight}
+use Rattle.mc_ui.specs.Copies.{IsTaken, IsVacant, MayAsk, is_file_spot}
+use Rattle.mc_ui.specs.Screens.{IsReread, sight}
 
 -- what `stat` says of a path is what can be seen there
 spot_kind : (log : CallLog) (path : Route) (meta : Meta) → refusal_of (current log) (Stat path) ≡ None → IsMeta (current log) path meta

@@ -1,7 +1,16 @@
 -- The texts of causes, as they are shown and printed.
-use Rattle.std.specs.Prelude.{ℕ, List, codes}
+use Rattle.std.specs.Prelude.{ℕ, List, ◌++◌, codes}
+use Rattle.std.specs.Fmt.{decimal}
 use Rattle.tree_trait.specs.declared.calls.TreeError.{TreeError}
 use Rattle.tree_trait.specs.declared.calls.TreeError.TheVariants.{Missing, NotFolder, Denied, Exists, IsFolder, NotEmpty, IntoItself, Mounted, CrossMount, NoSpace, Special, Fault, Memory}
+use Rattle.job_reports.specs.declared.report.Cause.{Cause}
+use Rattle.job_reports.specs.declared.report.Cause.TheVariants as cause
+use Rattle.session_history.specs.declared.refusal.PlanError.{PlanError}
+use Rattle.session_history.specs.declared.refusal.PlanError.TheVariants.{TargetThere, TargetTooLong, BadMask}
+use Rattle.session_history.specs.declared.refusal.BeginError.{BeginError}
+use Rattle.session_history.specs.declared.refusal.BeginError.TheVariants.{NoMoreIds}
+use Rattle.session_history.specs.declared.refusal.Refusal.{Refusal}
+use Rattle.session_history.specs.declared.refusal.Refusal.TheVariants.{Tree, Plan, Begin}
 
 -- what is said of a refused call
 abbrev pub cause_words : TreeError → List ℕ
@@ -18,3 +27,29 @@ cause_words NoSpace = codes "no space left"
 cause_words Special = codes "special file"
 cause_words Fault = codes "device fault"
 cause_words Memory = codes "out of memory"
+
+-- what is said of a plan that can't be made
+abbrev pub plan_words : PlanError → List ℕ
+plan_words (TargetThere path) = codes "already there"
+plan_words TargetTooLong = codes "path too long"
+plan_words BadMask = codes "bad mask"
+
+-- what is said of a job that can't be begun
+abbrev pub begin_words : BeginError → List ℕ
+begin_words NoMoreIds = codes "too many jobs"
+
+-- what is said of a refusal
+abbrev pub refusal_words : Refusal → List ℕ
+refusal_words (Tree path e) = cause_words e
+refusal_words (Plan error) = plan_words error
+refusal_words (Begin error) = begin_words error
+
+-- what is said of a job's trouble
+abbrev pub trouble_words : Cause → List ℕ
+trouble_words (cause.Tree e) = cause_words e
+trouble_words (cause.TargetKind kind) = codes "target is of another kind"
+trouble_words cause.SpecialSource = codes "special file"
+trouble_words cause.PartTaken = codes "no free part name"
+trouble_words cause.TooLong = codes "path too long"
+trouble_words (cause.Changed said got) = codes "said " ++ (decimal said ++ (codes " bytes, got " ++ decimal got))
+trouble_words cause.Memory = codes "out of memory"

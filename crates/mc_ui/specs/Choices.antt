@@ -11,7 +11,7 @@ use Rattle.mc_ui.specs.declared.choosing.Choice.{Choice}
 use Rattle.mc_ui.specs.declared.choosing.Choice.TheVariants.{Nothing, File, Refused}
 use Rattle.mc_ui.specs.declared.copying.CopyPlan.{CopyPlan}
 use Rattle.mc_ui.specs.declared.copying.CopyPlan.TheVariants.{Begins, Refuses}
-use Rattle.mc_ui.specs.Screens.{CopyRefused, IsVacant, MayAsk, copy_plan}
+use Rattle.mc_ui.specs.Copies.{CopyRefused, IsVacant, MayAsk, copy_plan}
 
 -- it is nothing that a box may ask of, or a file, or a look at it was refused
 abbrev pub IsChoice : Option View → Option Route → Choice → Type 0

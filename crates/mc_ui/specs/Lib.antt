@@ -1,8 +1,12 @@
+pub mod BoxKeys
+pub mod BoxLines
 pub mod Causes
 pub mod Choices
+pub mod Copies
+pub mod Frames
 pub mod LiveJobs
+pub mod PanelKeys
 pub mod Panels
 pub mod Reading
 pub mod Refused
 pub mod Screens
-pub mod Rows

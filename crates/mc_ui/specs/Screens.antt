@@ -1,46 +1,59 @@
--- What a key or a look makes of the screen: the two panels, and the box that stands over them.
-use Rattle.std.specs.Prelude.{◌≡◌, ◌≢◌, ◌⊎◌, ℕ, ◌<◌, Bool, true, false, ◌&&◌, ◌==◌, nat_le, MatchBool, ⊤, if◌then◌else◌, List, [], ◌∷◌, ◌++◌, length, IsSome, Option, Some, None}
-use Rattle.std.specs.Option.{option_map, option_map_or}
-use Rattle.mc_text.specs.Routes.{Route, spelled}
+-- What a key or a look makes of the screen: the two panels, the box that stands over them, and a message over all.
+use Rattle.std.specs.Prelude.{◌≡◌, ◌⊎◌, ℕ, ◌-◌, Bool, true, false, is_some, MatchBool, ⊤, if◌then◌else◌, List, [], ◌∷◌, ◌++◌, codes, Option, Some, None}
+use Rattle.std.specs.Option.{option_map}
+use Rattle.std.specs.Str.{bytes_eq}
+use Rattle.mc_text.specs.Routes.{Route}
 use Rattle.tree_trait.specs.declared.calls.TreeError.{TreeError}
-use Rattle.tree_trait.specs.declared.calls.TreeError.TheVariants.{Missing}
-use Rattle.tree_trait.specs.FileSystem.{Spot, View, visible_tree}
-use Rattle.tree_trait.specs.Refusals.{file_kind}
+use Rattle.tree_trait.specs.FileSystem.{View, visible_tree}
 use Rattle.tree_trait.specs.Change.{CallLog, current}
 use Rattle.key_screen.specs.declared.keys.Key.{Key}
 use Rattle.key_screen.specs.declared.keys.Base.{Base}
-use Rattle.key_screen.specs.declared.keys.Base.TheVariants.{Char, F, Down, Enter, Escape, Unknown}
+use Rattle.key_screen.specs.declared.keys.Base.TheVariants.{Unknown}
 use Rattle.job_reports.specs.declared.report.Trouble.{Trouble}
 use Rattle.job_reports.specs.declared.answer.Answer.{Answer}
-use Rattle.job_reports.specs.declared.answer.Answer.TheVariants.{Retry, Skip, SkipAll, Abort}
 use Rattle.job_reports.specs.declared.job.Job.{Job}
-use Rattle.job_reports.specs.declared.job.Job.TheVariants as plan
-use Rattle.session_history.specs.declared.refusal.PlanError.TheVariants.{TargetThere, TargetTooLong}
-use Rattle.session_history.specs.declared.refusal.Refusal.{Refusal}
-use Rattle.session_history.specs.declared.refusal.Refusal.TheVariants.{Tree, Plan, Begin}
 use Rattle.job_reports.specs.declared.row.JobRow.{JobRow}
 use Rattle.job_reports.specs.Jobs.{is_workable}
+use Rattle.session_history.specs.declared.refusal.PlanError.TheVariants.{BadMask}
+use Rattle.session_history.specs.declared.refusal.Refusal.{Refusal}
+use Rattle.session_history.specs.declared.refusal.Refusal.TheVariants.{Tree, Plan}
+use Rattle.mc_dialogs.specs.InputKeys.{InputState, input_after, input_shut}
 use Rattle.mc_ui.specs.declared.asks.Ask.{Ask}
 use Rattle.mc_ui.specs.declared.asks.Ask.TheVariants as ask
 use Rattle.mc_ui.specs.declared.asks.Told.{Told}
 use Rattle.mc_ui.specs.declared.asks.Told.TheVariants as told
 use Rattle.mc_ui.specs.declared.dialog.Dialog.{Dialog}
 use Rattle.mc_ui.specs.declared.dialog.Dialog.TheVariants as dialog
-use Rattle.mc_ui.specs.declared.ui.panel_keys.Opens.{Opens}
-use Rattle.mc_ui.specs.declared.ui.panel_keys.Opens.TheVariants as opens
+use Rattle.mc_ui.specs.declared.message.Message.{Message}
+use Rattle.mc_ui.specs.declared.message.Message.TheVariants.{Refused, PartLeft, Help}
+use Rattle.mc_ui.specs.declared.panel_command.Opens.{Opens}
+use Rattle.mc_ui.specs.declared.panel_command.Opens.TheVariants as opens
+use Rattle.mc_ui.specs.declared.panel_command.PanelCommand.{PanelCommand}
+use Rattle.mc_ui.specs.declared.panel_command.PanelCommand.TheVariants.{Move, SwitchPanel, ShowHelp, Open, Quit, Nothing}
+use Rattle.mc_ui.specs.declared.replies.DeleteReply.{DeleteReply}
+use Rattle.mc_ui.specs.declared.replies.DeleteReply.TheVariants as delete
+use Rattle.mc_ui.specs.declared.replies.LineReply.{LineReply}
+use Rattle.mc_ui.specs.declared.replies.LineReply.TheVariants as line
+use Rattle.mc_ui.specs.declared.replies.TroubleReply.{TroubleReply}
+use Rattle.mc_ui.specs.declared.replies.TroubleReply.TheVariants as trouble
 use Rattle.mc_ui.specs.declared.reread.Reread.{Reread}
+use Rattle.mc_ui.specs.declared.side.Side.{Side}
+use Rattle.mc_ui.specs.declared.side.Side.TheVariants.{Left, Right}
+use Rattle.mc_ui.specs.BoxKeys.{closes_message, delete_reply_to, line_reply, trouble_reply_to}
+use Rattle.mc_ui.specs.BoxLines.{mask_line, target_line, target_text}
+use Rattle.mc_ui.specs.Copies.{CopyRefused, IsVacant, MayAsk, copy_plan, delete_plan, target_in}
 use Rattle.mc_ui.specs.LiveJobs.{can_answer, none_live, shown_trouble}
-use Rattle.mc_ui.specs.Panels.{Shown, current_path, moved_down, with_names, ListsFolder}
+use Rattle.mc_ui.specs.PanelKeys.{panel_command_of}
+use Rattle.mc_ui.specs.Panels.{ListsFolder, Shown, current_path, moved_by, opened_panel, with_names}
 
--- what stands over the panels: nothing, or a box that asks whether to delete a file, shows the mask or the target of a copy,
--- tells of a job's trouble, or of a part that a job left
+-- What stands over the panels: nothing, or a box that asks whether to delete a file, asks for the source mask or for the
+-- destination of a copy, or tells of a job's trouble.
 pub data Box : Type 0 where
   NoBox : Box
   DeleteBox : (path : Route) → Box
-  MaskBox : (path : Route) → Box
-  TargetBox : (path : Route) → Box
+  MaskBox : (path : Route) → (typed : InputState) → Box
+  TargetBox : (path : Route) → (typed : InputState) → Box
   TroubleBox : (trouble : Trouble) → Box
-  PartLeftBox : (path : Route) → Box
 
 -- what a key asked for and is to be carried out: a job is to be begun, its trouble to be answered, or the session to end
 pub data Planned : Type 0 where
@@ -48,162 +61,162 @@ pub data Planned : Type 0 where
   Answers : (answer : Answer) → Planned
   Ends : Planned
 
--- the left panel, in which the cursor is, the right one, the box, and what is to be carried out
+-- the panels and which of them is current, the size of the screen, the box and the message, and what is to be carried out
 pub record Screen : Type 0 where
   pub left : Shown
   pub right : Shown
+  pub current : Side
+  pub lines : ℕ
+  pub columns : ℕ
   pub over : Box
+  pub message : Option Message
   pub planned : Option Planned
+
+-- a screen of this size as it opens
+abbrev pub opened_screen : Shown → Shown → ℕ → ℕ → Screen
+opened_screen left right lines columns =
+    record { left = left; right = right; current = Left; lines = lines; columns = columns; over = NoBox; message = None; planned = None }
+
+-- the screen keeps its size
+pub record HasSameSize (before after : Screen) : Type 0 where
+  pub same_lines : after.lines ≡ before.lines
+  pub same_columns : after.columns ≡ before.columns
 
 -- a box as it is seen
 abbrev pub seen_box : Dialog → Box
 seen_box dialog.Nothing = NoBox
 seen_box (dialog.Delete chosen) = DeleteBox chosen.path
-seen_box (dialog.SourceMask chosen) = MaskBox chosen.path
-seen_box (dialog.CopyTo chosen) = TargetBox chosen.path
+seen_box (dialog.SourceMask chosen typed) = MaskBox chosen.path typed
+seen_box (dialog.CopyTo chosen typed) = TargetBox chosen.path typed
 seen_box (dialog.Trouble trouble) = TroubleBox trouble
-seen_box (dialog.PartLeft path) = PartLeftBox path
+
+-- the other side
+abbrev pub opposite : Side → Side
+opposite Left = Right
+opposite Right = Left
+
+-- the panel of a side
+abbrev pub panel_of : Side → Screen → Shown
+panel_of Left s = s.left
+panel_of Right s = s.right
+
+abbrev pub current_panel : Screen → Shown
+current_panel s = panel_of s.current s
+
+abbrev pub other_panel : Screen → Shown
+other_panel s = panel_of (opposite s.current) s
+
+-- how many items of a panel are on the screen
+abbrev pub page_of : Screen → ℕ
+page_of s = s.lines - 6
 
 -- what can be seen of a tree, where it tells
 abbrev pub sight : Option CallLog → Option View
 sight contents = option_map (λ (log : CallLog). visible_tree (current log)) contents
 
--- a file stands there
-abbrev pub is_file_spot : Spot → Bool
-is_file_spot spot = option_map_or (λ v. file_kind v.kind) spot.value false
+-- a refusal comes up in a message, over what was there
+abbrev pub told_refusal : Refusal → Screen → Screen
+told_refusal refusal before = record before { message = Some (Refused refusal) }
 
--- a box may ask of the thing at a path: exactly where a file stands there, as far as the tree can be seen
-abbrev pub MayAsk : Option View → Route → Bool → Type 0
-MayAsk None path asks = ⊤
-MayAsk (Some view) path asks = asks ≡ (is_file_spot (view path) && nat_le (length (spelled path)) 4096)
+-- THE PANELS
+
+-- the cursor of the current panel as a key moves it
+abbrev pub with_move : Side → Base → Screen → Screen
+with_move Left base s = record s { left = moved_by (page_of s) base s.left }
+with_move Right base s = record s { right = moved_by (page_of s) base s.right }
 
 -- the box that such a key opens
 abbrev pub box_of : Opens → Route → Box
 box_of opens.Delete path = DeleteBox path
-box_of opens.SourceMask path = MaskBox path
+box_of opens.SourceMask path = MaskBox path mask_line
 
 -- the key that asks of the thing under the cursor opens its box, if that is a file and no job is live
 abbrev pub Chooses : (Route → Box) → Option View → List JobRow → Option Route → List Refusal → Screen → Screen → Type 0
 Chooses box tree (row ∷ rows) current refusals before after = (refusals ≡ []) × (after ≡ before)
 Chooses box tree [] None refusals before after = (refusals ≡ []) × (after ≡ before)
 Chooses box tree [] (Some path) [] before after = (asks : Bool) × MayAsk tree path asks × (after ≡ (if asks then record before { over = box path } else before))
-Chooses box tree [] (Some path) (refusal ∷ more) before after = (e : TreeError) × (refusal ∷ more ≡ Tree path e ∷ []) × (after ≡ before)
+Chooses box tree [] (Some path) (refusal ∷ more) before after =
+    (e : TreeError) × (refusal ∷ more ≡ Tree path e ∷ []) × (after ≡ told_refusal (Tree path e) before)
 
--- the keys that shut a box
-abbrev pub is_cancel : Base → Bool
-is_cancel (F number) = number == 10
-is_cancel Escape = true
-is_cancel other = false
+-- what a command of the panels makes of the screen
+abbrev pub CommandLeads : PanelCommand → Option View → List JobRow → List Refusal → Screen → Screen → Type 0
+CommandLeads (Move base) tree rows refusals before after = (refusals ≡ []) × (after ≡ with_move before.current base before)
+CommandLeads SwitchPanel tree rows refusals before after = (refusals ≡ []) × (after ≡ record before { current = opposite before.current })
+CommandLeads ShowHelp tree rows refusals before after = (refusals ≡ []) × (after ≡ record before { message = Some Help })
+CommandLeads (Open opens) tree rows refusals before after = Chooses (box_of opens) tree rows (current_path (current_panel before)) refusals before after
+CommandLeads Quit tree rows refusals before after = (refusals ≡ []) × (after ≡ record before { planned = Some Ends })
+CommandLeads Nothing tree rows refusals before after = (refusals ≡ []) × (after ≡ before)
 
-abbrev pub shut_box : Base → Screen → Screen
-shut_box base before = if is_cancel base then record before { over = NoBox } else before
+-- THE BOXES
 
--- the plans of one file
-abbrev pub delete_plan : Route → Job
-delete_plan path = plan.Delete (path ∷ [])
-
-abbrev pub copy_plan : Route → Route → Job
-copy_plan source target = plan.Copy (record { source = source; target = target } ∷ [])
-
--- where a file comes that is copied into a folder: under its own name
-abbrev pub target_in : Route → Route → Route
-target_in folder [] = folder
-target_in folder (name ∷ from) = name ∷ folder
-
--- Enter accepts what a box shows
-abbrev pub is_enter : Base → Bool
-is_enter Enter = true
-is_enter other = false
-
--- and confirms a job, if none is live
-abbrev pub confirms : Base → List JobRow → Bool
-confirms base rows = is_enter base && none_live rows
+abbrev pub without_box : Screen → Screen
+without_box before = record before { over = NoBox }
 
 -- the screen once a job is to be begun
 abbrev pub begun : Job → Screen → Screen
 begun plan before = record before { over = NoBox; planned = Some (Begins plan false) }
 
--- a key while the delete box asks
-abbrev pub in_delete_box : Base → List JobRow → Route → Screen → Screen
-in_delete_box base rows path before = if confirms base rows then begun (delete_plan path) before else shut_box base before
+-- the delete box's answer: a job is confirmed only while none is live
+abbrev pub after_delete : DeleteReply → List JobRow → Route → Screen → Screen
+after_delete delete.Stays rows path before = before
+after_delete delete.Shuts rows path before = without_box before
+after_delete delete.Deletes rows path before = if none_live rows then begun (delete_plan path) before else before
 
--- a key while the source mask is shown
-abbrev pub in_mask_box : Base → Route → Screen → Screen
-in_mask_box base path before = if is_enter base then record before { over = TargetBox path } else shut_box base before
+-- the source mask's answer: only `*` is read yet, and with it the destination is asked for
+abbrev pub MaskLeads : LineReply → Route → InputState → List Refusal → Screen → Screen → Type 0
+MaskLeads line.Stays path typed refusals before after = (refusals ≡ []) × (after ≡ record before { over = MaskBox path typed })
+MaskLeads line.Shuts path typed refusals before after = (refusals ≡ []) × (after ≡ without_box before)
+MaskLeads (line.Takes text) path typed refusals before after =
+    MatchBool (bytes_eq text (codes "*"))
+    ((refusals ≡ []) × (after ≡ record before { over = TargetBox path (target_line (other_panel before).folder) }))
+    ((refusals ≡ Plan BadMask ∷ []) × (after ≡ told_refusal (Plan BadMask) before))
 
--- something stands at a path, as far as the tree can be seen
-abbrev pub IsTaken : Option View → Route → Type 0
-IsTaken tree path = (view : View) → tree ≡ Some view → IsSome (view path).value
-
--- nothing stands at a path, as far as the tree can be seen
-abbrev pub IsVacant : Option View → Route → Type 0
-IsVacant tree path = (view : View) → tree ≡ Some view → (view path).value ≡ None
-
--- a copy is refused: something stands at its target, the target's path is too long, or the look at it is refused
-abbrev pub CopyRefused : Option View → Route → Refusal → Type 0
-CopyRefused tree target (Plan (TargetThere there)) = (there ≡ target) × IsTaken tree target
-CopyRefused tree target (Plan TargetTooLong) = 4096 < length (spelled target)
-CopyRefused tree target (Tree path e) = (path ≡ target) × (e ≢ Missing)
-CopyRefused tree target (Begin error) = ⊥
-
--- the target is accepted: the copy is planned where nothing stands there, or refused, and then the box stays
+-- the copy is planned where nothing stands at its target, or refused, and then the box stays
 abbrev pub PlansCopy : Option View → Route → Route → List Refusal → Screen → Screen → Type 0
 PlansCopy tree path target [] before after = IsVacant tree target × (after ≡ begun (copy_plan path target) before)
-PlansCopy tree path target (refusal ∷ more) before after = CopyRefused tree target refusal × (more ≡ []) × (after ≡ before)
+PlansCopy tree path target (refusal ∷ more) before after = CopyRefused tree target refusal × (more ≡ []) × (after ≡ told_refusal refusal before)
 
--- a key while the target is shown
-abbrev pub InTargetBox : Option View → Base → List JobRow → Route → List Refusal → Screen → Screen → Type 0
-InTargetBox tree base rows path refusals before after =
-    MatchBool (confirms base rows) (PlansCopy tree path (target_in before.right.folder path) refusals before after) ((refusals ≡ []) × (after ≡ shut_box base before))
+-- the destination's answer: only the other panel's folder is read yet, and then the copy is planned while no job is live
+abbrev pub TargetLeads : LineReply → Option View → List JobRow → Route → InputState → List Refusal → Screen → Screen → Type 0
+TargetLeads line.Stays tree rows path typed refusals before after = (refusals ≡ []) × (after ≡ record before { over = TargetBox path typed })
+TargetLeads line.Shuts tree rows path typed refusals before after = (refusals ≡ []) × (after ≡ without_box before)
+TargetLeads (line.Takes text) tree rows path typed refusals before after =
+    MatchBool (bytes_eq text (target_text (other_panel before).folder))
+    (MatchBool (none_live rows) (PlansCopy tree path (target_in (other_panel before).folder path) refusals before after) ((refusals ≡ []) × (after ≡ before)))
+    ((refusals ≡ Plan BadMask ∷ []) × (after ≡ told_refusal (Plan BadMask) before))
 
--- the letters of a trouble; Enter is the first of them
-abbrev pub letter_of : Base → Option Answer
-letter_of (Char letter) =
-    if letter == 114 then Some Retry else if letter == 115 then Some Skip else if letter == 97 then Some SkipAll else if letter == 98 then Some Abort else None
-letter_of Enter = Some Retry
-letter_of base = None
+-- a trouble's answer, where the live job can be answered so; without one the job stays as it is
+abbrev pub after_trouble : TroubleReply → List JobRow → Screen → Screen
+after_trouble trouble.Stays rows before = before
+after_trouble trouble.Shuts rows before = without_box before
+after_trouble (trouble.Gives answer) rows before = if can_answer rows answer then record before { over = NoBox; planned = Some (Answers answer) } else before
 
--- a key while a trouble is shown: a letter that can answer it does
-abbrev pub answered_box : List JobRow → Option Answer → Base → Screen → Screen
-answered_box rows None base before = shut_box base before
-answered_box rows (Some answer) base before = if can_answer rows answer then record before { over = NoBox; planned = Some (Answers answer) } else before
+-- a key without meta while a message is shown
+abbrev pub after_message : Base → Screen → Screen
+after_message base before = if closes_message base then record before { message = None } else before
 
-abbrev pub in_trouble_box : List JobRow → Base → Screen → Screen
-in_trouble_box rows base before = answered_box rows (letter_of base) base before
+-- KEYS
 
--- the keys that close a message
-abbrev pub closes_message : Base → Bool
-closes_message Enter = true
-closes_message Escape = true
-closes_message other = false
-
-abbrev pub in_message_box : Base → Screen → Screen
-in_message_box base before = if closes_message base then record before { over = NoBox } else before
-
--- a key while no box is open: Down moves the cursor, F5 and F8 open their boxes, F10 asks for the end
-abbrev pub InPanel : Option View → List JobRow → Base → List Refusal → Screen → Screen → Type 0
-InPanel tree rows Down refusals before after = (refusals ≡ []) × (after ≡ record before { left = moved_down before.left })
-InPanel tree rows (F number) refusals before after =
-    MatchBool (number == 5) (Chooses MaskBox tree rows (current_path before.left) refusals before after)
-    (MatchBool (number == 8) (Chooses DeleteBox tree rows (current_path before.left) refusals before after)
-    ((refusals ≡ []) × (after ≡ (if number == 10 then record before { planned = Some Ends } else before))))
-InPanel tree rows other refusals before after = (refusals ≡ []) × (after ≡ before)
-
--- what a key without meta makes of the screen, by what is open, while these jobs are live
-abbrev pub ByBox : Box → Option View → List JobRow → Base → List Refusal → Screen → Screen → Type 0
-ByBox NoBox tree rows base refusals before after = InPanel tree rows base refusals before after
-ByBox (DeleteBox path) tree rows base refusals before after = (refusals ≡ []) × (after ≡ in_delete_box base rows path before)
-ByBox (MaskBox path) tree rows base refusals before after = (refusals ≡ []) × (after ≡ in_mask_box base path before)
-ByBox (TargetBox path) tree rows base refusals before after = InTargetBox tree base rows path refusals before after
-ByBox (TroubleBox trouble) tree rows base refusals before after = (refusals ≡ []) × (after ≡ in_trouble_box rows base before)
-ByBox (PartLeftBox path) tree rows base refusals before after = (refusals ≡ []) × (after ≡ in_message_box base before)
-
--- what a key makes of the screen; one with meta is none of those that are known here
+-- the key of the panels and of messages: one with meta is none of those that are known here
 abbrev pub plain_base : Key → Base
 plain_base key = if key.meta then Unknown else key.base
 
+-- what a key makes of the screen, by the box that is open, while these jobs are live
+abbrev pub ByBox : Box → Option View → List JobRow → Key → List Refusal → Screen → Screen → Type 0
+ByBox NoBox tree rows key refusals before after = CommandLeads (panel_command_of (plain_base key)) tree rows refusals before after
+ByBox (DeleteBox path) tree rows key refusals before after = (refusals ≡ []) × (after ≡ after_delete (delete_reply_to key) rows path before)
+ByBox (MaskBox path typed) tree rows key refusals before after =
+    MaskLeads (line_reply (input_shut typed key)) path (input_after typed key) refusals before after
+ByBox (TargetBox path typed) tree rows key refusals before after =
+    TargetLeads (line_reply (input_shut typed key)) tree rows path (input_after typed key) refusals before after
+ByBox (TroubleBox trouble) tree rows key refusals before after = (refusals ≡ []) × (after ≡ after_trouble (trouble_reply_to trouble.barrier key) rows before)
+
+-- what a key makes of the screen: a message takes it before the box below does
 abbrev pub KeyLeads : Option View → List JobRow → Key → List Refusal → Screen → Screen → Type 0
-KeyLeads tree rows key refusals before after = ByBox before.over tree rows (plain_base key) refusals before after
+KeyLeads tree rows key refusals before after =
+    MatchBool (is_some before.message) ((refusals ≡ []) × (after ≡ after_message (plain_base key) before)) (ByBox before.over tree rows key refusals before after)
+
+-- LOOKS
 
 -- a refusal, if there is one
 abbrev pub listed : Option Refusal → List Refusal
@@ -217,28 +230,44 @@ IsReread tree true folder r =
     ((names : List (List ℕ)) × ListsFolder tree folder names × (r.names ≡ Some names) × (r.refused ≡ None))
     ⊎ ((e : TreeError) × (r.names ≡ None) × (r.refused ≡ Some (Tree folder e)))
 
--- a trouble's box stands over all
+-- a trouble's box stands over the panels, in place of another
 abbrev pub with_trouble : Option Trouble → Box → Box
 with_trouble None before = before
 with_trouble (Some trouble) before = TroubleBox trouble
 
--- a message tells of the part that a job left
-abbrev pub with_part : Option Route → Box → Box
-with_part None before = before
-with_part (Some path) before = PartLeftBox path
+-- the first of some refusals
+abbrev pub first_refusal : List Refusal → Option Refusal
+first_refusal [] = None
+first_refusal (refusal ∷ more) = Some refusal
 
--- A look reads each panel again, after a job's end that was not taken up, and shows the trouble that there is, and the part
--- that this end left.
+-- a message tells of a refusal
+abbrev pub with_refusal : Option Refusal → Option Message → Option Message
+with_refusal None before = before
+with_refusal (Some refusal) before = Some (Refused refusal)
+
+-- and above all of the part that a job left
+abbrev pub with_part : Option Route → Option Message → Option Message
+with_part None before = before
+with_part (Some path) before = Some (PartLeft path)
+
+-- A look reads each panel again, after a job's end that was not taken up, and shows the trouble that there is, what it was
+-- refused, and the part that this end left.
 pub record LooksAgain (tree : Option View) (has_unseen_end : Bool) (trouble : Option Trouble) (part : Option Route) (refusals : List Refusal) (before after : Screen) : Type 0 where
   pub left : Reread
   pub right : Reread
   pub left_is : IsReread tree has_unseen_end before.left.folder left
   pub right_is : IsReread tree has_unseen_end before.right.folder right
   pub refused : refusals ≡ listed left.refused ++ listed right.refused
-  pub after_is : after ≡ record before { left = with_names left.names before.left; right = with_names right.names before.right; over = with_part part (with_trouble trouble before.over) }
+  pub after_is : after
+      ≡ record before {
+        left = with_names (page_of before) left.names before.left;
+        right = with_names (page_of before) right.names before.right;
+        over = with_trouble trouble before.over;
+        message = with_part part (with_refusal (first_refusal refusals) before.message);
+      }
 
--- What a look makes of the screen: it takes up what the live job did. The trouble of one that waits gets its box; so does the
--- part that an ended one left.
+-- What a look makes of the screen: it takes up what the live job did. The trouble of one that waits gets its box; the part that
+-- an ended one left is told by a message.
 abbrev pub LookLeads : Option View → List JobRow → Bool → Option Route → List Refusal → Screen → Screen → Type 0
 LookLeads tree rows has_unseen_end part refusals before after = LooksAgain tree has_unseen_end (shown_trouble rows) part refusals before after
 
@@ -246,13 +275,14 @@ LookLeads tree rows has_unseen_end part refusals before after = LooksAgain tree 
 abbrev pub SameFolders : Screen → Screen → Type 0
 SameFolders before after = (after.left.folder ≡ before.left.folder) × (after.right.folder ≡ before.right.folder)
 
--- at the opening each panel lists its folder, the cursor on the first row
+-- at the opening each panel lists its folder, from its first row on, on which the cursor is, and the left one is current
 pub record IsOpening (tree : Option View) (screen : Screen) : Type 0 where
   pub left : ListsFolder tree screen.left.folder screen.left.names
   pub right : ListsFolder tree screen.right.folder screen.right.names
-  pub cursors : (screen.left.cursor ≡ 0) × (screen.right.cursor ≡ 0)
-  pub over : screen.over ≡ NoBox
-  pub planned : screen.planned ≡ None
+  pub opened : screen
+      ≡ opened_screen (opened_panel screen.left.folder screen.left.names) (opened_panel screen.right.folder screen.right.names) screen.lines screen.columns
+
+-- ASKS
 
 -- A job is begun while none is live, and is one that can be worked; a trouble is answered as it may be.
 abbrev pub WellAsked : List JobRow → Ask → Type 0
@@ -275,9 +305,9 @@ with_ask (ask.Answer answer) screen = record screen { over = NoBox; planned = So
 with_ask ask.Nothing screen = screen
 with_ask ask.End screen = record screen { planned = Some Ends }
 
--- the screen once it is told what became of that: where it was done, the box that asked is shut
+-- the screen once it is told what became of that: where it was done, the box that asked is shut; a refusal gets its message
 abbrev pub settled : Told → Screen → Screen
 settled told.Nothing screen = screen
-settled told.Done screen = record screen { over = NoBox }
-settled (told.Refused refusal) screen = screen
+settled told.Done screen = without_box screen
+settled (told.Refused refusal) screen = told_refusal refusal screen
 settled told.Lost screen = screen

@@ -1,10 +1,11 @@
 //! The texts of causes, as they are shown and printed.
-ghost use Rattle.std.specs.Prelude.{◌≡◌};
-ghost use Rattle.mc_ui.specs.Causes.{cause_words};
+ghost use Rattle.std.specs.Prelude.{◌≡◌, IfOk};
+ghost use Rattle.mc_ui.specs.Causes.{begin_words, cause_words, plan_words, refusal_words, trouble_words};
 
 use job_reports::Cause;
-use mc_text::NoMemory;
+use mc_text::{NoMemory, Text};
 use session_history::{BeginError, PlanError, Refusal};
+use std::alloc::Global;
 use tree_trait::TreeError;
 
 /// What is said of a refused call.
@@ -29,39 +30,54 @@ pub fn cause_text(error: TreeError) -> &'static str
 }
 
 /// What is said of a plan that can't be made.
-pub fn plan_text(error: &PlanError) -> &'static str {
+fn plan_text(error: &PlanError) -> &'static str
+    ensures { result.now ≡ plan_words error.now }
+{
     match error {
         PlanError::TargetThere(_) => "already there",
         PlanError::TargetTooLong => "path too long",
+        PlanError::BadMask => "bad mask",
     }
 }
 
 /// What is said of a job that can't be begun.
-pub fn begin_text(error: BeginError) -> &'static str {
+fn begin_text(error: BeginError) -> &'static str
+    ensures { result.now ≡ begin_words error }
+{
     match error {
         BeginError::NoMoreIds => "too many jobs",
     }
 }
 
-/// Adds what is said of a job's trouble to a line.
-pub fn write_cause(line: &mut String, cause: Cause) -> Result<(), NoMemory> {
-    match cause {
-        Cause::Tree(error) => line.push_str(cause_text(error))?,
-        Cause::TargetKind(_) => line.push_str("target is of another kind")?,
-        Cause::SpecialSource => line.push_str("special file")?,
-        Cause::PartTaken => line.push_str("no free part name")?,
-        Cause::TooLong => line.push_str("path too long")?,
-        Cause::Changed { said, got } => write!(line, "said {} bytes, got {}", said, got)?,
-        Cause::Memory => line.push_str("out of memory")?,
-    }
-    Ok(())
-}
-
 /// What is said of a refusal.
-pub fn refusal_text(refusal: &Refusal) -> &'static str {
+pub fn refusal_text(refusal: &Refusal) -> &'static str
+    ensures { result.now ≡ refusal_words refusal.now }
+{
     match refusal {
         Refusal::Tree(_, error) => cause_text(*error),
         Refusal::Plan(error) => plan_text(error),
         Refusal::Begin(error) => begin_text(*error),
     }
+}
+
+/// What is said of a job's trouble.
+pub fn trouble_text(alloc: Global, cause: Cause) -> Result<Text, NoMemory>
+    ensures { IfOk result (λ text. text ≡ trouble_words cause) }
+{
+    match cause {
+        Cause::Tree(error) => Text::from_str(alloc, cause_text(error)),
+        Cause::TargetKind(_) => Text::from_str(alloc, "target is of another kind"),
+        Cause::SpecialSource => Text::from_str(alloc, "special file"),
+        Cause::PartTaken => Text::from_str(alloc, "no free part name"),
+        Cause::TooLong => Text::from_str(alloc, "path too long"),
+        Cause::Changed { said, got } => changed_text(alloc, said, got),
+        Cause::Memory => Text::from_str(alloc, "out of memory"),
+    }
+}
+
+/// What is said of a source that was said to have so many bytes, and gave so many.
+fn changed_text(alloc: Global, said: u64, got: u64) -> Result<Text, NoMemory>
+    ensures { IfOk result (λ text. text ≡ trouble_words (Cause.Changed said got)) }
+{
+    Ok(Text(format!(in alloc; "said {said} bytes, got {got}")?))
 }

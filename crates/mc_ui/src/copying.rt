@@ -5,7 +5,8 @@ ghost use Rattle.tree_trait.specs.Calls.{Stat};
 ghost use Rattle.tree_trait.specs.Change.{current};
 ghost use Rattle.tree_trait.specs.Answers.{HasCause, IfKnown, IsMeta, Reads};
 ghost use Rattle.job_reports.specs.Jobs.{is_workable};
-ghost use Rattle.mc_ui.specs.Screens.{IsTaken, IsVacant, copy_plan, delete_plan, sight, target_in};
+ghost use Rattle.mc_ui.specs.Copies.{IsTaken, IsVacant, copy_plan, delete_plan, target_in};
+ghost use Rattle.mc_ui.specs.Screens.{sight};
 ghost use Rattle.mc_ui.specs.Choices.{AfterLook, PlanLeads, plan_refusals};
 ghost use Rattle.mc_ui.specs.Reading.{ReadsTree};
 

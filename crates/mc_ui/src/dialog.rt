@@ -3,6 +3,7 @@ ghost use Rattle.std.specs.Prelude.{◌≡◌, true, is_some};
 ghost use Rattle.mc_text.specs.Routes.{parent_of};
 
 use job_reports::Trouble;
+use mc_dialogs::InputLine;
 use mc_text::Path;
 
 /// A file that was chosen. It lies in a folder.
@@ -16,14 +17,12 @@ pub struct Chosen {
 #[derive(Debug, Drop)]
 pub enum Dialog {
     Nothing,
-    /// ReadsTree whether to delete this file.
+    /// Asks whether to delete this file.
     Delete(Chosen),
-    /// Shows which names of the source are copied, of a copy of this file.
-    SourceMask(Chosen),
-    /// Shows where this file is to be copied to.
-    CopyTo(Chosen),
+    /// Asks which names of the source are copied, of a copy of this file.
+    SourceMask(Chosen, InputLine),
+    /// Asks where this file is to be copied to.
+    CopyTo(Chosen, InputLine),
     /// Tells of a job's trouble, and takes an answer.
     Trouble(Trouble),
-    /// Tells which part a job's end left, since it could not be removed.
-    PartLeft(Path),
 }

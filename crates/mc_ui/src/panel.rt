@@ -1,9 +1,12 @@
-//! The panel: the names in one folder, and a cursor on one of its rows.
-ghost use Rattle.std.specs.Prelude.{◌≡◌, ◌≢◌, ◌<◌, ◌≤◌, IfOk, IfErr, IfSome, Some, length, option_map};
+//! The panel: the names in one folder, a cursor on one of its rows, and the first row on the screen.
+ghost use Rattle.std.specs.Prelude.{◌≡◌, ◌≢◌, ◌<◌, ◌≤◌, ◌^◌, ◌+◌, ◌-◌, IfOk, IfErr, IfSome, Some, length, option_map};
 ghost use Rattle.mc_text.specs.Routes.{spelled};
-ghost use Rattle.mc_ui.specs.Panels.{Shown, rows_above, last_row, current_name, current_path, moved_down, place_of, read_again, with_names};
+ghost use Rattle.mc_ui.specs.Frames.{current_text};
+ghost use Rattle.mc_ui.specs.Panels.{Shown, opened_panel, rows_above, row_count, current_name, current_path, moved_by, place_of, read_again, row_among, with_names};
 
-use mc_text::{Name, Names, Path, PathError};
+use key_screen::Base;
+use mc_dialogs::{moved, scrolled};
+use mc_text::{Name, Names, NoMemory, Path, PathError, Text};
 use std::alloc::Global;
 use std::marker::Model;
 
@@ -13,25 +16,30 @@ pub struct Panel {
     folder: Path,
     names: Names,
     cursor: usize,
+    first: usize,
 }
 
 impl Model for Panel {
-    ghost use Rattle.mc_ui.specs.Panels.{Shown};
+    ghost use Rattle.std.specs.Prelude.{◌<◌, ◌≤◌, ◌+◌, ◌^◌, ◌-◌, length};
+    ghost use Rattle.mc_ui.specs.Panels.{Shown, rows_above};
 
     ghost Value = { Shown };
 
-    ghost view = { λ p. record { folder = p.folder; names = p.names; cursor = p.cursor } };
+    ghost view = { λ p. record { folder = p.folder; names = p.names; cursor = p.cursor; first = p.first } };
+
+    ghost invariant = { λ p. (length p.names < 2 ^ 59) × (p.cursor ≤ (rows_above p.folder + length p.names) - 1) × (p.first ≤ length p.names + 1) };
 }
 
 impl Panel {
     /// The panel of a folder with these names in it, the cursor on the first row.
     pub fn new(folder: Path, names: Names) -> Panel
-        ensures { result ≡ record { folder = folder; names = names; cursor = 0 } }
+        ensures { result ≡ opened_panel folder names }
     {
         Panel {
             folder,
             names,
             cursor: 0,
+            first: 0,
         }
     }
 
@@ -56,6 +64,14 @@ impl Panel {
         self.cursor
     }
 
+    /// The first row on the screen.
+    pub fn first(&self) -> usize
+        ensures value { result ≡ self.now.first }
+        ensures bound { result < 2 ^ 60 }
+    {
+        self.first
+    }
+
     /// How many rows stand before the names.
     pub fn rows_above(&self) -> usize
         ensures { result ≡ rows_above self.now.folder }
@@ -66,13 +82,14 @@ impl Panel {
         }
     }
 
-    /// Moves the cursor down by one row, where there is one.
-    pub fn move_down(&mut self)
-        ensures { self.new ≡ moved_down self.old }
+    /// Moves the cursor as a key says: by a row, by a page of so many rows, or to an end.
+    pub fn move_by(&mut self, page: usize, base: Base)
+        requires { page < 2 ^ 16 }
+        ensures { self.new ≡ moved_by page base self.old }
     {
-        if self.cursor < self.last_row() {
-            self.cursor += 1;
-        }
+        let row = moved(self.row_count(), page, self.cursor, base);
+        self.first = scrolled(page, self.first, row);
+        self.cursor = row;
     }
 
     /// The path of the thing under the cursor, if it isn't `..`.
@@ -87,38 +104,62 @@ impl Panel {
         }
     }
 
-    /// Takes the names that are there now. The cursor stays on its name, or else on its row.
-    pub fn read_again(&mut self, names: Names)
-        ensures { self.new ≡ read_again self.old names }
+    /// The text of the current row, which is empty where there is no row.
+    pub fn current_text(&self, alloc: Global) -> Result<Text, NoMemory>
+        ensures { IfOk result (λ text. text ≡ current_text self.now) }
     {
-        let above = self.rows_above();
-        let place = match self.current_name() {
-            None => None,
-            Some(name) => place_of(names.as_slice(), name),
-        };
-        self.names = names;
-        match place {
-            Some(place) => self.cursor = above + place,
-            None => self.cursor = self.cursor.min(self.last_row()),
+        if self.cursor < self.rows_above() {
+            return Text::from_str(alloc, "..");
         }
+        match self.current_name() {
+            None => Text::from_str(alloc, ""),
+            Some(name) => Text::from_str(alloc, name.text()),
+        }
+    }
+
+    /// Takes the names that are there now. The cursor stays on its name, or else on its row.
+    pub fn read_again(&mut self, page: usize, names: Names)
+        requires { page < 2 ^ 16 }
+        ensures { self.new ≡ read_again page names self.old }
+    {
+        let row = self.row_among(&names);
+        self.first = scrolled(page, self.first, row);
+        self.cursor = row;
+        self.names = names;
     }
 
     /// Takes names that were read, if there are any.
-    pub fn take_names(&mut self, names: Option<Names>)
-        ensures { self.new ≡ with_names names self.old }
+    pub fn take_names(&mut self, page: usize, names: Option<Names>)
+        requires { page < 2 ^ 16 }
+        ensures { self.new ≡ with_names page names self.old }
     {
         if let Some(names) = names {
-            self.read_again(names);
+            self.read_again(page, names);
         }
     }
 
-    fn last_row(&self) -> usize
-        ensures { result ≡ last_row self.now }
+    /// The row of the cursor once these names are there.
+    fn row_among(&self, names: &Names) -> usize
+        ensures row { result ≡ row_among names.now self.now }
+        ensures within { result ≤ (rows_above self.now.folder + length names.now) - 1 }
     {
-        match self.folder.names() {
-            [] => self.names.as_slice().len().saturating_sub(1),
-            [_, ..] => self.names.as_slice().len(),
+        let above = self.rows_above();
+        let names = names.as_slice();
+        let place = match self.current_name() {
+            None => None,
+            Some(name) => place_of(names, name),
+        };
+        match place {
+            Some(place) => above + place,
+            None => self.cursor.min((above + names.len()).saturating_sub(1)),
         }
+    }
+
+    /// How many rows there are.
+    fn row_count(&self) -> usize
+        ensures { result ≡ row_count self.now }
+    {
+        self.rows_above() + self.names.as_slice().len()
     }
 
     fn current_name(&self) -> Option<&Name>

@@ -1,7 +1,8 @@
 //! A panel's folder, read again after a job's end.
-ghost use Rattle.std.specs.Prelude.{IfOk};
+ghost use Rattle.std.specs.Prelude.{◌++◌, IfOk};
 ghost use Rattle.tree_trait.specs.Calls.{ListFolder};
 ghost use Rattle.mc_ui.specs.declared.reread.Reread.{Reread as RereadType};
+ghost use Rattle.mc_ui.specs.declared.reread.Rereads.{Rereads as RereadsType};
 ghost use Rattle.mc_ui.specs.Reading.{ReadsTree};
 ghost use Rattle.mc_ui.specs.Screens.{IsReread, listed, sight};
 
@@ -46,4 +47,29 @@ pub fn list_again<T: Tree>(
             refused: Some(Refusal::Tree(path, error)),
         }),
     }
+}
+
+/// What reading both panels' folders again came to.
+#[derive(Debug, Drop)]
+pub struct Rereads {
+    pub left: Reread,
+    pub right: Reread,
+}
+
+/// Reads both panels' folders again.
+pub fn list_both<T: Tree>(
+    alloc: Global,
+    tree: &mut T,
+    left: &Path,
+    right: &Path,
+    has_unseen_end: bool,
+) -> Result<Rereads, NoMemory>
+    ensures left { IfOk result (λ both. IsReread (sight (T.contents tree.old)) has_unseen_end left.now both.left) }
+    ensures right { IfOk result (λ both. IsReread (sight (T.contents tree.old)) has_unseen_end right.now both.right) }
+    ensures reads { ReadsTree ListFolder (λ (both : RereadsType). listed both.left.refused ++ listed both.right.refused) result
+        (T.contents tree.old) (T.contents tree.new) (T.fault_count tree.old) (T.fault_count tree.new) }
+{
+    let left = list_again(alloc, tree, left, has_unseen_end)?;
+    let right = list_again(alloc, tree, right, has_unseen_end)?;
+    Ok(Rereads { left, right })
 }

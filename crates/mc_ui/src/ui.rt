@@ -1,36 +1,40 @@
-//! What stands on the screen: two panels, the box over them, and a line of news.
-ghost use Rattle.std.specs.Prelude.{◌≡◌, ◌++◌, [], true, List, None, OnErr, IfOk};
-ghost use Rattle.tree_trait.specs.Calls.{Stat, ListFolder};
-ghost use Rattle.session_history.specs.declared.refusal.Refusal.{Refusal as RefusalType};
+//! What stands on the screen: two panels, the box over them, and a message over all.
+ghost use Rattle.std.specs.Prelude.{◌≡◌, ◌-◌, ◌<◌, ◌^◌, [], true, is_some, List, None, Some, OnErr, IfOk};
+ghost use Rattle.tree_trait.specs.Calls.{Stat};
 ghost use Rattle.mc_ui.specs.declared.asks.KeyAct.{KeyAct as KeyActType};
-ghost use Rattle.mc_ui.specs.LiveJobs.{shown_trouble as trouble_in};
 ghost use Rattle.mc_ui.specs.Reading.{ReadsTree};
-ghost use Rattle.mc_ui.specs.Screens.{KeyLeads, LookLeads, NoBox, WellAsked, is_request, listed, plain_base, seen_box, settled as screen_settled, sight, with_ask, with_part, with_trouble};
+ghost use Rattle.mc_ui.specs.Screens.{HasSameSize, KeyLeads, WellAsked, after_message, current_panel, is_request, opened_screen, other_panel, page_of, plain_base, seen_box, settled as screen_settled, sight, with_ask};
 
 mod boxes;
+mod copy_boxes;
+mod look;
 mod panel_keys;
 
-use crate::asks::{KeyAct, Told};
-use crate::causes::refusal_text;
+use crate::asks::{Ask, KeyAct, Told};
 use crate::dialog::Dialog;
+use crate::message::Message;
 use crate::panel::Panel;
-use crate::reread::{Reread, list_again};
-use job_reports::{JobRows, Trouble};
+use crate::replies::closes_message;
+use crate::side::Side;
+use job_reports::JobRows;
 use key_screen::{Base, Key};
-use mc_text::{NoMemory, Path};
-use session_history::{Refusal, Refusals};
+use mc_text::NoMemory;
+use panel_keys::asking_nothing;
 use std::alloc::Global;
 use std::marker::Model;
 use std::mem;
 use tree_trait::Tree;
 
-/// What the screen shows. Contracts see the panels, and the box.
+/// What the screen shows. Contracts see the panels, the box and the message.
 #[derive(Debug, Drop)]
 pub struct Ui {
     left: Panel,
     right: Panel,
+    current: Side,
+    lines: u16,
+    columns: u16,
     dialog: Dialog,
-    news: Option<&'static str>,
+    message: Option<Message>,
 }
 
 impl Model for Ui {
@@ -39,23 +43,26 @@ impl Model for Ui {
 
     ghost Value = { Screen };
 
-    ghost view = { λ u. record { left = u.left; right = u.right; over = seen_box u.dialog; planned = None } };
+    ghost view = { λ u. record { left = u.left; right = u.right; current = u.current; lines = u.lines; columns = u.columns; over = seen_box u.dialog; message = u.message; planned = None } };
 }
 
 impl Ui {
-    /// The panels alone, with no box.
-    pub fn new(left: Panel, right: Panel) -> Ui
-        ensures { result ≡ record { left = left; right = right; over = NoBox; planned = None } }
+    /// The panels alone, on a screen of so many lines and columns, the left one current.
+    pub fn new(left: Panel, right: Panel, lines: u16, columns: u16) -> Ui
+        ensures { result ≡ opened_screen left right lines columns }
     {
         Ui {
             left,
             right,
+            current: Side::Left,
+            lines,
+            columns,
             dialog: Dialog::Nothing,
-            news: None,
+            message: None,
         }
     }
 
-    /// The left panel, in which the cursor is.
+    /// The left panel.
     pub fn left(&self) -> &Panel
         ensures { result.now ≡ self.now.left }
     {
@@ -69,6 +76,47 @@ impl Ui {
         &self.right
     }
 
+    /// The panel that is current.
+    pub fn current(&self) -> &Panel
+        ensures { result.now ≡ current_panel self.now }
+    {
+        match self.current {
+            Side::Left => &self.left,
+            Side::Right => &self.right,
+        }
+    }
+
+    /// The panel that isn't.
+    pub fn other(&self) -> &Panel
+        ensures { result.now ≡ other_panel self.now }
+    {
+        match self.current {
+            Side::Left => &self.right,
+            Side::Right => &self.left,
+        }
+    }
+
+    /// Which of them is current.
+    pub fn side(&self) -> Side
+        ensures { result ≡ self.now.current }
+    {
+        self.current
+    }
+
+    /// How many lines the screen has.
+    pub fn lines(&self) -> u16
+        ensures { result ≡ self.now.lines }
+    {
+        self.lines
+    }
+
+    /// How many columns it has.
+    pub fn columns(&self) -> u16
+        ensures { result ≡ self.now.columns }
+    {
+        self.columns
+    }
+
     /// The box that stands over the panels.
     pub fn dialog(&self) -> &Dialog
         ensures { seen_box result.now ≡ self.now.over }
@@ -76,13 +124,16 @@ impl Ui {
         &self.dialog
     }
 
-    /// Why the last look or key was refused, if one was.
-    pub fn news(&self) -> Option<&'static str> {
-        self.news
+    /// The message over all.
+    pub fn message(&self) -> &Option<Message>
+        ensures { result.now ≡ self.now.message }
+    {
+        &self.message
     }
 
-    /// Works a key while these jobs are live. What was refused, the refusals say. Where the key asks for a job, or answers a
-    /// trouble, the screen stays as it is until `settle` tells what became of that.
+    /// Works a key while these jobs are live. What was refused, the refusals say, and a message the first of them. Where the key
+    /// asks for a job, or answers a trouble, the screen stays as it is until `settle` tells what became of that. It takes the
+    /// time of what is on the screen, and of the paths and texts of the box.
     pub fn key<T: Tree>(
         &mut self,
         alloc: Global,
@@ -96,105 +147,66 @@ impl Ui {
         ensures stays { IfOk result (λ act. is_request act.ask ≡ true → self.new ≡ self.old) }
         ensures alone { IfOk result (λ act. is_request act.ask ≡ true → act.refusals ≡ []) }
         ensures left { self.new.left.folder ≡ self.old.left.folder }
-        ensures right { self.new.right ≡ self.old.right }
+        ensures right { self.new.right.folder ≡ self.old.right.folder }
+        ensures size { HasSameSize self.old self.new }
         ensures settled { self.new.planned ≡ None }
         ensures lost { OnErr result (self.new ≡ self.old) }
         ensures reads { ReadsTree Stat (λ (act : KeyActType). act.refusals) result (T.contents tree.old) (T.contents tree.new)
             (T.fault_count tree.old) (T.fault_count tree.new) }
     {
-        self.news = None;
-        let base = plain_base(key);
+        if self.has_message() {
+            return Ok(self.key_in_message(alloc, key));
+        }
         match mem::replace(&mut self.dialog, Dialog::Nothing) {
-            Dialog::Nothing => self.key_in_panel(alloc, tree, rows, base),
-            Dialog::Delete(chosen) => self.key_in_delete(alloc, chosen, rows, base),
-            Dialog::SourceMask(chosen) => Ok(self.key_in_mask(alloc, chosen, base)),
-            Dialog::CopyTo(chosen) => self.key_in_target(alloc, tree, chosen, rows, base),
-            Dialog::Trouble(trouble) => Ok(self.key_in_trouble(alloc, trouble, rows, base)),
-            Dialog::PartLeft(path) => Ok(self.key_in_message(alloc, path, base)),
+            Dialog::Nothing => self.key_in_panel(alloc, tree, rows, key),
+            Dialog::Delete(chosen) => self.key_in_delete(alloc, chosen, rows, key),
+            Dialog::SourceMask(chosen, line) => self.key_in_mask(alloc, chosen, line, key),
+            Dialog::CopyTo(chosen, line) => self.key_in_target(
+                alloc, tree, chosen, line, rows, key,
+            ),
+            Dialog::Trouble(trouble) => Ok(self.key_in_trouble(alloc, trouble, rows, key)),
         }
     }
 
-    /// Tells what became of what the last key asked. Where it was carried out its box is shut; where it was refused, that is
-    /// said.
+    /// Tells what became of what the last key asked. Where it was carried out its box is shut; where it was refused, a message
+    /// says so.
     pub fn settle(&mut self, told: Told)
-        ensures { self.new ≡ screen_settled told self.old }
+        ensures settled { self.new ≡ screen_settled told self.old }
+        ensures size { HasSameSize self.old self.new }
     {
         match told {
             Told::Nothing => {}
             Told::Done => self.dialog = Dialog::Nothing,
-            Told::Refused(refusal) => self.news = Some(refusal_text(&refusal)),
+            Told::Refused(refusal) => self.message = Some(Message::Refused(refusal)),
             Told::Lost => {}
         }
     }
 
-    /// Takes up what the live jobs did. After a job's end, which `has_unseen_end` says, each panel is read again. A trouble gets its
-    /// box, and so does the part that the end left.
-    pub fn look<T: Tree>(
-        &mut self,
-        alloc: Global,
-        tree: &mut T,
-        rows: &JobRows,
-        has_unseen_end: bool,
-        part: Option<Path>,
-    ) -> Result<Refusals, NoMemory>
-        ensures leads { IfOk result (λ refusals. LookLeads (sight (T.contents tree.old)) rows.now has_unseen_end part refusals self.old self.new) }
-        ensures left { self.new.left.folder ≡ self.old.left.folder }
-        ensures right { self.new.right.folder ≡ self.old.right.folder }
-        ensures settled { self.new.planned ≡ None }
-        ensures lost { OnErr result (self.new ≡ self.old) }
-        ensures reads { ReadsTree ListFolder (λ (refusals : List RefusalType). refusals) result (T.contents tree.old) (T.contents tree.new)
-            (T.fault_count tree.old) (T.fault_count tree.new) }
+    /// Whether a message is shown.
+    fn has_message(&self) -> bool
+        ensures { result ≡ is_some self.now.message }
     {
-        let _news = &self.news;
-        let trouble = shown_trouble(alloc, rows)?;
-        let left = list_again(alloc, tree, self.left.folder(), has_unseen_end)?;
-        let right = list_again(alloc, tree, self.right.folder(), has_unseen_end)?;
-        let Reread {
-            names: left_names,
-            refused: left_refused,
-        } = left;
-        let Reread {
-            names: right_names,
-            refused: right_refused,
-        } = right;
-        let refusals = refusals_of(alloc, left_refused, right_refused)?;
-        self.news = news_of(&refusals);
-        self.left.take_names(left_names);
-        self.right.take_names(right_names);
-        self.show(trouble);
-        self.tell_part(part);
-        Ok(refusals)
+        self.message.is_some()
     }
 
-    /// Puts a trouble's box over all.
-    fn show(&mut self, trouble: Option<Trouble>)
-        ensures { self.new ≡ record self.old { over = with_trouble trouble self.old.over } }
+    /// A key while a message is shown.
+    fn key_in_message(&mut self, alloc: Global, key: Key) -> KeyAct
+        ensures leads { self.new ≡ after_message (plain_base key) self.old }
+        ensures nothing { result ≡ record { ask = Ask.Nothing; refusals = [] } }
     {
-        if let Some(trouble) = trouble {
-            self.dialog = Dialog::Trouble(trouble);
+        let _dialog = &self.dialog;
+        if closes_message(plain_base(key)) {
+            self.message = None;
         }
+        asking_nothing(alloc)
     }
 
-    /// Puts the message of a part that was left over all.
-    fn tell_part(&mut self, part: Option<Path>)
-        ensures { self.new ≡ record self.old { over = with_part part self.old.over } }
+    /// How many items of a panel are on the screen.
+    pub fn page(&self) -> usize
+        ensures page { result ≡ page_of self.now }
+        ensures bound { result < 2 ^ 16 }
     {
-        if let Some(path) = part {
-            self.dialog = Dialog::PartLeft(path);
-        }
-    }
-}
-
-/// The trouble in which the live job waits.
-fn shown_trouble(alloc: Global, rows: &JobRows) -> Result<Option<Trouble>, NoMemory>
-    ensures { IfOk result (λ trouble. trouble ≡ trouble_in rows.now) }
-{
-    match rows.0.as_slice() {
-        [] => Ok(None),
-        [row, ..] => match &row.trouble {
-            None => Ok(None),
-            Some(trouble) => Ok(Some(trouble.copy(alloc)?)),
-        },
+        usize::from(self.lines.saturating_sub(6))
     }
 }
 
@@ -203,30 +215,4 @@ fn plain_base(key: Key) -> Base
     ensures { result ≡ plain_base key }
 {
     if key.meta { Base::Unknown } else { key.base }
-}
-
-/// Two refusals, as far as they are there.
-fn refusals_of(
-    alloc: Global,
-    first: Option<Refusal>,
-    second: Option<Refusal>,
-) -> Result<Refusals, NoMemory>
-    ensures { IfOk result (λ refusals. refusals ≡ listed first ++ listed second) }
-{
-    let mut refusals = Vec::new(alloc);
-    if let Some(refusal) = first {
-        refusals.push(refusal)?;
-    }
-    if let Some(refusal) = second {
-        refusals.push(refusal)?;
-    }
-    Ok(Refusals(refusals))
-}
-
-/// What is shown of refusals: the first.
-fn news_of(refusals: &Refusals) -> Option<&'static str> {
-    match refusals.0.as_slice() {
-        [] => None,
-        [first, ..] => Some(refusal_text(first)),
-    }
 }

@@ -1,5 +1,8 @@
 //! What a key or a look wanted and was refused.
-use mc_text::Path;
+ghost use Rattle.std.specs.Prelude.{◌≡◌, IfOk};
+
+use mc_text::{NoMemory, Path};
+use std::alloc::Global;
 use std::marker::Model;
 use tree_trait::TreeError;
 
@@ -10,6 +13,21 @@ pub enum PlanError {
     TargetThere(Path),
     /// The target's path would have more than 4,096 bytes.
     TargetTooLong,
+    /// The source mask or the destination is one that is not read yet.
+    BadMask,
+}
+
+impl PlanError {
+    /// The same once more.
+    pub fn copy(&self, alloc: Global) -> Result<PlanError, NoMemory>
+        ensures { IfOk result (λ copy. copy ≡ self.now) }
+    {
+        match self {
+            PlanError::TargetThere(path) => Ok(PlanError::TargetThere(path.copy(alloc)?)),
+            PlanError::TargetTooLong => Ok(PlanError::TargetTooLong),
+            PlanError::BadMask => Ok(PlanError::BadMask),
+        }
+    }
 }
 
 /// Why a job could not be begun.
@@ -28,6 +46,19 @@ pub enum Refusal {
     Plan(PlanError),
     /// The beginning of a job.
     Begin(BeginError),
+}
+
+impl Refusal {
+    /// The same once more.
+    pub fn copy(&self, alloc: Global) -> Result<Refusal, NoMemory>
+        ensures { IfOk result (λ copy. copy ≡ self.now) }
+    {
+        match self {
+            Refusal::Tree(path, error) => Ok(Refusal::Tree(path.copy(alloc)?, *error)),
+            Refusal::Plan(error) => Ok(Refusal::Plan(error.copy(alloc)?)),
+            Refusal::Begin(error) => Ok(Refusal::Begin(*error)),
+        }
+    }
 }
 
 /// The refusals of one key or look.

@@ -1,5 +1,5 @@
-//! Whole runs over devices in memory: of each its tree, devices, words and keys, and what comes of them. The expected lines
-//! stand in `stdout`, written from the rules.
+//! Whole runs over devices in memory: of each its tree, devices, folder, words and keys, and what comes of them. The rows stand
+//! in `stdin`, the expected lines in `stdout`, written from the rules.
 #![tactic(auto)]
 
 mod rows;
@@ -11,8 +11,9 @@ use anyhow::Result;
 
 fn main(rt: HostRuntime) -> Result<()> {
     let alloc = rt.alloc();
-    for row in rows::ROWS.lines() {
-        let told = rows::told_of(alloc, row)?;
+    for row in rt.lines(alloc) {
+        let row = row?;
+        let told = rows::told_of(alloc, row.as_str())?;
         println!(rt; "{row}\n  {told}")?;
     }
     let cut = rows::cut_frames(alloc)?;

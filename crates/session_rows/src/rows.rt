@@ -1,47 +1,19 @@
-//! The rows, and what comes of each.
-use crate::running::{run_mute, run_told};
+//! A row, and what comes of it.
+use crate::running::{run_mute, run_told, started_in};
 use crate::scenes::planted;
 use crate::telling::told;
 use anyhow::{Result, bail};
+use mc_main::Env;
 use mc_text::{Bytes, Text};
 use std::alloc::Global;
 
-/// A run each: its tree; whether its devices tell what they hold, or are silent, and then which of their calls fail; its
-/// words, where `''` is an empty one; and its keys.
-pub const ROWS: &str = "one file | telling | /a | f10
-one file | telling | /a | down f8 enter f10
-one file | telling | /a | down f8 f10 f10
-one file | telling | /a | down enter f10
-one file | telling | /a | f8 enter f10
-one file | telling | /a | down f8 escape enter f10 f10
-one file | telling | /a | down f8
-one file | telling | /nowhere | f10
-one file | telling | /a/x | f10
-one file | telling | a | f10
-one file | telling | '' | f10
-one file | telling | /nowhere b | f10
-one file | silent | /a | down f8 enter f10
-one file | keyboard 1 | /a | down f10
-one file | screen 2 | /a | down f10
-fixed folder | silent | /a | down f8 enter f10
-room for 9 | silent | /s /t | down f5 enter enter f10
-room for 9 | silent | /s /t | down f5 enter enter down f5 enter enter f10 f10
-room for 9 | silent | /s /t | down f5 f10 f10
-room for 9 | silent | /s /t | down f5 enter f10 f10
-room for 1 | silent | /s /t | down f5 enter enter f10
-room for 1 | silent | /s /t | down f5 enter enter s f10
-room for 1 | silent | /s /t | down f5 enter enter b f10
-room for 1 | silent | /s /t | down f5 enter enter r f10 f10
-room for 1 | tree 13 | /s /t | down f5 enter enter b f10 enter f10
-two files | tree 5 | /a | down f8 enter b f8 enter f10
-two files | tree 5 6 | /a | down f8 enter b f8 enter f10
-two files | tree 5 6 12 | /a | down f8 enter b f8 enter r f10";
-
-/// The parts of a row.
+/// A run: its tree; whether its devices tell what they hold, or are silent, and then which of their calls fail; the folder in
+/// which it is started; its words, where `''` is an empty one; and its keys.
 #[derive(Clone, Copy)]
 struct Row<'a> {
     tree: &'a str,
     devices: &'a str,
+    folder: &'a str,
     words: &'a str,
     keys: &'a str,
 }
@@ -50,11 +22,12 @@ struct Row<'a> {
 pub fn told_of(alloc: Global, row: &str) -> Result<String> {
     let row = read_row(row)?;
     let words = words_of(alloc, row.words)?;
+    let env = started_in(alloc, row.folder)?;
     let keys = keys_of(alloc, row.keys)?;
     if row.devices == "telling" {
-        telling_line(alloc, row.tree, words.as_slice(), keys)
+        telling_line(alloc, row.tree, words.as_slice(), &env, keys)
     } else {
-        silent_line(alloc, row.tree, row.devices, words.as_slice(), keys)
+        silent_line(alloc, row.tree, row.devices, words.as_slice(), &env, keys)
     }
 }
 
@@ -63,15 +36,19 @@ fn read_row(row: &str) -> Result<Row<'_>> {
         bail!("a row without devices");
     };
     let Some((devices, more)) = more.split_once(" | ") else {
+        bail!("a row without a folder");
+    };
+    let Some((folder, more)) = more.split_once(" |") else {
         bail!("a row without words");
     };
-    let Some((words, keys)) = more.split_once(" | ") else {
+    let Some((words, keys)) = more.split_once("| ") else {
         bail!("a row without keys");
     };
     Ok(Row {
         tree,
         devices,
-        words,
+        folder,
+        words: words.trim(),
         keys,
     })
 }
@@ -79,7 +56,7 @@ fn read_row(row: &str) -> Result<Row<'_>> {
 /// The words of a run.
 fn words_of(alloc: Global, words: &str) -> Result<Vec<Text>> {
     let mut list = Vec::new(alloc);
-    for word in words.split(' ') {
+    for word in words.split_whitespace() {
         let word = if word == "''" { "" } else { word };
         list.push(Text::from_str(alloc, word)?)?;
     }
@@ -109,9 +86,15 @@ fn bytes_of_key(key: &str) -> &str {
 }
 
 /// A run over devices that tell what they hold.
-fn telling_line(alloc: Global, tree: &str, words: &[Text], keys: Bytes) -> Result<String> {
+fn telling_line(
+    alloc: Global,
+    tree: &str,
+    words: &[Text],
+    env: &Env,
+    keys: Bytes,
+) -> Result<String> {
     let tree = planted(alloc, tree, &[])?;
-    let outcome = run_told(alloc, tree, words, keys);
+    let outcome = run_told(alloc, tree, words, env, keys);
     let mut tree = outcome.tree;
     told(
         alloc,
@@ -128,6 +111,7 @@ fn silent_line(
     tree: &str,
     devices: &str,
     words: &[Text],
+    env: &Env,
     keys: Bytes,
 ) -> Result<String> {
     let (device, numbers) = devices.split_once(' ').unwrap_or((devices, ""));
@@ -138,6 +122,7 @@ fn silent_line(
         alloc,
         tree,
         words,
+        env,
         keys,
         failing(device, "keyboard", numbers).first().copied(),
         failing(device, "screen", numbers).first().copied(),
@@ -184,6 +169,15 @@ fn shown(alloc: Global, screen_fails: Option<u64>) -> Result<Bytes> {
     let tree = planted(alloc, "one file", &[])?;
     let words = words_of(alloc, "/a")?;
     let keys = keys_of(alloc, "down f10")?;
-    let outcome = run_mute(alloc, tree, words.as_slice(), keys, None, screen_fails);
+    let env = started_in(alloc, "/")?;
+    let outcome = run_mute(
+        alloc,
+        tree,
+        words.as_slice(),
+        &env,
+        keys,
+        None,
+        screen_fails,
+    );
     Ok(Bytes::from_slice(alloc, outcome.screen.inner().bytes())?)
 }

@@ -1,4 +1,5 @@
 //! Runs of the top call over devices in memory.
+use anyhow::Result;
 use mc_main::{Env, Gate, Outcome, mc_run};
 use mc_text::{Bytes, Text};
 use mem_devices::{FakeSpawner, FixedClock, MemSink, MemSource, Mute, Outcomes};
@@ -13,14 +14,15 @@ impl Gate for Open {
     fn pass(&self, _worker: u32, _turn: u64) {}
 }
 
-fn env(alloc: Global) -> Env {
-    Env {
-        folder: Text(String::new(alloc)),
+/// The surroundings of a run that was started in this folder.
+pub fn started_in(alloc: Global, folder: &str) -> Result<Env> {
+    Ok(Env {
+        folder: Text::from_str(alloc, folder)?,
         lines: None,
         columns: None,
         home: None,
         workers: None,
-    }
+    })
 }
 
 /// A run over devices that tell what they hold; the type that the call is given names what they tell.
@@ -28,13 +30,14 @@ pub fn run_told(
     alloc: Global,
     tree: MemTree,
     words: &[Text],
+    env: &Env,
     keys: Bytes,
 ) -> Outcome<MemTree, MemSink, FakeSpawner> {
     let mut source = MemSource::new(keys, None);
     mc_run::<Brand, MemTree, MemSource, MemSink, FakeSpawner, FixedClock, Open>(
         alloc,
         words,
-        &env(alloc),
+        env,
         tree,
         MemSink::new(alloc, None),
         &mut source,
@@ -49,6 +52,7 @@ pub fn run_mute(
     alloc: Global,
     tree: MemTree,
     words: &[Text],
+    env: &Env,
     keys: Bytes,
     keyboard_fails: Option<u64>,
     screen_fails: Option<u64>,
@@ -65,7 +69,7 @@ pub fn run_mute(
     >(
         alloc,
         words,
-        &env(alloc),
+        env,
         Mute::new(tree),
         Mute::new(MemSink::new(alloc, screen_fails)),
         &mut source,

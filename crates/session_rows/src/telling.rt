@@ -31,10 +31,11 @@ pub fn told<T: Tree>(
     Ok(line)
 }
 
-/// The line that was printed.
+/// The lines that were printed.
 fn add_printed(alloc: Global, printed: &[u8], line: &mut String) -> Result<()> {
+    line.push_str("; printed: ")?;
     let text = std::str::from_utf8(printed)?;
-    line.push_str(format!(in alloc; "; printed: {}", text.trim_end())?.as_str())?;
+    line.push_str(text.trim_end().replace(alloc, "\n", " / ")?.as_str())?;
     Ok(())
 }
 

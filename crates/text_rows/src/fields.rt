@@ -36,3 +36,16 @@ pub fn repeated(alloc: Global, part: &str, count: &str) -> Result<String> {
     }
     Ok(text)
 }
+
+/// Bytes as a field has them: those of printable ASCII, and `\xHH` for the others.
+pub fn spelled(alloc: Global, bytes: &[u8]) -> Result<String> {
+    let mut text = String::new(alloc);
+    for byte in bytes {
+        if matches!(*byte, 32..=126) {
+            text.push(char::from(*byte))?;
+        } else {
+            text.push_str(format!(in alloc; "\\x{byte:02x}")?.as_str())?;
+        }
+    }
+    Ok(text)
+}

@@ -44,6 +44,8 @@ fn answered(alloc: Global, row: &str) -> Result<String> {
         "shown" => screens::shown(alloc, fields),
         "unread" => screens::unread(alloc, fields),
         "frames" => screens::frames(alloc, fields),
+        "first" => screens::first(alloc, fields),
+        "put" => screens::put(alloc, fields),
         _ => bail!("no such call"),
     }
 }

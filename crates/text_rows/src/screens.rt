@@ -1,7 +1,7 @@
 //! Rows of screens. What is written stands as `ROW COLUMN ATTRIBUTE TEXT`, one behind the other with `;` between them.
 ghost use Rattle.std.specs.Prelude.{◌≡◌, IfOk};
 
-use crate::fields::{bytes_of, text_of};
+use crate::fields::{bytes_of, spelled, text_of};
 use anyhow::{Result, bail};
 use key_screen::{Attr, Grid, GridError, read_grid};
 use mc_screen::Screen;
@@ -103,11 +103,36 @@ pub fn frames(alloc: Global, fields: &str) -> Result<String> {
     let mut count = 0u64;
     for written in fields.split('|') {
         let frame = frame_of(alloc, written)?;
-        screen.draw(alloc, &frame, &mut sink)?;
+        let _count = screen.draw(alloc, &frame, &mut sink)?;
         let shown = read_grid(alloc, 10, 40, sink.bytes())?;
         if shown.same(&frame) {
             count = count.saturating_add(1);
         }
     }
     Ok(format!(in alloc; "{count} shown")?)
+}
+
+/// How many bytes the second of two frames puts, and which.
+pub fn put(alloc: Global, fields: &str) -> Result<String> {
+    let Some((first, second)) = fields.split_once('|') else {
+        bail!("no second frame");
+    };
+    let mut screen = Screen::new(alloc, 10, 40)?;
+    let frame = frame_of(alloc, first)?;
+    let mut sink = MemSink::new(alloc, None);
+    let _count = screen.draw(alloc, &frame, &mut sink)?;
+    let frame = frame_of(alloc, second)?;
+    let mut sink = MemSink::new(alloc, None);
+    let count = screen.draw(alloc, &frame, &mut sink)?;
+    let bytes = spelled(alloc, sink.bytes())?;
+    Ok(format!(in alloc; "{count}|{bytes}|")?)
+}
+
+/// How many bytes the first frame puts.
+pub fn first(alloc: Global, written: &str) -> Result<String> {
+    let mut screen = Screen::new(alloc, 10, 40)?;
+    let mut sink = MemSink::new(alloc, None);
+    let frame = frame_of(alloc, written)?;
+    let count = screen.draw(alloc, &frame, &mut sink)?;
+    Ok(format!(in alloc; "{count} bytes")?)
 }

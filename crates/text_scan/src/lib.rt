@@ -1,9 +1,13 @@
-//! Text taken apart from its front: a character, a line, what stands before a mark. Contracts speak of bytes.
+//! Text taken apart from its front: a character, a word, a line, what stands before a mark. Contracts speak of bytes.
 #![tactic(auto)]
 
 ghost use Rattle.std.specs.Prelude.{◌≡◌, ◌+◌, ◌<◌, ◌≤◌, [], ◌∷◌, ◌++◌, length, encode_utf8, IfSome, MatchOption};
 ghost use Rattle.text_scan.specs.Lines.{IsWithout, lines_of};
 ghost use Rattle.text_scan.specs.HighBytes.{AreHigh};
+
+mod words;
+
+pub use crate::words::{behind_indent, behind_word, unindented};
 
 /// A text's first character, and the text behind it.
 pub fn first_char(text: &str) -> Option<(char, &str)>

@@ -8,7 +8,7 @@ use Rattle.std.specs.Char.{char_set_contains}
 use Rattle.std.specs.List.{AllByRecursion, position_or_len, before_first, after_first}
 use Rattle.std.specs.Str.{NonePass, NoCharPasses}
 use Rattle.std.specs.Str.Pattern.{FindsBy, SplitsAroundMatch}
-use Rattle.user_menu.specs.Words.{is_blank}
+use Rattle.text_scan.specs.Words.{is_blank}
 
 -- no byte of a text is a blank or tab
 abbrev pub IsUnbroken : List ℕ → Type 0

@@ -3,7 +3,8 @@ use Rattle.std.proofs.Common.{◌≡◌, ℕ, zero, suc, ◌+◌, ◌<◌, ◌�
 use Rattle.std.specs.Option.{option_map_or}
 use Rattle.std.specs.List.{position_or_len}
 use Rattle.tagging.specs.declared.pattern.PatternKind.{PatternKind}
-use Rattle.user_menu.specs.Words.{behind_word, unindented, is_blank, FirstWord, cut_word, first_word}
+use Rattle.text_scan.specs.Words.{behind_word, unindented, is_blank}
+use Rattle.user_menu.specs.Words.{FirstWord, cut_word, first_word}
 use Rattle.user_menu.specs.declared.condition.Joint.{Joint}
 use Rattle.user_menu.specs.declared.condition.Joined.{Joined}
 use Rattle.user_menu.specs.declared.condition.Test.{Test}

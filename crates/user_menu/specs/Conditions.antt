@@ -5,7 +5,8 @@ use Rattle.std.specs.Option.{option_map_or}
 use Rattle.std.specs.Str.{bytes_eq}
 use Rattle.tagging.specs.Patterns.{PatternText, is_pattern_of}
 use Rattle.tagging.specs.declared.pattern.PatternKind.{PatternKind}
-use Rattle.user_menu.specs.Words.{behind_word, is_blank, FirstWord, first_word}
+use Rattle.text_scan.specs.Words.{behind_word, is_blank}
+use Rattle.user_menu.specs.Words.{FirstWord, first_word}
 use Rattle.user_menu.specs.declared.condition.Panel.TheVariants.{Here, There}
 use Rattle.user_menu.specs.declared.condition.Sense.{Sense}
 use Rattle.user_menu.specs.declared.condition.Sense.TheVariants.{Plain, Turned}

@@ -4,7 +4,7 @@ use Rattle.std.specs.Option.{option_map_or}
 use Rattle.std.specs.Str.{bytes_eq}
 use Rattle.tagging.specs.declared.pattern.PatternKind.{PatternKind}
 use Rattle.tagging.specs.declared.pattern.PatternKind.TheVariants as kind_of
-use Rattle.user_menu.specs.Words.{behind_word, behind_indent, unindented}
+use Rattle.text_scan.specs.Words.{behind_word, behind_indent, unindented}
 use Rattle.user_menu.specs.Conditions.{condition_of}
 use Rattle.user_menu.specs.declared.condition.Joined.{Joined}
 use Rattle.user_menu.specs.declared.line.Purpose.{Purpose}

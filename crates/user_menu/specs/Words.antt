@@ -1,26 +1,7 @@
--- Texts behind a word or white space with which they begin, and their first word. Bytes: tab 9, blank 32.
-use Rattle.std.specs.Prelude.{ℕ, Bool, ◌==◌, ◌||◌, if◌then◌else◌, List, [], ◌∷◌, Option, Some, None}
+-- The first word of a text.
+use Rattle.std.specs.Prelude.{ℕ, List, [], ◌∷◌, Option, Some, None}
 use Rattle.std.specs.List.{before_first, after_first}
-use Rattle.std.specs.Option.{option_or}
-
--- the text behind a word with which it begins
-abbrev pub behind_word : List ℕ → List ℕ → Option (List ℕ)
-behind_word [] text = Some text
-behind_word (letter ∷ word) [] = None
-behind_word (letter ∷ word) (byte ∷ text) = if byte == letter then behind_word word text else None
-
--- the text behind a blank or tab with which it begins
-abbrev pub behind_indent : List ℕ → Option (List ℕ)
-behind_indent text = option_or (behind_word (32 ∷ []) text) (behind_word (9 ∷ []) text)
-
--- white space between words
-abbrev pub is_blank : ℕ → Bool
-is_blank byte = byte == 32 || byte == 9
-
--- the text without leading blanks and tabs
-abbrev pub unindented : List ℕ → List ℕ
-unindented [] = []
-unindented (byte ∷ text) = if is_blank byte then unindented text else byte ∷ text
+use Rattle.text_scan.specs.Words.{is_blank, unindented}
 
 -- a word that was read, and the text behind the blank or tab that ends it
 pub record FirstWord : Type 0 where

@@ -4,10 +4,10 @@ ghost use Rattle.user_menu.specs.MenuLines.{condition_line, asked_line, word_lin
 
 use crate::condition::Condition;
 use crate::reading::read_condition;
-use crate::words::{behind_indent, behind_word, unindented};
 use mc_text::{NoMemory, Text};
 use std::alloc::Global;
 use tagging::PatternKind;
+use text_scan::{behind_indent, behind_word, unindented};
 
 /// What a condition is for: whether an entry is shown, whether it is the default, or both.
 #[derive(Clone, Copy, Drop)]

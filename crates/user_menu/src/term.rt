@@ -5,10 +5,11 @@ ghost use Rattle.user_menu.specs.TermViews.{letter_view, term_view};
 
 use crate::condition::{Panel, Sense, Term, Test};
 use crate::pattern::pattern_in;
-use crate::words::{behind_indent, behind_word, first_word};
+use crate::words::first_word;
 use mc_text::{NoMemory, Text};
 use std::alloc::Global;
 use tagging::PatternKind;
+use text_scan::{behind_indent, behind_word};
 
 /// What the letter of a term asks.
 #[derive(Clone, Copy, Drop)]

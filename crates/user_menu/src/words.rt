@@ -1,41 +1,11 @@
-//! Texts taken apart from their front: a word, white space, the signs that turn a term.
-ghost use Rattle.std.specs.Prelude.{◌≡◌, ◌++◌, ◌<◌, length, IfSome, MatchOption, option_map};
+//! The first word of a text.
+ghost use Rattle.std.specs.Prelude.{◌≡◌};
 ghost use Rattle.std.specs.List.{before_first, after_first};
-ghost use Rattle.user_menu.specs.Words.{behind_word, behind_indent, unindented, is_blank, first_word};
+ghost use Rattle.text_scan.specs.Words.{is_blank};
+ghost use Rattle.user_menu.specs.Words.{first_word};
 ghost use Rattle.user_menu.specs.WordViews.{word_view};
 
-/// The text behind a word with which it begins.
-pub fn behind_word<'a>(text: &'a str, word: &str) -> Option<&'a str>
-    ensures found { option_map (λ rest. rest.now) result ≡ behind_word word.now text.now }
-    ensures parts { IfSome result (λ rest. text.now ≡ word.now ++ rest.now) }
-{
-    text.strip_prefix(word)
-}
-
-/// The text behind a blank or tab with which it begins.
-pub fn behind_indent(text: &str) -> Option<&str>
-    ensures found { option_map (λ rest. rest.now) result ≡ behind_indent text.now }
-    ensures shorter { IfSome result (λ rest. length rest.now < length text.now) }
-{
-    if let Some(rest) = behind_word(text, " ") {
-        return Some(rest);
-    }
-    match behind_word(text, "\t") {
-        Some(rest) => Some(rest),
-        None => None,
-    }
-}
-
-/// The text without leading blanks and tabs.
-pub fn unindented(text: &str) -> &str
-    ensures { result.now ≡ unindented text.now }
-{
-    let mut words = text;
-    while let Some(behind) = behind_indent(words) {
-        words = behind;
-    }
-    words
-}
+use text_scan::unindented;
 
 /// A text's first word, and the text behind the blank or tab that ends it. A text of blanks has none.
 pub fn first_word(text: &str) -> Option<(&str, &str)>

@@ -1,24 +1,20 @@
-//! Keys while a box is open. Its dialog was taken out, and is put back where the box stays.
-ghost use Rattle.std.specs.Prelude.{◌≡◌, [], false, true, not, None, Some, OnErr, IfOk, if◌then◌else◌};
-ghost use Rattle.tree_trait.specs.Calls.{Stat};
-ghost use Rattle.key_screen.specs.declared.keys.Base.{Base as BaseType};
+//! Keys while a question box is open. Its dialog was taken out, and is put back where the box stays.
+ghost use Rattle.std.specs.Prelude.{◌≡◌, [], false, true, not, OnErr, IfOk, if◌then◌else◌};
 ghost use Rattle.job_reports.specs.Reports.{passes_over};
-ghost use Rattle.mc_ui.specs.declared.asks.KeyAct.{KeyAct as KeyActType};
+ghost use Rattle.mc_ui.specs.BoxKeys.{delete_reply_to as deletes_by, trouble_reply_to as answers_by};
 ghost use Rattle.mc_ui.specs.LiveJobs.{can_answer as may_answer, none_live as is_idle, takes_answer as may_take};
-ghost use Rattle.mc_ui.specs.Reading.{ReadsTree};
-ghost use Rattle.mc_ui.specs.Screens.{DeleteBox, InTargetBox, MaskBox, NoBox, PartLeftBox, PlansCopy, TargetBox, TroubleBox, WellAsked, answered_box, closes_message as does_close, confirms as does_confirm, in_delete_box, in_mask_box, in_message_box, in_trouble_box, is_cancel as does_cancel, is_enter as is_enter_key, is_request, letter_of as answer_of, seen_box, sight, target_in, with_ask};
+ghost use Rattle.mc_ui.specs.Screens.{DeleteBox, NoBox, TroubleBox, WellAsked, after_delete, after_trouble, is_request, seen_box, with_ask};
 
 use super::Ui;
-use super::panel_keys::{asking, asking_nothing, one_refusal};
+use super::panel_keys::{asking, asking_nothing};
 use crate::asks::{Ask, KeyAct};
-use crate::causes::refusal_text;
-use crate::copying::{CopyPlan, deletion_of, plan_copy};
+use crate::copying::deletion_of;
 use crate::dialog::{Chosen, Dialog};
+use crate::replies::{DeleteReply, TroubleReply, delete_reply_to, trouble_reply_to};
 use job_reports::{Answer, Job, JobRow, JobRows, JobState, Trouble};
-use key_screen::Base;
-use mc_text::{NoMemory, Path};
+use key_screen::Key;
+use mc_text::NoMemory;
 use std::alloc::Global;
-use tree_trait::Tree;
 
 impl Ui {
     /// A key while the box asks whether to delete a file.
@@ -27,103 +23,49 @@ impl Ui {
         alloc: Global,
         chosen: Chosen,
         rows: &JobRows,
-        base: Base,
+        key: Key,
     ) -> Result<KeyAct, NoMemory>
         requires clear { self.old.over ≡ NoBox }
         ensures leads { IfOk result (λ act. with_ask act.ask self.new
-            ≡ in_delete_box base rows.now chosen.path (record self.old { over = DeleteBox chosen.path })) }
+            ≡ after_delete (deletes_by key) rows.now chosen.path (record self.old { over = DeleteBox chosen.path })) }
         ensures refusals { IfOk result (λ act. act.refusals ≡ []) }
         ensures asked { IfOk result (λ act. WellAsked rows.now act.ask) }
         ensures stays { IfOk result (λ act. is_request act.ask ≡ true → self.new ≡ record self.old { over = DeleteBox chosen.path }) }
-        ensures left { self.new.left ≡ self.old.left }
-        ensures right { self.new.right ≡ self.old.right }
-        ensures settled { self.new.planned ≡ None }
+        ensures rest { record self.new { over = NoBox } ≡ self.old }
         ensures lost { OnErr result (self.new ≡ record self.old { over = DeleteBox chosen.path }) }
     {
-        let _news = &self.news;
-        if confirms(base, rows) {
-            let planned = deletion_of(alloc, &chosen);
-            self.dialog = Dialog::Delete(chosen);
-            return Ok(asking(alloc, begin(planned?)));
+        let _lines = &self.lines;
+        match delete_reply_to(key) {
+            DeleteReply::Stays => {
+                self.dialog = Dialog::Delete(chosen);
+                Ok(asking_nothing(alloc))
+            }
+            DeleteReply::Shuts => Ok(asking_nothing(alloc)),
+            DeleteReply::Deletes => self.confirm_deletion(alloc, chosen, rows),
         }
-        self.dialog = unless_shut(base, Dialog::Delete(chosen));
-        Ok(asking_nothing(alloc))
     }
 
-    /// A key while the source mask is shown.
-    pub(super) fn key_in_mask(&mut self, alloc: Global, chosen: Chosen, base: Base) -> KeyAct
-        requires clear { self.old.over ≡ NoBox }
-        ensures leads { self.new ≡ in_mask_box base chosen.path (record self.old { over = MaskBox chosen.path }) }
-        ensures nothing { result ≡ record { ask = Ask.Nothing; refusals = [] } }
-    {
-        let _news = &self.news;
-        self.dialog = if is_enter(base) {
-            Dialog::CopyTo(chosen)
-        } else {
-            unless_shut(base, Dialog::SourceMask(chosen))
-        };
-        asking_nothing(alloc)
-    }
-
-    /// A key while the target of a copy is shown.
-    pub(super) fn key_in_target<T: Tree>(
+    /// The deletion is confirmed, which it can be while no job is live. The box stays until the job is begun.
+    fn confirm_deletion(
         &mut self,
         alloc: Global,
-        tree: &mut T,
         chosen: Chosen,
         rows: &JobRows,
-        base: Base,
     ) -> Result<KeyAct, NoMemory>
         requires clear { self.old.over ≡ NoBox }
-        ensures leads { IfOk result (λ act. InTargetBox (sight (T.contents tree.old)) base rows.now chosen.path
-            act.refusals (record self.old { over = TargetBox chosen.path }) (with_ask act.ask self.new)) }
+        ensures leads { IfOk result (λ act. with_ask act.ask self.new
+            ≡ after_delete DeleteReply.Deletes rows.now chosen.path (record self.old { over = DeleteBox chosen.path })) }
+        ensures refusals { IfOk result (λ act. act.refusals ≡ []) }
         ensures asked { IfOk result (λ act. WellAsked rows.now act.ask) }
-        ensures stays { IfOk result (λ act. is_request act.ask ≡ true → self.new ≡ record self.old { over = TargetBox chosen.path }) }
-        ensures alone { IfOk result (λ act. is_request act.ask ≡ true → act.refusals ≡ []) }
-        ensures left { self.new.left ≡ self.old.left }
-        ensures right { self.new.right ≡ self.old.right }
-        ensures settled { self.new.planned ≡ None }
-        ensures lost { OnErr result (self.new ≡ record self.old { over = TargetBox chosen.path }) }
-        ensures reads { ReadsTree Stat (λ (act : KeyActType). act.refusals) result (T.contents tree.old) (T.contents tree.new)
-            (T.fault_count tree.old) (T.fault_count tree.new) }
+        ensures stays { self.new ≡ record self.old { over = DeleteBox chosen.path } }
     {
-        let _news = &self.news;
-        if confirms(base, rows) {
-            return self.accept_target(alloc, tree, chosen);
+        let _lines = &self.lines;
+        let planned = deletion_of(alloc, &chosen);
+        self.dialog = Dialog::Delete(chosen);
+        if !none_live(rows) {
+            return Ok(asking_nothing(alloc));
         }
-        self.dialog = unless_shut(base, Dialog::CopyTo(chosen));
-        Ok(asking_nothing(alloc))
-    }
-
-    /// Enter on a target: the copy is planned, or it is refused. The box stays until the copy is begun.
-    fn accept_target<T: Tree>(
-        &mut self,
-        alloc: Global,
-        tree: &mut T,
-        chosen: Chosen,
-    ) -> Result<KeyAct, NoMemory>
-        requires clear { self.old.over ≡ NoBox }
-        ensures leads { IfOk result (λ act. PlansCopy (sight (T.contents tree.old)) chosen.path (target_in self.old.right.folder chosen.path)
-            act.refusals (record self.old { over = TargetBox chosen.path }) (with_ask act.ask self.new)) }
-        ensures asked { IfOk result (λ act. WellAsked [] act.ask) }
-        ensures stays { self.new ≡ record self.old { over = TargetBox chosen.path } }
-        ensures alone { IfOk result (λ act. is_request act.ask ≡ true → act.refusals ≡ []) }
-        ensures reads { ReadsTree Stat (λ (act : KeyActType). act.refusals) result (T.contents tree.old) (T.contents tree.new)
-            (T.fault_count tree.old) (T.fault_count tree.new) }
-    {
-        let planned = plan_copy(alloc, tree, &chosen, self.right.folder());
-        self.dialog = Dialog::CopyTo(chosen);
-        match planned {
-            Ok(CopyPlan::Begins(plan)) => Ok(asking(alloc, begin(plan))),
-            Ok(CopyPlan::Refuses(refusal)) => {
-                self.news = Some(refusal_text(&refusal));
-                Ok(KeyAct {
-                    ask: Ask::Nothing,
-                    refusals: one_refusal(alloc, refusal)?,
-                })
-            }
-            Err(error) => Err(error),
-        }
+        Ok(asking(alloc, begin(planned?)))
     }
 
     /// A key while a trouble is shown.
@@ -132,25 +74,24 @@ impl Ui {
         alloc: Global,
         trouble: Trouble,
         rows: &JobRows,
-        base: Base,
+        key: Key,
     ) -> KeyAct
         requires clear { self.old.over ≡ NoBox }
         ensures leads { with_ask result.ask self.new
-            ≡ in_trouble_box rows.now base (record self.old { over = TroubleBox trouble }) }
+            ≡ after_trouble (answers_by trouble.barrier key) rows.now (record self.old { over = TroubleBox trouble }) }
         ensures refusals { result.refusals ≡ [] }
         ensures asked { WellAsked rows.now result.ask }
         ensures stays { is_request result.ask ≡ true → self.new ≡ record self.old { over = TroubleBox trouble } }
-        ensures left { self.new.left ≡ self.old.left }
-        ensures right { self.new.right ≡ self.old.right }
-        ensures settled { self.new.planned ≡ None }
+        ensures rest { record self.new { over = NoBox } ≡ self.old }
     {
-        let _news = &self.news;
-        match letter_of(base) {
-            Some(answer) => self.answer_trouble(alloc, trouble, rows, answer),
-            None => {
-                self.dialog = unless_shut(base, Dialog::Trouble(trouble));
+        let _lines = &self.lines;
+        match trouble_reply_to(trouble.barrier, key) {
+            TroubleReply::Stays => {
+                self.dialog = Dialog::Trouble(trouble);
                 asking_nothing(alloc)
             }
+            TroubleReply::Shuts => asking_nothing(alloc),
+            TroubleReply::Gives(answer) => self.answer_trouble(alloc, trouble, rows, answer),
         }
     }
 
@@ -163,104 +104,35 @@ impl Ui {
         answer: Answer,
     ) -> KeyAct
         requires clear { self.old.over ≡ NoBox }
-        ensures leads { (base : BaseType) → with_ask result.ask self.new
-            ≡ answered_box rows.now (Some answer) base (record self.old { over = TroubleBox trouble }) }
+        ensures leads { with_ask result.ask self.new
+            ≡ after_trouble (TroubleReply.Gives answer) rows.now (record self.old { over = TroubleBox trouble }) }
         ensures refusals { result.refusals ≡ [] }
         ensures asked { WellAsked rows.now result.ask }
         ensures stays { self.new ≡ record self.old { over = TroubleBox trouble } }
     {
-        let _news = &self.news;
+        let _lines = &self.lines;
         self.dialog = Dialog::Trouble(trouble);
         if can_answer(rows, answer) {
             return asking(alloc, Ask::Answer(answer));
         }
         asking_nothing(alloc)
     }
-
-    /// A key while a message tells of a part that was left.
-    pub(super) fn key_in_message(&mut self, alloc: Global, path: Path, base: Base) -> KeyAct
-        requires clear { self.old.over ≡ NoBox }
-        ensures leads { self.new ≡ in_message_box base (record self.old { over = PartLeftBox path }) }
-        ensures nothing { result ≡ record { ask = Ask.Nothing; refusals = [] } }
-    {
-        let _news = &self.news;
-        if !closes_message(base) {
-            self.dialog = Dialog::PartLeft(path);
-        }
-        asking_nothing(alloc)
-    }
-}
-
-/// The box, unless this key shuts it.
-fn unless_shut(base: Base, dialog: Dialog) -> Dialog
-    ensures { seen_box result ≡ (if does_cancel base then NoBox else seen_box dialog) }
-{
-    if is_cancel(base) {
-        Dialog::Nothing
-    } else {
-        dialog
-    }
-}
-
-/// Whether a key shuts a box.
-fn is_cancel(base: Base) -> bool
-    ensures { result ≡ does_cancel base }
-{
-    match base {
-        Base::F(number) => number == 10,
-        Base::Escape => true,
-        _ => false,
-    }
-}
-
-fn is_enter(base: Base) -> bool
-    ensures { result ≡ is_enter_key base }
-{
-    matches!(base, Base::Enter)
 }
 
 /// Whether no job is live.
-fn none_live(rows: &JobRows) -> bool
+pub(super) fn none_live(rows: &JobRows) -> bool
     ensures { result ≡ is_idle rows.now }
 {
     rows.0.is_empty()
 }
 
-/// Whether a key confirms the job of its box: Enter, where none is live.
-fn confirms(base: Base, rows: &JobRows) -> bool
-    ensures { result ≡ does_confirm base rows.now }
-{
-    is_enter(base) && none_live(rows)
-}
-
 /// The request for a job in the foreground.
-fn begin(plan: Job) -> Ask
+pub(super) fn begin(plan: Job) -> Ask
     ensures { result ≡ Ask.Begin plan false }
 {
     Ask::Begin {
         plan,
         background: false,
-    }
-}
-
-/// Whether a key closes a message.
-fn closes_message(base: Base) -> bool
-    ensures { result ≡ does_close base }
-{
-    matches!(base, Base::Enter | Base::Escape)
-}
-
-/// The answer of a letter. Enter is the first of them.
-fn letter_of(base: Base) -> Option<Answer>
-    ensures { result ≡ answer_of base }
-{
-    match base {
-        Base::Char('r') => Some(Answer::Retry),
-        Base::Char('s') => Some(Answer::Skip),
-        Base::Char('a') => Some(Answer::SkipAll),
-        Base::Char('b') => Some(Answer::Abort),
-        Base::Enter => Some(Answer::Retry),
-        _ => None,
     }
 }
 

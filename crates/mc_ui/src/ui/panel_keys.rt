@@ -2,64 +2,97 @@
 ghost use Rattle.std.specs.Prelude.{◌≡◌, ◌∷◌, [], false, None, OnErr, IfOk};
 ghost use Rattle.tree_trait.specs.Calls.{Stat};
 ghost use Rattle.mc_ui.specs.declared.asks.KeyAct.{KeyAct as KeyActType};
+ghost use Rattle.mc_ui.specs.PanelKeys.{panel_command_of};
 ghost use Rattle.mc_ui.specs.Panels.{current_path};
 ghost use Rattle.mc_ui.specs.Reading.{ReadsTree};
-ghost use Rattle.mc_ui.specs.Screens.{Chooses, InPanel, NoBox, WellAsked, box_of, is_request, seen_box, sight, with_ask};
+ghost use Rattle.mc_ui.specs.Screens.{Chooses, CommandLeads, HasSameSize, NoBox, WellAsked, box_of, current_panel, is_request, opposite as other_side, plain_base as plain_base_of, seen_box, sight, told_refusal, with_ask, with_move};
 
-use super::Ui;
+use super::{Ui, plain_base};
 use crate::asks::{Ask, KeyAct};
-use crate::causes::cause_text;
+use crate::box_lines::mask_line;
 use crate::choosing::{Choice, choose};
 use crate::dialog::{Chosen, Dialog};
+use crate::message::Message;
+use crate::panel_command::{Opens, PanelCommand, panel_command};
+use crate::side::{Side, opposite};
 use job_reports::JobRows;
-use key_screen::Base;
+use key_screen::{Base, Key};
 use mc_text::NoMemory;
 use session_history::{Refusal, Refusals};
 use std::alloc::Global;
 use tree_trait::Tree;
 
-/// Which box is opened on the thing under the cursor.
-#[derive(Clone, Copy, Debug, Drop, PartialEq, Eq)]
-pub enum Opens {
-    Delete,
-    SourceMask,
-}
-
 impl Ui {
+    /// A key while no box is open: each command is a row.
     pub(super) fn key_in_panel<T: Tree>(
         &mut self,
         alloc: Global,
         tree: &mut T,
         rows: &JobRows,
-        base: Base,
+        key: Key,
     ) -> Result<KeyAct, NoMemory>
         requires clear { self.old.over ≡ NoBox }
-        ensures leads { IfOk result (λ act. InPanel (sight (T.contents tree.old)) rows.now
-            base act.refusals self.old (with_ask act.ask self.new)) }
+        ensures leads { IfOk result (λ act. CommandLeads (panel_command_of (plain_base_of key)) (sight (T.contents tree.old)) rows.now
+            act.refusals self.old (with_ask act.ask self.new)) }
         ensures asked { IfOk result (λ act. WellAsked rows.now act.ask) }
         ensures unasked { IfOk result (λ act. is_request act.ask ≡ false) }
         ensures left { self.new.left.folder ≡ self.old.left.folder }
-        ensures right { self.new.right ≡ self.old.right }
+        ensures right { self.new.right.folder ≡ self.old.right.folder }
+        ensures size { HasSameSize self.old self.new }
         ensures settled { self.new.planned ≡ None }
         ensures lost { OnErr result (self.new ≡ self.old) }
         ensures reads { ReadsTree Stat (λ (act : KeyActType). act.refusals) result (T.contents tree.old) (T.contents tree.new)
             (T.fault_count tree.old) (T.fault_count tree.new) }
     {
-        let _news = &self.news;
-        match base {
-            Base::Down => {
-                self.left.move_down();
+        let _dialog = &self.dialog;
+        match panel_command(plain_base(key)) {
+            PanelCommand::Move(base) => {
+                self.move_cursor(base);
                 Ok(asking_nothing(alloc))
             }
-            Base::F(5) => self.choose_current(alloc, tree, rows, Opens::SourceMask),
-            Base::F(8) => self.choose_current(alloc, tree, rows, Opens::Delete),
-            Base::F(10) => Ok(asking(alloc, Ask::End)),
-            _ => Ok(asking_nothing(alloc)),
+            PanelCommand::SwitchPanel => {
+                self.switch_panel();
+                Ok(asking_nothing(alloc))
+            }
+            PanelCommand::ShowHelp => {
+                self.show_help();
+                Ok(asking_nothing(alloc))
+            }
+            PanelCommand::Open(opens) => self.open_box(alloc, tree, rows, opens),
+            PanelCommand::Quit => Ok(asking(alloc, Ask::End)),
+            PanelCommand::Nothing => Ok(asking_nothing(alloc)),
         }
     }
 
+    /// Moves the cursor of the current panel.
+    fn move_cursor(&mut self, base: Base)
+        ensures moved { self.new ≡ with_move self.old.current base self.old }
+        ensures left { self.new.left.folder ≡ self.old.left.folder }
+        ensures right { self.new.right.folder ≡ self.old.right.folder }
+    {
+        let page = self.page();
+        match self.current {
+            Side::Left => self.left.move_by(page, base),
+            Side::Right => self.right.move_by(page, base),
+        }
+    }
+
+    /// Makes the other panel current.
+    fn switch_panel(&mut self)
+        ensures { self.new ≡ record self.old { current = other_side self.old.current } }
+    {
+        self.current = opposite(self.current);
+    }
+
+    /// Shows the help.
+    fn show_help(&mut self)
+        ensures { self.new ≡ record self.old { message = Some Message.Help } }
+    {
+        self.message = Some(Message::Help);
+    }
+
     /// Opens a box on the thing under the cursor, if that is a file and no job is live.
-    fn choose_current<T: Tree>(
+    fn open_box<T: Tree>(
         &mut self,
         alloc: Global,
         tree: &mut T,
@@ -68,44 +101,54 @@ impl Ui {
     ) -> Result<KeyAct, NoMemory>
         requires clear { self.old.over ≡ NoBox }
         ensures leads { IfOk result (λ act. Chooses (box_of opens) (sight (T.contents tree.old)) rows.now
-            (current_path self.old.left) act.refusals self.old self.new) }
+            (current_path (current_panel self.old)) act.refusals self.old self.new) }
         ensures asks { IfOk result (λ act. act.ask ≡ Ask.Nothing) }
         ensures left { self.new.left ≡ self.old.left }
         ensures right { self.new.right ≡ self.old.right }
+        ensures size { HasSameSize self.old self.new }
         ensures settled { self.new.planned ≡ None }
         ensures lost { OnErr result (self.new ≡ self.old) }
         ensures reads { ReadsTree Stat (λ (act : KeyActType). act.refusals) result (T.contents tree.old) (T.contents tree.new)
             (T.fault_count tree.old) (T.fault_count tree.new) }
     {
-        let _news = &self.news;
+        let _dialog = &self.dialog;
         if !rows.0.is_empty() {
             return Ok(asking_nothing(alloc));
         }
-        match choose(alloc, tree, &self.left)? {
+        match choose(alloc, tree, self.current())? {
             Choice::Nothing => Ok(asking_nothing(alloc)),
             Choice::File(chosen) => {
-                self.dialog = opened(opens, chosen);
+                self.dialog = opened(alloc, opens, chosen)?;
                 Ok(asking_nothing(alloc))
             }
-            Choice::Refused(path, error) => {
-                let refusals = one_refusal(alloc, Refusal::Tree(path, error))?;
-                self.news = Some(cause_text(error));
-                Ok(KeyAct {
-                    ask: Ask::Nothing,
-                    refusals,
-                })
-            }
+            Choice::Refused(path, error) => self.refuse(alloc, Refusal::Tree(path, error)),
         }
+    }
+
+    /// Tells of a refusal, in a message and in what the key comes to.
+    pub(super) fn refuse(&mut self, alloc: Global, refusal: Refusal) -> Result<KeyAct, NoMemory>
+        ensures told { IfOk result (λ _act. self.new ≡ told_refusal refusal self.old) }
+        ensures act { IfOk result (λ act. act ≡ record { ask = Ask.Nothing; refusals = refusal ∷ [] }) }
+        ensures size { HasSameSize self.old self.new }
+        ensures lost { OnErr result (self.new ≡ self.old) }
+    {
+        let told = refusal.copy(alloc)?;
+        let refusals = one_refusal(alloc, refusal)?;
+        self.message = Some(Message::Refused(told));
+        Ok(KeyAct {
+            ask: Ask::Nothing,
+            refusals,
+        })
     }
 }
 
 /// The box on a file.
-fn opened(opens: Opens, chosen: Chosen) -> Dialog
-    ensures { seen_box result ≡ box_of opens chosen.path }
+fn opened(alloc: Global, opens: Opens, chosen: Chosen) -> Result<Dialog, NoMemory>
+    ensures { IfOk result (λ dialog. seen_box dialog ≡ box_of opens chosen.path) }
 {
     match opens {
-        Opens::Delete => Dialog::Delete(chosen),
-        Opens::SourceMask => Dialog::SourceMask(chosen),
+        Opens::Delete => Ok(Dialog::Delete(chosen)),
+        Opens::SourceMask => Ok(Dialog::SourceMask(chosen, mask_line(alloc)?)),
     }
 }
 
@@ -127,7 +170,7 @@ pub(super) fn asking(alloc: Global, ask: Ask) -> KeyAct
 }
 
 /// One refusal.
-pub(super) fn one_refusal(alloc: Global, refusal: Refusal) -> Result<Refusals, NoMemory>
+fn one_refusal(alloc: Global, refusal: Refusal) -> Result<Refusals, NoMemory>
     ensures { IfOk result (λ refusals. refusals ≡ refusal ∷ []) }
 {
     let mut refusals = Vec::new(alloc);

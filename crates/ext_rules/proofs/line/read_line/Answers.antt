@@ -1,6 +1,6 @@
 use Rattle.std.proofs.Common.{◌≡◌, codes, ap, ◌∙◌, sym}
 use Rattle.std.proofs.lemmas.Result.{IfOk-weaker}
-use Rattle.ext_rules.specs.Words.{behind_word}
+use Rattle.text_scan.specs.Words.{behind_word}
 use Rattle.ext_rules.specs.ExtLines.{reading_of, action_line}
 use Rattle.ext_rules.proofs.FileLemmas.{not_begun, reading_of-action}
 use Rattle.ext_rules.proofs.line.read_line.Goals as goal

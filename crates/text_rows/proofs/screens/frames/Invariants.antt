@@ -2,4 +2,4 @@ use Rattle.std.proofs.Common.{◌≡◌}
 use Rattle.text_rows.proofs.screens.frames.Given as goal
 
 abbrev pub invariant-loop-written : goal.invariant-loop-written
-invariant-loop-written l = (l.screen.lines ≡ 10) × (l.screen.columns ≡ 40)
+invariant-loop-written l = (l.screen.grid.lines ≡ 10) × (l.screen.grid.columns ≡ 40)

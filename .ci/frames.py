@@ -1,0 +1,74 @@
+"""What stands on the screen, written by hand from the rules of the screen, and compared cell by cell.
+
+Two panels: the left has half of the columns, the right the rest. The first row of a panel is its folder filled with `-`, the
+second its heading, then come the items, the current name, and a line below. The last row but one tells of live jobs, the last
+one names the ten keys.
+"""
+
+KEY_BAR = "1Help  2Menu  3View  4Edit  5Copy  6RenMov7Mkdir 8Delete9PullDn10Quit  "
+
+
+def cut(text, columns):
+    """A text in so many columns: filled with blanks, or cut with a tilde (for text of one column a character)."""
+    return text.ljust(columns) if len(text) <= columns else text[: columns - 1] + "~"
+
+
+def pane(lines, columns, folder, items, current):
+    """The rows of a panel down to its lower edge."""
+    inside = columns - 2
+    title = folder if len(folder) <= inside else cut(folder, inside)
+    shown = [cut(item, inside) for item in items[: lines - 6]]
+    shown += [" " * inside] * (lines - 6 - len(shown))
+    rows = ["+" + title.ljust(inside, "-") + "+", "|" + " " * inside + "|"]
+    rows += ["|" + item + "|" for item in shown]
+    return rows + ["|" + cut(current, inside) + "|", "+" + "-" * inside + "+"]
+
+
+def frame(lines, columns, left, right, jobs=""):
+    """The rows of the whole screen; each side is a folder, its items, and the current name."""
+    half = columns // 2
+    sides = zip(pane(lines, half, *left), pane(lines, columns - half, *right))
+    return ["".join(side) for side in sides] + [jobs.ljust(columns), cut(KEY_BAR, columns)]
+
+
+def with_box(rows, box):
+    """The same with the lines of a box over it, in the middle."""
+    lines, columns = len(rows), len(rows[0])
+    inside = min(columns - 4, 60)
+    edge = "+" + "-" * (inside + 2) + "+"
+    painted = [edge] + ["| " + cut(line, inside) + " |" for line in box] + [edge]
+    first = (lines - len(painted)) // 2
+    start = (columns - inside - 4) // 2
+    rows = list(rows)
+    for number, line in enumerate(painted):
+        row = rows[first + number]
+        rows[first + number] = row[:start] + line + row[start + len(line) :]
+    return rows
+
+
+# Written out whole once, so that the functions above are compared with what a person sees: 10 lines of 40 columns, the folder
+# `/f` with the files `a` and `b.txt` in both panels, the cursor of the left one on the first row.
+SMALL = [
+    "+/f----------------++/f----------------+",
+    "|                  ||                  |",
+    "|..                ||..                |",
+    "|a                 ||a                 |",
+    "|b.txt             ||b.txt             |",
+    "|                  ||                  |",
+    "|..                ||..                |",
+    "+------------------++------------------+",
+    "                                        ",
+    "1Help  2Menu  3View  4Edit  5Copy  6Ren~",
+]
+SMALL_LOOKS = [
+    "rrrrrrrrrrrrrrrrrrrr                    ",
+    "                                        ",
+    " rrrrrrrrrrrrrrrrrr                     ",
+    "                                        ",
+    "                                        ",
+    "                                        ",
+    "                                        ",
+    "                                        ",
+    "                                        ",
+    "                                        ",
+]

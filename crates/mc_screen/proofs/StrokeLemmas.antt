@@ -1,0 +1,279 @@
+-- what a terminal makes of one change
+use Rattle.std.proofs.Common.{◌≡◌, ℕ, ◌+◌, ◌-◌, ◌*◌, ◌/◌, ◌%◌, ◌<◌, ◌≤◌, Bool, true, false, ◌&&◌, not, ◌==◌, nat_lt, if◌then◌else◌, List, [], ◌∷◌, ◌++◌, refl, sym, ◌∙◌, ap, subst, arith, append_assoc, inl, inr, ◌⊎◌, mul-le-mul_right}
+use Rattle.std.specs.Prelude.{⊤}
+use Rattle.std.proofs.Math.Nat.{mod-add-div, div-mul-le_self, mul_comm}
+use Rattle.std.proofs.lemmas.Nat.{mod-mul-add}
+use Rattle.std.proofs.lemmas.Bool.Decides.{nat_tests}
+use Rattle.key_screen.specs.declared.cells.Attr.{Attr}
+use Rattle.key_screen.specs.declared.cells.Attr.TheVariants.{Plain, Bold, Reverse}
+use Rattle.key_screen.specs.declared.cells.Cell.{Cell}
+use Rattle.key_screen.specs.Cells.{is_right_half}
+use Rattle.key_screen.specs.DrawnText.{glyph_columns}
+use Rattle.key_screen.specs.Layout.{IsDrawn}
+use Rattle.key_screen.specs.Terminal.{TerminalState, segments}
+use Rattle.key_screen.proofs.LayoutLemmas.{drawn-apart}
+use Rattle.mc_screen.specs.declared.changes.Change.{Change}
+use Rattle.mc_screen.specs.declared.strokes.Pen.{Pen}
+use Rattle.mc_screen.specs.declared.strokes.Pen.TheVariants.{Away, Behind, Typing}
+use Rattle.mc_screen.specs.declared.strokes.Approach.{Approach}
+use Rattle.mc_screen.specs.declared.strokes.Approach.TheVariants as Approaches
+use Rattle.mc_screen.specs.Changes.{is_same_attr}
+use Rattle.mc_screen.specs.DrawnBytes.{glyph_text, is_printable, look, place, is_here, approach_to, lead, stroke, pen_after, drawing}
+use Rattle.mc_screen.proofs.EscapeLemmas.{segments-plain, first_segment}
+use Rattle.mc_screen.proofs.PrintableLemmas.{ArePrintable}
+use Rattle.mc_screen.proofs.ReadingLemmas.{Leads, AreApart, after_glyph, placed_at, leads-look, leads-place, leads-glyph}
+use Rattle.mc_screen.proofs.TestLemmas.{and_left, and_right}
+
+-- looks that are the same
+pub same_attr : (a b : Attr) → is_same_attr a b ≡ true → a ≡ b
+same_attr Plain Plain is = refl
+same_attr Bold Bold is = refl
+same_attr Reverse Reverse is = refl
+same_attr Plain Bold is = absurd (cc)
+same_attr Plain Reverse is = absurd (cc)
+same_attr Bold Plain is = absurd (cc)
+same_attr Bold Reverse is = absurd (cc)
+same_attr Reverse Plain is = absurd (cc)
+same_attr Reverse Bold is = absurd (cc)
+
+-- what the pen says of the place and of the look before a change
+abbrev pub IsHereAt : ℕ → Pen → ℕ → Type 0
+IsHereAt columns Away at = ⊥
+IsHereAt columns (Behind last width) at = is_here columns last width at ≡ true
+IsHereAt columns (Typing last width attr) at = is_here columns last width at ≡ true
+
+abbrev pub IsTypingAs : Pen → Attr → Type 0
+IsTypingAs Away attr = ⊥
+IsTypingAs (Behind last width) attr = ⊥
+IsTypingAs (Typing last width attr) other = attr ≡ other
+
+abbrev pub Approached : ℕ → Pen → Change → Approach → Type 0
+Approached columns pen change Approaches.Place = ⊤
+Approached columns pen change Approaches.Look = IsHereAt columns pen change.at
+Approached columns pen change Approaches.Type = IsHereAt columns pen change.at × (IsTypingAs pen change.cell.attr × (is_printable (glyph_text change.cell.glyph) ≡ true))
+
+pub approached : (columns : ℕ) (pen : Pen) (change : Change) → Approached columns pen change (approach_to columns pen change)
+approached columns Away change = tt
+approached columns (Behind last width) change = by_test (is_here columns last width change.at) refl where
+  by_test : (test : Bool) → is_here columns last width change.at ≡ test
+      → Approached columns (Behind last width) change (if test then Approaches.Look else Approaches.Place)
+  by_test true is = is
+  by_test false is = tt
+approached columns (Typing last width attr) change = by_tests (is_here columns last width change.at) (is_same_attr attr change.cell.attr && is_printable (glyph_text change.cell.glyph)) refl refl where
+  by_tests : (here typed : Bool) → is_here columns last width change.at ≡ here → (is_same_attr attr change.cell.attr && is_printable (glyph_text change.cell.glyph)) ≡ typed
+      → Approached columns (Typing last width attr) change (if not here then Approaches.Place else if typed then Approaches.Type else Approaches.Look)
+  by_tests false typed is as_before = tt
+  by_tests true false is as_before = is
+  by_tests true true is as_before = (
+    is,
+    (
+      same_attr attr change.cell.attr (and_left (is_same_attr attr change.cell.attr) (is_printable (glyph_text change.cell.glyph)) as_before),
+      and_right (is_same_attr attr change.cell.attr) (is_printable (glyph_text change.cell.glyph)) as_before,
+    ),
+  )
+
+-- the first text of what is drawn behind a pen
+abbrev pub IsFirst : Pen → List ℕ → Type 0
+IsFirst Away segment = segment ≡ []
+IsFirst (Behind last width) segment = segment ≡ []
+IsFirst (Typing last width attr) segment = ArePrintable segment
+
+abbrev pub Begins : Pen → List (List ℕ) → Type 0
+Begins pen [] = ⊥
+Begins pen (segment ∷ more) = IsFirst pen segment
+
+none-first : (pen : Pen) → IsFirst pen []
+none-first Away = refl
+none-first (Behind last width) = refl
+none-first (Typing last width attr) = tt
+
+begins-look : (pen : Pen) (attr : Attr) (rest : List ℕ) → Begins pen (segments (look attr ++ rest))
+begins-look pen Plain rest = none-first pen
+begins-look pen Bold rest = none-first pen
+begins-look pen Reverse rest = none-first pen
+
+-- a text that is typed, in front of others
+begins-typed : (pen : Pen) (attr : Attr) (text rest : List ℕ) → IsTypingAs pen attr → is_printable text ≡ true → ((segment : List ℕ) (more : List (List ℕ)) → segments rest ≡ segment ∷ more → ArePrintable segment)
+    → Begins pen (segments (text ++ rest))
+begins-typed Away attr text rest typing printable typed = absurd typing
+begins-typed (Behind last width) attr text rest typing printable typed = absurd typing
+begins-typed (Typing last width attr') attr [] rest typing printable typed = absurd (cc)
+begins-typed (Typing last width attr') attr (byte ∷ other ∷ bytes) rest typing printable typed = absurd (cc)
+begins-typed (Typing last width attr') attr (byte ∷ []) rest typing printable typed =
+    let first = first_segment rest in
+    let segment : List ℕ = first.0 in
+    let more : List (List ℕ) = first.1 in
+    let plain : (byte == 27) ≡ false = grind (arith, nat_tests, printable) in
+    let cut : segments ((byte ∷ []) ++ rest) ≡ ((byte ∷ []) ++ segment) ∷ more = segments-plain (byte ∷ []) rest segment more (plain, tt) first.2 in
+    subst (Begins (Typing last width attr')) (sym cut) (printable, typed segment more first.2)
+
+-- what is drawn behind a character that is typed begins with such, or with an escape
+typed-first : (pen : Pen) (segment : List ℕ) (more : List (List ℕ)) (all : List (List ℕ)) → Begins pen all → all ≡ segment ∷ more → ArePrintable segment
+typed-first Away segment more all begins is = let none : segment ≡ [] = subst (Begins Away) is begins in subst ArePrintable (sym none) tt
+typed-first (Behind last width) segment more all begins is = let none : segment ≡ [] = subst (Begins (Behind last width)) is begins in subst ArePrintable (sym none) tt
+typed-first (Typing last width attr) segment more all begins is = subst (Begins (Typing last width attr)) is begins
+
+begins-lead : (columns : ℕ) (pen : Pen) (change : Change) (rest : List ℕ) (how : Approach) → Approached columns pen change how
+    → ((segment : List ℕ) (more : List (List ℕ)) → segments rest ≡ segment ∷ more → ArePrintable segment)
+    → Begins pen (segments ((lead columns how change ++ glyph_text change.cell.glyph) ++ rest))
+begins-lead columns pen change rest Approaches.Place is typed = none-first pen
+begins-lead columns pen change rest Approaches.Look is typed =
+    subst (λ (bytes : List ℕ). Begins pen (segments bytes)) (sym (append_assoc (look change.cell.attr) (glyph_text change.cell.glyph) rest)) (begins-look pen change.cell.attr (glyph_text change.cell.glyph ++ rest))
+begins-lead columns pen change rest Approaches.Type is typed = begins-typed pen change.cell.attr (glyph_text change.cell.glyph) rest is.1.0 is.1.1 typed
+
+pub drawing-begins : (columns : ℕ) (pen : Pen) (changes : List Change) → Begins pen (segments (drawing columns pen changes))
+drawing-begins columns pen [] = none-first pen
+drawing-begins columns pen (change ∷ changes) = by_half (is_right_half change.cell.glyph) refl (drawing-begins columns pen changes) (drawing-begins columns (pen_after pen change) changes) where
+  by_half : (test : Bool) → is_right_half change.cell.glyph ≡ test → Begins pen (segments (drawing columns pen changes))
+      → Begins (pen_after pen change) (segments (drawing columns (pen_after pen change) changes))
+      → Begins pen (segments ((if test then [] else lead columns (approach_to columns pen change) change ++ glyph_text change.cell.glyph) ++ drawing columns (pen_after pen change) changes))
+  by_half true is same next =
+      let stays : pen ≡ pen_after pen change = sym (ap (λ test. if test then pen else if is_printable (glyph_text change.cell.glyph) then Typing change.at (glyph_columns change.cell.glyph) change.cell.attr else Behind change.at (glyph_columns change.cell.glyph)) is) in
+      subst (λ (p : Pen). Begins pen (segments (drawing columns p changes))) stays same
+  by_half false is same next =
+      begins-lead columns pen change (drawing columns (pen_after pen change) changes) (approach_to columns pen change) (approached columns pen change)
+      (λ segment more cut. typed-first (pen_after pen change) segment more (segments (drawing columns (pen_after pen change) changes)) next cut)
+
+-- a glyph's text stands apart from what is drawn behind it
+drawn-apart_after : (pen : Pen) (change : Change) (rest : List (List ℕ)) → is_right_half change.cell.glyph ≡ false → Begins (pen_after pen change) rest → AreApart (glyph_text change.cell.glyph) rest
+drawn-apart_after pen change [] no_half begins = absurd begins
+drawn-apart_after pen change (segment ∷ more) no_half begins = by_test (is_printable (glyph_text change.cell.glyph)) refl
+    (subst (λ (test : Bool). IsFirst (if test then pen else if is_printable (glyph_text change.cell.glyph) then Typing change.at (glyph_columns change.cell.glyph) change.cell.attr else Behind change.at (glyph_columns change.cell.glyph)) segment) no_half begins) where
+      by_test : (test : Bool) → is_printable (glyph_text change.cell.glyph) ≡ test
+          → IsFirst (if test then Typing change.at (glyph_columns change.cell.glyph) change.cell.attr else Behind change.at (glyph_columns change.cell.glyph)) segment
+          → (segment ≡ []) ⊎ ((is_printable (glyph_text change.cell.glyph) ≡ true) × ArePrintable segment)
+      by_test true is first = inr (is, first)
+      by_test false is first = inl first
+
+-- what the pen says of the terminal: its place, the room left in that row, and how text looks
+abbrev pub IsStanding : ℕ → ℕ → ℕ → ℕ → Type 0
+IsStanding columns next at room = (at ≡ next) × ((next % columns ≡ 0 → ⊥) → room ≡ columns - next % columns)
+
+abbrev pub Stands : ℕ → Pen → ℕ → ℕ → Attr → Type 0
+Stands columns Away at room mode = ⊤
+Stands columns (Behind last width) at room mode = IsStanding columns (last + width) at room
+Stands columns (Typing last width attr) at room mode = IsStanding columns (last + width) at room × (mode ≡ attr)
+
+-- a place is that of its row and column
+row_and_column : (columns at : ℕ) → at / columns * columns + at % columns ≡ at
+row_and_column columns at = omega (arith, mod-add-div at columns, mul_comm columns (at / columns))
+
+pub placed-there : (columns at : ℕ) → (at / columns + 1 - 1) * columns + (at % columns + 1 - 1) ≡ at
+placed-there columns at =
+    let row : at / columns + 1 - 1 ≡ at / columns = omega arith in
+    let column : at % columns + 1 - 1 ≡ at % columns = omega arith in
+    ap (λ n. n * columns + (at % columns + 1 - 1)) row ∙ ap (λ n. at / columns * columns + n) column ∙ row_and_column columns at
+
+pub row-within : (lines columns at : ℕ) → at < lines * columns → at / columns + 1 ≤ lines
+row-within lines columns at within = by_order (nat_lt (at / columns) lines) refl where
+  by_order : (test : Bool) → nat_lt (at / columns) lines ≡ test → at / columns + 1 ≤ lines
+  by_order true less = grind (arith, nat_tests)
+  by_order false more =
+      let behind : lines ≤ at / columns = grind (arith, nat_tests) in
+      let rows : lines * columns ≤ at / columns * columns = mul-le-mul_right columns behind in
+      absurd (omega (arith, div-mul-le_self at columns))
+
+-- behind a glyph that had room
+pub stands-behind : (columns at width : ℕ) → 1 ≤ columns → width ≤ columns - at % columns → IsStanding columns (at + width) (at + width) (columns - at % columns - width)
+stands-behind columns at width some fits = (refl, by_order (nat_lt (at % columns + width) columns) refl) where
+  low : at % columns < columns
+  low = omega arith
+
+  sum : at + width ≡ at / columns * columns + (at % columns + width)
+  sum = omega (arith, row_and_column columns at)
+
+  by_order : (test : Bool) → nat_lt (at % columns + width) columns ≡ test → ((at + width) % columns ≡ 0 → ⊥) → columns - at % columns - width ≡ columns - (at + width) % columns
+  by_order true less inside =
+      let within : at % columns + width < columns = grind (arith, nat_tests) in
+      let rest : (at + width) % columns ≡ at % columns + width = ap (λ n. n % columns) sum ∙ mod-mul-add (at / columns) columns (at % columns + width) within in
+      omega arith
+  by_order false more inside =
+      let least : columns ≤ at % columns + width = grind (arith, nat_tests) in
+      let whole : at % columns + width ≡ columns = omega arith in
+      let next : at / columns * columns + (at % columns + width) ≡ (at / columns + 1) * columns + 0 =
+      ap (λ n. at / columns * columns + n) whole ∙ (let rows : at / columns * columns + columns ≡ (at / columns + 1) * columns + 0 = grind arith in rows) in
+      absurd (inside (ap (λ n. n % columns) (sum ∙ next) ∙ mod-mul-add (at / columns + 1) columns 0 (omega arith)))
+
+-- a terminal of this size, with these cells, place, room and look
+abbrev pub state : ℕ → ℕ → List Cell → ℕ → ℕ → Attr → TerminalState
+state lines columns cells at room mode = record { lines = lines; columns = columns; cells = cells; at = at; room = room; mode = mode }
+
+-- a terminal stands where the pen is
+stands-here : (columns last width at at' room : ℕ) → is_here columns last width at ≡ true → IsStanding columns (last + width) at' room → (at' ≡ at) × (room ≡ columns - at % columns)
+stands-here columns last width at at' room here stands =
+    let same : last + width ≡ at = grind (arith, nat_tests, and_left (last + width == at) (not (at % columns == 0)) here) in
+    let inside : not (at % columns == 0) ≡ true = and_right (last + width == at) (not (at % columns == 0)) here in
+    (stands.0 ∙ same, stands.1 (λ none. absurd (let e : (at % columns == 0) ≡ true = grind (arith, nat_tests, ap (λ n. n % columns) same) in cc)) ∙ ap (λ n. columns - n % columns) same)
+
+pub stands-at : (columns : ℕ) (pen : Pen) (at at' room : ℕ) (mode : Attr) → IsHereAt columns pen at → Stands columns pen at' room mode → (at' ≡ at) × (room ≡ columns - at % columns)
+stands-at columns Away at at' room mode here stands = absurd here
+stands-at columns (Behind last width) at at' room mode here stands = stands-here columns last width at at' room here stands
+stands-at columns (Typing last width attr) at at' room mode here stands = stands-here columns last width at at' room here stands.0
+
+stands-typing : (columns : ℕ) (pen : Pen) (attr : Attr) (at room : ℕ) (mode : Attr) → IsTypingAs pen attr → Stands columns pen at room mode → mode ≡ attr
+stands-typing columns Away attr at room mode typing stands = absurd typing
+stands-typing columns (Behind last width) attr at room mode typing stands = absurd typing
+stands-typing columns (Typing last width attr') attr at room mode typing stands = stands.1 ∙ typing
+
+module _ (lines columns : ℕ) (some : 1 ≤ columns) (short : lines < 65536) (narrow : columns < 65536) where
+  -- what stands before a change brings the terminal to its place and look
+  leads-lead : (cells : List Cell) (at room : ℕ) (mode : Attr) (pen : Pen) (change : Change) (rest : List ℕ) (new : TerminalState) (how : Approach)
+      → change.at < lines * columns → Approached columns pen change how → Stands columns pen at room mode
+      → Leads (state lines columns cells change.at (columns - change.at % columns) change.cell.attr) rest new
+      → Leads (state lines columns cells at room mode) (lead columns how change ++ rest) new
+  leads-lead cells at room mode pen change rest new Approaches.Place within is stands leads =
+      let row = change.at / columns + 1 in
+      let column = change.at % columns + 1 in
+      let low : change.at % columns < columns = omega arith in
+      let t = state lines columns cells at room mode in
+      let there : state lines columns cells change.at (columns - change.at % columns) mode ≡ placed_at t row column =
+      sym (ap (λ n. state lines columns cells n (columns - (column - 1)) mode) (placed-there columns change.at)
+      ∙ ap (λ n. state lines columns cells change.at (columns - n) mode) (let same : column - 1 ≡ change.at % columns = omega arith in same)) in
+      let looks : Leads (state lines columns cells change.at (columns - change.at % columns) mode) (look change.cell.attr ++ rest) new =
+      leads-look (state lines columns cells change.at (columns - change.at % columns) mode) new change.cell.attr rest leads in
+      let placed : Leads t (place row column ++ (look change.cell.attr ++ rest)) new =
+      leads-place t new row column (look change.cell.attr ++ rest) (omega arith) (row-within lines columns change.at within) (omega arith) (omega arith) short narrow
+      (subst (λ (s : TerminalState). Leads s (look change.cell.attr ++ rest) new) there looks) in
+      subst (λ (bytes : List ℕ). Leads t bytes new) (sym (append_assoc (place row column) (look change.cell.attr) rest)) placed
+  leads-lead cells at room mode pen change rest new Approaches.Look within is stands leads =
+      let here = stands-at columns pen change.at at room mode is stands in
+      let same : state lines columns cells change.at (columns - change.at % columns) mode ≡ state lines columns cells at room mode =
+      sym (ap (λ n. state lines columns cells n room mode) here.0 ∙ ap (λ n. state lines columns cells change.at n mode) here.1) in
+      subst (λ (s : TerminalState). Leads s (look change.cell.attr ++ rest) new) same
+      (leads-look (state lines columns cells change.at (columns - change.at % columns) mode) new change.cell.attr rest leads)
+  leads-lead cells at room mode pen change rest new Approaches.Type within is stands leads =
+      let here = stands-at columns pen change.at at room mode is.0 stands in
+      let looks = stands-typing columns pen change.cell.attr at room mode is.1.0 stands in
+      let same : state lines columns cells change.at (columns - change.at % columns) change.cell.attr ≡ state lines columns cells at room mode =
+      sym (ap (λ n. state lines columns cells n room mode) here.0 ∙ ap (λ n. state lines columns cells change.at n mode) here.1
+      ∙ ap (λ a. state lines columns cells change.at (columns - change.at % columns) a) looks) in
+      subst (λ (s : TerminalState). Leads s rest new) same leads
+
+  -- a change, and what is drawn behind it
+  pub leads-stroke : (cells : List Cell) (at room : ℕ) (mode : Attr) (pen : Pen) (change : Change) (rest : List ℕ) (new : TerminalState)
+      → change.at < lines * columns → IsDrawn change.cell.glyph → glyph_columns change.cell.glyph ≤ columns - change.at % columns
+      → Stands columns pen at room mode → Begins (pen_after pen change) (segments rest)
+      → Leads (after_glyph (state lines columns cells change.at (columns - change.at % columns) change.cell.attr) change.cell.glyph) rest new
+      → Leads (state lines columns cells at room mode) (stroke columns pen change ++ rest) new
+  leads-stroke cells at room mode pen change rest new within drawn fits stands begins leads =
+      let no_half = drawn-apart change.cell.glyph drawn in
+      let how = approach_to columns pen change in
+      let text = glyph_text change.cell.glyph in
+      let inner : Leads (state lines columns cells change.at (columns - change.at % columns) change.cell.attr) (text ++ rest) new =
+      leads-glyph (state lines columns cells change.at (columns - change.at % columns) change.cell.attr) new change.cell.glyph rest drawn fits (drawn-apart_after pen change (segments rest) no_half begins) leads in
+      let whole : Leads (state lines columns cells at room mode) (lead columns how change ++ (text ++ rest)) new =
+      leads-lead cells at room mode pen change (text ++ rest) new how within (approached columns pen change) stands inner in
+      let bytes : stroke columns pen change ++ rest ≡ lead columns how change ++ (text ++ rest) =
+      ap (λ test. (if test then [] else lead columns how change ++ text) ++ rest) no_half ∙ append_assoc (lead columns how change) text rest in
+      subst (λ (b : List ℕ). Leads (state lines columns cells at room mode) b new) (sym bytes) whole
+
+  -- and where the pen is then
+  pub stands-after : (pen : Pen) (change : Change) → is_right_half change.cell.glyph ≡ false → glyph_columns change.cell.glyph ≤ columns - change.at % columns
+      → Stands columns (pen_after pen change) (change.at + glyph_columns change.cell.glyph) (columns - change.at % columns - glyph_columns change.cell.glyph) change.cell.attr
+  stands-after pen change no_half fits =
+      subst (λ (test : Bool). Stands columns (if test then pen else if is_printable (glyph_text change.cell.glyph) then Typing change.at (glyph_columns change.cell.glyph) change.cell.attr else Behind change.at (glyph_columns change.cell.glyph))
+      (change.at + glyph_columns change.cell.glyph) (columns - change.at % columns - glyph_columns change.cell.glyph) change.cell.attr) (sym no_half) (by_test (is_printable (glyph_text change.cell.glyph))) where
+        by_test : (test : Bool) → Stands columns (if test then Typing change.at (glyph_columns change.cell.glyph) change.cell.attr else Behind change.at (glyph_columns change.cell.glyph))
+            (change.at + glyph_columns change.cell.glyph) (columns - change.at % columns - glyph_columns change.cell.glyph) change.cell.attr
+        by_test true = (stands-behind columns change.at (glyph_columns change.cell.glyph) some fits, refl)
+        by_test false = stands-behind columns change.at (glyph_columns change.cell.glyph) some fits

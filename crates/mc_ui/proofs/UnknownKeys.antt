@@ -1,0 +1,41 @@
+-- A key that is none leaves the screen as it was, so it asks for nothing that is to be carried out.
+use Rattle.std.proofs.Common.{◌≡◌, Bool, true, false, List, [], refl, sym, ◌∙◌, ap, subst, Option}
+use Rattle.std.specs.Prelude.{MatchBool, is_some}
+use Rattle.key_screen.specs.declared.keys.Key.{Key}
+use Rattle.key_screen.specs.declared.keys.Base.TheVariants.{Unknown}
+use Rattle.tree_trait.specs.FileSystem.{View}
+use Rattle.job_reports.specs.declared.row.JobRow.{JobRow}
+use Rattle.session_history.specs.declared.refusal.Refusal.{Refusal}
+use Rattle.mc_ui.specs.Screens.{Box, NoBox, DeleteBox, MaskBox, TargetBox, TroubleBox, ByBox, KeyLeads, Screen, after_message, plain_base}
+
+abbrev pub unknown_key : Bool → Key
+unknown_key meta = record { meta = meta; base = Unknown }
+
+module _ (tree : Option View) (rows : List JobRow) (refusals : List Refusal) (before after : Screen) where
+  kept : (over : Box) → before.over ≡ over → (let same : Screen = record before { over = over } in same) ≡ before
+  kept over is = ap (λ o. let same : Screen = record before { over = o } in same) (sym is)
+
+  by_box : (meta : Bool) (over : Box) → before.over ≡ over → ByBox over tree rows (unknown_key meta) refusals before after → after ≡ before
+  by_box true NoBox is h = h.1
+  by_box false NoBox is h = h.1
+  by_box true (DeleteBox path) is h = h.1
+  by_box false (DeleteBox path) is h = h.1
+  by_box true (MaskBox path typed) is h = h.1 ∙ kept (MaskBox path typed) is
+  by_box false (MaskBox path typed) is h = h.1 ∙ kept (MaskBox path typed) is
+  by_box true (TargetBox path typed) is h = h.1 ∙ kept (TargetBox path typed) is
+  by_box false (TargetBox path typed) is h = h.1 ∙ kept (TargetBox path typed) is
+  by_box true (TroubleBox trouble) is h = h.1
+  by_box false (TroubleBox trouble) is h = h.1
+
+  by_message : (meta shown : Bool)
+      → MatchBool shown ((refusals ≡ []) × (after ≡ after_message (plain_base (unknown_key meta)) before)) (ByBox before.over tree rows (unknown_key meta) refusals before after) → after ≡ before
+  by_message true true h = h.1
+  by_message false true h = h.1
+  by_message true false h = by_box true before.over refl h
+  by_message false false h = by_box false before.over refl h
+
+-- the screen stays
+pub unknown_stays : (tree : Option View) (rows : List JobRow) (key : Key) (refusals : List Refusal) (before after : Screen) → key.base ≡ Unknown → KeyLeads tree rows key refusals before after → after ≡ before
+unknown_stays tree rows key refusals before after is leads =
+    by_message tree rows refusals before after key.meta (is_some before.message)
+    (subst (λ b. KeyLeads tree rows (let k : Key = record { meta = key.meta; base = b } in k) refusals before after) is leads)

@@ -1,0 +1,76 @@
+-- What a key makes of each box: one table a box.
+use Rattle.std.specs.Prelude.{◌≡◌, ◌⊎◌, ⊤, ℕ, Bool, true, false, ◌==◌, if◌then◌else◌, List, [], ◌∷◌}
+use Rattle.key_screen.specs.declared.keys.Key.{Key}
+use Rattle.key_screen.specs.declared.keys.Base.{Base}
+use Rattle.key_screen.specs.declared.keys.Base.TheVariants.{Enter, Escape}
+use Rattle.job_reports.specs.declared.answer.Answer.{Answer}
+use Rattle.job_reports.specs.declared.answer.Answer.TheVariants.{Retry, Skip, SkipAll, Abort}
+use Rattle.mc_dialogs.specs.declared.shut.Shut.{Shut}
+use Rattle.mc_dialogs.specs.declared.shut.Shut.TheVariants.{Stay, Closed}
+use Rattle.mc_dialogs.specs.declared.shut.Reply.TheVariants.{Line, Letter}
+use Rattle.mc_dialogs.specs.InputKeys.{InputState}
+use Rattle.mc_dialogs.specs.QuestionKeys.{letters_shut}
+use Rattle.session_history.specs.declared.refusal.PlanError.TheVariants.{BadMask}
+use Rattle.session_history.specs.declared.refusal.Refusal.{Refusal}
+use Rattle.session_history.specs.declared.refusal.Refusal.TheVariants.{Plan}
+use Rattle.mc_ui.specs.declared.replies.DeleteReply.{DeleteReply}
+use Rattle.mc_ui.specs.declared.replies.DeleteReply.TheVariants as delete
+use Rattle.mc_ui.specs.declared.replies.TroubleReply.{TroubleReply}
+use Rattle.mc_ui.specs.declared.replies.TroubleReply.TheVariants as trouble
+use Rattle.mc_ui.specs.declared.replies.LineReply.{LineReply}
+use Rattle.mc_ui.specs.declared.replies.LineReply.TheVariants as line
+
+-- the letters of the delete box: `y` deletes, `g` too, until jobs run in the background, and `n` doesn't
+abbrev pub delete_letters : List ℕ
+delete_letters = 121 ∷ 103 ∷ 110 ∷ []
+
+-- what the delete box's answer comes to
+abbrev pub delete_reply : Shut → DeleteReply
+delete_reply Stay = delete.Stays
+delete_reply (Closed (Letter letter)) = if letter == 110 then delete.Shuts else delete.Deletes
+delete_reply (Closed other) = delete.Shuts
+
+-- a key while the delete box asks
+abbrev pub delete_reply_to : Key → DeleteReply
+delete_reply_to key = delete_reply (letters_shut delete_letters key)
+
+-- the letters of a trouble: `r`, `s`, `a` and `b`, and at a barrier, where nothing can be skipped, `r` and `b`
+abbrev pub trouble_letters : Bool → List ℕ
+trouble_letters true = 114 ∷ 98 ∷ []
+trouble_letters false = 114 ∷ 115 ∷ 97 ∷ 98 ∷ []
+
+-- what is done about a trouble by such a letter
+abbrev pub letter_answer : ℕ → Answer
+letter_answer letter = if letter == 114 then Retry else if letter == 115 then Skip else if letter == 97 then SkipAll else Abort
+
+-- what the answer of a trouble's box comes to
+abbrev pub trouble_reply : Shut → TroubleReply
+trouble_reply Stay = trouble.Stays
+trouble_reply (Closed (Letter letter)) = trouble.Gives (letter_answer letter)
+trouble_reply (Closed other) = trouble.Shuts
+
+-- a key while a trouble is shown
+abbrev pub trouble_reply_to : Bool → Key → TroubleReply
+trouble_reply_to barrier key = trouble_reply (letters_shut (trouble_letters barrier) key)
+
+-- what the answer of an input line comes to. Until jobs run in the background it closes as Enter does by meta with `b` too
+abbrev pub line_reply : Shut → LineReply
+line_reply Stay = line.Stays
+line_reply (Closed (Line text background)) = line.Takes text
+line_reply (Closed other) = line.Shuts
+
+-- a line is as it was where its text was taken
+abbrev pub StaysWhereTaken : LineReply → InputState → InputState → Type 0
+StaysWhereTaken line.Stays before after = ⊤
+StaysWhereTaken line.Shuts before after = ⊤
+StaysWhereTaken (line.Takes text) before after = after ≡ before
+
+-- nothing was refused, or the mask
+abbrev pub MayRefuseMask : List Refusal → Type 0
+MayRefuseMask refusals = (refusals ≡ []) ⊎ (refusals ≡ Plan BadMask ∷ [])
+
+-- the keys that close a message
+abbrev pub closes_message : Base → Bool
+closes_message Enter = true
+closes_message Escape = true
+closes_message other = false

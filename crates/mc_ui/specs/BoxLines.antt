@@ -1,0 +1,59 @@
+-- The lines of the boxes that stand over the panels.
+use Rattle.std.specs.Prelude.{ℕ, Bool, true, false, List, [], ◌∷◌, ◌++◌, Option, Some, None, codes}
+use Rattle.std.specs.Option.{option_map_or}
+use Rattle.mc_text.specs.Routes.{Route, path_text, spelled}
+use Rattle.job_reports.specs.declared.report.Trouble.{Trouble}
+use Rattle.session_history.specs.declared.refusal.PlanError.TheVariants.{TargetThere, TargetTooLong, BadMask}
+use Rattle.session_history.specs.declared.refusal.Refusal.{Refusal}
+use Rattle.session_history.specs.declared.refusal.Refusal.TheVariants.{Tree, Plan, Begin}
+use Rattle.mc_dialogs.specs.InputKeys.{InputState}
+use Rattle.mc_ui.specs.declared.message.Message.{Message}
+use Rattle.mc_ui.specs.declared.message.Message.TheVariants.{Refused, PartLeft, Help}
+use Rattle.mc_ui.specs.Causes.{refusal_words, trouble_words}
+
+-- the path that a refusal speaks of, if it speaks of one
+abbrev pub refusal_path : Refusal → Option Route
+refusal_path (Tree path e) = Some path
+refusal_path (Plan (TargetThere path)) = Some path
+refusal_path (Plan TargetTooLong) = None
+refusal_path (Plan BadMask) = None
+refusal_path (Begin error) = None
+
+-- a line with a path, where there is one
+abbrev pub path_lines : Option Route → List (List ℕ)
+path_lines None = []
+path_lines (Some path) = path_text path ∷ []
+
+-- the lines of a message: what is said, and the path that it is said of
+abbrev pub message_lines : Message → List (List ℕ)
+message_lines (Refused refusal) = refusal_words refusal ∷ path_lines (refusal_path refusal)
+message_lines (PartLeft path) = codes "part left" ∷ path_text path ∷ []
+message_lines Help =
+    codes "usage: mc [-b] [-V] [-h] [-P FILE] [-v FILE | -e FILE | --drill N | DIR1 [DIR2]]"
+    ∷ codes "F1 help  F2 menu  F3 view  F4 edit  F5 copy  F6 move  F7 mkdir  F8 delete  F9 options  F10 quit"
+    ∷ []
+
+-- the lines of the box that asks whether to delete one thing
+abbrev pub delete_lines : List (List ℕ)
+delete_lines = codes "Delete 1 things?" ∷ codes "y Delete  g Background  n No" ∷ []
+
+-- the letters that answer a trouble, with their words: at a barrier nothing can be skipped
+abbrev pub trouble_letter_words : Bool → List ℕ
+trouble_letter_words true = codes "r Retry  b Abort"
+trouble_letter_words false = codes "r Retry  s Skip  a Skip all  b Abort"
+
+-- the lines of a trouble's box; the path's is empty where there is none
+abbrev pub trouble_lines : Trouble → List (List ℕ)
+trouble_lines trouble = trouble_words trouble.cause ∷ option_map_or path_text trouble.path [] ∷ trouble_letter_words trouble.barrier ∷ []
+
+-- the line that asks for the source mask, as it opens
+abbrev pub mask_line : InputState
+mask_line = record { title = codes "Source mask"; before = codes "*"; behind = [] }
+
+-- what a copy's destination is at first: the other panel's folder and a slash
+abbrev pub target_text : Route → List ℕ
+target_text folder = spelled folder ++ codes "/"
+
+-- the line that asks for the destination, as it opens
+abbrev pub target_line : Route → InputState
+target_line folder = record { title = codes "Copy to"; before = target_text folder; behind = [] }

@@ -1,0 +1,155 @@
+//! The lines of the boxes.
+ghost use Rattle.std.specs.Prelude.{◌≡◌, ◌∷◌, ◌++◌, [], IfOk};
+ghost use Rattle.std.specs.Option.{option_map_or};
+ghost use Rattle.mc_text.specs.Routes.{path_text as path_text_of};
+ghost use Rattle.mc_ui.specs.BoxLines.{delete_lines as lines_of_deletion, mask_line as line_of_mask, message_lines as lines_of_message, target_line as line_of_target, target_text as text_of_target, trouble_letter_words, trouble_lines as lines_of_trouble};
+
+use crate::causes::{refusal_text, trouble_text};
+use crate::message::Message;
+use job_reports::Trouble;
+use mc_dialogs::InputLine;
+use mc_text::{NoMemory, Path, Rows, Text};
+use session_history::{PlanError, Refusal};
+use std::alloc::Global;
+use std::convert::AsStr;
+
+/// What the program is called with.
+const USAGE: &str =
+    "usage: mc [-b] [-V] [-h] [-P FILE] [-v FILE | -e FILE | --drill N | DIR1 [DIR2]]";
+
+/// What the function keys do.
+const KEYS: &str =
+    "F1 help  F2 menu  F3 view  F4 edit  F5 copy  F6 move  F7 mkdir  F8 delete  F9 options  F10 quit";
+
+/// The lines of the box that asks whether to delete one thing.
+pub fn delete_lines(alloc: Global) -> Result<Rows, NoMemory>
+    ensures { IfOk result (λ lines. lines ≡ lines_of_deletion) }
+{
+    let mut lines = Rows::new(alloc);
+    lines.push(Text::from_str(alloc, "Delete 1 things?")?)?;
+    lines.push(Text::from_str(alloc, "y Delete  g Background  n No")?)?;
+    Ok(lines)
+}
+
+/// The lines of a trouble's box; the path's is empty where there is none.
+pub fn trouble_lines(alloc: Global, trouble: &Trouble) -> Result<Rows, NoMemory>
+    ensures { IfOk result (λ lines. lines ≡ lines_of_trouble trouble.now) }
+{
+    let mut lines = Rows::new(alloc);
+    lines.push(trouble_text(alloc, trouble.cause)?)?;
+    lines.push(path_text(alloc, &trouble.path)?)?;
+    lines.push(Text::from_str(alloc, letter_words(trouble.barrier))?)?;
+    Ok(lines)
+}
+
+/// The letters that answer a trouble, with their words.
+fn letter_words(at_barrier: bool) -> &'static str
+    ensures { result.now ≡ trouble_letter_words at_barrier }
+{
+    if at_barrier {
+        "r Retry  b Abort"
+    } else {
+        "r Retry  s Skip  a Skip all  b Abort"
+    }
+}
+
+/// The text of a path, or an empty one.
+fn path_text(alloc: Global, path: &Option<Path>) -> Result<Text, NoMemory>
+    ensures { IfOk result (λ text. text ≡ option_map_or path_text_of path.now []) }
+{
+    match path {
+        None => Text::from_str(alloc, ""),
+        Some(path) => path.text(alloc),
+    }
+}
+
+/// The lines of a message.
+pub fn message_lines(alloc: Global, message: &Message) -> Result<Rows, NoMemory>
+    ensures { IfOk result (λ lines. lines ≡ lines_of_message message.now) }
+{
+    match message {
+        Message::Refused(refusal) => refusal_lines(alloc, refusal),
+        Message::PartLeft(path) => part_lines(alloc, path),
+        Message::Help => help_lines(alloc),
+    }
+}
+
+/// The words of a refusal, and the path that it speaks of, where it speaks of one.
+fn refusal_lines(alloc: Global, refusal: &Refusal) -> Result<Rows, NoMemory>
+    ensures { IfOk result (λ lines. lines ≡ lines_of_message (Message.Refused refusal.now)) }
+{
+    let words = Text::from_str(alloc, refusal_text(refusal))?;
+    match refusal {
+        Refusal::Tree(path, _) => words_and_path(alloc, words, path),
+        Refusal::Plan(PlanError::TargetThere(path)) => words_and_path(alloc, words, path),
+        Refusal::Plan(PlanError::TargetTooLong) => words_alone(alloc, words),
+        Refusal::Plan(PlanError::BadMask) => words_alone(alloc, words),
+        Refusal::Begin(_) => words_alone(alloc, words),
+    }
+}
+
+fn words_alone(alloc: Global, words: Text) -> Result<Rows, NoMemory>
+    ensures { IfOk result (λ lines. lines ≡ words ∷ []) }
+{
+    let mut lines = Rows::new(alloc);
+    lines.push(words)?;
+    Ok(lines)
+}
+
+fn words_and_path(alloc: Global, words: Text, path: &Path) -> Result<Rows, NoMemory>
+    ensures { IfOk result (λ lines. lines ≡ words ∷ path_text_of path.now ∷ []) }
+{
+    let mut lines = Rows::new(alloc);
+    lines.push(words)?;
+    lines.push(path.text(alloc)?)?;
+    Ok(lines)
+}
+
+fn part_lines(alloc: Global, path: &Path) -> Result<Rows, NoMemory>
+    ensures { IfOk result (λ lines. lines ≡ lines_of_message (Message.PartLeft path.now)) }
+{
+    words_and_path(alloc, Text::from_str(alloc, "part left")?, path)
+}
+
+fn help_lines(alloc: Global) -> Result<Rows, NoMemory>
+    ensures { IfOk result (λ lines. lines ≡ lines_of_message Message.Help) }
+{
+    let mut lines = Rows::new(alloc);
+    lines.push(Text::from_str(alloc, USAGE)?)?;
+    lines.push(Text::from_str(alloc, KEYS)?)?;
+    Ok(lines)
+}
+
+/// The line that asks for the source mask.
+pub fn mask_line(alloc: Global) -> Result<InputLine, NoMemory>
+    ensures { IfOk result (λ line. line ≡ line_of_mask) }
+{
+    InputLine::new(alloc, "Source mask", "*")
+}
+
+/// The line that asks for a copy's destination, while the other panel shows this folder.
+pub fn target_line(alloc: Global, folder: &Path) -> Result<InputLine, NoMemory>
+    ensures { IfOk result (λ line. line ≡ line_of_target folder.now) }
+{
+    let text = target_text(alloc, folder)?;
+    InputLine::new(alloc, "Copy to", text.as_str())
+}
+
+/// A folder's path and a slash, for the root a slash alone.
+pub fn target_text(alloc: Global, folder: &Path) -> Result<Text, NoMemory>
+    ensures { IfOk result (λ text. text ≡ text_of_target folder.now) }
+{
+    let text = folder.text(alloc)?;
+    match folder.names() {
+        [] => Ok(text),
+        [_, ..] => with_slash(text),
+    }
+}
+
+fn with_slash(text: Text) -> Result<Text, NoMemory>
+    ensures { IfOk result (λ longer. longer ≡ text ++ 47 ∷ []) }
+{
+    let Text(mut text) = text;
+    text.push('/')?;
+    Ok(Text(text))
+}

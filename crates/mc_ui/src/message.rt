@@ -1,0 +1,14 @@
+//! The messages that come up over the panels.
+use mc_text::Path;
+use session_history::Refusal;
+
+/// What a message tells.
+#[derive(Debug, Drop)]
+pub enum Message {
+    /// What was refused to a key or a look.
+    Refused(Refusal),
+    /// The part that a job's end left, since it could not be removed.
+    PartLeft(Path),
+    /// The words of the program, and what the function keys do.
+    Help,
+}

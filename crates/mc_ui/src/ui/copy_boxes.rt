@@ -1,0 +1,223 @@
+//! Keys while one of a copy's input lines is open. Its dialog was taken out, and is put back where the box stays.
+ghost use Rattle.std.specs.Prelude.{◌≡◌, [], true, OnErr, OnOk, IfOk};
+ghost use Rattle.std.specs.Str.{bytes_eq};
+ghost use Rattle.tree_trait.specs.Calls.{Stat};
+ghost use Rattle.mc_dialogs.specs.InputKeys.{input_after, input_shut};
+ghost use Rattle.mc_ui.specs.declared.asks.KeyAct.{KeyAct as KeyActType};
+ghost use Rattle.mc_ui.specs.BoxKeys.{MayRefuseMask, StaysWhereTaken, line_reply as line_reply_of};
+ghost use Rattle.mc_ui.specs.Copies.{target_in};
+ghost use Rattle.mc_ui.specs.Reading.{ReadsTree};
+ghost use Rattle.mc_ui.specs.Screens.{MaskBox, MaskLeads, NoBox, PlansCopy, TargetBox, TargetLeads, WellAsked, is_request, other_panel, seen_box, sight, with_ask};
+
+use super::Ui;
+use super::boxes::{begin, none_live};
+use super::panel_keys::{asking, asking_nothing};
+use crate::asks::{Ask, KeyAct};
+use crate::box_lines::{target_line, target_text};
+use crate::copying::{CopyPlan, plan_copy};
+use crate::dialog::{Chosen, Dialog};
+use crate::replies::{LineReply, line_reply};
+use job_reports::JobRows;
+use key_screen::Key;
+use mc_dialogs::InputLine;
+use mc_text::{NoMemory, Text};
+use session_history::{PlanError, Refusal};
+use std::alloc::Global;
+use std::convert::AsStr;
+use tree_trait::Tree;
+
+impl Ui {
+    /// A key while the source mask is asked for.
+    pub(super) fn key_in_mask(
+        &mut self,
+        alloc: Global,
+        chosen: Chosen,
+        line: InputLine,
+        key: Key,
+    ) -> Result<KeyAct, NoMemory>
+        requires clear { self.old.over ≡ NoBox }
+        ensures leads { IfOk result (λ act. MaskLeads (line_reply_of (input_shut line key)) chosen.path (input_after line key)
+            act.refusals (record self.old { over = MaskBox chosen.path line }) self.new) }
+        ensures asks { IfOk result (λ act. act.ask ≡ Ask.Nothing) }
+        ensures bad { IfOk result (λ act. MayRefuseMask act.refusals) }
+        ensures rest { record self.new { over = NoBox; message = self.old.message } ≡ self.old }
+        ensures lost { OnErr result (self.new ≡ record self.old { over = MaskBox chosen.path line }) }
+    {
+        let _lines = &self.lines;
+        let mut line = line;
+        let typed = type_in(alloc, &mut line, key);
+        match typed {
+            Ok(LineReply::Stays) => {
+                self.dialog = Dialog::SourceMask(chosen, line);
+                Ok(asking_nothing(alloc))
+            }
+            Ok(LineReply::Shuts) => Ok(asking_nothing(alloc)),
+            Ok(LineReply::Takes(text)) => self.accept_mask(alloc, chosen, line, &text),
+            Err(error) => {
+                self.dialog = Dialog::SourceMask(chosen, line);
+                Err(error)
+            }
+        }
+    }
+
+    /// The source mask is accepted where it is `*`, and the destination is asked for; else it is refused, and its line stays.
+    fn accept_mask(
+        &mut self,
+        alloc: Global,
+        chosen: Chosen,
+        line: InputLine,
+        text: &Text,
+    ) -> Result<KeyAct, NoMemory>
+        requires clear { self.old.over ≡ NoBox }
+        ensures leads { IfOk result (λ act. MaskLeads (LineReply.Takes text.now) chosen.path line
+            act.refusals (record self.old { over = MaskBox chosen.path line }) self.new) }
+        ensures asks { IfOk result (λ act. act.ask ≡ Ask.Nothing) }
+        ensures bad { IfOk result (λ act. MayRefuseMask act.refusals) }
+        ensures rest { record self.new { over = NoBox; message = self.old.message } ≡ self.old }
+        ensures lost { OnErr result (self.new ≡ record self.old { over = MaskBox chosen.path line }) }
+    {
+        let _lines = &self.lines;
+        if !is_text(text, "*") {
+            self.dialog = Dialog::SourceMask(chosen, line);
+            return self.refuse(alloc, Refusal::Plan(PlanError::BadMask));
+        }
+        let asked = target_line(alloc, self.other().folder());
+        match asked {
+            Ok(asked) => {
+                self.dialog = Dialog::CopyTo(chosen, asked);
+                Ok(asking_nothing(alloc))
+            }
+            Err(error) => {
+                self.dialog = Dialog::SourceMask(chosen, line);
+                Err(error)
+            }
+        }
+    }
+
+    /// A key while a copy's destination is asked for.
+    pub(super) fn key_in_target<T: Tree>(
+        &mut self,
+        alloc: Global,
+        tree: &mut T,
+        chosen: Chosen,
+        line: InputLine,
+        rows: &JobRows,
+        key: Key,
+    ) -> Result<KeyAct, NoMemory>
+        requires clear { self.old.over ≡ NoBox }
+        ensures leads { IfOk result (λ act. TargetLeads (line_reply_of (input_shut line key)) (sight (T.contents tree.old)) rows.now
+            chosen.path (input_after line key) act.refusals (record self.old { over = TargetBox chosen.path line }) (with_ask act.ask self.new)) }
+        ensures asked { IfOk result (λ act. WellAsked rows.now act.ask) }
+        ensures stays { IfOk result (λ act. is_request act.ask ≡ true → self.new ≡ record self.old { over = TargetBox chosen.path line }) }
+        ensures alone { IfOk result (λ act. is_request act.ask ≡ true → act.refusals ≡ []) }
+        ensures rest { record self.new { over = NoBox; message = self.old.message } ≡ self.old }
+        ensures lost { OnErr result (self.new ≡ record self.old { over = TargetBox chosen.path line }) }
+        ensures reads { ReadsTree Stat (λ (act : KeyActType). act.refusals) result (T.contents tree.old) (T.contents tree.new)
+            (T.fault_count tree.old) (T.fault_count tree.new) }
+    {
+        let _lines = &self.lines;
+        let mut line = line;
+        let typed = type_in(alloc, &mut line, key);
+        match typed {
+            Ok(LineReply::Stays) => {
+                self.dialog = Dialog::CopyTo(chosen, line);
+                Ok(asking_nothing(alloc))
+            }
+            Ok(LineReply::Shuts) => Ok(asking_nothing(alloc)),
+            Ok(LineReply::Takes(text)) => {
+                self.accept_target(alloc, tree, chosen, line, rows, &text)
+            }
+            Err(error) => {
+                self.dialog = Dialog::CopyTo(chosen, line);
+                Err(error)
+            }
+        }
+    }
+
+    /// The destination is accepted where it is the other panel's folder; else it is refused. The line stays until the copy is
+    /// begun.
+    fn accept_target<T: Tree>(
+        &mut self,
+        alloc: Global,
+        tree: &mut T,
+        chosen: Chosen,
+        line: InputLine,
+        rows: &JobRows,
+        text: &Text,
+    ) -> Result<KeyAct, NoMemory>
+        requires clear { self.old.over ≡ NoBox }
+        ensures leads { IfOk result (λ act. TargetLeads (LineReply.Takes text.now) (sight (T.contents tree.old)) rows.now
+            chosen.path line act.refusals (record self.old { over = TargetBox chosen.path line }) (with_ask act.ask self.new)) }
+        ensures asked { IfOk result (λ act. WellAsked rows.now act.ask) }
+        ensures stays { IfOk result (λ act. is_request act.ask ≡ true → self.new ≡ record self.old { over = TargetBox chosen.path line }) }
+        ensures alone { IfOk result (λ act. is_request act.ask ≡ true → act.refusals ≡ []) }
+        ensures rest { record self.new { over = NoBox; message = self.old.message } ≡ self.old }
+        ensures lost { OnErr result (self.new ≡ record self.old { over = TargetBox chosen.path line }) }
+        ensures reads { ReadsTree Stat (λ (act : KeyActType). act.refusals) result (T.contents tree.old) (T.contents tree.new)
+            (T.fault_count tree.old) (T.fault_count tree.new) }
+    {
+        let _lines = &self.lines;
+        let wanted = target_text(alloc, self.other().folder());
+        match wanted {
+            Ok(wanted) if !is_text(text, wanted.as_str()) => {
+                self.dialog = Dialog::CopyTo(chosen, line);
+                self.refuse(alloc, Refusal::Plan(PlanError::BadMask))
+            }
+            Ok(_) if !none_live(rows) => {
+                self.dialog = Dialog::CopyTo(chosen, line);
+                Ok(asking_nothing(alloc))
+            }
+            Ok(_) => self.confirm_copy(alloc, tree, chosen, line),
+            Err(error) => {
+                self.dialog = Dialog::CopyTo(chosen, line);
+                Err(error)
+            }
+        }
+    }
+
+    /// The copy is confirmed: it is planned, or it is refused.
+    fn confirm_copy<T: Tree>(
+        &mut self,
+        alloc: Global,
+        tree: &mut T,
+        chosen: Chosen,
+        line: InputLine,
+    ) -> Result<KeyAct, NoMemory>
+        requires clear { self.old.over ≡ NoBox }
+        ensures leads { IfOk result (λ act. PlansCopy (sight (T.contents tree.old)) chosen.path (target_in (other_panel self.old).folder chosen.path)
+            act.refusals (record self.old { over = TargetBox chosen.path line }) (with_ask act.ask self.new)) }
+        ensures asked { IfOk result (λ act. WellAsked [] act.ask) }
+        ensures stays { IfOk result (λ act. is_request act.ask ≡ true → self.new ≡ record self.old { over = TargetBox chosen.path line }) }
+        ensures alone { IfOk result (λ act. is_request act.ask ≡ true → act.refusals ≡ []) }
+        ensures rest { record self.new { over = NoBox; message = self.old.message } ≡ self.old }
+        ensures lost { OnErr result (self.new ≡ record self.old { over = TargetBox chosen.path line }) }
+        ensures reads { ReadsTree Stat (λ (act : KeyActType). act.refusals) result (T.contents tree.old) (T.contents tree.new)
+            (T.fault_count tree.old) (T.fault_count tree.new) }
+    {
+        let _lines = &self.lines;
+        let planned = plan_copy(alloc, tree, &chosen, self.other().folder());
+        self.dialog = Dialog::CopyTo(chosen, line);
+        match planned {
+            Ok(CopyPlan::Begins(plan)) => Ok(asking(alloc, begin(plan))),
+            Ok(CopyPlan::Refuses(refusal)) => self.refuse(alloc, refusal),
+            Err(error) => Err(error),
+        }
+    }
+}
+
+/// Types a key into a line, which it leaves as it was where it takes its text.
+fn type_in(alloc: Global, line: &mut InputLine, key: Key) -> Result<LineReply, NoMemory>
+    ensures state { OnOk result (line.new ≡ input_after line.old key) }
+    ensures reply { IfOk result (λ reply. reply ≡ line_reply_of (input_shut line.old key)) }
+    ensures kept { IfOk result (λ reply. StaysWhereTaken reply line.old line.new) }
+    ensures refused { OnErr result (line.new ≡ line.old) }
+{
+    Ok(line_reply(line.key(alloc, key)?))
+}
+
+/// Whether a text is this one.
+fn is_text(text: &Text, wanted: &str) -> bool
+    ensures { result ≡ bytes_eq text.now wanted.now }
+{
+    text.as_str() == wanted
+}

@@ -1,0 +1,3 @@
+pub mod ProfileLemmas
+pub mod DigitLemmas
+pub mod FolderLemmas

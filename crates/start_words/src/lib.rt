@@ -1,0 +1,14 @@
+//! What the program is started with: the words of the command line, and the surroundings.
+#![tactic(auto)]
+
+mod command;
+mod folders;
+mod numbers;
+mod reading;
+mod size;
+mod words;
+
+pub use folders::{StartFolder, started_folder};
+pub use reading::read_words;
+pub use size::Size;
+pub use words::{Words, WordsError};

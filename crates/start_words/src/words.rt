@@ -1,0 +1,40 @@
+//! What the words of the command line ask for.
+use crate::folders::StartFolder;
+use mc_text::NoMemory;
+use thiserror::Error;
+
+/// Why the words aren't read.
+#[derive(Clone, Copy, Debug, Drop, Error, PartialEq, Eq)]
+pub enum WordsError {
+    /// They are out of the profile, or name what can be no folder.
+    #[error("not in the profile")]
+    Usage,
+    #[error("out of memory")]
+    Memory,
+}
+
+impl From<NoMemory> for WordsError {
+    ghost use Rattle.std.specs.Prelude.{◌≡◌};
+    ghost use Rattle.start_words.specs.declared.words.WordsError.TheVariants.{Memory};
+
+    ghost from_gives = { λ _ error. error ≡ Memory };
+
+    fn from(_error: NoMemory) -> WordsError {
+        WordsError::Memory
+    }
+}
+
+/// What the words ask for.
+#[derive(Debug, Drop)]
+pub enum Words {
+    /// The help, which goes before the version.
+    Help,
+    Version,
+    /// A session in two panels that show these folders.
+    Panels {
+        left: StartFolder,
+        right: StartFolder,
+    },
+    /// What is in the profile and isn't built yet: the viewer, the editor, a file that is told the last folder, or the drill.
+    NotBuilt,
+}
