@@ -7,15 +7,17 @@ use Rattle.tree_trait.specs.FileSystem.{View}
 use Rattle.tree_trait.specs.Change.{CallLog}
 use Rattle.tree_trait.specs.Answers.{IfKnown, HasRisen}
 use Rattle.job_reports.specs.declared.row.JobRow.{JobRow}
+use Rattle.session_history.specs.declared.refusal.BeginError.TheVariants.{NoMoreIds}
 use Rattle.session_history.specs.declared.refusal.Refusal.{Refusal}
+use Rattle.session_history.specs.declared.refusal.Refusal.TheVariants as refusal
 use Rattle.session_history.specs.Refusals.{AreRefused}
 use Rattle.mc_ui.specs.declared.asks.Ask.{Ask}
 use Rattle.mc_ui.specs.declared.asks.Ask.TheVariants as ask
 use Rattle.mc_ui.specs.declared.asks.Told.{Told}
 use Rattle.mc_ui.specs.declared.asks.Told.TheVariants as told
 use Rattle.mc_ui.specs.Refused.{has_fault}
-use Rattle.mc_ui.specs.Screens.{Answers, Begins, Ends, KeyLeads, Screen, WellAsked, is_request, settled, with_ask}
-use Rattle.mc_desk.specs.StandIn.{HasSameSize}
+use Rattle.mc_ui.specs.Screens.{Answers, Begins, Ends, KeyLeads, Screen, WellAsked, is_request, settled, told_refusal, with_ask}
+use Rattle.mc_ui.specs.Screens.{HasSameSize}
 use Rattle.mc_desk.specs.declared.granting.Deed.{Deed}
 use Rattle.mc_desk.specs.declared.granting.Deed.TheVariants as deed
 use Rattle.mc_desk.specs.Granting.{CanBeDone, IsGranted, IsWorked, KeyWorks, no_more_ids, told_of, with_deed}
@@ -46,7 +48,7 @@ module _ (tree : Option View) (rows : List JobRow) (next : Option ℕ) (key : Ke
         asks = leads_to (ask.Begin g.0 g.1) [] (with_ask (ask.Begin g.0 g.1) before) g.2 (sym (alone request)) (ap (with_ask (ask.Begin g.0 g.1)) (sym (stays request)));
         none_left = g.3;
         refused = g.4;
-        stays = is ∙ stays request;
+        told = is ∙ ap (told_refusal (refusal.Begin NoMoreIds)) (stays request);
       }
 
   can : (done : Deed) → IsGranted next asked own done refusals → WellAsked rows asked → CanBeDone rows next done
@@ -73,3 +75,13 @@ worked tree rows next key own asked before screen refusals now done leads well s
   settled = ap (λ (s : Screen). s.planned) is ∙ settled_none (told_of done) screen none;
   size = size;
 }
+
+-- what the screen is told keeps its size
+pub keeps_size : (t : Told) (before screen now : Screen) → HasSameSize before screen → now ≡ settled t screen → HasSameSize before now
+keeps_size t before screen now size is = subst (HasSameSize before) (sym is) (go t)
+  where
+    go : (t : Told) → HasSameSize before (settled t screen)
+    go told.Nothing = size
+    go told.Done = record { same_lines = size.same_lines; same_columns = size.same_columns }
+    go (told.Refused refusal) = record { same_lines = size.same_lines; same_columns = size.same_columns }
+    go told.Lost = size

@@ -28,7 +28,7 @@ use Rattle.mc_desk.specs.Desks.{Seen, IsWritten, IsDesk, noted, seen_of, stand_o
 
 -- a desk on which nothing happened yet
 pub kept_opening : (start : Option Start) (opening contents : Option CallLog) (faults : ℕ) (folders : Start) (screen : Screen) (log : Logged) (standing : Standing) (dirty : List Route) (out : Output) (taken : ℕ) (pending : List ℕ)
-    → BeginsIn start folders → contents ≡ opening → IsOpened contents folders.left folders.right screen log → standing ≡ fresh_standing → dirty ≡ [] → HasPutNothing out.put → FitsScreen out.display.grid screen
+    → BeginsIn start folders → contents ≡ opening → IsOpened contents folders screen log → standing ≡ fresh_standing → dirty ≡ [] → HasPutNothing out.put → FitsScreen out.display.grid screen
     → IsDesk start opening contents faults (seen_of log screen standing dirty out taken pending)
 kept_opening start opening contents faults folders screen log standing dirty out taken pending named same opened fresh none nothing fits =
     subst (λ s. IsDesk start opening contents faults (seen_of log screen s dirty out taken pending)) (sym fresh) (record {
@@ -39,7 +39,7 @@ kept_opening start opening contents faults folders screen log standing dirty out
         told = refl;
         calls = omega arith;
       };
-      settled = opened.opening.planned;
+      settled = ap (λ (s : Screen). s.planned) opened.opening.opened;
       asked = λ asked. absurd cc;
       lost = λ lost. absurd cc;
       shut = λ closed. absurd cc;
@@ -53,9 +53,7 @@ kept_opening start opening contents faults folders screen log standing dirty out
     })
   where
     opened_in : BeginsIn start (folders_of screen)
-    opened_in known is =
-        named known is ∙ (ap (λ l. let s : Start = record { left = l; right = folders.right } in s) (sym opened.left_is)
-        ∙ ap (λ l. let s : Start = record { left = screen.left.folder; right = l } in s) (sym opened.right_is))
+    opened_in known is = named known is ∙ sym opened.folders
 
 -- what an entry says of the tree, of the live job and of the dirty folders, where the tree tells
 abbrev pub Leads : Option CallLog → Option CallLog → Seen → Seen → Entry → Type 0

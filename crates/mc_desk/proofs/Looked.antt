@@ -21,7 +21,8 @@ use Rattle.mc_desk.specs.LiveRows.{rows_of, rows_told, trouble_told}
 use Rattle.mc_desk.specs.Logs.{Logged}
 use Rattle.mc_desk.specs.Outputs.{FitsScreen, Output, ShowsFrame}
 use Rattle.mc_desk.specs.Shown.{frame_at, frame_due, rows_then}
-use Rattle.mc_desk.specs.StandIn.{Display, frame_of}
+use Rattle.mc_screen.specs.Drawings.{Display}
+use Rattle.mc_ui.specs.Frames.{frame_of}
 use Rattle.mc_desk.specs.Standings.{after_look, awaited, tally_of}
 use Rattle.mc_desk.specs.Tallies.{Tally, can_step, faults_in, next_id, part_left}
 use Rattle.mc_desk.specs.Desks.{IsDesk, seen_of, with_end}

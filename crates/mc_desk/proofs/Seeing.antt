@@ -15,7 +15,7 @@ use Rattle.mc_desk.specs.declared.starts.Start.{Start}
 use Rattle.mc_desk.specs.Sessions.{IsSession}
 use Rattle.mc_desk.specs.Shown.{CutsFrame, DrawsFrame, EventDraws, Put, PutsFrame, frame_due, none_before}
 use Rattle.mc_desk.specs.ShownEntries.{CameTo, CutsEntry, NoneDraws, ShowsEach, ShowsEntry, draws}
-use Rattle.mc_desk.specs.StandIn.{Shows}
+use Rattle.mc_screen.specs.Drawings.{Shows}
 
 take_all : (xs : List ℕ) → take (length xs) xs ≡ xs
 take_all [] = refl

@@ -15,7 +15,8 @@ use Rattle.mc_desk.specs.LiveRows.{trouble_told}
 use Rattle.mc_desk.specs.Desks.{IsShown, Seen, ShowsDesk, frame_now}
 use Rattle.mc_desk.specs.Outputs.{FitsScreen, Output, ShowsFrame, ShowsLast}
 use Rattle.mc_desk.specs.Shown.{Put, none_before}
-use Rattle.mc_desk.specs.StandIn.{Display, HasSameSize, HasSizeOf, Shows}
+use Rattle.mc_screen.specs.Drawings.{Display, HasSizeOf, Shows}
+use Rattle.mc_ui.specs.Screens.{HasSameSize}
 use Rattle.mc_desk.specs.Tallies.{Tally, can_step, tally}
 
 -- a drawing that wasn't cut short shows its frame
@@ -26,7 +27,7 @@ shown_whole frame (Err e) before after s uncut = absurd (true≢false (sym s.cut
 
 -- the grid has the size of the screen still
 pub fits_after : (grid after : CellGrid) (screen now : Screen) → FitsScreen grid screen → HasSizeOf grid after → HasSameSize screen now → FitsScreen after now
-fits_after grid after screen now fits sized same = record { lines = same.lines ∙ (fits.lines ∙ sym sized.lines); columns = same.columns ∙ (fits.columns ∙ sym sized.columns) }
+fits_after grid after screen now fits sized same = record { lines = same.same_lines ∙ (fits.lines ∙ sym sized.lines); columns = same.same_columns ∙ (fits.columns ∙ sym sized.columns) }
 
 -- a desk that is closed
 pub shown_closed : (desk : Seen) → desk.tally.closed ≡ true → FitsScreen desk.out.display.grid desk.screen → IsShown desk

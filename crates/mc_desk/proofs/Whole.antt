@@ -31,7 +31,7 @@ use Rattle.copy_move.specs.Steps.{RunStep, step_made}
 use Rattle.session_history.specs.Refusals.{AreRefused}
 use Rattle.history_laws.specs.Traces.{IsUnclaimed}
 use Rattle.mc_ui.specs.LiveJobs.{takes_answer}
-use Rattle.mc_ui.specs.Screens.{Box, Screen, NoBox, DeleteBox, MaskBox, TargetBox, TroubleBox, PartLeftBox, Begins, Answers, ByBox, KeyLeads, LookLeads, plain_base, sight}
+use Rattle.mc_ui.specs.Screens.{Screen, Begins, Answers, LookLeads, sight}
 use Rattle.mc_ui.specs.Refused.{has_fault}
 use Rattle.mc_desk.specs.Tallies.{Tally, faults_in, can_step, next_id, part_left}
 use Rattle.mc_desk.specs.declared.starts.Start.{Start}
@@ -276,22 +276,6 @@ room_left closed job live spare reserved left is had kept noted = go closed (sub
     go : (closed : Bool) → kept_room closed (Some live) ≤ spare → kept_room closed None ≤ left
     go true had = omega (arith, had, kept, noted)
     go false had = omega (arith, had, kept, noted)
-
--- a key that is unknown leaves the screen as it was
-pub unknown_stays : (tree : Option View) (rows : List JobRow) (key : KeyType) (refusals : List Refusal) (before after : Screen) → plain_base key ≡ Unknown → KeyLeads tree rows key refusals before after → after ≡ before
-unknown_stays tree rows key refusals before after unknown leads = go before.over (subst (λ b. ByBox before.over tree rows b refusals before after) unknown leads)
-  where
-    go : (over : Box) → ByBox over tree rows Unknown refusals before after → after ≡ before
-    go NoBox h = h.1
-    go (DeleteBox path) h = h.1
-    go (MaskBox path) h = h.1
-    go (TargetBox path) h = h.1
-    go (TroubleBox trouble) h = h.1
-    go (PartLeftBox path) h = h.1
-
-pub append_no_keys : (keys : List KeyType) → keys ++ [] ≡ keys
-append_no_keys [] = refl
-append_no_keys (key ∷ keys) = ap (λ ks. key ∷ ks) (append_no_keys keys)
 
 -- the end of a job that ran out of memory, written down in the room that was kept for it
 pub desk_gave_up : (start : Option Start) (opening contents : Option CallLog) (faults : ℕ) (old new : Seen) (seat count : ℕ) (live : Running) (part : Option Route)

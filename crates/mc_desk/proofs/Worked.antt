@@ -39,7 +39,8 @@ use Rattle.mc_desk.specs.LiveRows.{row_of, rows_of, rows_told, trouble_told}
 use Rattle.mc_desk.specs.Logs.{Logged}
 use Rattle.mc_desk.specs.Outputs.{FitsScreen, Output, ShowsFrame}
 use Rattle.mc_desk.specs.Shown.{DrawsBehind, DrawsFrame, Put, frame_at, frame_due, ready_row, rows_then, none_before}
-use Rattle.mc_desk.specs.StandIn.{Display, frame_of}
+use Rattle.mc_screen.specs.Drawings.{Display}
+use Rattle.mc_ui.specs.Frames.{frame_of}
 use Rattle.mc_desk.specs.Standings.{MayCarryOut, after_answer, after_deed, awaited, event_of, followed, order_of}
 use Rattle.mc_desk.specs.Tallies.{can_step, faults_in, next_id}
 use Rattle.mc_desk.specs.Desks.{IsDesk, IsShown, Seen, seen_of, with_end}

@@ -28,7 +28,8 @@ use Rattle.mc_desk.specs.Sessions.{IsSession}
 use Rattle.mc_desk.specs.Logs.{Logged}
 use Rattle.mc_desk.specs.Outputs.{FitsScreen, Output}
 use Rattle.mc_desk.specs.LiveRows.{rows_of, trouble_told}
-use Rattle.mc_desk.specs.StandIn.{Shows, frame_of}
+use Rattle.mc_screen.specs.Drawings.{Shows}
+use Rattle.mc_ui.specs.Frames.{frame_of}
 use Rattle.key_screen.specs.Grids.{CellGrid}
 use Rattle.mc_desk.specs.Standings.{tally_of}
 use Rattle.mc_desk.specs.declared.standing.Standing.{Standing}

@@ -6,7 +6,6 @@ pub mod Outputs
 pub mod Sessions
 pub mod Shown
 pub mod ShownEntries
-pub mod StandIn
 pub mod Standings
 pub mod Starts
 pub mod Tallies

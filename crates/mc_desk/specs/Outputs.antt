@@ -5,7 +5,7 @@ use Rattle.tree_trait.specs.declared.devices.SinkError.{SinkError}
 use Rattle.tree_trait.specs.declared.devices.SinkError.TheVariants.{Fault}
 use Rattle.key_screen.specs.Grids.{CellGrid}
 use Rattle.mc_ui.specs.Screens.{Screen}
-use Rattle.mc_desk.specs.StandIn.{Display, HasSizeOf, Shows, screen_columns, screen_lines}
+use Rattle.mc_screen.specs.Drawings.{Display, HasSizeOf, Shows}
 use Rattle.mc_desk.specs.Shown.{DrawsFrame, HasGiven, HasPutNothing, Put, put_since}
 
 -- what was put, the frame drawn last, how many bytes the drawings that ended have put, and whether the screen has failed
@@ -38,8 +38,8 @@ pub record ShowsFrame (frame : CellGrid) (result : Result (Unit {0}) SinkError) 
 
 -- a grid has the lines and columns of the screen
 pub record FitsScreen (grid : CellGrid) (screen : Screen) : Type 0 where
-  pub lines : screen_lines screen ≡ grid.lines
-  pub columns : screen_columns screen ≡ grid.columns
+  pub lines : screen.lines ≡ grid.lines
+  pub columns : screen.columns ≡ grid.columns
 
 -- a terminal as it is seen, by what its sink was given before the session and by now
 abbrev pub output_of : Option (List ℕ) → Option (List ℕ) → Display → ℕ → Bool → Bool → Output

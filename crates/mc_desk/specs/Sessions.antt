@@ -137,9 +137,9 @@ pub record Enters (opening : Option CallLog) (faults : ℕ) (e : Entry) (older :
   pub traced : Traces opening e older was stood stand contents
   pub draws : EventDraws e.what (none_before older) (frame_due screen (next_id (last_id older)) (rows_told older)) e.shown put_before put
 
--- the folders of the two panels
+-- the folders of the two panels, and the size of the screen
 abbrev pub folders_of : Screen → Start
-folders_of screen = record { left = screen.left.folder; right = screen.right.folder }
+folders_of screen = record { left = screen.left.folder; right = screen.right.folder; lines = screen.lines; columns = screen.columns }
 
 -- the session begins in the folders that were named, where they are known
 abbrev pub BeginsIn : Option Start → Start → Type 0

@@ -8,7 +8,9 @@ use Rattle.session_history.specs.declared.history.Entry.{Entry}
 use Rattle.session_history.specs.declared.history.Event.{Event}
 use Rattle.session_history.specs.declared.history.Event.TheVariants.{Key, Look, Began, Order, Step, Closed}
 use Rattle.mc_ui.specs.Screens.{Screen, Planned, Begins, Answers, Ends}
-use Rattle.mc_desk.specs.StandIn.{HasSizeOf, IsSparse, Shows, frame_of}
+use Rattle.mc_screen.specs.Drawings.{HasSizeOf, Shows}
+use Rattle.mc_screen.specs.Sparse.{IsSparse}
+use Rattle.mc_ui.specs.Frames.{frame_of}
 
 -- what a session has put since its opening, where the sink tells, and whether its last drawing was cut short
 pub record Put : Type 0 where

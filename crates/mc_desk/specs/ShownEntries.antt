@@ -12,7 +12,7 @@ use Rattle.mc_desk.specs.declared.starts.Start.{Start}
 use Rattle.mc_desk.specs.LiveRows.{rows_told}
 use Rattle.mc_desk.specs.Sessions.{IsSession}
 use Rattle.mc_desk.specs.Shown.{DrawsBehind, Put, frame_due, none_before}
-use Rattle.mc_desk.specs.StandIn.{Shows}
+use Rattle.mc_screen.specs.Drawings.{Shows}
 use Rattle.mc_desk.specs.Tallies.{next_id}
 
 -- a key that was worked, and a look, draw

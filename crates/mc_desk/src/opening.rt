@@ -3,12 +3,12 @@ ghost use Rattle.std.specs.Prelude.{◌≡◌, ◌≤◌, [], true, IfErr, IfOk}
 ghost use Rattle.tree_trait.specs.Change.{current};
 ghost use Rattle.tree_trait.specs.Answers.{IfKnown, HasRisen};
 ghost use Rattle.mc_desk.specs.Outputs.{FitsScreen};
-ghost use Rattle.mc_desk.specs.StandIn.{Shows};
+ghost use Rattle.mc_screen.specs.Drawings.{Shows};
 ghost use Rattle.mc_desk.specs.Starts.{IsOpened, Starts, is_start_fault, start_error};
 
 use crate::log::Log;
-use crate::stand_in::Screen;
 use crate::starts::{Side, Start, StartError};
+use mc_screen::{Screen, a_blank_terminal_shows_a_blank_screen};
 use mc_text::NoMemory;
 use mc_ui::{Panel, Ui};
 use std::alloc::Global;
@@ -20,7 +20,7 @@ pub fn open<T: Tree>(
     tree: &mut T,
     start: Start,
 ) -> Result<(Ui, Log, Screen), StartError>
-    ensures opened { IfOk result (λ parts. IsOpened (T.contents tree.old) start.left start.right parts.0 parts.1) }
+    ensures opened { IfOk result (λ parts. IsOpened (T.contents tree.old) start parts.0 parts.1) }
     ensures blank { IfOk result (λ parts. Shows [] parts.2.grid) }
     ensures fits { IfOk result (λ parts. FitsScreen parts.2.grid parts.0) }
     ensures cause { IfKnown (T.contents tree.old) (λ log. Starts (current log) start.left start.right result) }
@@ -32,11 +32,17 @@ pub fn open<T: Tree>(
         Ok(log) => log,
         Err(NoMemory) => return Err(StartError::Memory),
     };
-    let screen = match Screen::new(alloc, 24, 80) {
+    let Start {
+        left,
+        right,
+        lines,
+        columns,
+    } = start;
+    let screen = match Screen::new(alloc, lines, columns) {
         Ok(screen) => screen,
         Err(NoMemory) => return Err(StartError::Memory),
     };
-    let Start { left, right } = start;
+    a_blank_terminal_shows_a_blank_screen();
     let left_names = match tree.list(alloc, &left) {
         Ok(children) => children.names,
         Err(error) => return Err(refused(Side::Left, error)),
@@ -47,7 +53,7 @@ pub fn open<T: Tree>(
     };
     let left_panel = Panel::new(left, left_names);
     let right_panel = Panel::new(right, right_names);
-    let ui = Ui::new(left_panel, right_panel);
+    let ui = Ui::new(left_panel, right_panel, lines, columns);
     Ok((ui, log, screen))
 }
 

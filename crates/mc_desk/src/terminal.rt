@@ -3,14 +3,15 @@ ghost use Rattle.std.specs.Prelude.{◌≡◌, ◌+◌, ◌≤◌, ◌<◌, ◌^
 ghost use Rattle.mc_desk.specs.LiveRows.{rows_of as rows_for, trouble_told};
 ghost use Rattle.mc_desk.specs.Outputs.{Blames, CountsAll, FitsScreen, IsFirstOutput, ShowsFrame, ShowsLast};
 ghost use Rattle.mc_desk.specs.Shown.{HasGiven, put_since};
-ghost use Rattle.mc_desk.specs.StandIn.{HasSizeOf, Shows, frame_of};
+ghost use Rattle.mc_screen.specs.Drawings.{HasSizeOf, Shows};
+ghost use Rattle.mc_ui.specs.Frames.{frame_of};
 
 use crate::log::Log;
 use crate::rows::rows_of;
-use crate::stand_in::{Screen, frame};
 use crate::tag::Tag;
 use copy_move::Run;
 use key_screen::Grid;
+use mc_screen::Screen;
 use mc_ui::Ui;
 use std::alloc::Global;
 use std::marker::{Model, PhantomData};
@@ -75,7 +76,7 @@ impl<N: Tag, S: Sink> Terminal<N, S> {
             self.cut_short();
             return Err(SinkError::Memory);
         };
-        let Ok(frame) = frame(alloc, ui, &rows) else {
+        let Ok(frame) = ui.frame(alloc, &rows) else {
             self.cut_short();
             return Err(SinkError::Memory);
         };

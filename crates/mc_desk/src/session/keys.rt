@@ -1,7 +1,6 @@
 //! Keys and looks: what a session does for its user.
 ghost use Rattle.std.specs.Prelude.{◌≡◌, ◌+◌, ◌≤◌, ◌∷◌, ◌++◌, [], ℕ, List, true, false, IsTrue, IfErr, IfOk, OnOk, OnErr, Ok, Err, Some, None};
 ghost use Rattle.copy_move.specs.Told.{IsReady};
-ghost use Rattle.mc_ui.specs.Screens.{plain_base};
 ghost use Rattle.mc_desk.specs.Standings.{awaited_by, is_quit};
 ghost use Rattle.mc_desk.specs.Tallies.{can_step, keys_in};
 ghost use Rattle.mc_desk.specs.Desks.{BlamesScreen, CountsByte, FailsClosed, IsUncut, ShowsDesk, is_over, HasTaken, TakesByte, KeepsKeys};
@@ -156,8 +155,8 @@ impl<N: Tag, T: Tree, S: Sink, P: Spawner> Session<N, T, S, P> {
         ensures screen_failed { BlamesScreen result self.new.out.failed }
         ensures unclosed { OnOk result (self.new.tally.closed ≡ false) }
         ensures shut { OnErr result (self.new.tally.closed ≡ true) }
-        ensures looked { OnOk result (plain_base key ≡ Base.Unknown → self.new.tally.due ≡ None) }
-        ensures unasked { OnOk result (plain_base key ≡ Base.Unknown → self.new.quit ≡ false) }
+        ensures looked { OnOk result (key.base ≡ Base.Unknown → self.new.tally.due ≡ None) }
+        ensures unasked { OnOk result (key.base ≡ Base.Unknown → self.new.quit ≡ false) }
         ensures room { OnOk result (self.old.spare ≤ self.new.spare + 2) }
         ensures quit { IfOk result (λ reply. is_quit reply ≡ self.new.quit) }
         ensures awaits { IfOk result (λ reply. awaited_by reply ≡ self.new.tally.due) }

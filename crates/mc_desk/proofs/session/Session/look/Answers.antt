@@ -5,7 +5,7 @@ use Rattle.mc_desk.specs.LiveRows.{rows_of, trouble_told}
 use Rattle.mc_desk.specs.Tallies.{part_left}
 use Rattle.mc_desk.proofs.Adding.{entry}
 use Rattle.mc_desk.specs.Outputs.{ShowsFrame}
-use Rattle.mc_desk.specs.StandIn.{frame_of}
+use Rattle.mc_ui.specs.Frames.{frame_of}
 use Rattle.mc_desk.proofs.Looked.{looked_whole}
 use Rattle.mc_desk.specs.declared.standing.Standing.{Standing}
 use Rattle.mc_desk.specs.Desks.{Seen, ShowsDesk, seen_of}
@@ -29,7 +29,7 @@ invariant_of-self-2 g c =
           (λ h. let risen = c.in-Ok-look.ensures.reads.fault h in omega (arith, counted, had, risen)) c.in-Ok-look.ensures.reads.called c.in-Ok-look.ensures.leads c.look.ensures.settled
           (c.note.ensures.added ∙ (ap (λ es. entry 0 inside.standing.calls count c.shown.result (Look c.in-Ok-look.refusals) ∷ es) c.reserve.ensures.same
           ∙ ap (λ n. entry 0 inside.standing.calls count n (Look c.in-Ok-look.refusals) ∷ inside.log.newest) c.shown.ensures.counted)) room c.look_taken.ensures c.show-drawn.result
-          (fits_after inside.terminal.display.grid c.show-drawn.new.self.display.grid inside.ui c.look.new.self c.self.invariant.desk.shown.size c.show-drawn.ensures.shows.sized (record { lines = refl; columns = refl }))
+          (fits_after inside.terminal.display.grid c.show-drawn.new.self.display.grid inside.ui c.look.new.self c.self.invariant.desk.shown.size c.show-drawn.ensures.shows.sized c.look.ensures.size)
           (subst (λ es. ShowsFrame (frame_of c.look.new.self (rows_of inside.standing.job (trouble_told es))) c.show-drawn.result inside.terminal c.show-drawn.new.self) c.reserve.ensures.same c.show-drawn.ensures.shows);
       counted = search rules;
       spawner = c.self.invariant.spawner;

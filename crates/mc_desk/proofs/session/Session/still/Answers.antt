@@ -1,7 +1,7 @@
 -- Where nothing is to be looked at, the frame drawn last is the desk's.
 use Rattle.std.proofs.Common.{ap, subst, sym, ◌∙◌}
 use Rattle.mc_desk.specs.Desks.{Seen, ShowsDesk, seen_of}
-use Rattle.mc_desk.specs.StandIn.{Shows}
+use Rattle.mc_screen.specs.Drawings.{Shows}
 use Rattle.mc_desk.proofs.session.Session.still.Goals as goal
 
 pub returns-clause-shows : goal.returns-clause-shows

@@ -6,11 +6,12 @@ use Rattle.mc_desk.specs.Desks.{IsDesk, Seen, ShowsDesk, seen_of}
 use Rattle.mc_desk.specs.Granting.{IsWorked}
 use Rattle.mc_desk.specs.LiveRows.{rows_of, trouble_told}
 use Rattle.mc_desk.specs.Outputs.{ShowsFrame}
-use Rattle.mc_desk.specs.StandIn.{frame_of}
+use Rattle.mc_ui.specs.Frames.{frame_of}
 use Rattle.mc_desk.specs.declared.standing.Standing.{Standing}
 use Rattle.mc_desk.specs.Standings.{after_deed, awaited, event_of, followed}
 use Rattle.mc_desk.specs.Tallies.{next_id}
 use Rattle.mc_desk.proofs.Adding.{entry}
+use Rattle.mc_desk.proofs.Carried.{unknown_due}
 use Rattle.mc_desk.proofs.Showing.{ended_uncut, fits_after, shows_drawn, trouble_followed}
 use Rattle.mc_desk.proofs.Worked.{desk_worked, may_carry_out}
 use Rattle.mc_desk.proofs.session.Session.work_key.Goals as goal
@@ -65,3 +66,21 @@ returns-clause-shows g c unclosed =
     subst ShowsDesk (sym same)
     (shows_drawn desk c.show-drawn.result inside.terminal
     (subst (λ t. ShowsFrame (frame_of c.work.new.ui (rows_of standing.job t)) c.show-drawn.result inside.terminal c.show-drawn.new.self) (sym trouble) c.show-drawn.ensures.shows) whole (c.shown.ensures.shows whole))
+
+pub returns-clause-looked : goal.returns-clause-looked
+returns-clause-looked g c unknown =
+    let inside = c.self.inside in
+    let looked : awaited inside.standing.due ≡ None = ap (λ (d : Seen). d.tally.due) c.self.view_is ∙ c.requires.looked in
+    let unasked : inside.standing.quit ≡ false = ap (λ (d : Seen). d.quit) c.self.view_is ∙ c.requires.unasked in
+    ap (λ (d : Seen). d.tally.due) c.in_ok-after_draw.ensures.same
+    ∙ (ap (λ (s : Standing). awaited s.due) c.carry_out-follows.ensures.done
+    ∙ (unknown_due _ c.in-Ok.rows c.next_id-next.result c.args.key inside.ui c.work.new.ui c.in-Ok-work.granted.deed c.in-Ok-work.granted.refusals inside.standing unknown c.self.invariant.desk.settled c.in-Ok-work.ensures.worked looked unasked).0)
+
+pub returns-clause-unasked : goal.returns-clause-unasked
+returns-clause-unasked g c unknown =
+    let inside = c.self.inside in
+    let looked : awaited inside.standing.due ≡ None = ap (λ (d : Seen). d.tally.due) c.self.view_is ∙ c.requires.looked in
+    let unasked : inside.standing.quit ≡ false = ap (λ (d : Seen). d.quit) c.self.view_is ∙ c.requires.unasked in
+    ap (λ (d : Seen). d.quit) c.in_ok-after_draw.ensures.same
+    ∙ (ap (λ (s : Standing). s.quit) c.carry_out-follows.ensures.done
+    ∙ (unknown_due _ c.in-Ok.rows c.next_id-next.result c.args.key inside.ui c.work.new.ui c.in-Ok-work.granted.deed c.in-Ok-work.granted.refusals inside.standing unknown c.self.invariant.desk.settled c.in-Ok-work.ensures.worked looked unasked).1)
