@@ -29,7 +29,12 @@ fn begin(alloc: Global, tree: MemTree, left: &str, right: &str) -> Result<MuteDe
     let right = Path::parse(alloc, right)?;
     let begun = MuteDesk::begin(
         alloc,
-        Start { left, right },
+        Start {
+            left,
+            right,
+            lines: 24,
+            columns: 80,
+        },
         Mute::new(tree),
         Mute::new(MemSink::new(alloc, None)),
         Mute::new(FakeSpawner::new(Outcomes(Vec::new(alloc)))),

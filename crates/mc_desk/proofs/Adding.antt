@@ -42,6 +42,7 @@ use Rattle.mc_desk.specs.Tallies.{Tally, faults_in, can_step, end_unseen_event, 
 use Rattle.mc_desk.specs.Desks.{Seen, noted, stand_of, stand_with, with_end}
 use Rattle.mc_desk.specs.LiveRows.{row_of, rows_told, trouble_told}
 use Rattle.mc_desk.specs.Granting.{KeyWorks}
+use Rattle.mc_desk.specs.Shown.{DrawsFrame, frame_due, none_before}
 use Rattle.mc_desk.specs.Sessions.{MayEnd}
 use Rattle.mc_desk.proofs.Answering.{part_told, waits_told}
 use Rattle.mc_desk.proofs.Keeping.{Adds, Leads, before}
@@ -136,8 +137,10 @@ module _ (contents contents_after : Option CallLog) (faults : ℕ) (old new : Se
       → new.tally.job ≡ option_map told new.job → old.tally.closed ≡ false → old.tally.due ≡ None → old.tally.lost ≡ false → old.screen.planned ≡ None → contents_after ≡ contents
       → faults_in faults old.newest ≤ count → (has_fault refusals ≡ true → HasRisen (faults_in faults old.newest) count) → IfKnown contents (λ log. AreRefused Stat log refusals)
       → KeyWorks (sight contents) (rows_told old.newest) (next_id old.tally.last) key refusals (noted old) (noted new) → old.quit ≡ false → new.dirty ≡ old.dirty
+      → DrawsFrame (none_before old.newest) (frame_due (noted new) (next_id old.tally.last) (rows_told old.newest)) shown old.out.put new.out.put
       → Adds contents contents_after faults old new (entry seat old.tally.calls count shown (Key key now refusals false))
-  adds_key key now refusals more tally job tells unclosed looked unlost settled same later fault refused leads unasked dirty = record {
+  adds_key key now refusals more tally job tells unclosed looked unlost settled same later fault refused leads unasked dirty draws = record {
+    draws = draws;
     more = more;
     tally = tally ∙ open_tally old.tally unclosed;
     told = tells;
@@ -153,9 +156,10 @@ module _ (contents contents_after : Option CallLog) (faults : ℕ) (old new : Se
   pub adds_lost : (key : KeyType) (now : ℕ) → new.newest ≡ entry seat old.tally.calls count shown (Key key now [] true) ∷ old.newest
       → new.tally ≡ record old.tally { lost = true } → new.job ≡ old.job → new.tally.job ≡ option_map told new.job
       → old.tally.closed ≡ false → old.tally.due ≡ None → old.tally.lost ≡ false → old.screen.planned ≡ None → contents_after ≡ contents
-      → faults_in faults old.newest ≤ count → new.screen ≡ old.screen → new.quit ≡ old.quit → old.quit ≡ false → new.dirty ≡ old.dirty
+      → faults_in faults old.newest ≤ count → new.screen ≡ old.screen → new.quit ≡ old.quit → old.quit ≡ false → new.dirty ≡ old.dirty → new.out.put ≡ old.out.put
       → Adds contents contents_after faults old new (entry seat old.tally.calls count shown (Key key now [] true))
-  adds_lost key now more tally job tells unclosed looked unlost settled same later screen quit unasked dirty = record {
+  adds_lost key now more tally job tells unclosed looked unlost settled same later screen quit unasked dirty put = record {
+    draws = put;
     more = more;
     tally = tally ∙ ap (λ b. let r : Tally = record old.tally { job = if_closed b old.tally.job; lost = true } in r) (sym unclosed);
     told = tells;
@@ -173,8 +177,10 @@ module _ (contents contents_after : Option CallLog) (faults : ℕ) (old new : Se
       → old.tally.closed ≡ false → old.screen.planned ≡ None → contents_after ≡ contents
       → faults_in faults old.newest ≤ count → (has_fault refusals ≡ true → HasRisen (faults_in faults old.newest) count) → IfKnown contents (λ log. AreRefused ListFolder log refusals)
       → LookLeads (sight contents) (rows_told old.newest) old.tally.has_unseen_end (part_left old.newest) refusals old.screen new.screen → new.quit ≡ old.quit → old.quit ≡ false → new.dirty ≡ old.dirty
+      → DrawsFrame (none_before old.newest) (frame_due (noted new) (next_id old.tally.last) (rows_told old.newest)) shown old.out.put new.out.put
       → Adds contents contents_after faults old new (entry seat old.tally.calls count shown (Look refusals))
-  adds_look refusals more tally job tells unclosed settled same later fault refused leads quit unasked dirty = record {
+  adds_look refusals more tally job tells unclosed settled same later fault refused leads quit unasked dirty draws = record {
+    draws = draws;
     more = more;
     tally = tally
         ∙ ap (λ b. let r : Tally = record old.tally { job = if_closed b old.tally.job; has_unseen_end = false; due = if can_step old.tally.job then old.tally.due else None } in r) (sym unclosed);
@@ -195,9 +201,10 @@ module _ (contents contents_after : Option CallLog) (faults : ℕ) (old new : Se
   pub adds_began : (id : ℕ) (plan : Job) (background : Bool) (run : Running) → new.newest ≡ entry seat old.tally.calls count shown (Began id plan background) ∷ old.newest
       → option_map (running id) (first_work id plan) ≡ Some run → new.job ≡ Some run → new.tally ≡ record old.tally { job = Some (told run); last = id; due = Some id }
       → old.tally.closed ≡ false → rows_told old.newest ≡ [] → is_workable plan ≡ true → old.screen.planned ≡ Some (Begins plan background) → contents_after ≡ contents → faults_in faults old.newest ≤ count
-      → next_id old.tally.last ≡ Some id → new.screen ≡ record old.screen { planned = None } → new.quit ≡ old.quit → old.quit ≡ false → old.job ≡ None → new.dirty ≡ old.dirty
+      → next_id old.tally.last ≡ Some id → new.screen ≡ record old.screen { planned = None } → new.quit ≡ old.quit → old.quit ≡ false → old.job ≡ None → new.dirty ≡ old.dirty → new.out.put ≡ old.out.put
       → Adds contents contents_after faults old new (entry seat old.tally.calls count shown (Began id plan background))
-  adds_began id plan background run more started job tally unclosed idle workable planned same later id_is screen quit unasked none dirty = record {
+  adds_began id plan background run more started job tally unclosed idle workable planned same later id_is screen quit unasked none dirty put = record {
+    draws = put;
     more = more;
     tally = tally
         ∙ (ap (λ j. let r : Tally = record old.tally { job = j; last = id; due = Some id } in r) told_then
@@ -227,9 +234,10 @@ module _ (contents contents_after : Option CallLog) (faults : ℕ) (old new : Se
       → new.job ≡ Some (answered answer live)
       → new.tally ≡ record old.tally { job = Some (told (answered answer live)); due = Some live.id }
       → old.tally.closed ≡ false → old.screen.planned ≡ Some (Answers answer) → contents_after ≡ contents → faults_in faults old.newest ≤ count
-      → new.screen ≡ record old.screen { planned = None } → new.quit ≡ old.quit → old.quit ≡ false → new.dirty ≡ old.dirty
+      → new.screen ≡ record old.screen { planned = None } → new.quit ≡ old.quit → old.quit ≡ false → new.dirty ≡ old.dirty → new.out.put ≡ old.out.put
       → Adds contents contents_after faults old new (entry seat old.tally.calls count shown (Order live.id (Answered answer)))
-  adds_order answer live more is rows takes tells job tally unclosed planned same later screen quit unasked dirty = record {
+  adds_order answer live more is rows takes tells job tally unclosed planned same later screen quit unasked dirty put = record {
+    draws = put;
     more = more;
     tally = tally
         ∙ (ap (λ j. let r : Tally = record old.tally { job = j; due = Some live.id } in r) (ap Some (answered_told answer live) ∙ sym (ap (option_map (answered answer)) told_is))
@@ -258,9 +266,10 @@ module _ (contents contents_after : Option CallLog) (faults : ℕ) (old new : Se
   -- the end of keys
   pub adds_closed : new.newest ≡ entry seat old.tally.calls count shown Closed ∷ old.newest
       → new.tally ≡ record old.tally { job = option_map closed_job old.tally.job; closed = true; due = None } → new.job ≡ option_map closed_job old.job → new.tally.job ≡ option_map told new.job
-      → old.screen.planned ≡ None → contents_after ≡ contents → faults_in faults old.newest ≤ count → new.screen ≡ old.screen → new.quit ≡ old.quit → new.dirty ≡ old.dirty
+      → old.screen.planned ≡ None → contents_after ≡ contents → faults_in faults old.newest ≤ count → new.screen ≡ old.screen → new.quit ≡ old.quit → new.dirty ≡ old.dirty → new.out.put ≡ old.out.put
       → Adds contents contents_after faults old new (entry seat old.tally.calls count shown Closed)
-  adds_closed more tally job tells settled same later screen quit dirty = record {
+  adds_closed more tally job tells settled same later screen quit dirty put = record {
+    draws = put;
     more = more;
     tally = tally;
     told = tells;
@@ -312,11 +321,12 @@ module _ (contents contents_after : Option CallLog) (faults : ℕ) (old new : Se
       → new.newest ≡ entry seat calls count shown (Step live.id did) ∷ old.newest
       → new.job ≡ if_closed old.tally.closed (if ends did then None else Some stepped)
       → new.tally ≡ record old.tally { job = option_map told new.job; has_unseen_end = ends did || old.tally.has_unseen_end; calls = calls }
-      → old.screen.planned ≡ None → faults_in faults old.newest ≤ before → after ≡ count → new.screen ≡ old.screen → new.quit ≡ old.quit
+      → old.screen.planned ≡ None → faults_in faults old.newest ≤ before → after ≡ count → new.screen ≡ old.screen → new.quit ≡ old.quit → new.out.put ≡ old.out.put
       → Adds contents contents_after faults old new (entry seat calls count shown (Step live.id did))
-  adds_step live stepped did made calls before after is tells o calls_is more job tally settled had now screen quit =
+  adds_step live stepped did made calls before after is tells o calls_is more job tally settled had now screen quit put =
       let s = o.own in
       record {
+        draws = put;
         more = more;
         tally = tally ∙ stepped_tally old.tally _ _ _ _ calls
             (ap (option_map told) job ∙ (closed_told old.tally.closed (if ends did then None else Some stepped)
@@ -345,9 +355,10 @@ module _ (contents contents_after : Option CallLog) (faults : ℕ) (old new : Se
       → new.newest ≡ entry seat calls count shown (Step live.id did) ∷ old.newest
       → new.job ≡ if_closed old.tally.closed (if ends did then None else Some stepped)
       → new.tally ≡ record old.tally { job = option_map told new.job; has_unseen_end = ends did || old.tally.has_unseen_end; calls = calls }
-      → old.screen.planned ≡ None → faults_in faults old.newest ≤ before → after ≡ count → new.screen ≡ old.screen → new.quit ≡ old.quit
+      → old.screen.planned ≡ None → faults_in faults old.newest ≤ before → after ≡ count → new.screen ≡ old.screen → new.quit ≡ old.quit → new.out.put ≡ old.out.put
       → Adds contents contents_after faults old new (entry seat calls count shown (Step live.id did))
-  adds_settled live stepped did made calls before after is tells s calls_is more job tally settled had now screen quit = record {
+  adds_settled live stepped did made calls before after is tells s calls_is more job tally settled had now screen quit put = record {
+    draws = put;
     more = more;
     tally = tally ∙ stepped_tally old.tally _ _ _ _ calls
         (ap (option_map told) (job ∙ ap (if_closed old.tally.closed) goes_on) ∙ (closed_told old.tally.closed (Some stepped)
@@ -399,9 +410,10 @@ module _ (contents contents_after : Option CallLog) (faults : ℕ) (old new : Se
   pub adds_given_up : (live : Running) (part : Option Route) → old.job ≡ Some live → old.tally.job ≡ option_map told old.job → waits_on live.course ≡ false → part ≡ part_of live.work
       → new.newest ≡ entry seat old.tally.calls count shown (Step live.id (Ended NoMemory part)) ∷ old.newest
       → new.job ≡ None → new.tally ≡ record old.tally { job = None; has_unseen_end = true }
-      → old.screen.planned ≡ None → contents_after ≡ contents → faults_in faults old.newest ≤ count → new.screen ≡ old.screen → new.quit ≡ old.quit → new.dirty ≡ old.dirty
+      → old.screen.planned ≡ None → contents_after ≡ contents → faults_in faults old.newest ≤ count → new.screen ≡ old.screen → new.quit ≡ old.quit → new.dirty ≡ old.dirty → new.out.put ≡ old.out.put
       → Adds contents contents_after faults old new (entry seat old.tally.calls count shown (Step live.id (Ended NoMemory part)))
-  adds_given_up live part is tells ready part_is more job tally settled same later screen quit dirty = record {
+  adds_given_up live part is tells ready part_is more job tally settled same later screen quit dirty put = record {
+    draws = put;
     more = more;
     tally = tally ∙ stepped_tally old.tally _ _ _ _ old.tally.calls (none_left old.tally.closed ∙ ap (if_closed old.tally.closed) (sym (ap (λ j. option_and_then (after_step (Ended NoMemory part)) j) told_is))) refl;
     told = ap (λ (t : Tally). t.job) tally ∙ sym (ap (option_map told) job);

@@ -1,6 +1,8 @@
 -- A look leaves a whole desk.
-use Rattle.std.proofs.Common.{◌≡◌, ℕ, ◌≤◌, ◌∷◌, Bool, true, false, List, [], refl, sym, ◌∙◌, ap, subst, Option, Some, None, arith}
+use Rattle.std.proofs.Common.{◌≡◌, ℕ, ◌≤◌, ◌∷◌, Bool, true, false, List, [], Result, refl, sym, ◌∙◌, ap, subst, Option, Some, None, arith}
 use Rattle.std.specs.Prelude.{if◌then◌else◌}
+use Rattle.std.specs.Option.{option_map}
+use Rattle.tree_trait.specs.declared.devices.SinkError.{SinkError}
 use Rattle.mc_text.specs.Routes.{Route}
 use Rattle.tree_trait.specs.Calls.{ListFolder}
 use Rattle.tree_trait.specs.Change.{CallLog}
@@ -15,15 +17,20 @@ use Rattle.mc_ui.specs.Refused.{has_fault}
 use Rattle.mc_desk.specs.declared.starts.Start.{Start}
 use Rattle.mc_desk.specs.declared.standing.Due.{Due}
 use Rattle.mc_desk.specs.declared.standing.Standing.{Standing}
-use Rattle.mc_desk.specs.LiveRows.{rows_of, trouble_told}
+use Rattle.mc_desk.specs.LiveRows.{rows_of, rows_told, trouble_told}
 use Rattle.mc_desk.specs.Logs.{Logged}
-use Rattle.mc_desk.specs.Outputs.{Output}
+use Rattle.mc_desk.specs.Outputs.{FitsScreen, Output, ShowsFrame}
+use Rattle.mc_desk.specs.Shown.{frame_at, frame_due, rows_then}
+use Rattle.mc_screen.specs.Drawings.{Display}
+use Rattle.mc_ui.specs.Frames.{frame_of}
 use Rattle.mc_desk.specs.Standings.{after_look, awaited, tally_of}
-use Rattle.mc_desk.specs.Tallies.{Tally, can_step, faults_in, part_left}
-use Rattle.mc_desk.specs.Desks.{IsDesk, seen_of}
+use Rattle.mc_desk.specs.Tallies.{Tally, can_step, faults_in, next_id, part_left}
+use Rattle.mc_desk.specs.Desks.{IsDesk, seen_of, with_end}
 use Rattle.mc_desk.proofs.Adding.{entry}
 use Rattle.mc_desk.proofs.Answering.{steps_told}
-use Rattle.mc_desk.proofs.Whole.{desk_looked}
+use Rattle.mc_desk.proofs.Showing.{shown_drawn, shown_whole}
+use Rattle.mc_desk.proofs.Whole.{desk_looked, rows_are}
+use Rattle.mc_desk.proofs.Worked.{draws_written}
 
 -- what is due after a look, by its number
 due_by_number : (steps : Bool) (due : Due) → awaited (after_look steps due) ≡ (if steps then awaited due else None)
@@ -34,16 +41,41 @@ abbrev taken_up : Standing → Standing
 taken_up was = record was { has_unseen_end = false; due = after_look (can_step was.job) was.due }
 
 module _ (start : Option Start) (opening contents contents_after : Option CallLog) (faults : ℕ) (log log_after : Logged) (screen screen_after : Screen) (was now_is : Standing) (dirty : List Route) (out out_after : Output) (taken : ℕ)
-    (pending : List ℕ) (count shown : ℕ) (desk : IsDesk start opening contents faults (seen_of log screen was dirty out taken pending)) (unclosed : was.closed ≡ false) (unasked : was.quit ≡ false)
+    (pending : List ℕ) (count : ℕ) (desk : IsDesk start opening contents faults (seen_of log screen was dirty out taken pending)) (unclosed : was.closed ≡ false) (unasked : was.quit ≡ false)
     (same : contents_after ≡ contents) (later : faults_in faults log.newest ≤ count) where
   pub looked_whole : (refusals : List Refusal) (rows : List JobRow) (part : Option Route) → rows ≡ rows_of was.job (trouble_told log.newest) → part ≡ part_left log.newest
       → (has_fault refusals ≡ true → HasRisen (faults_in faults log.newest) count) → IfKnown contents (λ l. AreRefused ListFolder l refusals) → LookLeads (sight contents) rows was.has_unseen_end part refusals screen screen_after
-      → screen_after.planned ≡ None → log_after.newest ≡ entry 0 was.calls count shown (Look refusals) ∷ log.newest → 2 ≤ log_after.spare → now_is ≡ taken_up was
+      → screen_after.planned ≡ None → log_after.newest ≡ entry 0 was.calls count out_after.shown (Look refusals) ∷ log.newest → 2 ≤ log_after.spare → now_is ≡ taken_up was
+      → (r : Result (Unit {0}) SinkError) → FitsScreen out_after.display.grid screen_after → ShowsFrame (frame_of screen_after (rows_of was.job (trouble_told log.newest))) r out out_after
       → IsDesk start opening contents_after faults (seen_of log_after screen_after now_is dirty out_after taken pending)
-  looked_whole refusals rows part rows_is part_is fault refused leads settled more room is =
+  looked_whole refusals rows part rows_is part_is fault refused leads settled more room is r fits s =
       subst (λ s. IsDesk start opening contents_after faults (seen_of log_after screen_after s dirty out_after taken pending)) (sym is)
-      (desk_looked start opening contents contents_after faults _ (seen_of log_after screen_after (taken_up was) dirty out_after taken pending) count shown refusals rows part rows_is part_is desk unclosed same later fault
+      (desk_looked start opening contents contents_after faults _ (seen_of log_after screen_after (taken_up was) dirty out_after taken pending) count out_after.shown refusals rows part rows_is part_is desk unclosed same later fault
       refused leads more
       (ap (λ d. let t : Tally = record (tally_of was) { has_unseen_end = false; due = d } in t)
       (due_by_number (can_step was.job) was.due ∙ ap (λ b. if b then awaited was.due else None) (sym (steps_told was.job))))
-      refl refl settled refl room refl unasked)
+      refl refl settled refl room refl unasked
+      (shown_drawn (seen_of log_after screen_after (taken_up was) dirty out_after taken pending) fits
+      (subst (λ es. out_after.put.is_cut ≡ false → out_after.display ≡ (let d : Display = record { grid = frame_of screen_after (rows_of was.job (trouble_told es)); has_drawn = true } in d)) (sym more)
+      (shown_whole (frame_of screen_after (rows_of was.job (trouble_told log.newest))) r out out_after s))
+      still)
+      (draws_written (seen_of log screen was dirty out taken pending) (frame_of screen_after (rows_of was.job (trouble_told log.newest)))
+      (frame_due (with_end was.quit screen_after) (next_id was.last_id) (rows_told log.newest)) r out_after desk.shown unclosed s frame_is))
+    where
+      told_is : rows_told log.newest ≡ rows_of was.job (trouble_told log.newest)
+      told_is = rows_are start opening contents faults (seen_of log screen was dirty out taken pending) desk.written
+
+      frame_is : frame_of screen_after (rows_of was.job (trouble_told log.newest)) ≡ frame_due (with_end was.quit screen_after) (next_id was.last_id) (rows_told log.newest)
+      frame_is =
+          ap (frame_of screen_after) (sym told_is)
+          ∙ (ap (λ s. frame_of s (rows_told log.newest)) (ap (λ o. let c : Screen = record screen_after { planned = o } in c) settled)
+          ∙ (ap (λ p. frame_at screen_after (rows_then p (next_id was.last_id) (rows_told log.newest))) (sym settled)
+          ∙ ap (λ b. frame_due (with_end b screen_after) (next_id was.last_id) (rows_told log.newest)) (sym unasked)))
+
+      -- a job that can't be stepped was not due, or is due no longer
+      still : was.closed ≡ false → awaited (after_look (can_step was.job) was.due) ≡ None → can_step (option_map told was.job) ≡ false
+      still unclosed none = go (can_step was.job) refl none
+        where
+          go : (b : Bool) → can_step was.job ≡ b → awaited (after_look b was.due) ≡ None → can_step (option_map told was.job) ≡ false
+          go true is due = desk.shown.still unclosed due
+          go false is due = steps_told was.job ∙ is

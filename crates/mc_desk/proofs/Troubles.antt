@@ -36,6 +36,7 @@ use Rattle.mc_ui.specs.LiveJobs.{fits, is_troubled, takes_answer}
 use Rattle.mc_ui.specs.Screens.{Screen, sight}
 use Rattle.mc_desk.specs.declared.starts.Start.{Start}
 use Rattle.mc_desk.specs.LiveRows.{is_report, reported_trouble, row_of, trouble_told}
+use Rattle.mc_desk.specs.Shown.{Put}
 use Rattle.mc_desk.specs.Sessions.{Before, EventLeads, IsSession, before_entry}
 use Rattle.mc_desk.proofs.Answering.{barred_told, barrier_told}
 
@@ -169,13 +170,13 @@ closed_waits true None t h = tt
 closed_waits true (Some job) t h = never (closed_job job) t (closed_goes job.course)
 
 -- so it is in any session
-pub session_waits : (start : Option Start) (opening : Option CallLog) (faults : ℕ) (newest : List Entry) (screen : Screen) (stand : Stand) (contents : Option CallLog)
-    → IsSession start opening faults newest screen stand contents → WaitsIn (live_job newest) (trouble_told newest)
-session_waits start opening faults [] screen stand contents h = tt
-session_waits start opening faults (e ∷ older) screen stand contents (before, was, stood, session, enters) =
+pub session_waits : (start : Option Start) (opening : Option CallLog) (faults : ℕ) (newest : List Entry) (screen : Screen) (stand : Stand) (contents : Option CallLog) (put : Put)
+    → IsSession start opening faults newest screen stand contents put → WaitsIn (live_job newest) (trouble_told newest)
+session_waits start opening faults [] screen stand contents put h = tt
+session_waits start opening faults (e ∷ older) screen stand contents put (before, was, stood, put_before, session, enters) =
     closed_waits (is_closed (e ∷ older)) (after_event e.what (live_job older)) (trouble_told (e ∷ older))
     (event_waits (before_entry (sight stood) older before) e.what screen (live_job older) (trouble_told older) refl enters.leads
-    (session_waits start opening faults older before was stood session))
+    (session_waits start opening faults older before was stood put_before session))
 
 not_true : (b : Bool) → not b ≡ true → b ≡ false
 not_true false h = refl

@@ -31,13 +31,16 @@ use Rattle.copy_move.specs.Steps.{RunStep, step_made}
 use Rattle.session_history.specs.Refusals.{AreRefused}
 use Rattle.history_laws.specs.Traces.{IsUnclaimed}
 use Rattle.mc_ui.specs.LiveJobs.{takes_answer}
-use Rattle.mc_ui.specs.Screens.{Box, Screen, NoBox, DeleteBox, MaskBox, TargetBox, TroubleBox, PartLeftBox, Begins, Answers, ByBox, KeyLeads, LookLeads, plain_base, sight}
+use Rattle.mc_ui.specs.Screens.{Screen, Begins, Answers, LookLeads, sight}
 use Rattle.mc_ui.specs.Refused.{has_fault}
 use Rattle.mc_desk.specs.Tallies.{Tally, faults_in, can_step, next_id, part_left}
 use Rattle.mc_desk.specs.declared.starts.Start.{Start}
 use Rattle.mc_desk.specs.LiveRows.{row_of, rows_of, rows_told, trouble_told}
 use Rattle.mc_desk.specs.Granting.{KeyWorks}
-use Rattle.mc_desk.specs.Desks.{Seen, kept_room, IsWritten, IsDesk, noted, stand_of}
+use Rattle.mc_desk.specs.Outputs.{FitsScreen, Output}
+use Rattle.mc_desk.specs.Shown.{DrawsFrame, frame_due, none_before}
+use Rattle.mc_desk.specs.Desks.{Seen, kept_room, IsShown, IsWritten, IsDesk, noted, stand_of}
+use Rattle.mc_desk.proofs.Showing.{shown_closed, shown_stepping}
 use Rattle.mc_desk.proofs.Adding.{adds_began, adds_closed, adds_given_up, adds_key, adds_look, adds_lost, adds_order, adds_settled, adds_step, entry, unasked_screen}
 use Rattle.mc_desk.proofs.Answering.{rows_untold}
 use Rattle.mc_desk.proofs.Keeping.{written_more}
@@ -52,9 +55,9 @@ room_two false (Some job) = omega arith
 
 -- a written desk on which nothing waits is whole
 desk_of : (start : Option Start) (opening contents : Option CallLog) (faults : ℕ) (desk : Seen) → IsWritten start opening contents faults desk → desk.screen.planned ≡ None → (desk.tally.lost ≡ true → desk.tally.closed ≡ true)
-    → (desk.quit ≡ true → desk.tally.due ≡ None) → (desk.tally.closed ≡ true → desk.tally.due ≡ None) → 2 ≤ desk.spare → IsDesk start opening contents faults desk
-desk_of start opening contents faults desk written settled lost asked shut room =
-    record { written = written; settled = settled; asked = asked; lost = lost; shut = shut; room = let two = room_two desk.tally.closed desk.job in omega (arith, two, room) }
+    → (desk.quit ≡ true → desk.tally.due ≡ None) → (desk.tally.closed ≡ true → desk.tally.due ≡ None) → 2 ≤ desk.spare → IsShown desk → IsDesk start opening contents faults desk
+desk_of start opening contents faults desk written settled lost asked shut room shown =
+    record { written = written; settled = settled; asked = asked; lost = lost; shut = shut; room = let two = room_two desk.tally.closed desk.job in omega (arith, two, room); shown = shown }
 
 closed_waits : (course : Course) → waits_on (closed_course course) ≡ false
 closed_waits GoesOn = refl
@@ -103,73 +106,81 @@ pub answers_live : (start : Option Start) (opening contents : Option CallLog) (f
 answers_live start opening contents faults desk live answer written is takes =
     may_answer live (trouble_told desk.newest) answer
     (subst (λ j. WaitsIn j (trouble_told desk.newest)) (sym (ap (λ (t : Tally). t.job) written.tally) ∙ (written.told ∙ ap (option_map told) is))
-    (session_waits start opening faults desk.newest (noted desk) (stand_of desk) contents written.session)) takes
+    (session_waits start opening faults desk.newest (noted desk) (stand_of desk) contents desk.out.put written.session)) takes
+
+same_fits : (old new : Seen) → new.screen ≡ old.screen → new.out ≡ old.out → FitsScreen old.out.display.grid old.screen → FitsScreen new.out.display.grid new.screen
+same_fits old new screen out fits = subst (λ s. FitsScreen new.out.display.grid s) (sym screen) (subst (λ (o : Output). FitsScreen o.display.grid old.screen) (sym out) fits)
 
 module _ (start : Option Start) (opening contents contents_after : Option CallLog) (faults : ℕ) (old new : Seen) (count shown : ℕ) (key : KeyType) (now : ℕ) (desk : IsDesk start opening contents faults old)
     (unclosed : old.tally.closed ≡ false) (unasked : old.quit ≡ false) (looked : old.tally.due ≡ None) (same : contents_after ≡ contents) (later : faults_in faults old.newest ≤ count) where
   -- a key that was lost, and the end of keys
   pub desk_lost : new.newest ≡ entry 0 old.tally.calls count 0 Closed ∷ (entry 0 old.tally.calls count shown (Key key now [] true) ∷ old.newest)
       → new.tally ≡ record old.tally { job = option_map closed_job old.tally.job; closed = true; due = None; lost = true } → new.job ≡ option_map closed_job old.job → new.tally.job ≡ option_map told new.job
-      → new.screen ≡ old.screen → new.quit ≡ old.quit → 1 ≤ new.spare → new.dirty ≡ old.dirty
+      → new.screen ≡ old.screen → new.quit ≡ old.quit → 1 ≤ new.spare → new.dirty ≡ old.dirty → new.out ≡ old.out
       → IsDesk start opening contents_after faults new
-  desk_lost more is job tells screen quit room dirty = record {
+  desk_lost more is job tells screen quit room dirty out = record {
     written =
         written_more faults mid new _ start opening contents_after contents_after
         (written_more faults old mid _ start opening contents contents_after desk.written
-        (adds_lost contents contents_after faults old mid 0 count shown refl key now refl refl refl desk.written.told unclosed looked (unlost start opening contents faults old desk unclosed) desk.settled same later refl refl unasked refl))
-        (adds_closed contents_after contents_after faults mid new 0 count 0 refl more is job tells desk.settled refl (omega arith) screen quit dirty);
+        (adds_lost contents contents_after faults old mid 0 count shown refl key now refl refl refl desk.written.told unclosed looked (unlost start opening contents faults old desk unclosed) desk.settled same later refl refl unasked refl refl))
+        (adds_closed contents_after contents_after faults mid new 0 count 0 refl more is job tells desk.settled refl (omega arith) screen quit dirty (ap (λ (o : Output). o.put) out));
     settled = ap (λ (s : Screen). s.planned) screen ∙ desk.settled;
     asked = λ h. ap (λ (t : Tally). t.due) is;
     lost = λ h. ap (λ (t : Tally). t.closed) is;
     shut = λ h. ap (λ (t : Tally). t.due) is;
     room = let closed = ap (λ (t : Tally). t.closed) is in rw closed (let one = last_room new.job in omega (arith, one, room));
+    shown = shown_closed new (ap (λ (t : Tally). t.closed) is) (same_fits old new screen out desk.shown.size);
   }
     where
       mid : Seen
       mid = record old { newest = entry 0 old.tally.calls count shown (Key key now [] true) ∷ old.newest; tally = record old.tally { lost = true } }
 
   module _ (refusals : List Refusal) (fault : has_fault refusals ≡ true → HasRisen (faults_in faults old.newest) count) (refused : IfKnown contents (λ log. AreRefused Stat log refusals))
-      (settled : new.screen.planned ≡ None) (room : 2 ≤ new.spare) where
+      (settled : new.screen.planned ≡ None) (room : 2 ≤ new.spare) (shown_now : IsShown new) where
     -- a key that was worked
     pub desk_keyed : new.newest ≡ entry 0 old.tally.calls count shown (Key key now refusals false) ∷ old.newest → new.tally ≡ old.tally → new.job ≡ old.job → new.tally.job ≡ option_map told new.job
-        → KeyWorks (sight contents) (rows_told old.newest) (next_id old.tally.last) key refusals (noted old) (noted new) → new.dirty ≡ old.dirty → IsDesk start opening contents_after faults new
-    desk_keyed more is job tells works dirty =
+        → KeyWorks (sight contents) (rows_told old.newest) (next_id old.tally.last) key refusals (noted old) (noted new) → new.dirty ≡ old.dirty
+        → DrawsFrame (none_before old.newest) (frame_due (noted new) (next_id old.tally.last) (rows_told old.newest)) shown old.out.put new.out.put → IsDesk start opening contents_after faults new
+    desk_keyed more is job tells works dirty draws =
         desk_of start opening contents_after faults new
         (written_more faults old new _ start opening contents contents_after desk.written
         (adds_key contents contents_after faults old new 0 count shown refl key now refusals more is job tells unclosed looked (unlost start opening contents faults old desk unclosed) desk.settled same later fault refused
-        works unasked dirty))
+        works unasked dirty draws))
         settled (λ h. ap (λ (t : Tally). t.closed) is ∙ desk.lost (sym (ap (λ (t : Tally). t.lost) is) ∙ h)) (λ h. ap (λ (t : Tally). t.due) is ∙ looked)
-        (λ h. ap (λ (t : Tally). t.due) is ∙ desk.shut (sym (ap (λ (t : Tally). t.closed) is) ∙ h)) room
+        (λ h. ap (λ (t : Tally). t.due) is ∙ desk.shut (sym (ap (λ (t : Tally). t.closed) is) ∙ h)) room shown_now
 
     not_asked : new.quit ≡ true → new.quit ≡ old.quit → ⊥
     not_asked h quit = let no = unasked in cc
 
     -- the key, on a screen on which what it asked is still to be carried out
     abbrev pub keyed : Screen → Seen
-    keyed screen = record old { newest = entry 0 old.tally.calls count shown (Key key now refusals false) ∷ old.newest; screen = screen }
+    keyed screen = record old { newest = entry 0 old.tally.calls count shown (Key key now refusals false) ∷ old.newest; screen = screen; out = new.out }
 
-    keyed_written : (screen : Screen) → KeyWorks (sight contents) (rows_told old.newest) (next_id old.tally.last) key refusals (noted old) screen → IsWritten start opening contents_after faults (keyed screen)
-    keyed_written screen works =
+    keyed_written : (screen : Screen) → KeyWorks (sight contents) (rows_told old.newest) (next_id old.tally.last) key refusals (noted old) screen
+        → DrawsFrame (none_before old.newest) (frame_due screen (next_id old.tally.last) (rows_told old.newest)) shown old.out.put new.out.put → IsWritten start opening contents_after faults (keyed screen)
+    keyed_written screen works draws =
         written_more faults old (keyed screen) _ start opening contents contents_after desk.written
         (adds_key contents contents_after faults old (keyed screen) 0 count shown refl key now refusals refl refl refl desk.written.told unclosed looked (unlost start opening contents faults old desk unclosed) desk.settled same later fault
-        refused (subst (λ s. KeyWorks (sight contents) (rows_told old.newest) (next_id old.tally.last) key refusals (noted old) s) (sym (unasked_screen (keyed screen) unasked)) works) unasked refl)
+        refused (subst (λ s. KeyWorks (sight contents) (rows_told old.newest) (next_id old.tally.last) key refusals (noted old) s) (sym (unasked_screen (keyed screen) unasked)) works) unasked refl
+        (subst (λ s. DrawsFrame (none_before old.newest) (frame_due s (next_id old.tally.last) (rows_told old.newest)) shown old.out.put new.out.put) (sym (unasked_screen (keyed screen) unasked)) draws))
 
     -- a key that confirmed a job, and the job that it begins
     pub desk_began : (plan : Job) (background : Bool) (run : Running) (id began_count : ℕ) → run.id ≡ id → next_id old.tally.last ≡ Some run.id → old.job ≡ None → is_workable plan ≡ true
         → option_map (running run.id) (first_work run.id plan) ≡ Some run
         → new.newest ≡ entry 0 old.tally.calls began_count 0 (Began id plan background) ∷ (entry 0 old.tally.calls count shown (Key key now refusals false) ∷ old.newest)
         → count ≤ began_count → new.job ≡ Some run → new.tally ≡ record old.tally { job = Some (told run); last = id; due = Some id } → new.quit ≡ old.quit → new.dirty ≡ old.dirty
-        → KeyWorks (sight contents) (rows_told old.newest) (next_id old.tally.last) key refusals (noted old) (record new.screen { planned = Some (Begins plan background) }) → IsDesk start opening contents_after faults new
-    desk_began plan background run id began_count number numbered idle workable started more counted job is quit dirty works =
-        let written = keyed_written screen works in
+        → KeyWorks (sight contents) (rows_told old.newest) (next_id old.tally.last) key refusals (noted old) (record new.screen { planned = Some (Begins plan background) })
+        → DrawsFrame (none_before old.newest) (frame_due (record new.screen { planned = Some (Begins plan background) }) (next_id old.tally.last) (rows_told old.newest)) shown old.out.put new.out.put → IsDesk start opening contents_after faults new
+    desk_began plan background run id began_count number numbered idle workable started more counted job is quit dirty works draws =
+        let written = keyed_written screen works draws in
         desk_of start opening contents_after faults new
         (written_more faults (keyed screen) new _ start opening contents_after contents_after written
         (adds_began contents_after contents_after faults (keyed screen) new 0 began_count 0 refl id plan background run more
         (subst (λ n. option_map (running n) (first_work n plan) ≡ Some run) number started) job is unclosed
         (rows_are start opening contents_after faults (keyed screen) written ∙ ap (λ j. rows_of j (trouble_told (keyed screen).newest)) idle) workable refl refl counted
-        (numbered ∙ ap Some number) (cleared new.screen settled) quit unasked idle dirty))
+        (numbered ∙ ap Some number) (cleared new.screen settled) quit unasked idle dirty refl))
         settled (λ h. ap (λ (t : Tally). t.closed) is ∙ desk.lost (sym (ap (λ (t : Tally). t.lost) is) ∙ h)) (λ h. absurd (not_asked h quit))
-        (λ h. absurd (let shut = ap (λ (t : Tally). t.closed) is in cc)) room
+        (λ h. absurd (let shut = ap (λ (t : Tally). t.closed) is in cc)) room shown_now
       where
         screen : Screen
         screen = record new.screen { planned = Some (Begins plan background) }
@@ -179,16 +190,17 @@ module _ (start : Option Start) (opening contents contents_after : Option CallLo
         → new.newest ≡ entry 0 old.tally.calls order_count 0 (Order live.id (Answered answer)) ∷ (entry 0 old.tally.calls count shown (Key key now refusals false) ∷ old.newest)
         → count ≤ order_count → new.job ≡ Some (answered answer live)
         → new.tally ≡ record old.tally { job = Some (told (answered answer live)); due = Some live.id } → new.quit ≡ old.quit → new.dirty ≡ old.dirty
-        → KeyWorks (sight contents) (rows_told old.newest) (next_id old.tally.last) key refusals (noted old) (record new.screen { planned = Some (Answers answer) }) → IsDesk start opening contents_after faults new
-    desk_ordered answer live order_count was takes more counted job is quit dirty works =
-        let written = keyed_written screen works in
+        → KeyWorks (sight contents) (rows_told old.newest) (next_id old.tally.last) key refusals (noted old) (record new.screen { planned = Some (Answers answer) })
+        → DrawsFrame (none_before old.newest) (frame_due (record new.screen { planned = Some (Answers answer) }) (next_id old.tally.last) (rows_told old.newest)) shown old.out.put new.out.put → IsDesk start opening contents_after faults new
+    desk_ordered answer live order_count was takes more counted job is quit dirty works draws =
+        let written = keyed_written screen works draws in
         desk_of start opening contents_after faults new
         (written_more faults (keyed screen) new _ start opening contents_after contents_after written
         (adds_order contents_after contents_after faults (keyed screen) new 0 order_count 0 refl answer live more was
         (rows_are start opening contents_after faults (keyed screen) written ∙ ap (λ j. rows_of j (trouble_told (keyed screen).newest)) was) takes
-        desk.written.told job is unclosed refl refl counted (cleared new.screen settled) quit unasked dirty))
+        desk.written.told job is unclosed refl refl counted (cleared new.screen settled) quit unasked dirty refl))
         settled (λ h. ap (λ (t : Tally). t.closed) is ∙ desk.lost (sym (ap (λ (t : Tally). t.lost) is) ∙ h)) (λ h. absurd (not_asked h quit))
-        (λ h. absurd (let shut = ap (λ (t : Tally). t.closed) is in cc)) room
+        (λ h. absurd (let shut = ap (λ (t : Tally). t.closed) is in cc)) room shown_now
       where
         screen : Screen
         screen = record new.screen { planned = Some (Answers answer) }
@@ -201,10 +213,11 @@ closed_room (Some job) spare spare_after had left = omega (arith, had, left)
 pub desk_closed : (start : Option Start) (opening contents : Option CallLog) (faults : ℕ) (old new : Seen) (count : ℕ) → IsDesk start opening contents faults old → old.tally.closed ≡ false → faults_in faults old.newest ≤ count
     → new.newest ≡ entry 0 old.tally.calls count 0 Closed ∷ old.newest
     → new.tally ≡ record old.tally { job = option_map closed_job old.tally.job; closed = true; due = None } → new.job ≡ option_map closed_job old.job → new.tally.job ≡ option_map told new.job
-    → new.screen ≡ old.screen → new.quit ≡ old.quit → old.spare ≤ new.spare + 1 → new.dirty ≡ old.dirty → IsDesk start opening contents faults new
-desk_closed start opening contents faults old new count desk unclosed later more is job tells screen quit left dirty = record {
+    → new.screen ≡ old.screen → new.quit ≡ old.quit → old.spare ≤ new.spare + 1 → new.dirty ≡ old.dirty → new.out ≡ old.out → IsDesk start opening contents faults new
+desk_closed start opening contents faults old new count desk unclosed later more is job tells screen quit left dirty out = record {
   written = written_more faults old new _ start opening contents contents desk.written
-      (adds_closed contents contents faults old new 0 count 0 refl more is job tells desk.settled refl later screen quit dirty);
+      (adds_closed contents contents faults old new 0 count 0 refl more is job tells desk.settled refl later screen quit dirty (ap (λ (o : Output). o.put) out));
+  shown = shown_closed new (ap (λ (t : Tally). t.closed) is) (same_fits old new screen out desk.shown.size);
   settled = ap (λ (s : Screen). s.planned) screen ∙ desk.settled;
   asked = λ h. ap (λ (t : Tally). t.due) is;
   lost = λ h. ap (λ (t : Tally). t.closed) is;
@@ -219,15 +232,16 @@ pub desk_looked : (start : Option Start) (opening contents contents_after : Opti
     → IfKnown contents (λ log. AreRefused ListFolder log refusals) → LookLeads (sight contents) rows old.tally.has_unseen_end part refusals old.screen new.screen
     → new.newest ≡ entry 0 old.tally.calls count shown (Look refusals) ∷ old.newest
     → new.tally ≡ record old.tally { has_unseen_end = false; due = if can_step old.tally.job then old.tally.due else None } → new.job ≡ old.job → new.tally.job ≡ option_map told new.job
-    → new.screen.planned ≡ None → new.quit ≡ old.quit → 2 ≤ new.spare → new.dirty ≡ old.dirty → old.quit ≡ false
+    → new.screen.planned ≡ None → new.quit ≡ old.quit → 2 ≤ new.spare → new.dirty ≡ old.dirty → old.quit ≡ false → IsShown new
+    → DrawsFrame (none_before old.newest) (frame_due (noted new) (next_id old.tally.last) (rows_told old.newest)) shown old.out.put new.out.put
     → IsDesk start opening contents_after faults new
-desk_looked start opening contents contents_after faults old new count shown refusals rows part rows_is part_is desk unclosed same later fault refused leads more is job tells settled quit room dirty unasked =
+desk_looked start opening contents contents_after faults old new count shown refusals rows part rows_is part_is desk unclosed same later fault refused leads more is job tells settled quit room dirty unasked shown_now draws =
     desk_of start opening contents_after faults new
     (written_more faults old new _ start opening contents contents_after desk.written
     (adds_look contents contents_after faults old new 0 count shown refl refusals more is job tells unclosed desk.settled same later fault refused
     (subst (λ rs. LookLeads (sight contents) rs old.tally.has_unseen_end (part_left old.newest) refusals old.screen new.screen) (rows_is ∙ sym (rows_are start opening contents faults old desk.written))
-    (subst (λ p. LookLeads (sight contents) rows old.tally.has_unseen_end p refusals old.screen new.screen) part_is leads)) quit unasked dirty))
-    settled (λ h. ap (λ (t : Tally). t.closed) is ∙ desk.lost (sym (ap (λ (t : Tally). t.lost) is) ∙ h)) (λ h. absurd (let no = unasked in cc)) (λ h. absurd (let shut = ap (λ (t : Tally). t.closed) is in cc)) room
+    (subst (λ p. LookLeads (sight contents) rows old.tally.has_unseen_end p refusals old.screen new.screen) part_is leads)) quit unasked dirty draws))
+    settled (λ h. ap (λ (t : Tally). t.closed) is ∙ desk.lost (sym (ap (λ (t : Tally). t.lost) is) ∙ h)) (λ h. absurd (let no = unasked in cc)) (λ h. absurd (let shut = ap (λ (t : Tally). t.closed) is in cc)) room shown_now
 
 -- a step makes at most three changing calls
 few_made : (live stepped : Running) (did : Did) (made : ℕ) (dirty dirty_after : List Route) (contents contents_after : Option CallLog) (before after : ℕ)
@@ -242,18 +256,19 @@ pub desk_stepped : (start : Option Start) (opening contents contents_after : Opt
     → new.newest ≡ entry seat calls count 0 (Step live.id did) ∷ old.newest
     → new.job ≡ if_closed old.tally.closed (if ends did then None else Some stepped)
     → new.tally ≡ record old.tally { job = option_map told new.job; has_unseen_end = ends did || old.tally.has_unseen_end; calls = calls } → new.screen ≡ old.screen
-    → new.quit ≡ old.quit → 2 ≤ new.spare → IsDesk start opening contents_after faults new
-desk_stepped start opening contents contents_after faults old new seat count made calls before after live stepped did main desk is steps fits calls_is had now more job tally screen quit room =
+    → new.quit ≡ old.quit → 2 ≤ new.spare → waits_on live.course ≡ false → new.out ≡ old.out → IsDesk start opening contents_after faults new
+desk_stepped start opening contents contents_after faults old new seat count made calls before after live stepped did main desk is steps fits calls_is had now more job tally screen quit room ready out =
     let all : calls ≡ old.tally.calls + made =
     let few = desk.written.calls in let three = few_made live stepped did made old.dirty new.dirty contents contents_after before after steps in omega (arith, calls_is, three, fits, few) in
     desk_of start opening contents_after faults new
     (written_more faults old new _ start opening contents contents_after desk.written (elim steps [
-      | inl o ↦ adds_step contents contents_after faults old new seat count 0 main live stepped did made calls before after is desk.written.told o all more job tally desk.settled had now screen quit
-      | inr s ↦ adds_settled contents contents_after faults old new seat count 0 main live stepped did made calls before after is desk.written.told s all more job tally desk.settled had now screen quit
+      | inl o ↦ adds_step contents contents_after faults old new seat count 0 main live stepped did made calls before after is desk.written.told o all more job tally desk.settled had now screen quit (ap (λ (o : Output). o.put) out)
+      | inr s ↦ adds_settled contents contents_after faults old new seat count 0 main live stepped did made calls before after is desk.written.told s all more job tally desk.settled had now screen quit (ap (λ (o : Output). o.put) out)
     ]))
     (ap (λ (s : Screen). s.planned) screen ∙ desk.settled) (λ h. ap (λ (t : Tally). t.closed) tally ∙ desk.lost (sym (ap (λ (t : Tally). t.lost) tally) ∙ h))
     (λ h. ap (λ (t : Tally). t.due) tally ∙ desk.asked (sym quit ∙ h))
     (λ h. ap (λ (t : Tally). t.due) tally ∙ desk.shut (sym (ap (λ (t : Tally). t.closed) tally) ∙ h)) room
+    (shown_stepping old new live desk.shown desk.written.tally (desk.written.told ∙ ap (option_map told) is) ready (ap (λ (t : Tally). t.closed) tally) (ap (λ (t : Tally). t.due) tally) out screen)
 
 pub room_left : (closed : Bool) (job : Option Running) (live : Running) (spare reserved left : ℕ) → job ≡ Some live → kept_room closed job ≤ spare → spare ≤ reserved → reserved ≤ left + 1 → kept_room closed None ≤ left
 room_left closed job live spare reserved left is had kept noted = go closed (subst (λ j. kept_room closed j ≤ spare) is had)
@@ -262,31 +277,16 @@ room_left closed job live spare reserved left is had kept noted = go closed (sub
     go true had = omega (arith, had, kept, noted)
     go false had = omega (arith, had, kept, noted)
 
--- a key that is unknown leaves the screen as it was
-pub unknown_stays : (tree : Option View) (rows : List JobRow) (key : KeyType) (refusals : List Refusal) (before after : Screen) → plain_base key ≡ Unknown → KeyLeads tree rows key refusals before after → after ≡ before
-unknown_stays tree rows key refusals before after unknown leads = go before.over (subst (λ b. ByBox before.over tree rows b refusals before after) unknown leads)
-  where
-    go : (over : Box) → ByBox over tree rows Unknown refusals before after → after ≡ before
-    go NoBox h = h.1
-    go (DeleteBox path) h = h.1
-    go (MaskBox path) h = h.1
-    go (TargetBox path) h = h.1
-    go (TroubleBox trouble) h = h.1
-    go (PartLeftBox path) h = h.1
-
-pub append_no_keys : (keys : List KeyType) → keys ++ [] ≡ keys
-append_no_keys [] = refl
-append_no_keys (key ∷ keys) = ap (λ ks. key ∷ ks) (append_no_keys keys)
-
 -- the end of a job that ran out of memory, written down in the room that was kept for it
 pub desk_gave_up : (start : Option Start) (opening contents : Option CallLog) (faults : ℕ) (old new : Seen) (seat count : ℕ) (live : Running) (part : Option Route)
     → seat ≡ 0 → IsDesk start opening contents faults old → old.job ≡ Some live → waits_on live.course ≡ false → part ≡ part_of live.work → faults_in faults old.newest ≤ count
     → new.newest ≡ entry seat old.tally.calls count 0 (Step live.id (Ended NoMemory part)) ∷ old.newest
     → new.job ≡ None → new.tally ≡ record old.tally { job = None; has_unseen_end = true } → new.screen ≡ old.screen → new.quit ≡ old.quit → kept_room old.tally.closed None ≤ new.spare → new.dirty ≡ old.dirty
-    → IsDesk start opening contents faults new
-desk_gave_up start opening contents faults old new seat count live part main desk is ready part_is later more job tally screen quit room dirty = record {
+    → new.out ≡ old.out → IsDesk start opening contents faults new
+desk_gave_up start opening contents faults old new seat count live part main desk is ready part_is later more job tally screen quit room dirty out = record {
+  shown = shown_stepping old new live desk.shown desk.written.tally (desk.written.told ∙ ap (option_map told) is) ready (ap (λ (t : Tally). t.closed) tally) (ap (λ (t : Tally). t.due) tally) out screen;
   written = written_more faults old new _ start opening contents contents desk.written
-      (adds_given_up contents contents faults old new seat count 0 main live part is desk.written.told ready part_is more job tally desk.settled refl later screen quit dirty);
+      (adds_given_up contents contents faults old new seat count 0 main live part is desk.written.told ready part_is more job tally desk.settled refl later screen quit dirty (ap (λ (o : Output). o.put) out));
   settled = ap (λ (s : Screen). s.planned) screen ∙ desk.settled;
   asked = λ h. ap (λ (t : Tally). t.due) tally ∙ desk.asked (sym quit ∙ h);
   lost = λ h. ap (λ (t : Tally). t.closed) tally ∙ desk.lost (sym (ap (λ (t : Tally). t.lost) tally) ∙ h);

@@ -1,6 +1,10 @@
 -- A key that was worked, and what it asked for carried out, leave a whole desk.
-use Rattle.std.proofs.Common.{◌≡◌, ℕ, ◌≤◌, ◌∷◌, Bool, true, false, List, [], refl, sym, ◌∙◌, ap, subst, Option, Some, None, arith}
-use Rattle.std.proofs.lemmas.Bool.{false≢true}
+use Rattle.std.proofs.Common.{◌≡◌, ℕ, ◌≤◌, ◌∷◌, Bool, true, false, List, [], refl, sym, inl, inr, Result, ◌∙◌, ap, subst, Option, Some, None, arith}
+use Rattle.std.specs.Prelude.{if◌then◌else◌, not}
+use Rattle.std.specs.Option.{option_map}
+use Rattle.std.proofs.lemmas.Bool.{false≢true, true≢false}
+use Rattle.key_screen.specs.Grids.{CellGrid}
+use Rattle.tree_trait.specs.declared.devices.SinkError.{SinkError}
 use Rattle.key_screen.specs.declared.keys.Key.{Key as KeyType}
 use Rattle.mc_text.specs.Routes.{Route}
 use Rattle.tree_trait.specs.Calls.{Stat}
@@ -12,10 +16,18 @@ use Rattle.session_history.specs.declared.history.Event.TheVariants.{Began, Key}
 use Rattle.session_history.specs.declared.refusal.Refusal.{Refusal}
 use Rattle.session_history.specs.Refusals.{AreRefused}
 use Rattle.job_reports.specs.declared.answer.Answer.{Answer}
-use Rattle.copy_move.specs.Jobs.{MayAnswer, Running, answered}
-use Rattle.copy_move.specs.Told.{told}
+use Rattle.job_reports.specs.declared.answer.Answer.TheVariants.{Retry, Skip, SkipAll, Abort}
+use Rattle.job_reports.specs.declared.job.Job.{Job as JobPlan}
+use Rattle.job_reports.specs.declared.report.Trouble.{Trouble}
+use Rattle.job_reports.specs.declared.row.JobState.TheVariants.{Ready, Troubled}
+use Rattle.job_reports.specs.Reports.{passes_over}
+use Rattle.copy_move.specs.declared.work.Work.{Work}
+use Rattle.copy_move.specs.declared.run.Course.{Course}
+use Rattle.copy_move.specs.declared.run.Course.TheVariants.{GoesOn, InTrouble, OwedSyncFailed, Skips, Ends}
+use Rattle.copy_move.specs.Jobs.{MayAnswer, Running, answered, answered_on, first_work, is_barred, waits_on}
+use Rattle.copy_move.specs.Told.{running, told}
 use Rattle.mc_ui.specs.LiveJobs.{can_answer, takes_answer}
-use Rattle.mc_ui.specs.Screens.{Screen, sight}
+use Rattle.mc_ui.specs.Screens.{Answers, Begins, Screen, sight}
 use Rattle.mc_ui.specs.Refused.{has_fault}
 use Rattle.mc_desk.specs.declared.starts.Start.{Start}
 use Rattle.mc_desk.specs.declared.granting.Deed.{Deed}
@@ -25,12 +37,16 @@ use Rattle.mc_desk.specs.declared.standing.Standing.{Standing}
 use Rattle.mc_desk.specs.Granting.{CanBeDone, IsWorked, KeyWorks, with_deed}
 use Rattle.mc_desk.specs.LiveRows.{row_of, rows_of, rows_told, trouble_told}
 use Rattle.mc_desk.specs.Logs.{Logged}
-use Rattle.mc_desk.specs.Outputs.{Output}
+use Rattle.mc_desk.specs.Outputs.{FitsScreen, Output, ShowsFrame}
+use Rattle.mc_desk.specs.Shown.{DrawsBehind, DrawsFrame, Put, frame_at, frame_due, ready_row, rows_then, none_before}
+use Rattle.mc_screen.specs.Drawings.{Display}
+use Rattle.mc_ui.specs.Frames.{frame_of}
 use Rattle.mc_desk.specs.Standings.{MayCarryOut, after_answer, after_deed, awaited, event_of, followed, order_of}
-use Rattle.mc_desk.specs.Tallies.{faults_in, next_id}
-use Rattle.mc_desk.specs.Desks.{IsDesk, Seen, noted, seen_of, with_end}
+use Rattle.mc_desk.specs.Tallies.{can_step, faults_in, next_id}
+use Rattle.mc_desk.specs.Desks.{IsDesk, IsShown, Seen, seen_of, with_end}
 use Rattle.mc_desk.proofs.Adding.{entry, unasked_screen}
 use Rattle.mc_desk.proofs.Answering.{none_of}
+use Rattle.mc_desk.proofs.Showing.{shown_drawn, shown_whole}
 use Rattle.mc_desk.proofs.Whole.{answers_live, desk_began, desk_keyed, desk_ordered, rows_are}
 
 module _ (start : Option Start) (opening contents : Option CallLog) (faults : ℕ) (desk : Seen) (whole : IsDesk start opening contents faults desk) (rows : List JobRow)
@@ -53,11 +69,65 @@ module _ (start : Option Start) (opening contents : Option CallLog) (faults : �
   may_carry_out next (deed.Answer answer) can =
       let here = live_of answer can in (here.0, here.1, answers_live start opening contents faults desk here.0 answer whole.written here.1 here.2)
 
+-- drawing is sparse where something was drawn before
+first_or_later : (is_first other : Bool) (frame : CellGrid) (earlier drawn : List ℕ) → (other ≡ false → is_first ≡ false) → DrawsBehind is_first earlier frame drawn → DrawsBehind other earlier frame drawn
+first_or_later is_first other frame earlier drawn later d = record { shows = d.shows; sparse = λ h. d.sparse (later h) }
+
+pub draws_as : (is_first other : Bool) (frame : CellGrid) (shown : ℕ) (before after : Put) → (other ≡ false → is_first ≡ false) → DrawsFrame is_first frame shown before after → DrawsFrame other frame shown before after
+draws_as is_first other frame shown before after later d = record {
+  uncut = d.uncut;
+  drawn = elim d.drawn [
+    | inl p ↦ inl (record { whole = p.whole; bytes = λ earlier known. let b = p.bytes earlier known in (b.0, b.1, b.2, first_or_later is_first other frame earlier b.0 later b.3) })
+    | inr c ↦
+        inr (record {
+          cut = c.cut;
+          bytes = λ earlier known.
+              let b = c.bytes earlier known in (b.0, elim b.1 [ inl same ↦ inl same | inr some ↦ inr (some.0, some.1, some.2, first_or_later is_first other frame earlier some.0 later some.3) ]);
+        })
+  ];
+  untold = d.untold;
+}
+
+-- a drawing by a desk, as it is written down
+pub draws_written : (desk : Seen) (frame due : CellGrid) (r : Result (Unit {0}) SinkError) (out_after : Output) → IsShown desk → desk.tally.closed ≡ false → ShowsFrame frame r desk.out out_after → frame ≡ due
+    → DrawsFrame (none_before desk.newest) due out_after.shown desk.out.put out_after.put
+draws_written desk frame due r out_after shown unclosed s same =
+    subst (λ f. DrawsFrame (none_before desk.newest) f out_after.shown desk.out.put out_after.put) same
+    (draws_as (not desk.out.display.has_drawn) (none_before desk.newest) frame out_after.shown desk.out.put out_after.put (λ some. ap not (shown.drawn unclosed s.drawn.uncut some)) s.drawn)
+
+-- a job that waits for nothing has the row of one that is ready
+ready_is : (job : Running) (t : Option Trouble) → waits_on job.course ≡ false → row_of job t ≡ ready_row job.id
+ready_is job t ready = ap (λ b. let r : JobRow = record { job = job.id; state = if b then Troubled else Ready; background = false; trouble = if b then t else None } in r) ready
+
+-- a job that was begun, or answered, waits for nothing
+started_ready : (id : ℕ) (plan : JobPlan) (run : Running) → option_map (running id) (first_work id plan) ≡ Some run → waits_on run.course ≡ false
+started_ready id plan run started = go (first_work id plan) started
+  where
+    go : (work : Option Work) → option_map (running id) work ≡ Some run → waits_on run.course ≡ false
+    go None is = absurd cc
+    go (Some work) is = let same : running id work ≡ run = cc in ap (λ (j : Running). waits_on j.course) (sym same)
+
+answered_ready : (course : Course) (answer : Answer) (job : Running) → waits_on course ≡ true → (passes_over answer ≡ true → is_barred course job.work ≡ false) → (answered_on course answer job).id ≡ job.id × (waits_on (answered_on course answer job).course ≡ false)
+answered_ready (InTrouble cause) Retry job waits fits = (refl, refl)
+answered_ready (InTrouble cause) Skip job waits fits = (refl, refl)
+answered_ready (InTrouble cause) SkipAll job waits fits = (refl, refl)
+answered_ready (InTrouble cause) Abort job waits fits = (refl, refl)
+answered_ready (OwedSyncFailed cause) Retry job waits fits = (refl, refl)
+answered_ready (OwedSyncFailed cause) Skip job waits fits = absurd (true≢false (fits refl))
+answered_ready (OwedSyncFailed cause) SkipAll job waits fits = absurd (true≢false (fits refl))
+answered_ready (OwedSyncFailed cause) Abort job waits fits = (refl, refl)
+answered_ready GoesOn answer job waits fits = absurd (false≢true waits)
+answered_ready (Skips cause) answer job waits fits = absurd (false≢true waits)
+answered_ready (Ends ending) answer job waits fits = absurd (false≢true waits)
+
+cleared : (s : Screen) → s.planned ≡ None → s ≡ (let c : Screen = record s { planned = None } in c)
+cleared s h = ap (λ o. let c : Screen = record s { planned = o } in c) h
+
 module _ (start : Option Start) (opening contents contents_after : Option CallLog) (faults : ℕ) (log log_after : Logged) (screen screen_after : Screen) (was : Standing) (dirty : List Route) (out out_after : Output) (taken : ℕ)
-    (pending : List ℕ) (count shown : ℕ) (key : KeyType) (now : ℕ) (desk : IsDesk start opening contents faults (seen_of log screen was dirty out taken pending)) (unclosed : was.closed ≡ false) (unasked : was.quit ≡ false)
+    (pending : List ℕ) (count : ℕ) (key : KeyType) (now : ℕ) (desk : IsDesk start opening contents faults (seen_of log screen was dirty out taken pending)) (unclosed : was.closed ≡ false) (unasked : was.quit ≡ false)
     (looked : awaited was.due ≡ None) (same : contents_after ≡ contents) (later : faults_in faults log.newest ≤ count) (refusals : List Refusal)
     (fault : has_fault refusals ≡ true → HasRisen (faults_in faults log.newest) count) (refused : IfKnown contents (λ l. AreRefused Stat l refusals)) (room : 2 ≤ log_after.spare)
-    (rows : List JobRow) (rows_is : rows ≡ rows_of was.job (trouble_told log.newest)) where
+    (rows : List JobRow) (rows_is : rows ≡ rows_of was.job (trouble_told log.newest)) (r : Result (Unit {0}) SinkError) where
   abbrev pub old : Seen
   old = seen_of log screen was dirty out taken pending
 
@@ -74,23 +144,92 @@ module _ (start : Option Start) (opening contents contents_after : Option CallLo
   still_noted works =
       subst (λ b. KeyWorks (sight contents) (rows_told log.newest) (next_id was.last_id) key refusals (with_end was.quit screen) (with_end b screen_after)) (sym unasked) (noted_works screen_after works)
 
-  pub desk_worked : (done : Deed) → IsWorked (sight contents) rows (next_id was.last_id) key screen screen_after done refusals
+  abbrev pub shown : ℕ
+  shown = out_after.shown
+
+  told_is : rows_told log.newest ≡ rows_of was.job (trouble_told log.newest)
+  told_is = rows_are start opening contents faults old desk.written
+
+  abbrev due_of : Deed → CellGrid
+  due_of done = frame_due (with_deed done screen_after) (next_id was.last_id) (rows_told log.newest)
+
+  -- the frame that is drawn is the one that is due
+  frame_as : (done : Deed) → IsWorked (sight contents) rows (next_id was.last_id) key screen screen_after done refusals
+      → frame_of screen_after (rows_of (after_deed done was).job (trouble_told log.newest)) ≡ due_of done
+  frame_as deed.Nothing w = plain w.settled
+    where
+      plain : screen_after.planned ≡ None → frame_of screen_after (rows_of was.job (trouble_told log.newest)) ≡ due_of deed.Nothing
+      plain none =
+          ap (frame_of screen_after) (sym told_is)
+          ∙ (ap (λ s. frame_of s (rows_told log.newest)) (cleared screen_after none) ∙ ap (λ p. frame_at screen_after (rows_then p (next_id was.last_id) (rows_told log.newest))) (sym none))
+  frame_as deed.Refuse w =
+      ap (frame_of screen_after) (sym told_is)
+      ∙ (ap (λ s. frame_of s (rows_told log.newest)) (cleared screen_after w.settled) ∙ ap (λ p. frame_at screen_after (rows_then p (next_id was.last_id) (rows_told log.newest))) (sym w.settled))
+  frame_as deed.End w = ap (frame_of screen_after) (sym told_is) ∙ ap (λ s. frame_of s (rows_told log.newest)) (cleared screen_after w.settled)
+  frame_as (deed.Begin confirmed) w =
+      let run = confirmed.run in
+      let none : rows_told log.newest ≡ [] = told_is ∙ (sym rows_is ∙ w.can.0) in
+      ap (λ row. frame_of screen_after (row ∷ [])) (ready_is run (trouble_told log.newest) (started_ready run.id confirmed.plan run confirmed.started))
+      ∙ (ap (λ s. frame_of s (ready_row run.id ∷ [])) (cleared screen_after w.settled)
+      ∙ (ap (λ rs. frame_at screen_after (ready_row run.id ∷ rs)) (sym none)
+      ∙ ap (λ n. frame_at screen_after (rows_then (Some (Begins confirmed.plan confirmed.background)) n (rows_told log.newest))) (sym w.can.2)))
+  frame_as (deed.Answer answer) w =
+      let here = live_of start opening contents faults old desk rows rows_is answer w.can in
+      let live = here.0 in
+      let is : was.job ≡ Some live = here.1 in
+      let may : MayAnswer live answer = answers_live start opening contents faults old live answer desk.written is here.2 in
+      let ready = answered_ready live.course answer live may.waits may.fits in
+      let told : rows_told log.newest ≡ row_of live (trouble_told log.newest) ∷ [] = told_is ∙ ap (λ j. rows_of j (trouble_told log.newest)) is in
+      ap (λ j. frame_of screen_after (rows_of (after_answer answer j was).job (trouble_told log.newest))) is
+      ∙ (ap (λ row. frame_of screen_after (row ∷ [])) (ready_is (answered answer live) (trouble_told log.newest) ready.1 ∙ ap ready_row ready.0)
+      ∙ (ap (λ s. frame_of s (ready_row live.id ∷ [])) (cleared screen_after w.settled)
+      ∙ ap (λ rs. frame_at screen_after (rows_then (Some (Answers answer)) (next_id was.last_id) rs)) (sym told)))
+
+  -- what the terminal shows of it
+  abbrev pub Shown : Deed → Type 0
+  Shown done = ShowsFrame (frame_of screen_after (rows_of (after_deed done was).job (trouble_told log.newest))) r out out_after
+
+  shows_new : (standing : Standing) → FitsScreen out_after.display.grid screen_after → ShowsFrame (frame_of screen_after (rows_of standing.job (trouble_told log.newest))) r out out_after
+      → trouble_told log_after.newest ≡ trouble_told log.newest → (standing.closed ≡ false → awaited standing.due ≡ None → can_step (option_map told standing.job) ≡ false) → IsShown (new standing)
+  shows_new standing fits s same still =
+      shown_drawn (new standing) fits
+      (subst (λ t. out_after.put.is_cut ≡ false → out_after.display ≡ (let d : Display = record { grid = frame_of screen_after (rows_of standing.job t); has_drawn = true } in d)) (sym same)
+      (shown_whole (frame_of screen_after (rows_of standing.job (trouble_told log.newest))) r out out_after s))
+      still
+
+  drawn_for : (done : Deed) → IsWorked (sight contents) rows (next_id was.last_id) key screen screen_after done refusals → Shown done
+      → DrawsFrame (none_before log.newest) (due_of done) shown out.put out_after.put
+  drawn_for done w s = draws_written old (frame_of screen_after (rows_of (after_deed done was).job (trouble_told log.newest))) (due_of done) r out_after desk.shown unclosed s (frame_as done w)
+
+  -- where nothing is asked for, what is written down of the end is noted on the screen
+  drawn_noted : DrawsFrame (none_before log.newest) (frame_due screen_after (next_id was.last_id) (rows_told log.newest)) shown out.put out_after.put
+      → DrawsFrame (none_before log.newest) (frame_due (with_end was.quit screen_after) (next_id was.last_id) (rows_told log.newest)) shown out.put out_after.put
+  drawn_noted d = subst (λ b. DrawsFrame (none_before log.newest) (frame_due (with_end b screen_after) (next_id was.last_id) (rows_told log.newest)) shown out.put out_after.put) (sym unasked) d
+
+  pub desk_worked : (done : Deed) → IsWorked (sight contents) rows (next_id was.last_id) key screen screen_after done refusals → FitsScreen out_after.display.grid screen_after → Shown done
       → log_after.newest ≡ followed was.calls count (event_of done was.job) (entry 0 was.calls count shown (Key key now refusals false) ∷ log.newest) → IsDesk start opening contents_after faults (new (after_deed done was))
-  desk_worked deed.Nothing w more =
-      desk_keyed start opening contents contents_after faults old (new was) count shown key now desk unclosed unasked looked same later refusals fault refused w.settled room more refl refl refl (still_noted w.works) refl
-  desk_worked deed.Refuse w more =
-      desk_keyed start opening contents contents_after faults old (new was) count shown key now desk unclosed unasked looked same later refusals fault refused w.settled room more refl refl refl (still_noted w.works) refl
-  desk_worked deed.End w more =
-      desk_keyed start opening contents contents_after faults old (new (after_deed deed.End was)) count shown key now desk unclosed unasked looked same later refusals fault refused w.settled room more refl refl refl
-      (noted_works (with_deed deed.End screen_after) w.works) refl
-  desk_worked (deed.Begin confirmed) w more =
+  desk_worked deed.Nothing w fits s more =
+      desk_keyed start opening contents contents_after faults old (new was) count shown key now desk unclosed unasked looked same later refusals fault refused w.settled room
+      (shows_new was fits s (ap trouble_told more) desk.shown.still) more refl refl refl (still_noted w.works) refl (drawn_noted (drawn_for deed.Nothing w s))
+  desk_worked deed.Refuse w fits s more =
+      desk_keyed start opening contents contents_after faults old (new was) count shown key now desk unclosed unasked looked same later refusals fault refused w.settled room
+      (shows_new was fits s (ap trouble_told more) desk.shown.still) more refl refl refl (still_noted w.works) refl (drawn_noted (drawn_for deed.Refuse w s))
+  desk_worked deed.End w fits s more =
+      desk_keyed start opening contents contents_after faults old (new (after_deed deed.End was)) count shown key now desk unclosed unasked looked same later refusals fault refused w.settled room
+      (shows_new (after_deed deed.End was) fits s (ap trouble_told more) desk.shown.still) more refl refl refl (noted_works (with_deed deed.End screen_after) w.works) refl (drawn_for deed.End w s)
+  desk_worked (deed.Begin confirmed) w fits s more =
       desk_began start opening contents contents_after faults old (new (after_deed (deed.Begin confirmed) was)) count shown key now desk unclosed unasked looked same later refusals fault refused w.settled room
+      (shows_new (after_deed (deed.Begin confirmed) was) fits s (ap trouble_told more) (λ unclosed none. absurd cc))
       confirmed.plan confirmed.background confirmed.run confirmed.run.id count refl w.can.2 (none_of was.job (trouble_told log.newest) (sym rows_is ∙ w.can.0)) w.can.1 confirmed.started more (omega arith) refl refl refl refl
-      (noted_works (with_deed (deed.Begin confirmed) screen_after) w.works)
-  desk_worked (deed.Answer answer) w more =
+      (noted_works (with_deed (deed.Begin confirmed) screen_after) w.works) (drawn_for (deed.Begin confirmed) w s)
+  desk_worked (deed.Answer answer) w fits s more =
       let here = live_of start opening contents faults old desk rows rows_is answer w.can in
       let is : was.job ≡ Some here.0 = here.1 in
+      let followed_is : log_after.newest ≡ followed was.calls count (order_of answer (Some here.0)) (entry 0 was.calls count shown (Key key now refusals false) ∷ log.newest) =
+      more ∙ ap (λ j. followed was.calls count (order_of answer j) (entry 0 was.calls count shown (Key key now refusals false) ∷ log.newest)) is in
       subst (λ s. IsDesk start opening contents_after faults (new s)) (sym (ap (λ j. after_answer answer j was) is))
       (desk_ordered start opening contents contents_after faults old (new (after_answer answer (Some here.0) was)) count shown key now desk unclosed unasked looked same later refusals fault refused w.settled room
-      answer here.0 count is here.2 (more ∙ ap (λ j. followed was.calls count (order_of answer j) (entry 0 was.calls count shown (Key key now refusals false) ∷ log.newest)) is) (omega arith) refl refl refl refl
-      (noted_works (with_deed (deed.Answer answer) screen_after) w.works))
+      (shows_new (after_answer answer (Some here.0) was) fits
+      (subst (λ j. ShowsFrame (frame_of screen_after (rows_of (after_answer answer j was).job (trouble_told log.newest))) r out out_after) is s) (ap trouble_told followed_is) (λ unclosed none. absurd cc))
+      answer here.0 count is here.2 followed_is (omega arith) refl refl refl refl
+      (noted_works (with_deed (deed.Answer answer) screen_after) w.works) (drawn_for (deed.Answer answer) w s))

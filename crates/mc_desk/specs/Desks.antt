@@ -16,16 +16,21 @@ use Rattle.copy_move.specs.Settling.{changed_folder}
 use Rattle.job_reports.specs.Paths.{without}
 use Rattle.history_laws.specs.Traces.{Stand, before_others}
 use Rattle.mc_ui.specs.Screens.{Screen, Ends}
+use Rattle.mc_desk.specs.Shown.{none_before}
 use Rattle.mc_desk.specs.declared.replies.DeskReply.{DeskReply}
 use Rattle.mc_desk.specs.declared.starts.Start.{Start}
 use Rattle.mc_desk.specs.declared.replies.DeskError.{DeskError}
 use Rattle.mc_desk.specs.declared.replies.DeskError.TheVariants as error
 use Rattle.mc_desk.specs.declared.replies.StepReply.{StepReply}
 use Rattle.mc_desk.specs.declared.replies.StepReply.TheVariants.{Ended, Idle}
-use Rattle.mc_desk.specs.Tallies.{Tally, tally, faults_in, keys_in}
+use Rattle.mc_desk.specs.Tallies.{Tally, can_step, tally, faults_in, keys_in}
 use Rattle.mc_desk.specs.Sessions.{IsSession}
 use Rattle.mc_desk.specs.Logs.{Logged}
-use Rattle.mc_desk.specs.Outputs.{Output}
+use Rattle.mc_desk.specs.Outputs.{FitsScreen, Output}
+use Rattle.mc_desk.specs.LiveRows.{rows_of, trouble_told}
+use Rattle.mc_screen.specs.Drawings.{Shows}
+use Rattle.mc_ui.specs.Frames.{frame_of}
+use Rattle.key_screen.specs.Grids.{CellGrid}
 use Rattle.mc_desk.specs.Standings.{tally_of}
 use Rattle.mc_desk.specs.declared.standing.Standing.{Standing}
 
@@ -82,13 +87,26 @@ stand_of desk = stand_with desk.job desk.dirty
 -- so many faults, and has the other now; it has come to the live job and the dirty folders; and the rest of the desk is what the
 -- history says.
 pub record IsWritten (start : Option Start) (opening contents : Option CallLog) (faults : ℕ) (desk : Seen) : Type 0 where
-  pub session : IsSession start opening faults desk.newest (noted desk) (stand_of desk) contents
+  pub session : IsSession start opening faults desk.newest (noted desk) (stand_of desk) contents desk.out.put
   pub tally : desk.tally ≡ tally desk.newest
   pub told : desk.tally.job ≡ option_map told desk.job
   pub calls : desk.tally.calls ≤ 3 * length desk.newest
 
+-- the frame of what a desk shows now
+abbrev pub frame_now : Seen → CellGrid
+frame_now desk = frame_of desk.screen (rows_of desk.job (trouble_told desk.newest))
+
+-- What the terminal of a desk shows, where no drawing was cut short and the desk isn't closed: something was drawn, if anything
+-- was written down; and once nothing is to be looked at the frame of the desk, and then its job can't be stepped.
+pub record IsShown (desk : Seen) : Type 0 where
+  pub size : FitsScreen desk.out.display.grid desk.screen
+  pub drawn : desk.tally.closed ≡ false → desk.out.put.is_cut ≡ false → none_before desk.newest ≡ false → desk.out.display.has_drawn ≡ true
+  pub current : desk.tally.closed ≡ false → desk.out.put.is_cut ≡ false → desk.tally.due ≡ None → desk.out.display.grid ≡ frame_now desk
+  pub still : desk.tally.closed ≡ false → desk.tally.due ≡ None → can_step desk.tally.job ≡ false
+
 -- What holds of a desk between two calls: besides, nothing that was asked for waits to be carried out but the end, a desk that
--- lost a key is closed, where the end was asked for or the desk is closed nothing is to be looked at, and the room is there.
+-- lost a key is closed, where the end was asked for or the desk is closed nothing is to be looked at, the room is there, and the
+-- terminal shows the desk.
 pub record IsDesk (start : Option Start) (opening contents : Option CallLog) (faults : ℕ) (desk : Seen) : Type 0 where
   pub written : IsWritten start opening contents faults desk
   pub settled : desk.screen.planned ≡ None
@@ -96,6 +114,15 @@ pub record IsDesk (start : Option Start) (opening contents : Option CallLog) (fa
   pub lost : desk.tally.lost ≡ true → desk.tally.closed ≡ true
   pub shut : desk.tally.closed ≡ true → desk.tally.due ≡ None
   pub room : kept_room desk.tally.closed desk.job ≤ desk.spare
+  pub shown : IsShown desk
+
+-- a terminal shows the frame of the desk, of all bytes that were put
+abbrev pub ShowsDesk : Seen → Type 0
+ShowsDesk desk = IfKnown desk.out.put.bytes (λ bytes. Shows bytes (frame_now desk))
+
+-- a drawing was cut short only where the desk is closed
+abbrev pub IsUncut : Seen → Type 0
+IsUncut desk = desk.tally.closed ≡ false → desk.out.put.is_cut ≡ false
 
 -- an answer that names the screen comes only where it failed
 abbrev pub BlamesScreen : {A : Type 0} → Result A DeskError → Bool → Type 0
@@ -140,6 +167,11 @@ pub record TookOf (bytes : List ℕ) (desk : Seen) : Type 0 where
 
 abbrev pub IsFed : Option (List ℕ) → Seen → Type 0
 IsFed stream desk = IfKnown stream (λ bytes. TookOf bytes desk)
+
+-- what a desk keeps besides its session: the keys are those of the bytes that it took, and no drawing was cut short while it is open
+pub record KeepsStream (stream : Option (List ℕ)) (desk : Seen) : Type 0 where
+  pub fed : IsFed stream desk
+  pub uncut : IsUncut desk
 
 -- the next byte after so many is this one
 abbrev pub IsNext : List ℕ → ℕ → ℕ → Type 0

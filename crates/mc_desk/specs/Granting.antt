@@ -9,11 +9,12 @@ use Rattle.session_history.specs.declared.refusal.BeginError.TheVariants.{NoMore
 use Rattle.session_history.specs.declared.refusal.Refusal.{Refusal}
 use Rattle.session_history.specs.declared.refusal.Refusal.TheVariants as refusal
 use Rattle.mc_ui.specs.LiveJobs.{can_answer}
-use Rattle.mc_ui.specs.Screens.{Answers, Begins, Ends, KeyLeads, Screen, with_ask}
+use Rattle.mc_ui.specs.Screens.{Answers, Begins, Ends, KeyLeads, Screen, told_refusal, with_ask}
 use Rattle.mc_ui.specs.declared.asks.Ask.{Ask}
 use Rattle.mc_ui.specs.declared.asks.Ask.TheVariants as ask
 use Rattle.mc_ui.specs.declared.asks.Told.{Told}
 use Rattle.mc_ui.specs.declared.asks.Told.TheVariants as told
+use Rattle.mc_ui.specs.Screens.{HasSameSize}
 use Rattle.mc_desk.specs.declared.granting.Deed.{Deed}
 use Rattle.mc_desk.specs.declared.granting.Deed.TheVariants.{Nothing, Begin, Refuse, Answer, End}
 
@@ -28,14 +29,14 @@ CanBeWorked ask.End = ⊤
 abbrev pub no_more_ids : List Refusal
 no_more_ids = refusal.Begin NoMoreIds ∷ []
 
--- a key asks for a job after all numbers were given: that is refused, and the screen stays
+-- a key asks for a job after all numbers were given: that is refused, and a message says so
 pub record FindsNoNumber (tree : Option View) (rows : List JobRow) (next : Option ℕ) (key : KeyType) (refusals : List Refusal) (before after : Screen) : Type 0 where
   pub plan : Job
   pub background : Bool
   pub asks : KeyLeads tree rows key [] before (with_ask (ask.Begin plan background) before)
   pub none_left : next ≡ None
   pub refused : refusals ≡ no_more_ids
-  pub stays : after ≡ before
+  pub told : after ≡ told_refusal (refusal.Begin NoMoreIds) before
 
 -- what a key comes to, while these jobs are live and the next job has this number
 abbrev pub KeyWorks : Option View → List JobRow → Option ℕ → KeyType → List Refusal → Screen → Screen → Type 0
@@ -82,3 +83,4 @@ pub record IsWorked (tree : Option View) (rows : List JobRow) (next : Option ℕ
   pub works : KeyWorks tree rows next key refusals before (with_deed done after)
   pub can : CanBeDone rows next done
   pub settled : after.planned ≡ None
+  pub size : HasSameSize before after

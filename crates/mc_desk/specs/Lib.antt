@@ -4,6 +4,8 @@ pub mod LiveRows
 pub mod Logs
 pub mod Outputs
 pub mod Sessions
+pub mod Shown
+pub mod ShownEntries
 pub mod Standings
 pub mod Starts
 pub mod Tallies

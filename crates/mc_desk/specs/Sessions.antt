@@ -18,7 +18,7 @@ use Rattle.session_history.specs.declared.history.Entry.{Entry}
 use Rattle.copy_move.specs.Jobs.{Running}
 use Rattle.copy_move.specs.Told.{IsAllowedStep}
 use Rattle.session_history.specs.Refusals.{AreRefused}
-use Rattle.session_history.specs.Entries.{calls_in}
+use Rattle.session_history.specs.Entries.{calls_in, last_id}
 use Rattle.history_laws.specs.Traces.{Follows, Stand, at_rest, nothing_live}
 use Rattle.mc_ui.specs.Refused.{has_fault}
 use Rattle.mc_ui.specs.LiveJobs.{takes_answer}
@@ -26,6 +26,7 @@ use Rattle.mc_ui.specs.Screens.{Screen, Planned, Begins, Answers, Ends, sight, L
 use Rattle.mc_desk.specs.declared.starts.Start.{Start}
 use Rattle.mc_desk.specs.Granting.{KeyWorks}
 use Rattle.mc_desk.specs.LiveRows.{rows_told}
+use Rattle.mc_desk.specs.Shown.{EventDraws, HasPutNothing, Put, frame_due, none_before}
 use Rattle.mc_desk.specs.Tallies.{Tally, tally, most_calls, faults_in, next_id, part_left}
 
 -- no key is worked in a closed session, where something is to be looked at, or after one was lost
@@ -125,33 +126,36 @@ Traces (Some opening) e older was before stand contents =
 abbrev pub before_entry : Option View → List Entry → Screen → Before
 before_entry tree older screen = record { tree = tree; tally = tally older; rows = rows_told older; part = part_left older; screen = screen }
 
--- An entry after older ones: from the screen, the live jobs with the dirty folders, and the tree that these came to, to others.
-pub record Enters (opening : Option CallLog) (faults : ℕ) (e : Entry) (older : List Entry) (before : Screen) (was : Stand) (stood : Option CallLog)
-    (screen : Screen) (stand : Stand) (contents : Option CallLog) : Type 0 where
+-- An entry after older ones: from the screen, the live jobs with the dirty folders, the tree, and what was put to the terminal,
+-- that these came to, to others.
+pub record Enters (opening : Option CallLog) (faults : ℕ) (e : Entry) (older : List Entry) (before : Screen) (was : Stand) (stood : Option CallLog) (put_before : Put)
+    (screen : Screen) (stand : Stand) (contents : Option CallLog) (put : Put) : Type 0 where
   pub timely : IsTimely e.what before
   pub counts : Counts (faults_in faults older) (calls_in older) e
   pub leads : EventLeads (before_entry (sight stood) older before) e.what screen
   pub caused : IfKnown stood (HasCauses e.what)
   pub traced : Traces opening e older was stood stand contents
+  pub draws : EventDraws e.what (none_before older) (frame_due screen (next_id (last_id older)) (rows_told older)) e.shown put_before put
 
--- the folders of the two panels
+-- the folders of the two panels, and the size of the screen
 abbrev pub folders_of : Screen → Start
-folders_of screen = record { left = screen.left.folder; right = screen.right.folder }
+folders_of screen = record { left = screen.left.folder; right = screen.right.folder; lines = screen.lines; columns = screen.columns }
 
 -- the session begins in the folders that were named, where they are known
 abbrev pub BeginsIn : Option Start → Start → Type 0
 BeginsIn start folders = IfKnown start (λ named. named ≡ folders)
 
 -- These entries are a session that began in these folders, over a tree that had these contents then, and had failed so often;
--- it has come to this screen, these live jobs and dirty folders, and these contents.
-abbrev pub IsSession : Option Start → Option CallLog → ℕ → List Entry → Screen → Stand → Option CallLog → Type 0
-IsSession start opening faults [] screen stand contents = IsOpening (sight opening) screen × BeginsIn start (folders_of screen) × (stand ≡ nothing_live) × (contents ≡ opening)
-IsSession start opening faults (e ∷ older) screen stand contents =
-    (before : Screen) × (was : Stand) × (stood : Option CallLog) × IsSession start opening faults older before was stood
-    × Enters opening faults e older before was stood screen stand contents
+-- it has come to this screen, these live jobs and dirty folders, and these contents, and has put these bytes.
+abbrev pub IsSession : Option Start → Option CallLog → ℕ → List Entry → Screen → Stand → Option CallLog → Put → Type 0
+IsSession start opening faults [] screen stand contents put =
+    IsOpening (sight opening) screen × BeginsIn start (folders_of screen) × (stand ≡ nothing_live) × (contents ≡ opening) × HasPutNothing put
+IsSession start opening faults (e ∷ older) screen stand contents put =
+    (before : Screen) × (was : Stand) × (stood : Option CallLog) × (put_before : Put) × IsSession start opening faults older before was stood put_before
+    × Enters opening faults e older before was stood put_before screen stand contents put
 
 -- These entries are a session in these folders, no job is live at its end, and nothing that was asked for was left undone.
 -- Whether the end was asked for, its screen has noted.
-abbrev pub EndsSession : Option Start → Option CallLog → ℕ → List Entry → Option CallLog → Bool → Type 0
-EndsSession start opening faults newest contents asked =
-    (screen : Screen) × (dirty : List Route) × (screen.planned ≡ (if asked then Some Ends else None)) × IsSession start opening faults newest screen (at_rest dirty) contents
+abbrev pub EndsSession : Option Start → Option CallLog → ℕ → List Entry → Option CallLog → Put → Bool → Type 0
+EndsSession start opening faults newest contents put asked =
+    (screen : Screen) × (dirty : List Route) × (screen.planned ≡ (if asked then Some Ends else None)) × IsSession start opening faults newest screen (at_rest dirty) contents put

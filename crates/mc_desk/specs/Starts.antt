@@ -14,12 +14,13 @@ use Rattle.mc_desk.specs.declared.starts.Side.TheVariants.{Left, Right}
 use Rattle.mc_desk.specs.declared.starts.StartError.{StartError}
 use Rattle.mc_desk.specs.declared.starts.StartError.TheVariants.{Tree, Memory}
 use Rattle.mc_desk.specs.Logs.{Logged}
+use Rattle.mc_desk.specs.Sessions.{folders_of}
+use Rattle.mc_desk.specs.declared.starts.Start.{Start}
 
 -- a screen on which nothing happened yet, and a history with nothing in it
-pub record IsOpened (contents : Option CallLog) (left right : Route) (screen : Screen) (log : Logged) : Type 0 where
+pub record IsOpened (contents : Option CallLog) (start : Start) (screen : Screen) (log : Logged) : Type 0 where
   pub opening : IsOpening (sight contents) screen
-  pub left_is : screen.left.folder ≡ left
-  pub right_is : screen.right.folder ≡ right
+  pub folders : folders_of screen ≡ start
   pub empty : log.newest ≡ []
   pub room : 1 ≤ log.spare
 

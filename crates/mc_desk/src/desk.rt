@@ -13,8 +13,9 @@ ghost use Rattle.mc_desk.specs.Sessions.{BeginsIn, EndsSession};
 ghost use Rattle.mc_desk.specs.Starts.{IsStartCause, is_start_fault};
 ghost use Rattle.mc_desk.specs.Tallies.{can_step, faults_in, has_lost};
 ghost use Rattle.mc_desk.specs.Outputs.{Blames};
+ghost use Rattle.mc_desk.specs.Shown.{HasGiven, put_since};
 ghost use Rattle.mc_desk.specs.Standings.{awaited_by, is_quit};
-ghost use Rattle.mc_desk.specs.Desks.{BlamesScreen, CountsByte, FailsClosed, IsFresh, IsNext, KeepsKeys, MovesDirty, RanNothing, Reads, idle_reply, is_over};
+ghost use Rattle.mc_desk.specs.Desks.{BlamesScreen, CountsByte, FailsClosed, IsFresh, IsNext, KeepsKeys, MovesDirty, RanNothing, Reads, ShowsDesk, idle_reply, is_over};
 
 use crate::replies::{DeskError, DeskReply, Ended, Refused, StepReply};
 use crate::session::Session;
@@ -31,13 +32,13 @@ pub struct Desk<N: Tag, T: Tree, S: Sink, P: Spawner> {
 }
 
 impl<N: Tag, T: Tree, S: Sink, P: Spawner> Model for Desk<N, T, S, P> {
-    ghost use Rattle.mc_desk.specs.Desks.{Seen, IsFed};
+    ghost use Rattle.mc_desk.specs.Desks.{Seen, KeepsStream};
 
     ghost Value = { Seen };
 
     ghost view = { λ d. d.session };
 
-    ghost invariant = { λ d. IsFed N.stream d.session };
+    ghost invariant = { λ d. KeepsStream N.stream d.session };
 }
 
 impl<N: Tag, T: Tree, S: Sink, P: Spawner> Desk<N, T, S, P> {
@@ -82,6 +83,8 @@ impl<N: Tag, T: Tree, S: Sink, P: Spawner> Desk<N, T, S, P> {
         requires looked { self.old.tally.due ≡ None }
         requires next { IfKnown N.stream (λ bytes. IsNext bytes self.old.taken byte) }
 
+        // On an open desk a terminal shows of all that was put the frame of what the screen shows.
+        ensures shows { OnOk result (self.new.tally.closed ≡ false → ShowsDesk self.new) }
         ensures quit { IfOk result (λ reply. is_quit reply ≡ is_over self.new) }
         ensures awaits { IfOk result (λ reply. awaited_by reply ≡ self.new.tally.due) }
         ensures fails { IfErr result (λ error. FailsClosed error self.old self.new) }
@@ -97,6 +100,7 @@ impl<N: Tag, T: Tree, S: Sink, P: Spawner> Desk<N, T, S, P> {
     /// Takes up what the job did, and draws. After the job's end the panel is read again, and a message tells of the part that
     /// the end left. A desk that is closed, or whose end was asked, stays as it is.
     pub fn look(&mut self, alloc: Global) -> Result<(), DeskError>
+        ensures shows { OnOk result (self.new.tally.closed ≡ false → ShowsDesk self.new) }
         ensures looked { OnOk result (can_step self.old.tally.job ≡ false → self.new.tally.due ≡ None) }
         ensures fails { IfErr result (λ error. FailsClosed error self.old self.new) }
         ensures keys { KeepsKeys self.old self.new }
@@ -155,7 +159,10 @@ impl<N: Tag, T: Tree, S: Sink, P: Spawner> Desk<N, T, S, P> {
     /// Ends the session: the desk is closed, and its job stepped to the end.
     pub fn end(self, alloc: Global) -> Ended<T, S, P>
         // The history is a session over the tree, and no job is live at its end.
-        ensures session { EndsSession N.start N.opening N.tree_faults (reverse result.history.entries) (T.contents result.tree) result.quit }
+        ensures session { EndsSession N.start N.opening N.tree_faults (reverse result.history.entries) (T.contents result.tree)
+            (record { bytes = put_since N.given (S.given result.screen); is_cut = self.out.put.is_cut }) result.quit }
+        ensures given { HasGiven N.given (put_since N.given (S.given result.screen)) (S.given result.screen) }
+        ensures uncut { self.out.put.is_cut ≡ true → self.tally.closed ≡ true }
         ensures traced { IsTracedTo N.opening (T.contents result.tree) (reverse result.history.entries) }
         ensures idle { live_job (reverse result.history.entries) ≡ None }
         ensures counted { result.history.started ≡ jobs_begun result.history.entries }

@@ -19,7 +19,7 @@ pub use desk::Desk;
 pub use log::Log;
 pub use mc_ui::{
     Ask, Choice, Chosen, CopyPlan, Dialog, KeyAct, Panel, Reread, Told, Ui, cause_text, choose,
-    draw, list_again, plan_copy,
+    list_again, plan_copy,
 };
 pub use replies::{DeskError, DeskReply, Ended, Refused, StepReply};
 pub use starts::{Side, Start, StartError};

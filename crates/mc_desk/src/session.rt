@@ -65,11 +65,13 @@ impl<N: Tag, T: Tree, S: Sink, P: Spawner> Session<N, T, S, P> {
         requires start { BeginsIn N.start start }
         requires opening { T.contents tree ≡ N.opening }
         requires faults { N.tree_faults ≤ T.fault_count tree }
+        requires given { S.given screen ≡ N.given }
         requires sink { N.sink_faults ≤ S.fault_count screen }
         requires runs { P.runs spawner ≡ N.runs }
         requires spawner { P.fault_count spawner ≡ N.spawner_faults }
         ensures opened { IfOk result (λ session. session.newest ≡ []) }
         ensures none_taken { IfOk result (λ session. (session.taken ≡ 0) × (session.pending ≡ [])) }
+        ensures uncut { IfOk result (λ session. session.out.put.is_cut ≡ false) }
         ensures unclosed { IfOk result (λ session. (session.tally.closed ≡ false) × (session.quit ≡ false)) }
         ensures permitted { IfKnown (T.contents tree) (λ log.
             OnOk result ((refusal_of (current log) (ListFolder start.left) ≡ None) × (refusal_of (current log) (ListFolder start.right) ≡ None))) }
@@ -88,9 +90,9 @@ impl<N: Tag, T: Tree, S: Sink, P: Spawner> Session<N, T, S, P> {
                 screen,
                 spawner,
             }),
-            Ok((ui, log)) => Ok(Session {
+            Ok((ui, log, blank)) => Ok(Session {
                 tree,
-                terminal: Terminal::new(screen),
+                terminal: Terminal::new(screen, blank),
                 spawner,
                 keys: KeyReader::new(),
                 ui,

@@ -3,11 +3,13 @@ use mc_text::Path;
 use thiserror::Error;
 use tree_trait::TreeError;
 
-/// What a session starts with: the folders of its two panels.
+/// What a session starts with: the folders of its two panels, and the size of the screen.
 #[derive(Debug, Drop)]
 pub struct Start {
     pub left: Path,
     pub right: Path,
+    pub lines: u16,
+    pub columns: u16,
 }
 
 /// A panel.

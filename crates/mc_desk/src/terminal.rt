@@ -1,66 +1,128 @@
-//! The terminal of a session: its sink, and what was put to it.
-ghost use Rattle.std.specs.Prelude.{◌≡◌, ◌≤◌, true, false, Err};
-ghost use Rattle.mc_desk.specs.Outputs.{Blames};
+//! The terminal of a session: its sink, the frame that was drawn last, and what was put.
+ghost use Rattle.std.specs.Prelude.{◌≡◌, ◌+◌, ◌≤◌, ◌<◌, ◌^◌, [], true, false, Err};
+ghost use Rattle.mc_desk.specs.LiveRows.{rows_of as rows_for, trouble_told};
+ghost use Rattle.mc_desk.specs.Outputs.{Blames, CountsAll, FitsScreen, IsFirstOutput, ShowsFrame, ShowsLast};
+ghost use Rattle.mc_desk.specs.Shown.{HasGiven, put_since};
+ghost use Rattle.mc_screen.specs.Drawings.{HasSizeOf, Shows};
+ghost use Rattle.mc_ui.specs.Frames.{frame_of};
 
+use crate::log::Log;
+use crate::rows::rows_of;
 use crate::tag::Tag;
-use mc_ui::{Ui, draw};
+use copy_move::Run;
+use key_screen::Grid;
+use mc_screen::Screen;
+use mc_ui::Ui;
 use std::alloc::Global;
 use std::marker::{Model, PhantomData};
 use tree_trait::{Sink, SinkError};
 
-/// A terminal. Contracts see whether it has failed.
+/// With more bytes shown than these none are drawn any more, so that those of each drawing can be counted.
+const MOST_SHOWN: u128 = 1 << 127;
+
+/// A terminal. Contracts see what was put, and the frame that it shows.
 #[derive(Drop)]
 pub struct Terminal<N: Tag, S: Sink> {
     sink: S,
+    screen: Screen,
     shown: u128,
     failed: bool,
+    is_cut: bool,
     of: PhantomData<N>,
 }
 
 impl<N: Tag, S: Sink> Model for Terminal<N, S> {
-    ghost use Rattle.mc_desk.specs.Outputs.{Output, Blames};
+    ghost use Rattle.mc_desk.specs.Outputs.{Output, IsTerminal, output_of};
 
     ghost Value = { Output };
 
-    ghost view = { λ t. record { shown = t.shown; failed = t.failed } };
+    ghost view = { λ t. output_of N.given (S.given t.sink) t.screen t.shown t.failed t.is_cut };
 
-    ghost invariant = { λ t. Blames t.failed N.sink_faults (S.fault_count t.sink) };
+    ghost invariant = { λ t. IsTerminal N.given (S.given t.sink) N.sink_faults (S.fault_count t.sink)
+        (output_of N.given (S.given t.sink) t.screen t.shown t.failed t.is_cut) };
 }
 
 impl<N: Tag, S: Sink> Terminal<N, S> {
-    /// One to which nothing was put yet.
-    pub fn new(sink: S) -> Terminal<N, S>
+    /// One on which nothing was drawn yet.
+    pub fn new(sink: S, screen: Screen) -> Terminal<N, S>
+        requires given { S.given sink ≡ N.given }
         requires faults { N.sink_faults ≤ S.fault_count sink }
-        ensures { result ≡ record { shown = 0; failed = false } }
+        requires blank { Shows [] screen.grid }
+        ensures { IsFirstOutput screen result }
     {
         Terminal {
             sink,
+            screen,
             shown: 0,
             failed: false,
+            is_cut: false,
             of: PhantomData,
         }
     }
 
-    /// Draws the screen.
-    pub fn draw(&mut self, alloc: Global, ui: &Ui) -> Result<(), SinkError>
-        ensures failed { result ≡ Err SinkError.Fault → self.new.failed ≡ true }
+    /// Draws the frame of the screen while this job is live. A drawing for which there is no memory puts nothing.
+    pub fn show(
+        &mut self,
+        alloc: Global,
+        ui: &Ui,
+        job: &Option<Run>,
+        log: &Log,
+    ) -> Result<(), SinkError>
+        requires uncut { self.old.put.is_cut ≡ false }
+        requires size { FitsScreen self.old.display.grid ui.now }
+        ensures shows { ShowsFrame (frame_of ui.now (rows_for job.now (trouble_told log.now.newest))) result self.old self.new }
     {
-        match draw(alloc, &mut self.sink, ui) {
-            Ok(bytes) => {
-                self.shown = with_bytes(self.shown, bytes);
+        let Ok(rows) = rows_of(alloc, job, log) else {
+            self.cut_short();
+            return Err(SinkError::Memory);
+        };
+        let Ok(frame) = ui.frame(alloc, &rows) else {
+            self.cut_short();
+            return Err(SinkError::Memory);
+        };
+        self.draw(alloc, &frame)
+    }
+
+    /// No memory was found for a drawing: it puts nothing.
+    fn cut_short(&mut self)
+        ensures cut { self.new ≡ record self.old { put = record self.old.put { is_cut = true } } }
+        ensures counted { self.old.put.is_cut ≡ false → CountsAll self.old }
+    {
+        let _shown = self.shown;
+        self.is_cut = true;
+    }
+
+    /// Draws a frame.
+    fn draw(&mut self, alloc: Global, frame: &Grid) -> Result<(), SinkError>
+        requires uncut { self.old.put.is_cut ≡ false }
+        requires size { HasSizeOf self.old.display.grid frame.now }
+        ensures shows { ShowsFrame frame.now result self.old self.new }
+    {
+        if self.shown > MOST_SHOWN {
+            self.is_cut = true;
+            return Err(SinkError::Memory);
+        }
+        match self.screen.draw(alloc, frame, &mut self.sink) {
+            Ok(count) => {
+                self.shown = with_bytes(self.shown, count);
                 Ok(())
             }
             Err(SinkError::Fault) => {
+                self.is_cut = true;
                 self.failed = true;
                 Err(SinkError::Fault)
             }
-            Err(SinkError::Memory) => Err(SinkError::Memory),
+            Err(SinkError::Memory) => {
+                self.is_cut = true;
+                Err(SinkError::Memory)
+            }
         }
     }
 
-    /// How many bytes the draws that ended have put.
+    /// How many bytes the drawings that ended have put.
     pub fn shown(&self) -> u128
-        ensures { result ≡ self.now.shown }
+        ensures counted { result ≡ self.now.shown }
+        ensures shows { self.now.put.is_cut ≡ false → ShowsLast self.now }
     {
         self.shown
     }
@@ -69,12 +131,17 @@ impl<N: Tag, S: Sink> Terminal<N, S> {
     pub fn into_parts(self) -> (S, bool)
         ensures failed { result.1 ≡ self.failed }
         ensures blames { Blames self.failed N.sink_faults (S.fault_count result.0) }
+        ensures put { self.put.bytes ≡ put_since N.given (S.given result.0) }
+        ensures given { HasGiven N.given self.put.bytes (S.given result.0) }
     {
         (self.sink, self.failed)
     }
 }
 
 /// So many bytes more.
-fn with_bytes(shown: u128, bytes: usize) -> u128 {
-    shown.saturating_add(u128::from(u64::try_from(bytes).unwrap_or(u64::MAX)))
+fn with_bytes(shown: u128, bytes: usize) -> u128
+    requires few { shown ≤ 2 ^ 127 }
+    ensures { result ≡ shown + bytes }
+{
+    shown + bytes as u128
 }

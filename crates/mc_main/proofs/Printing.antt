@@ -30,16 +30,16 @@ prints_start contents asked start typed Memory faults faults_after before given 
 prints_start contents asked start typed (Tree Left cause) faults faults_after before given is some why risen prints = record {
   side = Left;
   cause = cause;
-  is_cause = λ log known. subst (λ o. IsCauseIn log (session_folders o) (Tree Left cause)) (sym is) (why log known);
+  is_cause = λ log known. subst (λ o. IsCauseIn log (session_folders o) (Tree Left cause)) (sym is.0) (why log known);
   risen = risen;
-  line = subst (λ o. given ≡ Some (before ++ start_line (folder_word Left o) cause)) (sym is) prints;
+  line = subst (λ o. given ≡ Some (before ++ start_line (folder_word Left o) cause)) (sym is.0) prints;
 }
 prints_start contents asked start typed (Tree Right cause) faults faults_after before given is some why risen prints = record {
   side = Right;
   cause = cause;
-  is_cause = λ log known. subst (λ o. IsCauseIn log (session_folders o) (Tree Right cause)) (sym is) (why log known);
+  is_cause = λ log known. subst (λ o. IsCauseIn log (session_folders o) (Tree Right cause)) (sym is.0) (why log known);
   risen = risen;
-  line = subst (λ o. given ≡ Some (before ++ start_line (folder_word Right o) cause)) (sym is) prints;
+  line = subst (λ o. given ≡ Some (before ++ start_line (folder_word Right o) cause)) (sym is.0) prints;
 }
 
 -- how a run begins that was told as a match gives it
@@ -62,10 +62,13 @@ asked_read folder text words started asked is same read = sym (ap (λ route. ask
 
 -- a session begins in the folders of its start, and nothing is printed in its place
 pub starts_in : (asked : Option Words) (start : Start) (typed : Typed) → IsBeginning asked (Session start typed) → session_folders asked ≡ Some start
-starts_in asked start typed is = subst (λ o. session_folders o ≡ Some start) (sym is) refl
+starts_in asked start typed is =
+    subst (λ o. session_folders o ≡ Some start) (sym is.0)
+    (ap (λ n. Some (let s : Start = record { left = start.left; right = start.right; lines = n; columns = 80 } in s)) (sym is.1)
+    ∙ ap (λ n. Some (let s : Start = record { left = start.left; right = start.right; lines = start.lines; columns = n } in s)) (sym is.2))
 
 pub prints_none : (asked : Option Words) (start : Start) (typed : Typed) → IsBeginning asked (Session start typed) → printed_for asked ≡ None
-prints_none asked start typed is = subst (λ o. printed_for o ≡ None) (sym is) refl
+prints_none asked start typed is = subst (λ o. printed_for o ≡ None) (sym is.0) refl
 
 -- where a text is printed there are no folders
 pub no_folders : (asked : Option Words) (printed : Printed) → printed_for asked ≡ Some printed → session_folders asked ≡ None

@@ -1,5 +1,5 @@
 -- What a run promises, from what its session does, or where none began.
-use Rattle.std.proofs.Common.{◌≡◌, ◌⊎◌, ◌≤◌, ℕ, Bool, true, List, [], refl, sym, subst, inl, inr, Option, Some, None, IsSome}
+use Rattle.std.proofs.Common.{◌≡◌, ◌⊎◌, ◌≤◌, ℕ, Bool, true, List, [], refl, sym, subst, inl, inr, Option, Some, None, IsSome, ◌∷◌, ◌++◌, ◌∙◌}
 use Rattle.mc_text.specs.Routes.{Route}
 use Rattle.tree_trait.specs.Calls.{ListFolder}
 use Rattle.tree_trait.specs.Refusals.{refusal_of}
@@ -14,10 +14,14 @@ use Rattle.history_laws.proofs.Histories.{traced_reached}
 use Rattle.history_laws.proofs.Moments.{replay_law, session_law}
 use Rattle.mc_desk.specs.declared.starts.Start.{Start}
 use Rattle.mc_desk.specs.Sessions.{EndsSession}
+use Rattle.mc_desk.specs.Shown.{HasGiven, put_since}
+use Rattle.mc_desk.specs.ShownEntries.{draws}
 use Rattle.mc_desk.specs.Tallies.{faults_in}
+use Rattle.mc_desk.proofs.Seeing.{session_shows}
+use Rattle.mc_desk.proofs.Terminals.{since_is}
 use Rattle.mc_main.specs.declared.session.SessionEnd.{SessionEnd}
 use Rattle.mc_main.specs.declared.session.SessionEnd.TheVariants.{Quit, KeysEnded}
-use Rattle.mc_main.specs.Headline.{IsCalmedRun, IsFinishedRun, IsReplayedRun, IsSafeRun, IsStatusOf, IsStatusOr, MayRefuseStart, IsComplete, RanSession, TookAll}
+use Rattle.mc_main.specs.Headline.{IsCalmedRun, IsCut, ShowsRun, IsFinishedRun, IsReplayedRun, IsSafeRun, IsStatusOf, IsStatusOr, MayRefuseStart, IsComplete, RanSession, TookAll}
 
 -- the trace of a tree that tells
 told_trace : (o contents : Option CallLog) (newest : List Entry) (opening now : CallLog) → o ≡ Some opening → contents ≡ Some now → IsTracedTo o contents newest → (dirty : List Route) × IsTraced opening newest (at_rest dirty) now
@@ -77,26 +81,54 @@ refused_start log (Some folders) status faults faults_after keys screen start is
     some_none x none some = cc
 
 -- what was written down is a session in the folders that the words name
-pub run_in : (start folders : Option Start) (told o : Option CallLog) (told_faults faults status : ℕ) (newest : List Entry) (contents : Option CallLog) (stream left left_after : Option (List ℕ))
-    → start ≡ folders → o ≡ told → told_faults ≡ faults → left ≡ stream → RanSession start told told_faults status newest contents (TookAll stream left_after)
-    → RanSession folders o faults status newest contents (TookAll left left_after)
-run_in start folders told o told_faults faults status newest contents stream left left_after named same counted gives ran =
-    subst (λ f. RanSession f o faults status newest contents (TookAll left left_after)) named
-    (subst (λ x. RanSession start x faults status newest contents (TookAll left left_after)) (sym same)
-    (subst (λ n. RanSession start told n status newest contents (TookAll left left_after)) counted
-    (subst (λ s. RanSession start told told_faults status newest contents (TookAll s left_after)) (sym gives) ran)))
+pub run_in : (start folders : Option Start) (told o : Option CallLog) (told_faults faults status : ℕ) (newest : List Entry) (contents : Option CallLog) (stream left left_after told_given given given_after : Option (List ℕ))
+    → start ≡ folders → o ≡ told → told_faults ≡ faults → left ≡ stream → given ≡ told_given → RanSession start told told_faults status newest contents (TookAll stream left_after) told_given given_after
+    → RanSession folders o faults status newest contents (TookAll left left_after) given given_after
+run_in start folders told o told_faults faults status newest contents stream left left_after told_given given given_after named same counted gives before ran =
+    subst (λ f. RanSession f o faults status newest contents (TookAll left left_after) given given_after) named
+    (subst (λ x. RanSession start x faults status newest contents (TookAll left left_after) given given_after) (sym same)
+    (subst (λ n. RanSession start told n status newest contents (TookAll left left_after) given given_after) counted
+    (subst (λ b. RanSession start told told_faults status newest contents (TookAll left left_after) b given_after) (sym before)
+    (subst (λ s. RanSession start told told_faults status newest contents (TookAll s left_after) told_given given_after) (sym gives) ran))))
 
 -- what a session came to is what its run did
-pub ran_session : (start : Option Start) (opening : Option CallLog) (faults status : ℕ) (newest : List Entry) (contents : Option CallLog) (end : SessionEnd) (quit screen_failed key_lost : Bool) (all_taken : Type 0)
-    → EndsSession start opening faults newest contents quit → IsStatusOf end screen_failed key_lost status → (end ≡ Quit → quit ≡ true) → (end ≡ KeysEnded → all_taken)
-    → RanSession start opening faults status newest contents all_taken
-ran_session start opening faults status newest contents end quit screen_failed key_lost all_taken ends is asked whole = record {
+pub ran_session : (start : Option Start) (opening : Option CallLog) (faults status : ℕ) (newest : List Entry) (contents : Option CallLog) (end : SessionEnd) (quit screen_failed key_lost closed is_cut : Bool) (all_taken : Type 0)
+    (given given_after : Option (List ℕ)) → EndsSession start opening faults newest contents (record { bytes = put_since given given_after; is_cut = is_cut }) quit → HasGiven given (put_since given given_after) given_after
+    → (is_cut ≡ true → closed ≡ true) → (closed ≡ true → IsCut (Some end)) → IsStatusOf end screen_failed key_lost status → (end ≡ Quit → quit ≡ true) → (end ≡ KeysEnded → all_taken)
+    → RanSession start opening faults status newest contents all_taken given given_after
+ran_session start opening faults status newest contents end quit screen_failed key_lost closed is_cut all_taken given given_after ends had shut cut is asked whole = record {
   asked = quit;
+  put = record { bytes = put_since given given_after; is_cut = is_cut };
   session = ends;
+  puts = had;
+  uncut = λ h. is.failed (elim (cut (shut h)) [ inl screen ↦ inl cc | inr memory ↦ inr cc ]);
   ended = λ zero_status. elim (is.done zero_status) [ inl by_key ↦ inl (asked by_key) | inr by_end ↦ inr (whole by_end) ];
   not_usage = is.not_usage;
   not_start = is.not_start;
 }
+
+-- what a terminal shows of a run in which nothing was written down
+pub shows_none : (folders : Option Start) (opening : Option CallLog) (faults status : ℕ) (newest : List Entry) (put : Option (List ℕ)) → newest ≡ [] → IfKnown put (λ bytes. ShowsRun folders opening faults status newest bytes)
+shows_none folders opening faults status newest put empty bytes known later e older is drawn = absurd (nothing later (sym empty ∙ is))
+  where
+    nothing : (later : List Entry) → [] ≡ later ++ e ∷ older → ⊥
+    nothing [] h = cc
+    nothing (l ∷ later) h = cc
+
+-- and of a session
+pub run_shows : (folders : Option Start) (opening : Option CallLog) (faults status : ℕ) (newest : List Entry) (contents : Option CallLog) (all_taken : Type 0) (given given_after : Option (List ℕ))
+    → RanSession folders opening faults status newest contents all_taken given given_after → IfKnown (put_since given given_after) (λ put. ShowsRun folders opening faults status newest put)
+run_shows folders opening faults status newest contents all_taken given given_after ran all known later e older is drawn =
+    let ends = ran.session in
+    let bytes : ran.put.bytes ≡ Some all = put_is given given_after ran.put.bytes ran.puts ∙ known in
+    elim (session_shows folders opening faults newest ends.0 (at_rest ends.1) contents ran.put all ends.3 bytes later e older is drawn) [
+      | inl shows ↦ inl shows
+      | inr cut ↦ inr (ran.uncut cut.0, cut.1)
+    ]
+  where
+    put_is : (g now put : Option (List ℕ)) → HasGiven g put now → put ≡ put_since g now
+    put_is None now put h = (h.untold refl).0
+    put_is (Some before) now put h = let t = h.told before refl in t.1 ∙ sym (since_is before t.0 now t.2)
 
 -- where nothing was written down, no fault was
 pub none_counted : (faults now : ℕ) (newest : List Entry) → newest ≡ [] → faults ≤ now → faults_in faults newest ≤ now

@@ -47,18 +47,19 @@ status_with Usage = 1
 status_with Help = 0
 status_with Version = 0
 
--- a run begins as its words ask for it
+-- a run begins as its words ask for it, on a screen of 24 lines of 80 columns yet
 abbrev pub IsBeginning : Option Words → Beginning → Type 0
 IsBeginning words (Print printed) = printed_for words ≡ Some printed
 IsBeginning words (Session start typed) =
-    words ≡ Some (Panels (record { typed = typed.left; path = start.left }) (record { typed = typed.right; path = start.right }))
+    (words ≡ Some (Panels (record { typed = typed.left; path = start.left }) (record { typed = typed.right; path = start.right })))
+    × (start.lines ≡ 24) × (start.columns ≡ 80)
 
--- the folders of the session that is asked for
+-- the folders of the session that is asked for, and the size of its screen
 abbrev pub session_folders : Option Words → Option Start
 session_folders None = None
 session_folders (Some asked.Help) = None
 session_folders (Some asked.Version) = None
-session_folders (Some (Panels left right)) = Some (record { left = left.path; right = right.path })
+session_folders (Some (Panels left right)) = Some (record { left = left.path; right = right.path; lines = 24; columns = 80 })
 session_folders (Some NotBuilt) = None
 
 -- the folders that the words name

@@ -21,6 +21,8 @@ use Rattle.history_laws.specs.Staying.{StaysDone}
 use Rattle.mc_desk.specs.Tallies.{keys_in}
 use Rattle.mc_desk.specs.declared.starts.Start.{Start}
 use Rattle.mc_desk.specs.Sessions.{EndsSession}
+use Rattle.mc_desk.specs.Shown.{HasGiven, Put}
+use Rattle.mc_desk.specs.ShownEntries.{CutsEntry, ShowsEntry, draws}
 use Rattle.mc_desk.specs.Desks.{LacksSecond}
 use Rattle.start_words.specs.declared.words.Words.{Words}
 use Rattle.mc_main.specs.Beginnings.{printed_for, session_folders}
@@ -49,24 +51,35 @@ RefusesStart log (Some start) status = CantList log start → IsStatusOr 2 statu
 abbrev pub BeginsNone : Option Words → ℕ → Type 0
 BeginsNone asked status = ((status ≡ 0) × IsSome (printed_for asked)) ⊎ ((status ≡ 1) ⊎ (status ≡ 2) ⊎ (status ≡ 4) ⊎ (status ≡ 5))
 
+-- the run ended as the screen failed, or memory ran out
+abbrev pub IsCutShort : ℕ → Type 0
+IsCutShort status = (status ≡ 4) ⊎ (status ≡ 5)
+
 -- A session in these folders, where they are known. At status 0 its end was asked for, or all that the keyboard gives was
--- taken.
-pub record RanSession (folders : Option Start) (opening : Option CallLog) (faults status : ℕ) (newest : List Entry) (contents : Option CallLog) (all_taken : Type 0) : Type 0 where
+-- taken. The screen was given what it put, behind what it was given before; and a drawing was cut short only at status 4 or 5.
+pub record RanSession (folders : Option Start) (opening : Option CallLog) (faults status : ℕ) (newest : List Entry) (contents : Option CallLog) (all_taken : Type 0)
+    (given given_after : Option (List ℕ)) : Type 0 where
   pub asked : Bool
-  pub session : EndsSession folders opening faults newest contents asked
+  pub put : Put
+  pub session : EndsSession folders opening faults newest contents put asked
+  pub puts : HasGiven given put.bytes given_after
+  pub uncut : put.is_cut ≡ true → IsCutShort status
   pub ended : status ≡ 0 → (asked ≡ true) ⊎ all_taken
   pub not_usage : status ≢ 1
   pub not_start : status ≢ 2
 
 -- what a run wrote down, the newest first: a session in the folders that the words name, or nothing where none began
-abbrev pub IsRun : Option Words → Option CallLog → ℕ → ℕ → List Entry → Option CallLog → Type 0 → Type 0
-IsRun asked opening faults status newest contents all_taken =
-    (IsSome (session_folders asked) × RanSession (session_folders asked) opening faults status newest contents all_taken)
+abbrev pub IsRun : Option Words → Option CallLog → ℕ → ℕ → List Entry → Option CallLog → Type 0 → Option (List ℕ) → Option (List ℕ) → Type 0
+IsRun asked opening faults status newest contents all_taken given given_after =
+    (IsSome (session_folders asked) × RanSession (session_folders asked) opening faults status newest contents all_taken given given_after)
     ⊎ ((newest ≡ []) × BeginsNone asked status)
 
--- the run ended as the screen failed, or memory ran out
-abbrev pub IsCutShort : ℕ → Type 0
-IsCutShort status = (status ≡ 4) ⊎ (status ≡ 5)
+-- Of each key that was worked and each look a terminal shows, of the bytes that were put by then, the frame of what the screen
+-- then showed; but at status 4 or 5 perhaps of the last, whose drawing was cut short.
+abbrev pub ShowsRun : Option Start → Option CallLog → ℕ → ℕ → List Entry → List ℕ → Type 0
+ShowsRun folders opening faults status newest put =
+    (later : List Entry) (e : Entry) (older : List Entry) → newest ≡ later ++ e ∷ older → draws e.what ≡ true
+    → ShowsEntry folders opening faults e older put ⊎ (IsCutShort status × CutsEntry folders opening faults later e older put)
 
 -- what a keyboard that gives these bytes has left once so many were taken
 abbrev pub left_of : Option (List ℕ) → ℕ → Option (List ℕ)

@@ -28,7 +28,7 @@ pub fn run_desk<N: Tag, T: Tree, K: Source, S: Sink, P: Spawner, C: Clock>(
     requires fresh { IsFresh desk }
     requires stream { K.left keys.old ≡ N.stream }
     ensures session { RanSession N.start N.opening N.tree_faults result.status (reverse result.history.entries) (T.contents result.tree)
-        (TookAll N.stream (K.left keys.new)) }
+        (TookAll N.stream (K.left keys.new)) N.given (S.given result.screen) }
     ensures traced { IsTracedTo N.opening (T.contents result.tree) (reverse result.history.entries) }
     ensures idle { live_job (reverse result.history.entries) ≡ None }
     ensures counted { result.history.started ≡ jobs_begun result.history.entries }

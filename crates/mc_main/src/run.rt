@@ -4,10 +4,11 @@ ghost use Rattle.tree_trait.specs.Answers.{IfKnown, HasRisen};
 ghost use Rattle.history_laws.specs.ToldJob.{live_job};
 ghost use Rattle.history_laws.specs.Traces.{IsTracedTo};
 ghost use Rattle.mc_desk.specs.Logs.{jobs_begun};
+ghost use Rattle.mc_desk.specs.Shown.{put_since};
 ghost use Rattle.mc_desk.specs.Tallies.{faults_in, has_lost};
 ghost use Rattle.mc_desk.specs.Desks.{RanNothing};
 ghost use Rattle.mc_main.specs.Beginnings.{asked_in, folders_in, printed_for, status_with, text_of};
-ghost use Rattle.mc_main.specs.Headline.{IsStatusOr, MayRefuseStart, RefusesStart, IsRun, ReadsKeys, TookAll, IsSafeRun, IsFinishedRun, IsCalmedRun, IsReplayedRun, IsComplete};
+ghost use Rattle.mc_main.specs.Headline.{IsStatusOr, MayRefuseStart, RefusesStart, IsRun, ReadsKeys, TookAll, IsSafeRun, IsFinishedRun, IsCalmedRun, IsReplayedRun, ShowsRun, IsComplete};
 ghost use Rattle.mc_main.specs.Printed.{PrintsStart};
 
 use crate::endings::{refuse, refuse_start, run_desk, without_session};
@@ -87,7 +88,15 @@ pub fn mc_run<N: Tag, T: Tree, K: Source, S: Sink, P: Spawner, C: Clock, G: Gate
     // job left. A tree that tells what it holds is handed back telling it.
     ensures traced { IsTracedTo (T.contents tree) (T.contents result.tree) (reverse result.history.entries) }
     ensures session { IsRun (asked_in env.now.folder words.now) (T.contents tree) (T.fault_count tree) result.status
-        (reverse result.history.entries) (T.contents result.tree) (TookAll (K.left keys.old) (K.left keys.new)) }
+        (reverse result.history.entries) (T.contents result.tree) (TookAll (K.left keys.old) (K.left keys.new))
+        (S.given screen) (S.given result.screen) }
+
+    // After each key and each look a terminal shows, of the bytes that the session has put by then, as many as its entry says,
+    // the frame of what the screen then shows. At status 4 or 5 the last drawing may be cut short: then the screen was given
+    // those of the drawings that ended, and perhaps a prefix of one that would have shown the frame due.
+    ensures shown { IfKnown (put_since (S.given screen) (S.given result.screen)) (λ put.
+        ShowsRun (folders_in env.now.folder words.now) (T.contents tree) (T.fault_count tree) result.status
+        (reverse result.history.entries) put) }
     ensures idle { live_job (reverse result.history.entries) ≡ None }
     ensures counted { result.history.started ≡ jobs_begun result.history.entries }
 

@@ -94,6 +94,8 @@ fn begun_by(asked: Words) -> Beginning
             start: Start {
                 left: left.path,
                 right: right.path,
+                lines: 24,
+                columns: 80,
             },
             typed: Typed {
                 left: left.typed,

@@ -1,10 +1,9 @@
 //! Keys and looks: what a session does for its user.
 ghost use Rattle.std.specs.Prelude.{◌≡◌, ◌+◌, ◌≤◌, ◌∷◌, ◌++◌, [], ℕ, List, true, false, IsTrue, IfErr, IfOk, OnOk, OnErr, Ok, Err, Some, None};
 ghost use Rattle.copy_move.specs.Told.{IsReady};
-ghost use Rattle.mc_ui.specs.Screens.{plain_base};
 ghost use Rattle.mc_desk.specs.Standings.{awaited_by, is_quit};
 ghost use Rattle.mc_desk.specs.Tallies.{can_step, keys_in};
-ghost use Rattle.mc_desk.specs.Desks.{BlamesScreen, CountsByte, FailsClosed, is_over, HasTaken, TakesByte, KeepsKeys};
+ghost use Rattle.mc_desk.specs.Desks.{BlamesScreen, CountsByte, FailsClosed, IsUncut, ShowsDesk, is_over, HasTaken, TakesByte, KeepsKeys};
 
 use super::Session;
 use crate::granting::{Granted, work};
@@ -24,6 +23,9 @@ impl<N: Tag, T: Tree, S: Sink, P: Spawner> Session<N, T, S, P> {
     /// was asked, takes no byte and answers `Quit`.
     pub fn byte(&mut self, alloc: Global, byte: u8, now: u64) -> Result<DeskReply, DeskError>
         requires looked { self.old.tally.due ≡ None }
+        requires uncut { IsUncut self.old }
+        ensures shows { OnOk result (self.new.tally.closed ≡ false → ShowsDesk self.new) }
+        ensures uncut { IsUncut self.new }
         ensures dirty { self.new.dirty ≡ self.old.dirty }
         ensures screen_failed { BlamesScreen result self.new.out.failed }
         ensures over { is_over self.old ≡ true → self.new ≡ self.old }
@@ -39,7 +41,7 @@ impl<N: Tag, T: Tree, S: Sink, P: Spawner> Session<N, T, S, P> {
             return Ok(DeskReply::Quit);
         }
         if self.standing.quit {
-            return Ok(DeskReply::Quit);
+            return self.still(DeskReply::Quit);
         }
         // No history has room for the keys of more bytes than are counted.
         let Some(taken) = self.taken.checked_add(1) else {
@@ -51,7 +53,7 @@ impl<N: Tag, T: Tree, S: Sink, P: Spawner> Session<N, T, S, P> {
         self.taken = taken;
         let Fed { first, second } = self.keys.feed(byte);
         let Some(first) = first else {
-            return self.redraw(alloc);
+            return self.still(DeskReply::Go);
         };
         let reply = self.work_key(alloc, first, now);
         let Some(second) = second else {
@@ -66,6 +68,9 @@ impl<N: Tag, T: Tree, S: Sink, P: Spawner> Session<N, T, S, P> {
     /// Takes up what the job did, and draws. After the job's end the panel is read again, and a message tells of the part that
     /// the end left. A session that is closed, or whose end was asked, stays as it is.
     pub fn look(&mut self, alloc: Global) -> Result<(), DeskError>
+        requires uncut { IsUncut self.old }
+        ensures shows { OnOk result (self.new.tally.closed ≡ false → ShowsDesk self.new) }
+        ensures uncut { IsUncut self.new }
         ensures keys { KeepsKeys self.old self.new }
         ensures dirty { self.new.dirty ≡ self.old.dirty }
         ensures screen_failed { BlamesScreen result self.new.out.failed }
@@ -78,6 +83,7 @@ impl<N: Tag, T: Tree, S: Sink, P: Spawner> Session<N, T, S, P> {
             return Ok(());
         }
         if self.standing.quit {
+            self.still(DeskReply::Quit)?;
             return Ok(());
         }
         if self.log.reserve(3).is_err() {
@@ -96,7 +102,9 @@ impl<N: Tag, T: Tree, S: Sink, P: Spawner> Session<N, T, S, P> {
         else {
             return Err(DeskError::Memory);
         };
-        let drawn = self.terminal.draw(alloc, &self.ui);
+        let drawn = self
+            .terminal
+            .show(alloc, &self.ui, &self.standing.job, &self.log);
         self.log.note(Entry {
             seat: 0,
             calls: self.standing.calls,
@@ -105,7 +113,8 @@ impl<N: Tag, T: Tree, S: Sink, P: Spawner> Session<N, T, S, P> {
             what: Event::Look { refusals },
         });
         self.standing.look_taken();
-        self.after_draw(drawn)
+        self.after_draw(drawn)?;
+        Ok(())
     }
 
     /// What is to be looked at before the next byte: the job of this number, or 0 for the opening frame.
@@ -136,6 +145,9 @@ impl<N: Tag, T: Tree, S: Sink, P: Spawner> Session<N, T, S, P> {
         requires unasked { self.old.quit ≡ false }
         requires looked { self.old.tally.due ≡ None }
         requires room { 4 ≤ self.old.spare }
+        requires uncut { self.old.out.put.is_cut ≡ false }
+        ensures shows { OnOk result (self.new.tally.closed ≡ false → ShowsDesk self.new) }
+        ensures uncut { IsUncut self.new }
         ensures keys { keys_in self.new.newest ≡ keys_in self.old.newest ++ key ∷ [] }
         ensures pending { self.new.pending ≡ self.old.pending }
         ensures taken { self.new.taken ≡ self.old.taken }
@@ -143,8 +155,8 @@ impl<N: Tag, T: Tree, S: Sink, P: Spawner> Session<N, T, S, P> {
         ensures screen_failed { BlamesScreen result self.new.out.failed }
         ensures unclosed { OnOk result (self.new.tally.closed ≡ false) }
         ensures shut { OnErr result (self.new.tally.closed ≡ true) }
-        ensures looked { OnOk result (plain_base key ≡ Base.Unknown → self.new.tally.due ≡ None) }
-        ensures unasked { OnOk result (plain_base key ≡ Base.Unknown → self.new.quit ≡ false) }
+        ensures looked { OnOk result (key.base ≡ Base.Unknown → self.new.tally.due ≡ None) }
+        ensures unasked { OnOk result (key.base ≡ Base.Unknown → self.new.quit ≡ false) }
         ensures room { OnOk result (self.old.spare ≤ self.new.spare + 2) }
         ensures quit { IfOk result (λ reply. is_quit reply ≡ self.new.quit) }
         ensures awaits { IfOk result (λ reply. awaited_by reply ≡ self.new.tally.due) }
@@ -160,7 +172,9 @@ impl<N: Tag, T: Tree, S: Sink, P: Spawner> Session<N, T, S, P> {
         let calls = self.standing.calls;
         let follows = self.standing.carry_out(deed);
         let reply = self.standing.reply();
-        let drawn = self.terminal.draw(alloc, &self.ui);
+        let drawn = self
+            .terminal
+            .show(alloc, &self.ui, &self.standing.job, &self.log);
         let faults = self.tree.faults();
         self.log.note(Entry {
             seat: 0,
@@ -213,26 +227,25 @@ impl<N: Tag, T: Tree, S: Sink, P: Spawner> Session<N, T, S, P> {
         Err(DeskError::Memory)
     }
 
-    /// Draws once for a byte that completes no key.
-    fn redraw(&mut self, alloc: Global) -> Result<DeskReply, DeskError>
-        ensures screen { self.new.screen ≡ self.old.screen }
-        ensures keys { KeepsKeys self.old self.new }
-        ensures dirty { self.new.dirty ≡ self.old.dirty }
-        ensures screen_failed { BlamesScreen result self.new.out.failed }
-        ensures unclosed { OnOk result (self.new.tally.closed ≡ self.old.tally.closed) }
-        ensures shut { OnErr result (self.new.tally.closed ≡ true) }
-        ensures quit { self.new.quit ≡ self.old.quit }
-        ensures goes_on { IfOk result (λ reply. reply ≡ DeskReply.Go) }
-        ensures due { OnOk result (self.new.tally.due ≡ self.old.tally.due) }
+    /// The reply where nothing is drawn: the terminal shows the frame still.
+    fn still(&mut self, reply: DeskReply) -> Result<DeskReply, DeskError>
+        requires unclosed { self.old.tally.closed ≡ false }
+        requires looked { self.old.tally.due ≡ None }
+        requires uncut { self.old.out.put.is_cut ≡ false }
+        ensures same { self.new ≡ self.old }
+        ensures reply { result ≡ Ok reply }
+        ensures shows { ShowsDesk self.new }
     {
-        let drawn = self.terminal.draw(alloc, &self.ui);
-        self.after_draw(drawn)?;
-        Ok(DeskReply::Go)
+        let _shown = self.terminal.shown();
+        Ok(reply)
     }
 
     /// Closes the session after a draw that failed.
     fn after_draw(&mut self, drawn: Result<(), SinkError>) -> Result<(), DeskError>
         requires screen_failed { drawn ≡ Err SinkError.Fault → self.old.out.failed ≡ true }
+        requires whole { OnOk drawn (self.old.out.put.is_cut ≡ false) }
+        ensures whole { OnOk result (self.new.out.put.is_cut ≡ false) }
+        ensures uncut { IsUncut self.new }
         ensures screen { self.new.screen ≡ self.old.screen }
         ensures keys { KeepsKeys self.old self.new }
         ensures dirty { self.new.dirty ≡ self.old.dirty }

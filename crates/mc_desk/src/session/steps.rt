@@ -7,6 +7,7 @@ ghost use Rattle.history_laws.specs.Traces.{IsTracedTo};
 ghost use Rattle.mc_desk.specs.Sessions.{EndsSession};
 ghost use Rattle.mc_desk.specs.Tallies.{can_step, faults_in, keys_in, has_lost};
 ghost use Rattle.mc_desk.specs.Outputs.{Blames};
+ghost use Rattle.mc_desk.specs.Shown.{HasGiven, put_since};
 ghost use Rattle.mc_desk.specs.Desks.{KeepsKeys, MovesDirty, RanNothing, idle_reply};
 ghost use Rattle.mc_desk.specs.Logs.{jobs_begun};
 
@@ -52,6 +53,7 @@ impl<N: Tag, T: Tree, S: Sink, P: Spawner> Session<N, T, S, P> {
         ensures same { (self.new.tally.closed ≡ self.old.tally.closed) × (self.new.tally.due ≡ self.old.tally.due) }
         ensures quit { self.new.quit ≡ self.old.quit }
         ensures reply { result ≡ (if can_step self.old.tally.job then StepReply.Did else idle_reply self.old.tally.closed) }
+        ensures out { self.new.out ≡ self.old.out }
         ensures nearer { self.old.tally.closed ≡ true → IsSome self.old.job → rank_with self.new.dirty self.new.job < rank_with self.old.dirty self.old.job }
         ensures worked { IsReady self.old.job → rank_with self.new.dirty self.new.job < rank_with self.old.dirty self.old.job }
     {
@@ -98,6 +100,7 @@ impl<N: Tag, T: Tree, S: Sink, P: Spawner> Session<N, T, S, P> {
         requires closed { self.old.tally.closed ≡ true }
         ensures idle { self.new.job ≡ None }
         ensures keys { keys_in self.new.newest ≡ keys_in self.old.newest }
+        ensures out { self.new.out ≡ self.old.out }
         ensures quit { self.new.quit ≡ self.old.quit }
     {
         while self.standing.job.is_some() {
@@ -107,7 +110,9 @@ impl<N: Tag, T: Tree, S: Sink, P: Spawner> Session<N, T, S, P> {
 
     /// Ends the session: it is closed, and its job stepped to the end.
     pub fn end(self, alloc: Global) -> Ended<T, S, P>
-        ensures session { EndsSession N.start N.opening N.tree_faults (reverse result.history.entries) (T.contents result.tree) result.quit }
+        ensures session { EndsSession N.start N.opening N.tree_faults (reverse result.history.entries) (T.contents result.tree)
+            (record { bytes = put_since N.given (S.given result.screen); is_cut = self.out.put.is_cut }) result.quit }
+        ensures given { HasGiven N.given (put_since N.given (S.given result.screen)) (S.given result.screen) }
         ensures traced { IsTracedTo N.opening (T.contents result.tree) (reverse result.history.entries) }
         ensures idle { live_job (reverse result.history.entries) ≡ None }
         ensures counted { result.history.started ≡ jobs_begun result.history.entries }

@@ -5,11 +5,11 @@ use Rattle.history_laws.specs.Traces.{IsTracedTo}
 use Rattle.mc_desk.specs.declared.starts.Start.{Start}
 use Rattle.mc_desk.specs.Tallies.{faults_in}
 use Rattle.mc_main.specs.Beginnings.{asked_in, session_folders, status_with}
-use Rattle.mc_main.specs.Headline.{IsStatusOr}
+use Rattle.mc_main.specs.Headline.{IsStatusOr, TookAll}
 use Rattle.mc_main.proofs.Printing.{at_most_five, begins_none, below_four, completes_none, not_at, print_is, prints_it, prints_not, prints_start, refuses_none, session_is, some_prints_not, starts_in, status_few, text_given, usage_asked}
 use Rattle.mc_main.proofs.Starting.{completes, completes_by_five, may_refuse, refuses_by, refuses_listed}
 use Rattle.mc_main.proofs.Taking.{reads_none}
-use Rattle.mc_main.proofs.Runs.{none_counted, calmed_to, finished_to, replayed_to, run_in, safe_to, traced_none, refused_start}
+use Rattle.mc_main.proofs.Runs.{none_counted, calmed_to, finished_to, replayed_to, run_in, run_shows, shows_none, safe_to, traced_none, refused_start}
 use Rattle.mc_main.proofs.run.mc_run.Goals as goal
 
 pub returns-in-Ok-Print-clause-safe : goal.returns-in-Ok-Print-clause-safe
@@ -90,9 +90,26 @@ returns-in-Ok-clause-session g c =
     inl (
       subst (λ (o : Option Start). IsSome o) (sym starts) refl,
       run_in g.N.Tag.start (session_folders (asked_in c.args.env.now.folder c.args.words.now)) g.N.Tag.opening (g.T.Tree.contents c.args.tree) g.N.Tag.tree_faults (g.T.Tree.fault_count c.args.tree) c.run_desk.result.status
-          (reverse c.run_desk.result.history.entries) (g.T.Tree.contents c.run_desk.result.tree) g.N.Tag.stream (g.K.Source.left c.args.keys.now) (g.K.Source.left c.run_desk.new.keys) c.requires.start c.requires.opening
-          c.requires.faults c.requires.stream c.run_desk.ensures.session,
+          (reverse c.run_desk.result.history.entries) (g.T.Tree.contents c.run_desk.result.tree) g.N.Tag.stream (g.K.Source.left c.args.keys.now) (g.K.Source.left c.run_desk.new.keys) g.N.Tag.given (g.S.Sink.given c.args.screen) (g.S.Sink.given c.run_desk.result.screen) c.requires.start c.requires.opening
+          c.requires.faults c.requires.stream c.requires.given c.run_desk.ensures.session,
     )
+
+pub returns-in-Ok-clause-shown : goal.returns-in-Ok-clause-shown
+returns-in-Ok-clause-shown g c =
+    run_shows (session_folders (asked_in c.args.env.now.folder c.args.words.now)) (g.T.Tree.contents c.args.tree) (g.T.Tree.fault_count c.args.tree) c.run_desk.result.status (reverse c.run_desk.result.history.entries) (g.T.Tree.contents c.run_desk.result.tree)
+    (TookAll (g.K.Source.left c.args.keys.now) (g.K.Source.left c.run_desk.new.keys)) (g.S.Sink.given c.args.screen) (g.S.Sink.given c.run_desk.result.screen)
+    (run_in g.N.Tag.start (session_folders (asked_in c.args.env.now.folder c.args.words.now)) g.N.Tag.opening (g.T.Tree.contents c.args.tree) g.N.Tag.tree_faults (g.T.Tree.fault_count c.args.tree) c.run_desk.result.status
+    (reverse c.run_desk.result.history.entries) (g.T.Tree.contents c.run_desk.result.tree) g.N.Tag.stream (g.K.Source.left c.args.keys.now) (g.K.Source.left c.run_desk.new.keys) g.N.Tag.given (g.S.Sink.given c.args.screen)
+    (g.S.Sink.given c.run_desk.result.screen) c.requires.start c.requires.opening c.requires.faults c.requires.stream c.requires.given c.run_desk.ensures.session)
+
+pub returns-in-Ok-Print-clause-shown : goal.returns-in-Ok-Print-clause-shown
+returns-in-Ok-Print-clause-shown g c = shows_none _ _ _ _ (reverse c.refuse.result.history.entries) _ (ap reverse c.refuse.ensures.empty)
+
+pub returns-in-Err-clause-shown : goal.returns-in-Err-clause-shown
+returns-in-Err-clause-shown g c = shows_none _ _ _ _ (reverse c.without_session.result.history.entries) _ (ap reverse c.without_session.ensures.empty)
+
+pub returns-clause-shown : goal.returns-clause-shown
+returns-clause-shown g c = shows_none _ _ _ _ (reverse c.refuse_start.result.history.entries) _ (ap reverse c.refuse_start.ensures.empty)
 
 pub returns-in-Ok-clause-keys : goal.returns-in-Ok-clause-keys
 returns-in-Ok-clause-keys g c bytes known = c.run_desk.ensures.keys bytes (sym c.requires.stream ∙ known)

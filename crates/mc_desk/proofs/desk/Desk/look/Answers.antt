@@ -3,4 +3,4 @@ use Rattle.mc_desk.proofs.Streams.{fed_kept}
 use Rattle.mc_desk.proofs.desk.Desk.look.Goals as goal
 
 pub invariant_of-self : goal.invariant_of-self
-invariant_of-self g c = fed_kept g.N.Tag.stream c.self.inside.session c.look.new.self c.look.ensures.keys c.self.invariant
+invariant_of-self g c = record { fed = fed_kept g.N.Tag.stream c.self.inside.session c.look.new.self c.look.ensures.keys c.self.invariant.fed; uncut = c.look.ensures.uncut }

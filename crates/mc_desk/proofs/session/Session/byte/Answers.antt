@@ -13,9 +13,10 @@ returns-in_default-first-clause-keys g c goes bytes taken =
     subst (λ p. decoded_keys (p ++ c.args.byte ∷ []) ≡ record { keys = keys_fed c.feed-first.result; rest = c.feed-first.new.self }) (ap (λ (d : Seen). d.pending) c.self.view_is) c.feed-first.ensures.keys in
     let first : c.feed-first.result.first ≡ None = search rules in
     let second : c.feed-first.result.second ≡ None = search rules in
-    let counted : c.redraw.new.self.taken ≡ old.taken + 1 = search rules in
-    takes_none bytes c.args.byte old c.redraw.new.self c.feed-first.result c.feed-first.new.self taken now c.redraw.ensures.keys.pending counted c.redraw.result first second
-    (c.redraw.ensures.keys.keys ∙ ap keys_in (c.reserve.ensures.same ∙ ap (λ (d : Seen). d.newest) c.self.view_is))
+    let same = c.still-in_default-first.ensures.same in
+    let more : c.in-Some.taken ≡ old.taken + 1 = search rules in
+    takes_none bytes c.args.byte old c.still-in_default-first.new.self c.feed-first.result c.feed-first.new.self taken now (ap (λ (d : Seen). d.pending) same) (ap (λ (d : Seen). d.taken) same ∙ more)
+    c.still-in_default-first.result first second (ap (λ (d : Seen). keys_in d.newest) same ∙ ap keys_in (c.reserve.ensures.same ∙ ap (λ (d : Seen). d.newest) c.self.view_is))
 
 pub returns-in_default-second-clause-keys : goal.returns-in_default-second-clause-keys
 returns-in_default-second-clause-keys g c goes bytes taken =

@@ -1,8 +1,10 @@
 -- A session is a trace of its tree's calls.
-use Rattle.std.proofs.Common.{rules, sym, subst, ◌≡◌, None}
+use Rattle.std.proofs.Common.{rules, reverse, ap, sym, subst, ◌≡◌, ◌∙◌, None}
 use Rattle.history_laws.specs.Traces.{IsTracedTo, at_rest}
 use Rattle.mc_desk.specs.Sessions.{IsSession}
-use Rattle.mc_desk.specs.Desks.{stand_with, with_end}
+use Rattle.mc_desk.specs.Desks.{Seen, stand_with, with_end}
+use Rattle.mc_desk.specs.Outputs.{Output}
+use Rattle.mc_desk.specs.Shown.{HasGiven, Put, put_since}
 use Rattle.mc_desk.proofs.Adding.{end_noted}
 use Rattle.mc_desk.proofs.Keeping.{session_traced_to}
 use Rattle.mc_desk.proofs.session.Session.end.Goals as goal
@@ -12,16 +14,28 @@ returns-clause-traced g c =
     let desk = c.session.inside in
     let none : desk.standing.job ≡ None = search rules in
     subst (λ es. IsTracedTo g.N.Tag.opening (g.T.Tree.contents desk.tree) es) (sym c.into_history.ensures.entries)
-    (session_traced_to g.N.Tag.start g.N.Tag.opening g.N.Tag.tree_faults desk.log.newest (with_end desk.standing.quit desk.ui) desk.dirty (g.T.Tree.contents desk.tree)
-    (subst (λ j. IsSession g.N.Tag.start g.N.Tag.opening g.N.Tag.tree_faults desk.log.newest (with_end desk.standing.quit desk.ui) (stand_with j desk.dirty) (g.T.Tree.contents desk.tree)) none c.session.invariant.desk.written.session))
+    (session_traced_to g.N.Tag.start g.N.Tag.opening g.N.Tag.tree_faults desk.log.newest (with_end desk.standing.quit desk.ui) desk.dirty (g.T.Tree.contents desk.tree) desk.terminal.put
+    (subst (λ j. IsSession g.N.Tag.start g.N.Tag.opening g.N.Tag.tree_faults desk.log.newest (with_end desk.standing.quit desk.ui) (stand_with j desk.dirty) (g.T.Tree.contents desk.tree) desk.terminal.put) none
+    c.session.invariant.desk.written.session))
 
 pub returns-clause-session : goal.returns-clause-session
 returns-clause-session g c =
     let desk = c.session.inside in
-    let none : desk.standing.job ≡ None = search rules in (
+    let none : desk.standing.job ≡ None = search rules in
+    let bytes = put_since g.N.Tag.given (g.S.Sink.given c.into_parts-screen.result.0) in
+    let out : desk.terminal ≡ c.args.self.out = ap (λ (d : Seen). d.out) c.session.view_is ∙ (c.work_off.ensures.out ∙ c.close.ensures.out) in
+    let put : desk.terminal.put ≡ (let p : Put = record { bytes = bytes; is_cut = c.args.self.out.put.is_cut } in p) =
+    ap (λ b. let p : Put = record { bytes = b; is_cut = desk.terminal.put.is_cut } in p) c.into_parts-screen.ensures.put
+    ∙ ap (λ (o : Output). let p : Put = record { bytes = bytes; is_cut = o.put.is_cut } in p) out in (
       with_end desk.standing.quit desk.ui,
       desk.dirty,
       end_noted desk.standing.quit desk.ui c.session.invariant.desk.settled,
-      subst (λ es. IsSession g.N.Tag.start g.N.Tag.opening g.N.Tag.tree_faults es (with_end desk.standing.quit desk.ui) (at_rest desk.dirty) (g.T.Tree.contents desk.tree)) (sym c.into_history.ensures.entries)
-          (subst (λ j. IsSession g.N.Tag.start g.N.Tag.opening g.N.Tag.tree_faults desk.log.newest (with_end desk.standing.quit desk.ui) (stand_with j desk.dirty) (g.T.Tree.contents desk.tree)) none c.session.invariant.desk.written.session),
+      subst (λ p. IsSession g.N.Tag.start g.N.Tag.opening g.N.Tag.tree_faults (reverse c.into_history.result.entries) (with_end desk.standing.quit desk.ui) (at_rest desk.dirty) (g.T.Tree.contents desk.tree) p) put
+          (subst (λ es. IsSession g.N.Tag.start g.N.Tag.opening g.N.Tag.tree_faults es (with_end desk.standing.quit desk.ui) (at_rest desk.dirty) (g.T.Tree.contents desk.tree) desk.terminal.put) (sym c.into_history.ensures.entries)
+          (subst (λ j. IsSession g.N.Tag.start g.N.Tag.opening g.N.Tag.tree_faults desk.log.newest (with_end desk.standing.quit desk.ui) (stand_with j desk.dirty) (g.T.Tree.contents desk.tree) desk.terminal.put) none
+          c.session.invariant.desk.written.session)),
     )
+
+pub returns-clause-given : goal.returns-clause-given
+returns-clause-given g c =
+    subst (λ put. HasGiven g.N.Tag.given put (g.S.Sink.given c.into_parts-screen.result.0)) c.into_parts-screen.ensures.put c.into_parts-screen.ensures.given

@@ -4,7 +4,12 @@ use Rattle.session_history.specs.declared.history.Event.TheVariants.{Look}
 use Rattle.mc_desk.specs.LiveRows.{rows_of, trouble_told}
 use Rattle.mc_desk.specs.Tallies.{part_left}
 use Rattle.mc_desk.proofs.Adding.{entry}
+use Rattle.mc_desk.specs.Outputs.{ShowsFrame}
+use Rattle.mc_ui.specs.Frames.{frame_of}
 use Rattle.mc_desk.proofs.Looked.{looked_whole}
+use Rattle.mc_desk.specs.declared.standing.Standing.{Standing}
+use Rattle.mc_desk.specs.Desks.{Seen, ShowsDesk, seen_of}
+use Rattle.mc_desk.proofs.Showing.{ended_uncut, fits_after, shows_drawn}
 use Rattle.mc_desk.proofs.session.Session.look.Goals as goal
 
 pub invariant_of-self-2 : goal.invariant_of-self-2
@@ -18,11 +23,31 @@ invariant_of-self-2 g c =
     let later = c.look.ensures.reads.later in
     let room : 2 ≤ c.note.new.self.spare = search rules in
     record {
-      desk = looked_whole g.N.Tag.start g.N.Tag.opening (g.T.Tree.contents inside.tree) (g.T.Tree.contents c.look.new.tree) g.N.Tag.tree_faults _ c.note.new.self _ c.look.new.self inside.standing c.look_taken.new.self _ _ _ _ _ count c.shown.result
+      desk = looked_whole g.N.Tag.start g.N.Tag.opening (g.T.Tree.contents inside.tree) (g.T.Tree.contents c.look.new.tree) g.N.Tag.tree_faults _ c.note.new.self _ c.look.new.self inside.standing c.look_taken.new.self _ inside.terminal c.show-drawn.new.self _ _ count
           c.self.invariant.desk unclosed unasked c.look.ensures.reads.same (omega (arith, counted, had, later)) c.in-Ok-look.refusals c.in-Ok-rows_of.rows c.in-Ok.part
           (c.in-Ok-rows_of.ensures ∙ ap (λ es. rows_of inside.standing.job (trouble_told es)) c.reserve.ensures.same) (c.in-Ok.ensures ∙ ap part_left c.reserve.ensures.same)
           (λ h. let risen = c.in-Ok-look.ensures.reads.fault h in omega (arith, counted, had, risen)) c.in-Ok-look.ensures.reads.called c.in-Ok-look.ensures.leads c.look.ensures.settled
-          (c.note.ensures.added ∙ ap (λ es. entry 0 inside.standing.calls count c.shown.result (Look c.in-Ok-look.refusals) ∷ es) c.reserve.ensures.same) room c.look_taken.ensures;
+          (c.note.ensures.added ∙ (ap (λ es. entry 0 inside.standing.calls count c.shown.result (Look c.in-Ok-look.refusals) ∷ es) c.reserve.ensures.same
+          ∙ ap (λ n. entry 0 inside.standing.calls count n (Look c.in-Ok-look.refusals) ∷ inside.log.newest) c.shown.ensures.counted)) room c.look_taken.ensures c.show-drawn.result
+          (fits_after inside.terminal.display.grid c.show-drawn.new.self.display.grid inside.ui c.look.new.self c.self.invariant.desk.shown.size c.show-drawn.ensures.shows.sized c.look.ensures.size)
+          (subst (λ es. ShowsFrame (frame_of c.look.new.self (rows_of inside.standing.job (trouble_told es))) c.show-drawn.result inside.terminal c.show-drawn.new.self) c.reserve.ensures.same c.show-drawn.ensures.shows);
       counted = search rules;
       spawner = c.self.invariant.spawner;
     }
+
+pub after_draw-requires-clause-whole : goal.after_draw-requires-clause-whole
+after_draw-requires-clause-whole g c = ended_uncut _ c.show-drawn.result c.self.inside.terminal c.show-drawn.new.self c.show-drawn.ensures.shows
+
+pub returns-clause-shows : goal.returns-clause-shows
+returns-clause-shows g c unclosed =
+    let inside = c.self.inside in
+    let standing = c.look_taken.new.self in
+    let desk : Seen = seen_of c.note.new.self c.look.new.self standing inside.dirty c.show-drawn.new.self inside.taken inside.keys in
+    let same : c.after_draw.new.self ≡ desk = c.in_ok-after_draw.ensures.same in
+    let whole : desk.out.put.is_cut ≡ false = sym (ap (λ (d : Seen). d.out.put.is_cut) same) ∙ c.in_ok-after_draw.ensures.whole in
+    let job : standing.job ≡ inside.standing.job = ap (λ (s : Standing). s.job) c.look_taken.ensures in
+    let trouble : trouble_told c.note.new.self.newest ≡ trouble_told c.reserve.new.self.newest = ap trouble_told c.note.ensures.added in
+    subst ShowsDesk (sym same)
+    (shows_drawn desk c.show-drawn.result inside.terminal
+    (subst (λ j. ShowsFrame (frame_of c.look.new.self (rows_of j (trouble_told c.note.new.self.newest))) c.show-drawn.result inside.terminal c.show-drawn.new.self) (sym job)
+    (subst (λ t. ShowsFrame (frame_of c.look.new.self (rows_of inside.standing.job t)) c.show-drawn.result inside.terminal c.show-drawn.new.self) (sym trouble) c.show-drawn.ensures.shows)) whole (c.shown.ensures.shows whole))

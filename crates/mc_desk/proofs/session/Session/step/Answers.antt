@@ -42,7 +42,7 @@ invariant_of-self-then-is_err g c =
           ∙ ap (λ es. entry c.args.seat inside.standing.calls count 0 (Step c.in-Some.job.id (Ended NoMemory c.give_up.result)) ∷ es) c.reserve.ensures.same)))
           none
           (ap (λ j. let t : Tally = record { job = option_map told j; last = inside.standing.last_id; has_unseen_end = true; closed = inside.standing.closed; due = awaited inside.standing.due; lost = inside.standing.lost; calls = inside.standing.calls } in t) none)
-          refl refl (room_left inside.standing.closed inside.standing.job c.in-Some.job inside.log.spare c.reserve.new.self.spare c.note.new.self.spare is c.self.invariant.desk.room c.reserve.ensures.kept c.note.ensures.room) refl;
+          refl refl (room_left inside.standing.closed inside.standing.job c.in-Some.job inside.log.spare c.reserve.new.self.spare c.note.new.self.spare is c.self.invariant.desk.room c.reserve.ensures.kept c.note.ensures.room) refl refl;
       counted = search rules;
       spawner = c.self.invariant.spawner;
     }
@@ -70,7 +70,7 @@ invariant_of-self-2 g c =
           more job
           (ap (λ u. let t : Tally = record { job = option_map told c.left.result; last = inside.standing.last_id; has_unseen_end = u; closed = inside.standing.closed; due = awaited inside.standing.due; lost = inside.standing.lost; calls = calls } in t)
           (c.end_waits-self-inside.ensures ∙ ap (λ b. b || inside.standing.has_unseen_end) c.is_end-ended.ensures))
-          refl refl room;
+          refl refl room (sym c.waits.ensures ∙ c.if-waits.false) refl;
       counted = search rules;
       spawner = c.self.invariant.spawner;
     }

@@ -1,0 +1,94 @@
+-- What a session puts on its terminal: each key that is worked and each look draws the frame of what the screen then shows.
+use Rattle.std.specs.Prelude.{◌≡◌, ◌⊎◌, ℕ, Bool, true, false, List, [], ◌∷◌, ◌++◌, length, map, take, drop, Option, Some, None}
+use Rattle.tree_trait.specs.Answers.{IfKnown}
+use Rattle.key_screen.specs.Grids.{CellGrid}
+use Rattle.job_reports.specs.declared.row.JobRow.{JobRow}
+use Rattle.job_reports.specs.declared.row.JobState.TheVariants.{Ready}
+use Rattle.session_history.specs.declared.history.Entry.{Entry}
+use Rattle.session_history.specs.declared.history.Event.{Event}
+use Rattle.session_history.specs.declared.history.Event.TheVariants.{Key, Look, Began, Order, Step, Closed}
+use Rattle.mc_ui.specs.Screens.{Screen, Planned, Begins, Answers, Ends}
+use Rattle.mc_screen.specs.Drawings.{HasSizeOf, Shows}
+use Rattle.mc_screen.specs.Sparse.{IsSparse}
+use Rattle.mc_ui.specs.Frames.{frame_of}
+
+-- what a session has put since its opening, where the sink tells, and whether its last drawing was cut short
+pub record Put : Type 0 where
+  pub bytes : Option (List ℕ)
+  pub is_cut : Bool
+
+-- there is no entry yet
+abbrev pub none_before : List Entry → Bool
+none_before [] = true
+none_before (e ∷ older) = false
+
+-- nothing was put yet
+pub record HasPutNothing (put : Put) : Type 0 where
+  pub bytes : IfKnown put.bytes (λ bytes. bytes ≡ [])
+  pub uncut : put.is_cut ≡ false
+
+-- These bytes draw a frame behind what was put before: a terminal shows it then. Unless they are the first of the session they
+-- write only what differs from the frame that the terminal shows before them.
+pub record DrawsBehind (is_first : Bool) (before : List ℕ) (frame : CellGrid) (bytes : List ℕ) : Type 0 where
+  pub shows : Shows (before ++ bytes) frame
+  pub sparse : is_first ≡ false → (was : CellGrid) × HasSizeOf was frame × Shows before was × IsSparse was frame bytes
+
+-- a drawing that ended: all of such bytes were put, and so many bytes are shown by now
+pub record PutsFrame (is_first : Bool) (frame : CellGrid) (shown : ℕ) (before after : Put) : Type 0 where
+  pub whole : after.is_cut ≡ false
+  pub bytes : IfKnown before.bytes (λ earlier. (drawn : List ℕ) × (after.bytes ≡ Some (earlier ++ drawn)) × (shown ≡ length (earlier ++ drawn))
+      × DrawsBehind is_first earlier frame drawn)
+
+-- a drawing that was cut short: nothing was put, or a prefix of such bytes; those of the drawings that ended are shown
+pub record CutsFrame (is_first : Bool) (frame : CellGrid) (shown : ℕ) (before after : Put) : Type 0 where
+  pub cut : after.is_cut ≡ true
+  pub bytes : IfKnown before.bytes (λ earlier. (shown ≡ length earlier) × ((after.bytes ≡ Some earlier)
+      ⊎ ((drawn : List ℕ) × (count : ℕ) × (after.bytes ≡ Some (earlier ++ take count drawn)) × DrawsBehind is_first earlier frame drawn)))
+
+-- An entry that draws a frame: no drawing before it was cut short, and its own ended or was. A sink that told nothing never does.
+pub record DrawsFrame (is_first : Bool) (frame : CellGrid) (shown : ℕ) (before after : Put) : Type 0 where
+  pub uncut : before.is_cut ≡ false
+  pub drawn : PutsFrame is_first frame shown before after ⊎ CutsFrame is_first frame shown before after
+  pub untold : before.bytes ≡ None → after.bytes ≡ None
+
+-- A key that was worked and a look draw their frame; nothing else puts anything.
+abbrev pub EventDraws : Event → Bool → CellGrid → ℕ → Put → Put → Type 0
+EventDraws (Key key now refusals false) is_first frame shown before after = DrawsFrame is_first frame shown before after
+EventDraws (Key key now refusals true) is_first frame shown before after = after ≡ before
+EventDraws (Look refusals) is_first frame shown before after = DrawsFrame is_first frame shown before after
+EventDraws (Began id plan background) is_first frame shown before after = after ≡ before
+EventDraws (Order id order) is_first frame shown before after = after ≡ before
+EventDraws (Step id did) is_first frame shown before after = after ≡ before
+EventDraws Closed is_first frame shown before after = after ≡ before
+
+-- a job that can be stepped
+abbrev pub ready_row : ℕ → JobRow
+ready_row job = record { job = job; state = Ready; background = false; trouble = None }
+
+-- the rows of the live jobs once what was asked for is carried out: a job that is begun has the next number, and is ready; one
+-- that is answered is ready again
+abbrev pub rows_then : Option Planned → Option ℕ → List JobRow → List JobRow
+rows_then None next rows = rows
+rows_then (Some Ends) next rows = rows
+rows_then (Some (Begins plan background)) None rows = rows
+rows_then (Some (Begins plan background)) (Some job) rows = ready_row job ∷ rows
+rows_then (Some (Answers answer)) next rows = map (λ (row : JobRow). ready_row row.job) rows
+
+-- the frame of a screen on which nothing waits to be carried out, while these jobs are live
+abbrev pub frame_at : Screen → List JobRow → CellGrid
+frame_at screen rows = frame_of (record screen { planned = None }) rows
+
+-- the frame that an entry draws which leads to this screen
+abbrev pub frame_due : Screen → Option ℕ → List JobRow → CellGrid
+frame_due screen next rows = frame_at screen (rows_then screen.planned next rows)
+
+-- what was put behind these bytes
+abbrev pub put_since : Option (List ℕ) → Option (List ℕ) → Option (List ℕ)
+put_since None now = None
+put_since (Some given) None = None
+put_since (Some given) (Some now) = Some (drop (length given) now)
+
+-- a sink that was given these bytes before has been given those that were put behind them
+pub record HasGiven (given put now : Option (List ℕ)) : Type 0 where
+  pub told : IfKnown given (λ before. (bytes : List ℕ) × (put ≡ Some bytes) × (now ≡ Some (before ++ bytes)))
+  pub untold : given ≡ None → (put ≡ None) × (now ≡ None)

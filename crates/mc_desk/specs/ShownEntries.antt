@@ -1,0 +1,62 @@
+-- What a terminal shows of the bytes that a session put, entry by entry. Histories stand newest first here.
+use Rattle.std.specs.Prelude.{◌≡◌, ◌⊎◌, ℕ, ◌≤◌, Bool, true, false, ⊤, not, List, [], ◌∷◌, ◌++◌, length, take, Option}
+use Rattle.tree_trait.specs.Change.{CallLog}
+use Rattle.session_history.specs.declared.history.Event.{Event}
+use Rattle.session_history.specs.declared.history.Event.TheVariants.{Key, Look, Began, Order, Step, Closed}
+use Rattle.session_history.specs.declared.history.Entry.{Entry}
+use Rattle.session_history.specs.Entries.{last_id}
+use Rattle.history_laws.specs.Traces.{Stand}
+use Rattle.mc_ui.specs.Screens.{Screen}
+use Rattle.key_screen.specs.Grids.{CellGrid}
+use Rattle.mc_desk.specs.declared.starts.Start.{Start}
+use Rattle.mc_desk.specs.LiveRows.{rows_told}
+use Rattle.mc_desk.specs.Sessions.{IsSession}
+use Rattle.mc_desk.specs.Shown.{DrawsBehind, Put, frame_due, none_before}
+use Rattle.mc_screen.specs.Drawings.{Shows}
+use Rattle.mc_desk.specs.Tallies.{next_id}
+
+-- a key that was worked, and a look, draw
+abbrev pub draws : Event → Bool
+draws (Key key now refusals lost) = not lost
+draws (Look refusals) = true
+draws (Began id plan background) = false
+draws (Order id order) = false
+draws (Step id did) = false
+draws Closed = false
+
+-- none of these entries draws
+abbrev pub NoneDraws : List Entry → Type 0
+NoneDraws [] = ⊤
+NoneDraws (e ∷ older) = (draws e.what ≡ false) × NoneDraws older
+
+-- what a session came to with an entry, and the frame of that
+pub record CameTo (start : Option Start) (opening : Option CallLog) (faults : ℕ) (e : Entry) (older : List Entry) (frame : CellGrid) : Type 0 where
+  pub screen : Screen
+  pub stand : Stand
+  pub contents : Option CallLog
+  pub put : Put
+  pub session : IsSession start opening faults (e ∷ older) screen stand contents put
+  pub frame_is : frame ≡ frame_due screen (next_id (last_id older)) (rows_told older)
+
+-- A terminal shows of the bytes that were put, as many as the entry says, the frame of what the session came to with it.
+pub record ShowsEntry (start : Option Start) (opening : Option CallLog) (faults : ℕ) (e : Entry) (older : List Entry) (put : List ℕ) : Type 0 where
+  pub frame : CellGrid
+  pub came : CameTo start opening faults e older frame
+  pub some : e.shown ≤ length put
+  pub shows : Shows (take e.shown put) frame
+
+-- The drawing of an entry was cut short, which is the last that draws: what was put are the bytes of the drawings that ended, as
+-- many as the entry says, and then perhaps a prefix of bytes that would have drawn the frame of what the session came to with it.
+pub record CutsEntry (start : Option Start) (opening : Option CallLog) (faults : ℕ) (later : List Entry) (e : Entry) (older : List Entry) (put : List ℕ) : Type 0 where
+  pub last : NoneDraws later
+  pub frame : CellGrid
+  pub came : CameTo start opening faults e older frame
+  pub ended : List ℕ
+  pub counted : e.shown ≡ length ended
+  pub put_is : (put ≡ ended) ⊎ ((drawn : List ℕ) × (count : ℕ) × (put ≡ ended ++ take count drawn) × DrawsBehind (none_before older) ended frame drawn)
+
+-- of each entry that draws a terminal shows its frame, but for the last one where its drawing was cut short
+abbrev pub ShowsEach : Option Start → Option CallLog → ℕ → List Entry → Bool → List ℕ → Type 0
+ShowsEach start opening faults newest is_cut put =
+    (later : List Entry) (e : Entry) (older : List Entry) → newest ≡ later ++ e ∷ older → draws e.what ≡ true
+    → ShowsEntry start opening faults e older put ⊎ ((is_cut ≡ true) × CutsEntry start opening faults later e older put)
