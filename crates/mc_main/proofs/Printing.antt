@@ -5,6 +5,7 @@ use Rattle.tree_trait.specs.Answers.{HasRisen, IfKnown}
 use Rattle.mc_text.specs.Routes.{Route}
 use Rattle.start_words.specs.Asked.{asked_by}
 use Rattle.start_words.specs.Folders.{started_in}
+use Rattle.start_words.specs.Sizes.{ScreenSize}
 use Rattle.start_words.specs.declared.words.Words.{Words}
 use Rattle.start_words.specs.declared.words.Words.TheVariants.{Panels, NotBuilt}
 use Rattle.start_words.specs.declared.words.Words.TheVariants as asks
@@ -18,36 +19,36 @@ use Rattle.mc_main.specs.declared.words.Printed.TheVariants.{Usage, Help, Versio
 use Rattle.mc_main.specs.declared.words.Typed.{Typed}
 use Rattle.mc_main.specs.declared.words.Beginning.{Beginning}
 use Rattle.mc_main.specs.declared.words.Beginning.TheVariants.{Session, Print}
-use Rattle.mc_main.specs.Beginnings.{IsBeginning, asked_in, folder_word, printed_for, session_folders, status_with, text_of}
+use Rattle.mc_main.specs.Beginnings.{IsBeginning, asked_in, folder_word, printed_for, session_start, status_with, text_of}
 use Rattle.mc_main.specs.Headline.{BeginsNone, IsComplete, IsStatusOr, RefusesStart}
 use Rattle.mc_main.specs.Printed.{IsCauseIn, PrintsCause, PrintsStart, start_line}
 
 -- the line for a folder that can't be listed has the cause for which the session doesn't start
-pub prints_start : (contents : Option CallLog) (asked : Option Words) (start : Start) (typed : Typed) (error : StartError) (faults faults_after : ℕ) (before : List ℕ) (given : Option (List ℕ)) → IsBeginning asked (Session start typed) → error ≢ Memory
+pub prints_start : (contents : Option CallLog) (size : ScreenSize) (asked : Option Words) (start : Start) (typed : Typed) (error : StartError) (faults faults_after : ℕ) (before : List ℕ) (given : Option (List ℕ)) → IsBeginning size asked (Session start typed) → error ≢ Memory
     → IfKnown contents (λ log. IsStartCause (current log) start.left start.right error) → (is_start_fault error ≡ true → HasRisen faults faults_after) → PrintsCause typed error before given
-    → PrintsStart contents asked faults faults_after before given
-prints_start contents asked start typed Memory faults faults_after before given is some why risen prints = absurd (some refl)
-prints_start contents asked start typed (Tree Left cause) faults faults_after before given is some why risen prints = record {
+    → PrintsStart contents size asked faults faults_after before given
+prints_start contents size asked start typed Memory faults faults_after before given is some why risen prints = absurd (some refl)
+prints_start contents size asked start typed (Tree Left cause) faults faults_after before given is some why risen prints = record {
   side = Left;
   cause = cause;
-  is_cause = λ log known. subst (λ o. IsCauseIn log (session_folders o) (Tree Left cause)) (sym is.0) (why log known);
+  is_cause = λ log known. subst (λ o. IsCauseIn log (session_start size o) (Tree Left cause)) (sym is.0) (why log known);
   risen = risen;
   line = subst (λ o. given ≡ Some (before ++ start_line (folder_word Left o) cause)) (sym is.0) prints;
 }
-prints_start contents asked start typed (Tree Right cause) faults faults_after before given is some why risen prints = record {
+prints_start contents size asked start typed (Tree Right cause) faults faults_after before given is some why risen prints = record {
   side = Right;
   cause = cause;
-  is_cause = λ log known. subst (λ o. IsCauseIn log (session_folders o) (Tree Right cause)) (sym is.0) (why log known);
+  is_cause = λ log known. subst (λ o. IsCauseIn log (session_start size o) (Tree Right cause)) (sym is.0) (why log known);
   risen = risen;
   line = subst (λ o. given ≡ Some (before ++ start_line (folder_word Right o) cause)) (sym is.0) prints;
 }
 
 -- how a run begins that was told as a match gives it
-pub print_is : (asked : Option Words) (beginning : Beginning) (printed : Printed) → IsBeginning asked beginning → beginning ≡ Print printed → printed_for asked ≡ Some printed
-print_is asked beginning printed is same = subst (λ b. IsBeginning asked b) same is
+pub print_is : (size : ScreenSize) (asked : Option Words) (beginning : Beginning) (printed : Printed) → IsBeginning size asked beginning → beginning ≡ Print printed → printed_for asked ≡ Some printed
+print_is size asked beginning printed is same = subst (λ b. IsBeginning size asked b) same is
 
-pub session_is : (asked : Option Words) (beginning : Beginning) (start : Start) (typed : Typed) → IsBeginning asked beginning → beginning ≡ Session start typed → IsBeginning asked (Session start typed)
-session_is asked beginning start typed is same = subst (λ b. IsBeginning asked b) same is
+pub session_is : (size : ScreenSize) (asked : Option Words) (beginning : Beginning) (start : Start) (typed : Typed) → IsBeginning size asked beginning → beginning ≡ Session start typed → IsBeginning size asked (Session start typed)
+session_is size asked beginning start typed is same = subst (λ b. IsBeginning size asked b) same is
 
 -- no text has a status above 1
 pub status_few : (printed : Printed) → status_with printed < 2
@@ -61,22 +62,22 @@ unfolding asked_in
 asked_read folder text words started asked is same read = sym (ap (λ route. asked_by route words) (is ∙ ap started_in same)) ∙ read
 
 -- a session begins in the folders of its start, and nothing is printed in its place
-pub starts_in : (asked : Option Words) (start : Start) (typed : Typed) → IsBeginning asked (Session start typed) → session_folders asked ≡ Some start
-starts_in asked start typed is =
-    subst (λ o. session_folders o ≡ Some start) (sym is.0)
-    (ap (λ n. Some (let s : Start = record { left = start.left; right = start.right; lines = n; columns = 80 } in s)) (sym is.1)
+pub starts_in : (size : ScreenSize) (asked : Option Words) (start : Start) (typed : Typed) → IsBeginning size asked (Session start typed) → session_start size asked ≡ Some start
+starts_in size asked start typed is =
+    subst (λ o. session_start size o ≡ Some start) (sym is.0)
+    (ap (λ n. Some (let s : Start = record { left = start.left; right = start.right; lines = n; columns = size.columns } in s)) (sym is.1)
     ∙ ap (λ n. Some (let s : Start = record { left = start.left; right = start.right; lines = start.lines; columns = n } in s)) (sym is.2))
 
-pub prints_none : (asked : Option Words) (start : Start) (typed : Typed) → IsBeginning asked (Session start typed) → printed_for asked ≡ None
-prints_none asked start typed is = subst (λ o. printed_for o ≡ None) (sym is.0) refl
+pub prints_none : (size : ScreenSize) (asked : Option Words) (start : Start) (typed : Typed) → IsBeginning size asked (Session start typed) → printed_for asked ≡ None
+prints_none size asked start typed is = subst (λ o. printed_for o ≡ None) (sym is.0) refl
 
 -- where a text is printed there are no folders
-pub no_folders : (asked : Option Words) (printed : Printed) → printed_for asked ≡ Some printed → session_folders asked ≡ None
-no_folders None printed is = refl
-no_folders (Some asks.Help) printed is = refl
-no_folders (Some asks.Version) printed is = refl
-no_folders (Some (Panels left right)) printed is = cc
-no_folders (Some NotBuilt) printed is = refl
+pub no_folders : (size : ScreenSize) (asked : Option Words) (printed : Printed) → printed_for asked ≡ Some printed → session_start size asked ≡ None
+no_folders size None printed is = refl
+no_folders size (Some asks.Help) printed is = refl
+no_folders size (Some asks.Version) printed is = refl
+no_folders size (Some (Panels left right)) printed is = cc
+no_folders size (Some NotBuilt) printed is = refl
 
 -- only the usage line has status 1
 pub usage_printed : (printed : Printed) (status : ℕ) → IsStatusOr (status_with printed) status → status ≡ 1 → printed ≡ Usage
@@ -130,15 +131,15 @@ pub usage_asked : (asked : Option Words) (printed : Printed) (status : ℕ) → 
 usage_asked asked printed status is at one = is ∙ ap (λ p. Some p) (usage_printed printed status at one)
 
 -- nothing is printed, so nothing is said of it
-pub prints_not : {A : Type 0} (asked : Option Words) (start : Start) (typed : Typed) (other : Printed) → IsBeginning asked (Session start typed) → printed_for asked ≡ Some other → A
-prints_not asked start typed other is known = absurd (let none = prints_none asked start typed is in cc)
+pub prints_not : {A : Type 0} (size : ScreenSize) (asked : Option Words) (start : Start) (typed : Typed) (other : Printed) → IsBeginning size asked (Session start typed) → printed_for asked ≡ Some other → A
+prints_not size asked start typed other is known = absurd (let none = prints_none size asked start typed is in cc)
 
-pub some_prints_not : {A : Type 0} (asked : Option Words) (start : Start) (typed : Typed) → IsBeginning asked (Session start typed) → IsSome (printed_for asked) → A
-some_prints_not asked start typed is some = absurd (let none = prints_none asked start typed is in cc)
+pub some_prints_not : {A : Type 0} (size : ScreenSize) (asked : Option Words) (start : Start) (typed : Typed) → IsBeginning size asked (Session start typed) → IsSome (printed_for asked) → A
+some_prints_not size asked start typed is some = absurd (let none = prints_none size asked start typed is in cc)
 
 -- no session was asked for, so no start is refused
-pub refuses_none : (log : CallLog) (asked : Option Words) (printed : Printed) (status : ℕ) → printed_for asked ≡ Some printed → RefusesStart log (session_folders asked) status
-refuses_none log asked printed status is = subst (λ o. RefusesStart log o status) (sym (no_folders asked printed is)) tt
+pub refuses_none : (log : CallLog) (size : ScreenSize) (asked : Option Words) (printed : Printed) (status : ℕ) → printed_for asked ≡ Some printed → RefusesStart log (session_start size asked) status
+refuses_none log size asked printed status is = subst (λ o. RefusesStart log o status) (sym (no_folders size asked printed is)) tt
 
-pub completes_none : (log : CallLog) (asked : Option Words) (printed : Printed) (status : ℕ) (failed : Type 0) → printed_for asked ≡ Some printed → IsComplete log (session_folders asked) status failed
-completes_none log asked printed status failed is = subst (λ o. IsComplete log o status failed) (sym (no_folders asked printed is)) tt
+pub completes_none : (log : CallLog) (size : ScreenSize) (asked : Option Words) (printed : Printed) (status : ℕ) (failed : Type 0) → printed_for asked ≡ Some printed → IsComplete log (session_start size asked) status failed
+completes_none log size asked printed status failed is = subst (λ o. IsComplete log o status failed) (sym (no_folders size asked printed is)) tt

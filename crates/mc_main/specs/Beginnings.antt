@@ -6,9 +6,11 @@ use Rattle.start_words.specs.declared.words.Words.TheVariants.{Panels, NotBuilt}
 use Rattle.start_words.specs.declared.words.Words.TheVariants as asked
 use Rattle.start_words.specs.Folders.{started_in}
 use Rattle.start_words.specs.Asked.{asked_by}
+use Rattle.start_words.specs.Sizes.{ScreenSize, size_said}
 use Rattle.mc_desk.specs.declared.starts.Side.{Side}
 use Rattle.mc_desk.specs.declared.starts.Side.TheVariants.{Left, Right}
 use Rattle.mc_desk.specs.declared.starts.Start.{Start}
+use Rattle.mc_main.specs.declared.run.Env.{Env}
 use Rattle.mc_main.specs.declared.words.Printed.{Printed}
 use Rattle.mc_main.specs.declared.words.Printed.TheVariants.{Usage, Help, Version}
 use Rattle.mc_main.specs.declared.words.Typed.{Typed}
@@ -47,24 +49,28 @@ status_with Usage = 1
 status_with Help = 0
 status_with Version = 0
 
--- a run begins as its words ask for it, on a screen of 24 lines of 80 columns yet
-abbrev pub IsBeginning : Option Words → Beginning → Type 0
-IsBeginning words (Print printed) = printed_for words ≡ Some printed
-IsBeginning words (Session start typed) =
+-- the size of the screen, as the surroundings say it
+unfoldable pub size_in : Env → ScreenSize
+size_in env = size_said env.lines env.columns
+
+-- a run begins as its words ask for it, on a screen of this size
+abbrev pub IsBeginning : ScreenSize → Option Words → Beginning → Type 0
+IsBeginning size words (Print printed) = printed_for words ≡ Some printed
+IsBeginning size words (Session start typed) =
     (words ≡ Some (Panels (record { typed = typed.left; path = start.left }) (record { typed = typed.right; path = start.right })))
-    × (start.lines ≡ 24) × (start.columns ≡ 80)
+    × (start.lines ≡ size.lines) × (start.columns ≡ size.columns)
 
 -- the folders of the session that is asked for, and the size of its screen
-abbrev pub session_folders : Option Words → Option Start
-session_folders None = None
-session_folders (Some asked.Help) = None
-session_folders (Some asked.Version) = None
-session_folders (Some (Panels left right)) = Some (record { left = left.path; right = right.path; lines = 24; columns = 80 })
-session_folders (Some NotBuilt) = None
+abbrev pub session_start : ScreenSize → Option Words → Option Start
+session_start size None = None
+session_start size (Some asked.Help) = None
+session_start size (Some asked.Version) = None
+session_start size (Some (Panels left right)) = Some (record { left = left.path; right = right.path; lines = size.lines; columns = size.columns })
+session_start size (Some NotBuilt) = None
 
--- the folders that the words name
-abbrev pub folders_in : List ℕ → List (List ℕ) → Option Start
-folders_in folder words = session_folders (asked_in folder words)
+-- what the session starts with that words and surroundings ask for
+abbrev pub start_in : Env → List (List ℕ) → Option Start
+start_in env words = session_start (size_in env) (asked_in env.folder words)
 
 -- what was typed for a panel
 abbrev pub word_for : Side → Typed → List ℕ

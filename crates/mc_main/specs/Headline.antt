@@ -25,7 +25,8 @@ use Rattle.mc_desk.specs.Shown.{HasGiven, Put}
 use Rattle.mc_desk.specs.ShownEntries.{CutsEntry, ShowsEntry, draws}
 use Rattle.mc_desk.specs.Desks.{LacksSecond}
 use Rattle.start_words.specs.declared.words.Words.{Words}
-use Rattle.mc_main.specs.Beginnings.{printed_for, session_folders}
+use Rattle.start_words.specs.Sizes.{ScreenSize}
+use Rattle.mc_main.specs.Beginnings.{printed_for, session_start}
 use Rattle.mc_main.specs.declared.session.SessionEnd.{SessionEnd}
 use Rattle.mc_main.specs.declared.session.SessionEnd.TheVariants.{Quit, KeysEnded, KeysFailed, ScreenFailed, NoMemory}
 
@@ -69,9 +70,9 @@ pub record RanSession (folders : Option Start) (opening : Option CallLog) (fault
   pub not_start : status ≢ 2
 
 -- what a run wrote down, the newest first: a session in the folders that the words name, or nothing where none began
-abbrev pub IsRun : Option Words → Option CallLog → ℕ → ℕ → List Entry → Option CallLog → Type 0 → Option (List ℕ) → Option (List ℕ) → Type 0
-IsRun asked opening faults status newest contents all_taken given given_after =
-    (IsSome (session_folders asked) × RanSession (session_folders asked) opening faults status newest contents all_taken given given_after)
+abbrev pub IsRun : ScreenSize → Option Words → Option CallLog → ℕ → ℕ → List Entry → Option CallLog → Type 0 → Option (List ℕ) → Option (List ℕ) → Type 0
+IsRun size asked opening faults status newest contents all_taken given given_after =
+    (IsSome (session_start size asked) × RanSession (session_start size asked) opening faults status newest contents all_taken given given_after)
     ⊎ ((newest ≡ []) × BeginsNone asked status)
 
 -- Of each key that was worked and each look a terminal shows, of the bytes that were put by then, the frame of what the screen

@@ -5,6 +5,7 @@ use Rattle.tree_trait.specs.declared.calls.TreeError.{TreeError}
 use Rattle.tree_trait.specs.Change.{CallLog, current}
 use Rattle.tree_trait.specs.Answers.{HasRisen, IfKnown}
 use Rattle.start_words.specs.declared.words.Words.{Words}
+use Rattle.start_words.specs.Sizes.{ScreenSize}
 use Rattle.mc_ui.specs.Causes.{cause_words}
 use Rattle.mc_desk.specs.declared.starts.Side.{Side}
 use Rattle.mc_desk.specs.declared.starts.StartError.{StartError}
@@ -12,7 +13,7 @@ use Rattle.mc_desk.specs.declared.starts.StartError.TheVariants.{Tree, Memory}
 use Rattle.mc_desk.specs.declared.starts.Start.{Start}
 use Rattle.mc_desk.specs.Starts.{IsStartCause, is_start_fault}
 use Rattle.mc_main.specs.declared.words.Typed.{Typed}
-use Rattle.mc_main.specs.Beginnings.{folder_word, session_folders, word_for}
+use Rattle.mc_main.specs.Beginnings.{folder_word, session_start, word_for}
 
 -- the line for a folder that can't be listed: `mc: WORD: CAUSE`, the word as it is drawn
 abbrev pub start_line : List ℕ → TreeError → List ℕ
@@ -30,9 +31,9 @@ IsCauseIn log (Some start) error = IsStartCause (current log) start.left start.r
 
 -- The screen was given, after these bytes, the line for a folder that can't be listed, with the cause for that; a fault only where
 -- the tree has counted one since the run began.
-pub record PrintsStart (contents : Option CallLog) (asked : Option Words) (faults faults_after : ℕ) (before : List ℕ) (given : Option (List ℕ)) : Type 0 where
+pub record PrintsStart (contents : Option CallLog) (size : ScreenSize) (asked : Option Words) (faults faults_after : ℕ) (before : List ℕ) (given : Option (List ℕ)) : Type 0 where
   pub side : Side
   pub cause : TreeError
-  pub is_cause : IfKnown contents (λ log. IsCauseIn log (session_folders asked) (Tree side cause))
+  pub is_cause : IfKnown contents (λ log. IsCauseIn log (session_start size asked) (Tree side cause))
   pub risen : is_start_fault (Tree side cause) ≡ true → HasRisen faults faults_after
   pub line : given ≡ Some (before ++ start_line (folder_word side asked) cause)

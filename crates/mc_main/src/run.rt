@@ -7,7 +7,7 @@ ghost use Rattle.mc_desk.specs.Logs.{jobs_begun};
 ghost use Rattle.mc_desk.specs.Shown.{put_since};
 ghost use Rattle.mc_desk.specs.Tallies.{faults_in, has_lost};
 ghost use Rattle.mc_desk.specs.Desks.{RanNothing};
-ghost use Rattle.mc_main.specs.Beginnings.{asked_in, folders_in, printed_for, status_with, text_of};
+ghost use Rattle.mc_main.specs.Beginnings.{asked_in, printed_for, size_in, start_in, status_with, text_of};
 ghost use Rattle.mc_main.specs.Headline.{IsStatusOr, MayRefuseStart, RefusesStart, IsRun, ReadsKeys, TookAll, IsSafeRun, IsFinishedRun, IsCalmedRun, IsReplayedRun, ShowsRun, IsComplete};
 ghost use Rattle.mc_main.specs.Printed.{PrintsStart};
 
@@ -52,7 +52,7 @@ pub fn mc_run<N: Tag, T: Tree, K: Source, S: Sink, P: Spawner, C: Clock, G: Gate
     _gate: &G,
 ) -> Outcome<T, S, P>
     // The type names the world as the run finds it.
-    requires start { N.start ≡ folders_in env.now.folder words.now }
+    requires start { N.start ≡ start_in env.now words.now }
     requires opening { T.contents tree ≡ N.opening }
     requires stream { K.left keys.old ≡ N.stream }
     requires given { S.given screen ≡ N.given }
@@ -87,7 +87,7 @@ pub fn mc_run<N: Tag, T: Tree, K: Source, S: Sink, P: Spawner, C: Clock, G: Gate
     // Each entry of a step is a piece of the job's work with the calls that belong to it, or the sync of a folder that an ended
     // job left. A tree that tells what it holds is handed back telling it.
     ensures traced { IsTracedTo (T.contents tree) (T.contents result.tree) (reverse result.history.entries) }
-    ensures session { IsRun (asked_in env.now.folder words.now) (T.contents tree) (T.fault_count tree) result.status
+    ensures session { IsRun (size_in env.now) (asked_in env.now.folder words.now) (T.contents tree) (T.fault_count tree) result.status
         (reverse result.history.entries) (T.contents result.tree) (TookAll (K.left keys.old) (K.left keys.new))
         (S.given screen) (S.given result.screen) }
 
@@ -95,7 +95,7 @@ pub fn mc_run<N: Tag, T: Tree, K: Source, S: Sink, P: Spawner, C: Clock, G: Gate
     // the frame of what the screen then shows. At status 4 or 5 the last drawing may be cut short: then the screen was given
     // those of the drawings that ended, and perhaps a prefix of one that would have shown the frame due.
     ensures shown { IfKnown (put_since (S.given screen) (S.given result.screen)) (λ put.
-        ShowsRun (folders_in env.now.folder words.now) (T.contents tree) (T.fault_count tree) result.status
+        ShowsRun (start_in env.now words.now) (T.contents tree) (T.fault_count tree) result.status
         (reverse result.history.entries) put) }
     ensures idle { live_job (reverse result.history.entries) ≡ None }
     ensures counted { result.history.started ≡ jobs_begun result.history.entries }
@@ -124,15 +124,15 @@ pub fn mc_run<N: Tag, T: Tree, K: Source, S: Sink, P: Spawner, C: Clock, G: Gate
 
     // Status 2, and what is printed then.
     ensures start { result.status ≡ 2 → IfKnown (T.contents tree) (λ log.
-        MayRefuseStart log (folders_in env.now.folder words.now) (T.fault_count tree) (T.fault_count result.tree)) }
-    ensures refuses_start { IfKnown (T.contents tree) (λ log. RefusesStart log (folders_in env.now.folder words.now) result.status) }
+        MayRefuseStart log (start_in env.now words.now) (T.fault_count tree) (T.fault_count result.tree)) }
+    ensures refuses_start { IfKnown (T.contents tree) (λ log. RefusesStart log (start_in env.now words.now) result.status) }
     ensures start_line { result.status ≡ 2 → IfKnown (S.given screen) (λ before.
-        PrintsStart (T.contents tree) (asked_in env.now.folder words.now) (T.fault_count tree) (T.fault_count result.tree) before (S.given result.screen)) }
+        PrintsStart (T.contents tree) (size_in env.now) (asked_in env.now.folder words.now) (T.fault_count tree) (T.fault_count result.tree) before (S.given result.screen)) }
 
     // Statuses 3 and 4: only where the device's count of faults has risen. There are no others.
     ensures keyboard { result.status ≡ 3 → HasRisen (K.fault_count keys.old) (K.fault_count keys.new) }
     ensures screen { result.status ≡ 4 → HasRisen (S.fault_count screen) (S.fault_count result.screen) }
-    ensures complete { IfKnown (T.contents tree) (λ log. IsComplete log (folders_in env.now.folder words.now) result.status
+    ensures complete { IfKnown (T.contents tree) (λ log. IsComplete log (start_in env.now words.now) result.status
         (HasRisen (T.fault_count tree) (T.fault_count result.tree)
         ⊎ (HasRisen (K.fault_count keys.old) (K.fault_count keys.new) ⊎ HasRisen (S.fault_count screen) (S.fault_count result.screen)))) }
     ensures statuses { result.status ≤ 5 }

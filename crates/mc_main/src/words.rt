@@ -1,11 +1,11 @@
 //! How a run begins, by its words.
 ghost use Rattle.std.specs.Prelude.{◌≡◌, ◌<◌, Some, IfOk};
-ghost use Rattle.mc_main.specs.Beginnings.{IsBeginning, asked_in, status_with, text_of, word_for as word_of};
+ghost use Rattle.mc_main.specs.Beginnings.{IsBeginning, asked_in, size_in, status_with, text_of, word_for as word_of};
 
 use crate::run::Env;
 use mc_desk::{Side, Start};
 use mc_text::{NoMemory, Text};
-use start_words::{Words, WordsError, read_words, started_folder};
+use start_words::{Size, Words, WordsError, read_words, started_folder};
 use std::alloc::Global;
 
 /// A text that is printed in place of a session.
@@ -73,19 +73,28 @@ pub enum Beginning {
 
 /// How a run on these words begins.
 pub fn beginning_of(alloc: Global, words: &[Text], env: &Env) -> Result<Beginning, NoMemory>
-    ensures { IfOk result (λ beginning. IsBeginning (asked_in env.now.folder words.now) beginning) }
+    ensures { IfOk result (λ beginning. IsBeginning (size_in env.now) (asked_in env.now.folder words.now) beginning) }
 {
     let started = started_folder(alloc, env.folder.0.as_str())?;
+    let size = size_of(env);
     match read_words(alloc, words, &started) {
-        Ok(asked) => Ok(begun_by(asked)),
+        Ok(asked) => Ok(begun_by(asked, &size)),
         Err(WordsError::Usage) => Ok(Beginning::Print(Printed::Usage)),
         Err(WordsError::Memory) => Err(NoMemory),
     }
 }
 
-/// How a run begins that was asked for.
-fn begun_by(asked: Words) -> Beginning
-    ensures { IsBeginning (Some asked) result }
+/// The size of the screen.
+#[tactic(auto, unfolding(crate::specs::Beginnings::size_in))]
+fn size_of(env: &Env) -> Size
+    ensures { result ≡ size_in env.now }
+{
+    Size::read(&env.lines, &env.columns)
+}
+
+/// How a run begins that was asked for, on a screen of this size.
+fn begun_by(asked: Words, size: &Size) -> Beginning
+    ensures { IsBeginning size.now (Some asked) result }
 {
     match asked {
         Words::Help => Beginning::Print(Printed::Help),
@@ -94,8 +103,8 @@ fn begun_by(asked: Words) -> Beginning
             start: Start {
                 left: left.path,
                 right: right.path,
-                lines: 24,
-                columns: 80,
+                lines: size.lines(),
+                columns: size.columns(),
             },
             typed: Typed {
                 left: left.typed,
