@@ -9,10 +9,6 @@ use Rattle.unicode_segmentation.proofs.SegmentsLemmas.{concat-segments, length-s
 use Rattle.std.specs.Str.{chars}
 use Rattle.unicode_segmentation.specs.Segments.{segments, cut}
 use Rattle.mc_edit.specs.Units.{single_bytes, units}
-use Rattle.mc_edit.specs.Columns.{is_shown}
-use Rattle.mc_text.specs.Drawn.{is_drawable}
-use Rattle.mc_text.specs.Fit.{cluster_columns}
-use Rattle.std.proofs.lemmas.Bool.Decides.{nat_tests}
 
 -- no text has no clusters
 pub graphemes-empty : graphemes true [] ≡ []
@@ -40,20 +36,6 @@ concat-units line =
     (λ (e : is_utf8 line ≡ true). rw e (concat-segments (is_grapheme_break true) line (IsUtf8-from_is_utf8 line e)))
     (λ (e : is_utf8 line ≡ false). rw e (concat-single_bytes line))
     (cases_Bool (is_utf8 line))
-
--- what is no text isn't shown
-pub not_shown : (unit : List ℕ) → ¬ (IsUtf8 unit) → is_shown unit ≡ false
-not_shown unit not_text =
-    ⊎_elim (λ (e : is_utf8 unit ≡ true). absurd (not_text (IsUtf8-from_is_utf8 unit e))) (λ (e : is_utf8 unit ≡ false). rw e refl) (cases_Bool (is_utf8 unit))
-
--- a text is shown if it can be drawn
-pub shown-text : (unit : List ℕ) → IsUtf8 unit → is_shown unit ≡ is_drawable unit
-shown-text unit utf8 = rw (is_utf8-from_IsUtf8 unit utf8) refl
-
--- what can be drawn has at most two columns
-pub drawable_narrow : (text : List ℕ) → is_drawable text ≡ true → cluster_columns text ≤ 2
-unfolding is_drawable
-drawable_narrow text yes_drawable = grind (arith, nat_tests)
 
 length-single_bytes : (line : List ℕ) → length (single_bytes line) ≡ length line
 length-single_bytes [] = refl

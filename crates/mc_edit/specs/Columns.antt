@@ -1,18 +1,6 @@
 -- The columns of a line: where its units stand on the screen when the line begins in column 0 (own).
-use Rattle.std.specs.Prelude.{ℕ, ◌+◌, ◌-◌, ◌%◌, nat_lt, nat_le, Bool, ◌&&◌, List, [], ◌∷◌, length, if◌then◌else◌}
-use Rattle.std.specs.Str.{bytes_eq, is_utf8}
-use Rattle.mc_text.specs.Fit.{cluster_columns}
-use Rattle.mc_text.specs.Drawn.{is_drawable}
-
--- a unit that is shown as it is: a text of one or two columns without a control character
-abbrev pub is_shown : List ℕ → Bool
-is_shown unit = is_utf8 unit && is_drawable unit
-
--- the columns of a unit that begins in this column: a tab goes to the next multiple of 8, and what isn't shown as it is
--- has one
-unfoldable pub unit_columns : ℕ → List ℕ → ℕ
-unit_columns column unit =
-    if bytes_eq unit (9 ∷ []) then 8 - column % 8 else if is_shown unit then cluster_columns unit else 1
+use Rattle.std.specs.Prelude.{ℕ, ◌+◌, nat_lt, nat_le, List, [], ◌∷◌, length, if◌then◌else◌}
+use Rattle.shown_units.specs.Units.{unit_columns}
 
 -- the column in which the unit that holds the place begins, or the columns of the line; the first unit begins at
 -- `start`, in column `column`

@@ -1,28 +1,11 @@
 -- What is shown of a text: so many lines, from the least one from which the point's line is among them, and so many
 -- columns, from the least one from which the point's column is among them. Own; mcedit(1) doesn't say what it shows.
-use Rattle.std.specs.Prelude.{ℕ, zero, suc, ◌+◌, ◌-◌, ◌==◌, min, max, List, [], ◌∷◌, ◌++◌, length, replicate, if◌then◌else◌}
-use Rattle.std.specs.Str.{bytes_eq}
+use Rattle.std.specs.Prelude.{ℕ, zero, suc, ◌+◌, ◌-◌, ◌==◌, List, [], ◌∷◌, ◌++◌, length, if◌then◌else◌}
 use Rattle.gap_text.specs.PointedText.{PointedText}
 use Rattle.mc_edit.specs.Moves.{column_at}
 use Rattle.mc_edit.specs.Lines.{line_start, line_end, line_at}
 use Rattle.mc_edit.specs.Units.{units}
-use Rattle.mc_edit.specs.Columns.{is_shown, unit_columns}
-
--- what a unit shows in its columns: itself, blanks for a tab, and else a dot
-unfoldable pub unit_text : ℕ → List ℕ → List ℕ
-unit_text columns unit =
-    if bytes_eq unit (9 ∷ []) then replicate columns 32 else if is_shown unit then unit else 46 ∷ []
-
--- so many columns of a unit are in sight, from `left` up to `right`
-abbrev pub columns_in_sight : ℕ → ℕ → ℕ → ℕ → ℕ
-columns_in_sight left right column columns = min right (column + columns) - max left column
-
--- what is in sight of a unit: where it is cut, blanks
-abbrev pub piece_in_sight : ℕ → ℕ → ℕ → List ℕ → List ℕ
-piece_in_sight left right column unit =
-    let columns = unit_columns column unit in
-    if columns_in_sight left right column columns == columns then unit_text columns unit
-    else replicate (columns_in_sight left right column columns) 32
+use Rattle.shown_units.specs.Units.{piece_in_sight, unit_columns}
 
 -- what is in sight of a line whose first unit stands in this column
 abbrev pub row_of_units : ℕ → ℕ → ℕ → List (List ℕ) → List ℕ

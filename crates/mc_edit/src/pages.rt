@@ -1,22 +1,15 @@
 //! What is shown of a text.
-ghost use Rattle.std.specs.Prelude.{◌≡◌, ◌+◌, ◌-◌, ◌*◌, ◌≤◌, ◌<◌, ◌^◌, ◌++◌, length, replicate, string_bytes, IfOk};
+ghost use Rattle.std.specs.Prelude.{◌≡◌, ◌≤◌, ◌<◌, ◌^◌, length, IfOk};
 ghost use Rattle.mc_edit.specs.Units.{units};
 ghost use Rattle.mc_edit.specs.Lines.{line_start};
-ghost use Rattle.mc_edit.specs.Pages.{unit_text, columns_in_sight, piece_in_sight, row_of_units, row_at, rows_from, top_of, lines_above};
+ghost use Rattle.mc_edit.specs.Pages.{row_of_units, row_at, rows_from, top_of, lines_above};
 
-use crate::columns::{shown, unit_columns};
 use crate::lines::{line_end, line_start, slice_of};
 use crate::units::units_of;
 use gap_text::GapText;
 use mc_text::{NoMemory, Rows, Text};
-use std::alloc::{AllocError, Global};
-
-/// The columns that are in sight.
-#[derive(Clone, Copy)]
-pub struct Sight {
-    pub left: usize,
-    pub right: usize,
-}
+use shown_units::{Sight, push_piece, unit_columns};
+use std::alloc::Global;
 
 /// The rows of at most so many lines, from the one that begins at a place.
 pub fn rows_from(
@@ -69,56 +62,6 @@ fn row_of(alloc: Global, line: &[u8], sight: Sight) -> Result<Text, NoMemory>
         column += unit_columns(column, unit);
     }
     Ok(Text(row))
-}
-
-/// Puts what is in sight of a unit behind the row.
-fn push_piece(row: &mut String, sight: Sight, column: usize, unit: &[u8]) -> Result<(), AllocError>
-    requires small { column < 2 ^ 60 }
-    requires narrow { sight.right < 2 ^ 60 }
-    ensures { IfOk result (λ _. string_bytes row.new
-        ≡ string_bytes row.old ++ piece_in_sight sight.left sight.right column unit.now) }
-{
-    let columns = unit_columns(column, unit);
-    let in_sight = columns_in_sight(sight, column, columns);
-    if in_sight == columns {
-        push_unit(row, columns, unit)
-    } else {
-        push_blanks(row, in_sight)
-    }
-}
-
-fn columns_in_sight(sight: Sight, column: usize, columns: usize) -> usize
-    requires { column + columns < 2 ^ 64 }
-    ensures { result ≡ columns_in_sight sight.left sight.right column columns }
-{
-    sight
-        .right
-        .min(column + columns)
-        .saturating_sub(sight.left.max(column))
-}
-
-/// A unit as it is, blanks for a tab, and else a dot.
-#[tactic(auto, unfolding(crate::specs::Pages::unit_text))]
-fn push_unit(row: &mut String, columns: usize, unit: &[u8]) -> Result<(), AllocError>
-    ensures { IfOk result (λ _. string_bytes row.new
-        ≡ string_bytes row.old ++ unit_text columns unit.now) }
-{
-    if unit == b"\t".as_slice() {
-        return push_blanks(row, columns);
-    }
-    match shown(unit) {
-        Some(text) => row.push_str(text),
-        None => row.push_str("."),
-    }
-}
-
-fn push_blanks(row: &mut String, count: usize) -> Result<(), AllocError>
-    ensures { IfOk result (λ _. string_bytes row.new ≡ string_bytes row.old ++ replicate count 32) }
-{
-    for _ in 0..count {
-        row.push(' ')?;
-    }
-    Ok(())
 }
 
 /// The first line of a page, and the row of a place on it.

@@ -3,7 +3,8 @@ use Rattle.std.specs.Prelude.{ℕ, zero, suc, ◌+◌, ◌-◌, ◌*◌, ◌/◌
 use Rattle.mc_viewer.specs.declared.layout.Shape.{Shape}
 use Rattle.mc_viewer.specs.declared.layout.Shape.TheVariants.{Wrapped, Unwrapped, Hex}
 use Rattle.mc_viewer.specs.declared.layout.Layout.{Layout}
-use Rattle.mc_viewer.specs.Units.{unit_length, first_unit, unit_columns, piece_in_sight}
+use Rattle.shown_units.specs.Units.{unit_columns, piece_in_sight}
+use Rattle.mc_viewer.specs.Units.{unit_length, first_unit}
 use Rattle.mc_viewer.specs.Rows.{wrapped_length, all_rows, row_holding, rows_from}
 
 -- What is in sight of a line, from the unit that stands in this column on. So many bytes more belong to a unit before.

@@ -1,15 +1,15 @@
 //! What a row shows.
 ghost use Rattle.std.specs.Prelude.{◌≡◌, ◌+◌, ◌-◌, ◌*◌, ◌<◌, ◌≤◌, ◌++◌, ◌∷◌, [], ◌^◌, length, drop, take, min, replicate, string_bytes, IfOk};
-ghost use Rattle.mc_viewer.specs.Units.{unit_text, columns_in_sight, piece_in_sight};
 ghost use Rattle.mc_viewer.specs.Pages.{line_in_sight, row_text};
 ghost use Rattle.mc_viewer.specs.Windows.{window_of};
 
 use crate::hex::hex_row;
 use crate::layout::{Layout, Shape};
 use crate::rows::wrapped_length;
-use crate::units::{front, rest_from, shown, unit_columns, unit_length};
+use crate::units::{front, rest_from, unit_length};
 use mc_text::{NoMemory, Text};
-use std::alloc::{AllocError, Global};
+use shown_units::{Sight, push_piece, unit_columns};
+use std::alloc::Global;
 
 /// How many bytes from a row's start on show what the row shows, where so many are left. A character has four bytes at
 /// most and a column at least.
@@ -59,63 +59,9 @@ fn line_in_sight(alloc: Global, bytes: &[u8], left: usize, right: usize) -> Resu
         let rest = rest_from(bytes, at);
         let length = unit_length(rest);
         let unit = front(rest, length);
-        push_piece(&mut row, left, right, column, unit)?;
+        push_piece(&mut row, Sight { left, right }, column, unit)?;
         column += unit_columns(column, unit);
         at += length;
     }
     Ok(Text(row))
-}
-
-/// Puts what is in sight of a unit behind the row.
-#[tactic(auto, unfolding(crate::specs::Units::piece_in_sight))]
-fn push_piece(
-    row: &mut String,
-    left: usize,
-    right: usize,
-    column: usize,
-    unit: &[u8],
-) -> Result<(), AllocError>
-    requires small { column < 2 ^ 63 }
-    requires narrow { right < 2 ^ 60 }
-    ensures { IfOk result (λ _. string_bytes row.new
-        ≡ string_bytes row.old ++ piece_in_sight left right column unit.now) }
-{
-    let columns = unit_columns(column, unit);
-    let in_sight = columns_in_sight(left, right, column, columns);
-    if in_sight == columns {
-        push_unit(row, columns, unit)
-    } else {
-        push_blanks(row, in_sight)
-    }
-}
-
-fn columns_in_sight(left: usize, right: usize, column: usize, columns: usize) -> usize
-    requires { column + columns < 2 ^ 64 }
-    ensures { result ≡ columns_in_sight left right column columns }
-{
-    right.min(column + columns).saturating_sub(left.max(column))
-}
-
-/// A unit as it is, blanks for a tab, and else a dot.
-#[tactic(auto, unfolding(crate::specs::Units::unit_text))]
-fn push_unit(row: &mut String, columns: usize, unit: &[u8]) -> Result<(), AllocError>
-    ensures { IfOk result (λ _. string_bytes row.new
-        ≡ string_bytes row.old ++ unit_text columns unit.now) }
-{
-    if unit == b"\t".as_slice() {
-        return push_blanks(row, columns);
-    }
-    match shown(unit) {
-        Some(text) => row.push_str(text),
-        None => row.push_str("."),
-    }
-}
-
-fn push_blanks(row: &mut String, count: usize) -> Result<(), AllocError>
-    ensures { IfOk result (λ _. string_bytes row.new ≡ string_bytes row.old ++ replicate count 32) }
-{
-    for _ in 0..count {
-        row.push(' ')?;
-    }
-    Ok(())
 }

@@ -4,8 +4,9 @@ ghost use Rattle.mc_edit.specs.Pages.{page_rows, page_column, lines_above};
 
 use super::Editor;
 use crate::moves::column_at;
-use crate::pages::{Sight, rows_from, top_of};
+use crate::pages::{rows_from, top_of};
 use mc_text::{NoMemory, Rows};
+use shown_units::Sight;
 use std::alloc::Global;
 
 /// Rows of a text, and the row and the column of the point on them.

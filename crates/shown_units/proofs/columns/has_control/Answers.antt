@@ -3,7 +3,7 @@ use Rattle.std.proofs.Common.{rules, tests}
 use Rattle.std.specs.Char.{is_control}
 use Rattle.std.proofs.lemmas.Iterator.Search.{any_from_yields_List}
 use Rattle.std.proofs.lemmas.Iterator.{YieldsList-from_chars}
-use Rattle.mc_edit.proofs.columns.has_control.Goals as goal
+use Rattle.shown_units.proofs.columns.has_control.Goals as goal
 
 pub returns : goal.returns
 returns c =

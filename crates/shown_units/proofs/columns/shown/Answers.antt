@@ -1,6 +1,6 @@
--- What is no text isn't shown, and a text is shown if it can be drawn.
-use Rattle.mc_edit.proofs.UnitLemmas.{not_shown, shown-text}
-use Rattle.mc_edit.proofs.columns.shown.Goals as goal
+-- What is no text doesn't show as itself, and a text does if it can be drawn.
+use Rattle.shown_units.proofs.UnitLemmas.{not_shown, shown-text}
+use Rattle.shown_units.proofs.columns.shown.Goals as goal
 
 pub returns-in-Ok-clause-text : goal.returns-in-Ok-clause-text
 returns-in-Ok-clause-text c =
