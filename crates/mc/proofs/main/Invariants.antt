@@ -1,11 +1,11 @@
--- The type names the folders of the words; the real devices tell nothing, and have not failed yet.
+-- The type names the folders of the words with the size of the screen; the real devices tell nothing, and have not failed yet.
 use Rattle.std.proofs.Common.{None}
-use Rattle.mc_main.specs.Beginnings.{folders_in}
+use Rattle.mc_main.specs.Beginnings.{start_in}
 use Rattle.mc.proofs.main.Given as goal
 
 abbrev pub ghosts-mc_run : goal.ghosts-mc_run
 ghosts-mc_run a = record {
-  start = folders_in a.env.now.folder a.words.now;
+  start = start_in a.env.now a.words.now;
   opening = None;
   stream = None;
   given = None;

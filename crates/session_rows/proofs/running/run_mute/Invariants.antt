@@ -1,11 +1,11 @@
--- The type names the folders of the words, and how often the devices have failed; they tell nothing else.
+-- The type names the folders of the words with the size of the screen, and how often the devices have failed; they tell nothing else.
 use Rattle.std.proofs.Common.{None}
-use Rattle.mc_main.specs.Beginnings.{folders_in}
+use Rattle.mc_main.specs.Beginnings.{start_in}
 use Rattle.session_rows.proofs.running.run_mute.Given as goal
 
 abbrev pub ghosts-mc_run : goal.ghosts-mc_run
 ghosts-mc_run a = record {
-  start = folders_in a.env.now.folder a.words.now;
+  start = start_in a.env.now a.words.now;
   opening = None;
   stream = None;
   given = None;

@@ -1,11 +1,11 @@
--- The type names the folders of the words, and what the devices tell at the call.
+-- The type names the folders of the words with the size of the screen, and what the devices tell at the call.
 use Rattle.std.proofs.Common.{Some}
-use Rattle.mc_main.specs.Beginnings.{folders_in}
+use Rattle.mc_main.specs.Beginnings.{start_in}
 use Rattle.session_rows.proofs.running.run_told.Given as goal
 
 abbrev pub ghosts-mc_run : goal.ghosts-mc_run
 ghosts-mc_run a = record {
-  start = folders_in a.env.now.folder a.words.now;
+  start = start_in a.env.now a.words.now;
   opening = Some a.tree.log;
   stream = Some a.keys.now.left;
   given = Some a.screen.given;
