@@ -379,7 +379,8 @@ def check_dirty_folder(program, base, check):
         if user is not None:
             os.chown(folder, user, user)
         shut, mended = (lambda _: os.chmod(folder, 0o300)), (lambda _: os.chmod(folder, mode))
-        first = [DOWN, F8, shut, ENTER, b"b", lambda _: os.chmod(folder, 0o700), DOWN]
+        # The look after the abort can't read the folder: Enter closes the message.
+        first = [DOWN, F8, shut, ENTER, b"b", ENTER, lambda _: os.chmod(folder, 0o700), DOWN]
         status, told, same = run(program, [folder], first + [F8, mended, ENTER, F10, F10], user=user)
         os.chmod(folder, 0o700)
         what = f"a folder that an aborted job left, of mode {mode:o} then,"
