@@ -3,7 +3,7 @@
 #![tactic(auto)]
 
 mod editor;
-mod gap_text;
+mod gapped;
 mod plan;
 mod printing;
 mod tree;
@@ -26,7 +26,7 @@ fn main(rt: HostRuntime) -> Result<()> {
 /// Times one subject.
 fn time(rt: &HostRuntime, subject: &str, words: &[String]) -> Result<()> {
     match (subject, words) {
-        ("gap_text", []) => gap_text::time_gap_text(rt),
+        ("gap_text", []) => gapped::time_gap_text(rt),
         ("editor", [work]) => editor::time_editor(rt, work.as_str()),
         ("tree", [work, place]) => tree::time_work(rt, work.as_str(), place.as_str()),
         ("plan", [folder, count, parts, stride]) => plan::time_plans(
