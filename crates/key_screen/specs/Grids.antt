@@ -1,5 +1,5 @@
 -- A screen of cells, and what a text that is written on it makes of it.
-use Rattle.std.specs.Prelude.{ℕ, ◌+◌, ◌-◌, ◌*◌, ◌≤◌, true, List, [], ◌∷◌, ◌++◌, drop, map, replicate, take}
+use Rattle.std.specs.Prelude.{ℕ, ◌+◌, ◌-◌, ◌*◌, ◌≤◌, true, ◌&&◌, if◌then◌else◌, List, [], ◌∷◌, ◌++◌, drop, map, replicate, take}
 use Rattle.unicode_segmentation.specs.Grapheme.{graphemes}
 use Rattle.key_screen.specs.declared.cells.Attr.{Attr}
 use Rattle.key_screen.specs.declared.cells.Glyph.{Glyph}
@@ -7,6 +7,7 @@ use Rattle.key_screen.specs.declared.cells.Glyph.TheVariants.{Blank, Cluster, Ri
 use Rattle.key_screen.specs.declared.cells.Cell.{Cell}
 use Rattle.key_screen.specs.Cells.{blank_cell}
 use Rattle.key_screen.specs.DrawnText.{drawn_glyph, put_glyphs}
+use Rattle.key_screen.specs.KeySpelling.{is_within}
 
 -- the cells of a screen, row by row from the top, each row from the left
 pub record CellGrid : Type 0 where
@@ -40,6 +41,11 @@ written grid row column text attr =
       cells = put_glyphs grid.cells (place_of grid row column) (room_from grid column)
           (map drawn_glyph (graphemes true text)) attr;
     }
+
+-- a text is written from a cell on, where that lies on the screen
+unfoldable pub written_at : CellGrid → ℕ → ℕ → List ℕ → Attr → CellGrid
+written_at grid row column text attr =
+    if is_within 1 grid.lines row && is_within 1 grid.columns column then written grid row column text attr else grid
 
 -- the cells of a row, counted from 1
 abbrev pub row_cells : CellGrid → ℕ → List Cell

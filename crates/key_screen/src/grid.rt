@@ -3,7 +3,7 @@ ghost use Rattle.std.specs.Prelude.{◌≡◌, ◌↔◌, ◌<◌, ◌≤◌, �
 ghost use Rattle.unicode_segmentation.specs.Grapheme.{graphemes};
 ghost use Rattle.key_screen.specs.Cells.{blank_cell};
 ghost use Rattle.key_screen.specs.DrawnText.{drawn_glyph, glyph_columns, put_glyph, put_glyphs};
-ghost use Rattle.key_screen.specs.Grids.{blank_grid, cells_text, glyph_text, row_cells, written, IsOnGrid};
+ghost use Rattle.key_screen.specs.Grids.{blank_grid, cells_text, glyph_text, row_cells, written, written_at, IsOnGrid};
 ghost use Rattle.key_screen.specs.Layout.{IsLaidOut};
 
 use crate::cells::{Attr, Cell, Glyph, are_same, put_one, put_two};
@@ -108,6 +108,27 @@ impl Grid {
         let room = usize::from(self.columns) - usize::from(column - 1);
         let at = usize::from(row - 1) * usize::from(self.columns) + usize::from(column - 1);
         write_cells(&mut self.cells, alloc, at, room, text, attr)
+    }
+
+    /// Writes a text from a cell on, counted from 1, where that lies on the screen.
+    #[tactic(auto, unfolding(crate::specs::Grids::written_at))]
+    pub fn write_at(
+        &mut self,
+        alloc: Global,
+        row: usize,
+        column: usize,
+        text: &str,
+        attr: Attr,
+    ) -> Result<(), NoMemory>
+        ensures done { OnOk result (self.new ≡ written_at self.old row column text.now attr) }
+        ensures refused { OnErr result (self.new ≡ self.old) }
+    {
+        let lines = usize::from(self.lines);
+        let columns = usize::from(self.columns);
+        if 1 <= row && row <= lines && 1 <= column && column <= columns {
+            return self.write(alloc, row as u16, column as u16, text, attr);
+        }
+        Ok(())
     }
 
     /// The text of a row, counted from 1: a blank for each blank cell, and each cluster once.

@@ -1,17 +1,11 @@
 -- How a box is painted over a screen: lines in a frame of `+`, `-` and `|`, in the middle. Own.
-use Rattle.std.specs.Prelude.{ℕ, ◌+◌, ◌-◌, ◌/◌, min, Bool, ◌&&◌, nat_le, if◌then◌else◌, List, [], ◌∷◌, ◌++◌, length, replicate}
+use Rattle.std.specs.Prelude.{ℕ, ◌+◌, ◌-◌, ◌/◌, min, List, [], ◌∷◌, ◌++◌, length, replicate}
 use Rattle.mc_text.specs.Fit.{fitted}
 use Rattle.mc_text.specs.Drawn.{drawn}
 use Rattle.key_screen.specs.declared.cells.Attr.{Attr}
 use Rattle.key_screen.specs.declared.cells.Attr.TheVariants.{Plain}
-use Rattle.key_screen.specs.Grids.{CellGrid, written}
-use Rattle.key_screen.specs.KeySpelling.{is_within}
+use Rattle.key_screen.specs.Grids.{CellGrid, written_at}
 use Rattle.mc_dialogs.specs.declared.frame.Line.{Line}
-
--- a text is written from a cell on, where that lies on the screen
-abbrev pub written_at : CellGrid → ℕ → ℕ → List ℕ → Attr → CellGrid
-written_at grid row column text attr =
-    if is_within 1 grid.lines row && is_within 1 grid.columns column then written grid row column text attr else grid
 
 -- a line of a box whose inside has so many columns: `| `, the fitted text, ` |`
 abbrev pub with_line : CellGrid → ℕ → ℕ → ℕ → Line → CellGrid

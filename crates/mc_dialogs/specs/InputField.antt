@@ -6,9 +6,9 @@ use Rattle.unicode_segmentation.specs.Grapheme.{graphemes}
 use Rattle.mc_text.specs.Fit.{cluster_columns, columns_in, fitted}
 use Rattle.mc_text.specs.Drawn.{drawn}
 use Rattle.key_screen.specs.declared.cells.Attr.TheVariants.{Plain, Reverse}
-use Rattle.key_screen.specs.Grids.{CellGrid}
+use Rattle.key_screen.specs.Grids.{CellGrid, written_at}
 use Rattle.mc_dialogs.specs.declared.frame.Line.{Line}
-use Rattle.mc_dialogs.specs.Boxes.{written_at, with_box, columns_inside, middle}
+use Rattle.mc_dialogs.specs.Boxes.{with_box, columns_inside, middle}
 use Rattle.mc_dialogs.specs.InputKeys.{InputState, first_clusters, later_clusters}
 
 -- how many clusters are left out: the fewest without which the others take at most so many columns

@@ -4,7 +4,7 @@ ghost use Rattle.mc_dialogs.specs.Boxes.{columns_inside, middle};
 ghost use Rattle.mc_dialogs.specs.InputField.{shown_before, with_field, with_input, input_lines};
 
 use crate::clusters::{first_clusters, later_clusters, left_out};
-use crate::frame::{Line, Place, columns_in_box, middle_of, paint_box, write_at};
+use crate::frame::{Line, Place, columns_in_box, middle_of, paint_box};
 use key_screen::{Attr, Grid};
 use mc_text::{NoMemory, Text, columns_of, drawn, fit};
 use std::alloc::Global;
@@ -77,9 +77,9 @@ fn write_field(
     let end = fit(alloc, shown.as_str(), room)?;
     let mark = first_clusters(alloc, end.as_str(), 1)?;
     let (row, cursor) = (place.row, place.column + (place.inside - room));
-    write_at(grid, alloc, row, place.column, start.as_str(), Attr::Plain)?;
-    write_at(grid, alloc, row, cursor, end.as_str(), Attr::Plain)?;
-    write_at(grid, alloc, row, cursor, mark.as_str(), Attr::Reverse)
+    grid.write_at(alloc, row, place.column, start.as_str(), Attr::Plain)?;
+    grid.write_at(alloc, row, cursor, end.as_str(), Attr::Plain)?;
+    grid.write_at(alloc, row, cursor, mark.as_str(), Attr::Reverse)
 }
 
 /// What the field shows before the cursor.

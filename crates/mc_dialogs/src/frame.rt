@@ -1,7 +1,7 @@
 //! A box painted over a screen.
 ghost use Rattle.std.specs.Prelude.{◌≡◌, ◌+◌, ◌<◌, ◌^◌, length, string_bytes, IfOk, OnOk};
 ghost use Rattle.key_screen.specs.declared.cells.Attr.TheVariants.{Plain};
-ghost use Rattle.mc_dialogs.specs.Boxes.{written_at, with_line, with_lines, with_box, edge, columns_inside, middle};
+ghost use Rattle.mc_dialogs.specs.Boxes.{with_line, with_lines, with_box, edge, columns_inside, middle};
 
 use key_screen::{Attr, Grid};
 use mc_text::{NoMemory, Text, drawn, fit};
@@ -33,7 +33,7 @@ pub fn paint_box(grid: &mut Grid, alloc: Global, lines: &[Line]) -> Result<(), N
     let row = middle_of(usize::from(grid.lines()), lines.len() + 2);
     let column = middle_of(columns, inside + 4);
     let edge = edge_of(alloc, inside)?;
-    write_at(grid, alloc, row, column, edge.as_str(), Attr::Plain)?;
+    grid.write_at(alloc, row, column, edge.as_str(), Attr::Plain)?;
     write_lines(
         grid,
         alloc,
@@ -44,8 +44,7 @@ pub fn paint_box(grid: &mut Grid, alloc: Global, lines: &[Line]) -> Result<(), N
         },
         lines,
     )?;
-    write_at(
-        grid,
+    grid.write_at(
         alloc,
         row + 1 + lines.len(),
         column,
@@ -111,33 +110,7 @@ fn write_line(grid: &mut Grid, alloc: Global, place: Place, line: &Line) -> Resu
     let shown = drawn(alloc, line.text.as_str())?;
     let text = fit(alloc, shown.as_str(), place.inside)?;
     let column = place.column + 2;
-    write_at(grid, alloc, place.row, place.column, "| ", Attr::Plain)?;
-    write_at(grid, alloc, place.row, column, text.as_str(), line.attr)?;
-    write_at(
-        grid,
-        alloc,
-        place.row,
-        column + place.inside,
-        " |",
-        Attr::Plain,
-    )
-}
-
-/// Writes a text from a cell on, if that lies on the screen.
-pub fn write_at(
-    grid: &mut Grid,
-    alloc: Global,
-    row: usize,
-    column: usize,
-    text: &str,
-    attr: Attr,
-) -> Result<(), NoMemory>
-    ensures { OnOk result (grid.new ≡ written_at grid.old row column text.now attr) }
-{
-    let lines = usize::from(grid.lines());
-    let columns = usize::from(grid.columns());
-    if 1 <= row && row <= lines && 1 <= column && column <= columns {
-        return grid.write(alloc, row as u16, column as u16, text, attr);
-    }
-    Ok(())
+    grid.write_at(alloc, place.row, place.column, "| ", Attr::Plain)?;
+    grid.write_at(alloc, place.row, column, text.as_str(), line.attr)?;
+    grid.write_at(alloc, place.row, column + place.inside, " |", Attr::Plain)
 }

@@ -2,12 +2,12 @@
 use Rattle.std.proofs.Common.{◌≡◌, ◌+◌, ◌-◌, ℕ, take, Bool, true, false, if◌then◌else◌, ◌&&◌, List, [], ◌∷◌, ◌++◌, refl, ap, sym, ◌∙◌, add-one}
 use Rattle.key_screen.specs.declared.cells.Attr.{Attr}
 use Rattle.key_screen.specs.declared.cells.Attr.TheVariants.{Plain, Reverse}
-use Rattle.key_screen.specs.Grids.{CellGrid, blank_grid, written}
+use Rattle.key_screen.specs.Grids.{CellGrid, blank_grid, written, written_at}
 use Rattle.key_screen.specs.KeySpelling.{is_within}
 use Rattle.mc_frame.specs.declared.panes.Pane.{Pane}
 use Rattle.mc_frame.specs.declared.page.Run.{Run}
 use Rattle.mc_frame.specs.declared.page.Page.{Page}
-use Rattle.mc_frame.specs.Pieces.{Piece, written_at, painted, fitted_at}
+use Rattle.mc_frame.specs.Pieces.{Piece, painted, fitted_at}
 use Rattle.mc_frame.specs.Panes.{item_row, item_rows}
 use Rattle.mc_frame.specs.Pages.{run_pieces, row_pieces, page_pieces}
 use Rattle.mc_frame.specs.KeyBars.{bar_text}

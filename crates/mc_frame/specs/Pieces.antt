@@ -1,13 +1,12 @@
 -- What stands on a screen, as a list of texts that are written on it, one after the other. Own.
-use Rattle.std.specs.Prelude.{ℕ, ◌+◌, ◌-◌, true, ◌&&◌, nat_le, if◌then◌else◌, List, [], ◌∷◌, ◌++◌, replicate}
+use Rattle.std.specs.Prelude.{ℕ, ◌+◌, ◌-◌, true, nat_le, if◌then◌else◌, List, [], ◌∷◌, ◌++◌, replicate}
 use Rattle.std.specs.List.{concat}
 use Rattle.unicode_segmentation.specs.Grapheme.{graphemes}
 use Rattle.mc_text.specs.Fit.{columns_in, run_within, fitted}
 use Rattle.mc_text.specs.Drawn.{drawn}
 use Rattle.key_screen.specs.declared.cells.Attr.{Attr}
 use Rattle.key_screen.specs.declared.cells.Attr.TheVariants.{Plain}
-use Rattle.key_screen.specs.Grids.{CellGrid, written}
-use Rattle.key_screen.specs.KeySpelling.{is_within}
+use Rattle.key_screen.specs.Grids.{CellGrid, written_at}
 use Rattle.mc_frame.specs.declared.panes.Item.{Item}
 
 -- a text, the row and column of its first cell, counted from 1, and how it looks
@@ -16,11 +15,6 @@ pub record Piece : Type 0 where
   pub column : ℕ
   pub text : List ℕ
   pub look : Attr
-
--- a text is written from a cell on, where that lies on the screen
-unfoldable pub written_at : CellGrid → ℕ → ℕ → List ℕ → Attr → CellGrid
-written_at grid row column text look =
-    if is_within 1 grid.lines row && is_within 1 grid.columns column then written grid row column text look else grid
 
 -- a screen on which pieces are written, one after the other
 abbrev pub painted : CellGrid → List Piece → CellGrid

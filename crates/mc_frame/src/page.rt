@@ -4,7 +4,7 @@ ghost use Rattle.mc_frame.specs.Pieces.{painted};
 ghost use Rattle.mc_frame.specs.Pages.{run_pieces, row_pieces, page_pieces, page_frame};
 
 use crate::key_bar::{KeyBar, bar_text};
-use crate::writing::{write_at, write_line};
+use crate::writing::write_line;
 use key_screen::{Attr, Grid};
 use mc_text::{NoMemory, Text};
 use std::alloc::Global;
@@ -130,7 +130,7 @@ fn write_runs(grid: &mut Grid, alloc: Global, row: usize, runs: &[Run]) -> Resul
 {
     for run in runs {
         let column = usize::from(run.column);
-        write_at(grid, alloc, row, column, run.text.as_str(), run.look)?;
+        grid.write_at(alloc, row, column, run.text.as_str(), run.look)?;
     }
     Ok(())
 }

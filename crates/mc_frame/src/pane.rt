@@ -5,7 +5,7 @@ ghost use Rattle.mc_frame.specs.Panes.{title_row, title_look, heading_row, item_
 
 use crate::cutting::{cut, edge_of};
 use crate::panes::{Item, Pane, Shape};
-use crate::writing::{Place, write_at, write_fitted, write_walled};
+use crate::writing::{Place, write_fitted, write_walled};
 use key_screen::{Attr, Grid};
 use mc_text::{NoMemory, Text, drawn};
 use std::alloc::Global;
@@ -51,8 +51,8 @@ fn write_title(grid: &mut Grid, alloc: Global, stand: Stand, pane: &Pane) -> Res
     let edge = edge_of(alloc, inside)?;
     let shown = drawn(alloc, pane.title.as_str())?;
     let title = cut(alloc, shown.as_str(), inside)?;
-    write_at(grid, alloc, 1, column, edge.as_str(), look)?;
-    write_at(grid, alloc, 1, column + 1, title.as_str(), look)
+    grid.write_at(alloc, 1, column, edge.as_str(), look)?;
+    grid.write_at(alloc, 1, column + 1, title.as_str(), look)
 }
 
 /// How its first line looks.
@@ -204,10 +204,10 @@ fn write_name(
         column: column + 1 + room,
         room: inside - room,
     };
-    write_at(grid, alloc, row, column, "|", Attr::Plain)?;
+    grid.write_at(alloc, row, column, "|", Attr::Plain)?;
     write_fitted(grid, alloc, name, pane.name.as_str(), Attr::Plain)?;
     write_fitted(grid, alloc, rest, unnamed.as_str(), Attr::Plain)?;
-    write_at(grid, alloc, row, column + 1 + inside, "|", Attr::Plain)
+    grid.write_at(alloc, row, column + 1 + inside, "|", Attr::Plain)
 }
 
 /// What is said of so many names that can't be shown.
@@ -225,8 +225,7 @@ fn write_end(grid: &mut Grid, alloc: Global, stand: Stand, row: u16) -> Result<(
     ensures { OnOk result (grid.new ≡ painted grid.old (text_at row stand.column (edge stand.inside) Attr.Plain ∷ [])) }
 {
     let edge = edge_of(alloc, usize::from(stand.inside))?;
-    write_at(
-        grid,
+    grid.write_at(
         alloc,
         usize::from(row),
         usize::from(stand.column),

@@ -1,7 +1,7 @@
 //! Texts written on a screen, from a cell on.
 ghost use Rattle.std.specs.Prelude.{◌≡◌, ◌+◌, ◌<◌, ◌^◌, [], ◌∷◌, OnOk};
 ghost use Rattle.key_screen.specs.declared.cells.Attr.TheVariants.{Plain};
-ghost use Rattle.mc_frame.specs.Pieces.{written_at, painted, fitted_at, walled};
+ghost use Rattle.mc_frame.specs.Pieces.{painted, fitted_at, walled};
 
 use key_screen::{Attr, Grid};
 use mc_text::{NoMemory, drawn, fit};
@@ -16,26 +16,6 @@ pub struct Place {
     pub room: usize,
 }
 
-/// Writes a text from a cell on, where that lies on the screen.
-#[tactic(auto, unfolding(crate::specs::Pieces::written_at))]
-pub fn write_at(
-    grid: &mut Grid,
-    alloc: Global,
-    row: usize,
-    column: usize,
-    text: &str,
-    look: Attr,
-) -> Result<(), NoMemory>
-    ensures { OnOk result (grid.new ≡ written_at grid.old row column text.now look) }
-{
-    let lines = usize::from(grid.lines());
-    let columns = usize::from(grid.columns());
-    if 1 <= row && row <= lines && 1 <= column && column <= columns {
-        return grid.write(alloc, row as u16, column as u16, text, look);
-    }
-    Ok(())
-}
-
 /// Writes a text as it is drawn, fitted to its place.
 pub fn write_fitted(
     grid: &mut Grid,
@@ -48,7 +28,7 @@ pub fn write_fitted(
 {
     let shown = drawn(alloc, text)?;
     let line = fit(alloc, shown.as_str(), place.room)?;
-    write_at(grid, alloc, place.row, place.column, line.as_str(), look)
+    grid.write_at(alloc, place.row, place.column, line.as_str(), look)
 }
 
 /// Writes a text between walls, of which the left one stands in the first column of the place, and the text in the
@@ -70,9 +50,9 @@ pub fn write_walled(
         room: place.room,
     };
     let end = inside.column + place.room;
-    write_at(grid, alloc, place.row, place.column, "|", Attr::Plain)?;
+    grid.write_at(alloc, place.row, place.column, "|", Attr::Plain)?;
     write_fitted(grid, alloc, inside, text, look)?;
-    write_at(grid, alloc, place.row, end, "|", Attr::Plain)
+    grid.write_at(alloc, place.row, end, "|", Attr::Plain)
 }
 
 /// Writes a text over a whole row.

@@ -56,7 +56,7 @@ pub(crate) fn cluster_columns_of(cluster: &str) -> usize
 }
 
 /// Puts the longest run of clusters that fits the room behind the line, and returns its columns.
-fn push_run(line: &mut String, text: &str, room: usize) -> Result<usize, AllocError>
+pub fn push_run(line: &mut String, text: &str, room: usize) -> Result<usize, AllocError>
     ensures line { IfOk result (λ _. string_bytes line.new
         ≡ string_bytes line.old ++ concat (run_within room (graphemes true text.now))) }
     ensures value { IfOk result (λ n. n
@@ -75,7 +75,8 @@ fn push_run(line: &mut String, text: &str, room: usize) -> Result<usize, AllocEr
     Ok(room - left)
 }
 
-fn push_blanks(line: &mut String, count: usize) -> Result<(), AllocError>
+/// Puts so many blanks behind the line.
+pub fn push_blanks(line: &mut String, count: usize) -> Result<(), AllocError>
     ensures { IfOk result (λ _. string_bytes line.new ≡ string_bytes line.old ++ blanks count) }
 {
     for _ in 0..count {

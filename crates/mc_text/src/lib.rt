@@ -13,7 +13,7 @@ mod sizes;
 mod text;
 mod times;
 
-pub use columns::{columns_of, fit};
+pub use columns::{columns_of, fit, push_blanks, push_run};
 pub use drawing::drawn;
 pub use error::{NameError, NoMemory, PathError};
 pub use kind::Kind;

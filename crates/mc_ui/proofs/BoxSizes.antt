@@ -5,10 +5,10 @@ use Rattle.mc_text.specs.Fit.{columns_in, fitted}
 use Rattle.mc_text.specs.Drawn.{drawn}
 use Rattle.key_screen.specs.declared.cells.Attr.{Attr}
 use Rattle.key_screen.specs.declared.cells.Attr.TheVariants.{Plain, Reverse}
-use Rattle.key_screen.specs.Grids.{CellGrid, written}
+use Rattle.key_screen.specs.Grids.{CellGrid, written, written_at}
 use Rattle.key_screen.specs.KeySpelling.{is_within}
 use Rattle.mc_dialogs.specs.declared.frame.Line.{Line}
-use Rattle.mc_dialogs.specs.Boxes.{columns_inside, edge, middle, with_box, with_line, with_lines, written_at}
+use Rattle.mc_dialogs.specs.Boxes.{columns_inside, edge, middle, with_box, with_line, with_lines}
 use Rattle.mc_dialogs.specs.InputField.{input_lines, shown_before, with_field, with_input}
 use Rattle.mc_dialogs.specs.InputKeys.{InputState, first_clusters}
 
@@ -23,6 +23,7 @@ module _ (lines columns : ℕ) where
   either false one other h g = g
 
   text_sized : (grid : CellGrid) (row column : ℕ) (text : List ℕ) (attr : Attr) → IsSized lines columns grid → IsSized lines columns (written_at grid row column text attr)
+  unfolding written_at
   text_sized grid row column text attr h =
       either (is_within 1 grid.lines row && is_within 1 grid.columns column) (written grid row column text attr) grid (record { lines_are = h.lines_are; columns_are = h.columns_are }) h
 

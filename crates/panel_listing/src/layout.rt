@@ -1,15 +1,10 @@
 //! How wide the columns of a format are, and a row cut to its panel.
-ghost use Rattle.std.specs.Prelude.{◌≡◌, ◌-◌, ◌*◌, ◌<◌, ◌≤◌, ◌++◌, true, None, length, sum_by, string_bytes, IfOk, OnOk, IfSome};
-ghost use Rattle.std.specs.List.{concat};
-ghost use Rattle.unicode_segmentation.specs.Grapheme.{graphemes};
-ghost use Rattle.mc_text.specs.Fit.{cluster_columns, run_within, blanks};
+ghost use Rattle.std.specs.Prelude.{◌≡◌, ◌-◌, ◌<◌, ◌≤◌, None, IfOk, IfSome};
 ghost use Rattle.panel_listing.specs.Layouts.{usual_width, width_of, taken, open_ones, share, cell_at, cells_in, clipped};
 
 use crate::format::{Column, Field};
-use mc_text::{NoMemory, Text};
-use std::alloc::{AllocError, Global};
-use unicode_segmentation::UnicodeSegmentation;
-use unicode_width::UnicodeWidthStr;
+use mc_text::{NoMemory, Text, push_blanks, push_run};
+use std::alloc::Global;
 
 /// A column with its width.
 #[derive(Clone, Copy, Debug, Drop)]
@@ -124,42 +119,4 @@ pub fn clipped(alloc: Global, text: &str, columns: usize) -> Result<Text, NoMemo
     let used = push_run(&mut line, text, columns)?;
     push_blanks(&mut line, columns - used)?;
     Ok(Text(line))
-}
-
-/// Puts so many blanks behind the line.
-pub fn push_blanks(line: &mut String, count: usize) -> Result<(), AllocError>
-    ensures { OnOk result (string_bytes line.new ≡ string_bytes line.old ++ blanks count) }
-{
-    for _ in 0..count {
-        line.push(' ')?;
-    }
-    Ok(())
-}
-
-/// Puts the longest run of clusters that fits the room behind the line, and returns its columns.
-fn push_run(line: &mut String, text: &str, room: usize) -> Result<usize, AllocError>
-    ensures line { IfOk result (λ _. string_bytes line.new
-        ≡ string_bytes line.old ++ concat (run_within room (graphemes true text.now))) }
-    ensures value { IfOk result (λ n. n
-        ≡ sum_by cluster_columns (run_within room (graphemes true text.now))) }
-    ensures bound { IfOk result (λ n. n ≤ room) }
-{
-    let mut left = room;
-    for cluster in text.graphemes(true) {
-        let columns = cluster_columns_of(cluster);
-        if columns > left {
-            break;
-        }
-        line.push_str(cluster)?;
-        left -= columns;
-    }
-    Ok(room - left)
-}
-
-/// The columns of one cluster.
-fn cluster_columns_of(cluster: &str) -> usize
-    ensures value { result ≡ cluster_columns cluster.now }
-    ensures bound { result ≤ 2 * length cluster.now }
-{
-    cluster.width()
 }

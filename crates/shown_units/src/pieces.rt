@@ -1,8 +1,9 @@
 //! What is in sight of a unit, put behind a row.
-ghost use Rattle.std.specs.Prelude.{◌≡◌, ◌+◌, ◌<◌, ◌^◌, ◌++◌, replicate, string_bytes, IfOk};
+ghost use Rattle.std.specs.Prelude.{◌≡◌, ◌+◌, ◌<◌, ◌^◌, ◌++◌, string_bytes, IfOk};
 ghost use Rattle.shown_units.specs.Units.{columns_in_sight, piece_in_sight, unit_text};
 
 use crate::columns::{shown, unit_columns};
+use mc_text::push_blanks;
 use std::alloc::AllocError;
 
 /// The columns that are in sight.
@@ -58,13 +59,4 @@ fn push_unit(row: &mut String, columns: usize, unit: &[u8]) -> Result<(), AllocE
         Some(text) => row.push_str(text),
         None => row.push_str("."),
     }
-}
-
-fn push_blanks(row: &mut String, count: usize) -> Result<(), AllocError>
-    ensures { IfOk result (λ _. string_bytes row.new ≡ string_bytes row.old ++ replicate count 32) }
-{
-    for _ in 0..count {
-        row.push(' ')?;
-    }
-    Ok(())
 }

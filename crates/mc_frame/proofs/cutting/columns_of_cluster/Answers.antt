@@ -1,6 +1,0 @@
-use Rattle.mc_text.specs.Fit.{cluster_columns}
-use Rattle.mc_frame.proofs.cutting.columns_of_cluster.Goals as goal
-
-pub returns : goal.returns
-unfolding cluster_columns
-returns c = c.width.ensures.value
