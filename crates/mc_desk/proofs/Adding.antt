@@ -1,5 +1,5 @@
 -- The entries of a desk, one kind at a time: each may follow.
-use Rattle.std.proofs.Common.{◌≡◌, ◌⊎◌, ℕ, ◌+◌, ◌-◌, ◌≤◌, Bool, true, false, ◌||◌, List, [], ◌∷◌, length, refl, sym, ◌∙◌, ap, subst, inl, inr, Option, Some, None, Ok, Err, arith}
+use Rattle.std.proofs.Common.{◌≡◌, ◌⊎◌, ℕ, ◌+◌, ◌-◌, ◌≤◌, Bool, true, false, ◌||◌, List, [], ◌∷◌, length, refl, sym, ◌∙◌, ap, subst, inl, inr, Option, Some, None, IsSome, Ok, Err, arith}
 use Rattle.std.specs.Prelude.{if◌then◌else◌, map, option_and_then}
 use Rattle.std.specs.Option.{option_map, option_map_or}
 use Rattle.std.proofs.lemmas.Bool.{eq-eqb}
@@ -174,12 +174,12 @@ module _ (contents contents_after : Option CallLog) (faults : ℕ) (old new : Se
   -- a look
   pub adds_look : (refusals : List Refusal) → new.newest ≡ entry seat old.tally.calls count shown (Look refusals) ∷ old.newest
       → new.tally ≡ record old.tally { has_unseen_end = false; due = if can_step old.tally.job then old.tally.due else None } → new.job ≡ old.job → new.tally.job ≡ option_map told new.job
-      → old.tally.closed ≡ false → old.screen.planned ≡ None → contents_after ≡ contents
+      → old.tally.closed ≡ false → IsSome old.tally.due → old.screen.planned ≡ None → contents_after ≡ contents
       → faults_in faults old.newest ≤ count → (has_fault refusals ≡ true → HasRisen (faults_in faults old.newest) count) → IfKnown contents (λ log. AreRefused ListFolder log refusals)
       → LookLeads (sight contents) (rows_told old.newest) old.tally.has_unseen_end (part_left old.newest) refusals old.screen new.screen → new.quit ≡ old.quit → old.quit ≡ false → new.dirty ≡ old.dirty
       → DrawsFrame (none_before old.newest) (frame_due (noted new) (next_id old.tally.last) (rows_told old.newest)) shown old.out.put new.out.put
       → Adds contents contents_after faults old new (entry seat old.tally.calls count shown (Look refusals))
-  adds_look refusals more tally job tells unclosed settled same later fault refused leads quit unasked dirty draws = record {
+  adds_look refusals more tally job tells unclosed is_due settled same later fault refused leads quit unasked dirty draws = record {
     draws = draws;
     more = more;
     tally = tally
@@ -189,6 +189,7 @@ module _ (contents contents_after : Option CallLog) (faults : ℕ) (old new : Se
     counts = record { seat = main; later = later; fault = fault; calls = omega arith; most = omega arith };
     leads = (
       unclosed,
+      is_due,
       subst (λ s. LookLeads (sight contents) (rows_told old.newest) old.tally.has_unseen_end (part_left old.newest) refusals s (noted new)) (sym (unasked_screen old unasked))
           (subst (λ s. LookLeads (sight contents) (rows_told old.newest) old.tally.has_unseen_end (part_left old.newest) refusals old.screen s) (sym (unasked_screen new (quit ∙ unasked))) leads),
     );

@@ -1,5 +1,5 @@
 -- The entries of a desk leave a whole desk.
-use Rattle.std.proofs.Common.{◌≡◌, ℕ, ◌+◌, ◌-◌, ◌^◌, ◌≤◌, min, Bool, true, false, ◌||◌, List, [], ◌∷◌, ◌++◌, length, refl, sym, ◌∙◌, ap, subst, inl, inr, Option, Some, None, arith}
+use Rattle.std.proofs.Common.{◌≡◌, ℕ, ◌+◌, ◌-◌, ◌^◌, ◌≤◌, min, Bool, true, false, ◌||◌, List, [], ◌∷◌, ◌++◌, length, refl, sym, ◌∙◌, ap, subst, inl, inr, Option, Some, None, IsSome, arith}
 use Rattle.std.specs.Prelude.{if◌then◌else◌}
 use Rattle.std.specs.Option.{option_map}
 use Rattle.key_screen.specs.declared.keys.Key.{Key as KeyType}
@@ -228,17 +228,17 @@ desk_closed start opening contents faults old new count desk unclosed later more
 
 -- a look, written down
 pub desk_looked : (start : Option Start) (opening contents contents_after : Option CallLog) (faults : ℕ) (old new : Seen) (count shown : ℕ) (refusals : List Refusal) (rows : List JobRow) (part : Option Route) → rows ≡ rows_of old.job (trouble_told old.newest) → part ≡ part_left old.newest → IsDesk start opening contents faults old
-    → old.tally.closed ≡ false → contents_after ≡ contents → faults_in faults old.newest ≤ count → (has_fault refusals ≡ true → HasRisen (faults_in faults old.newest) count)
+    → old.tally.closed ≡ false → IsSome old.tally.due → contents_after ≡ contents → faults_in faults old.newest ≤ count → (has_fault refusals ≡ true → HasRisen (faults_in faults old.newest) count)
     → IfKnown contents (λ log. AreRefused ListFolder log refusals) → LookLeads (sight contents) rows old.tally.has_unseen_end part refusals old.screen new.screen
     → new.newest ≡ entry 0 old.tally.calls count shown (Look refusals) ∷ old.newest
     → new.tally ≡ record old.tally { has_unseen_end = false; due = if can_step old.tally.job then old.tally.due else None } → new.job ≡ old.job → new.tally.job ≡ option_map told new.job
     → new.screen.planned ≡ None → new.quit ≡ old.quit → 2 ≤ new.spare → new.dirty ≡ old.dirty → old.quit ≡ false → IsShown new
     → DrawsFrame (none_before old.newest) (frame_due (noted new) (next_id old.tally.last) (rows_told old.newest)) shown old.out.put new.out.put
     → IsDesk start opening contents_after faults new
-desk_looked start opening contents contents_after faults old new count shown refusals rows part rows_is part_is desk unclosed same later fault refused leads more is job tells settled quit room dirty unasked shown_now draws =
+desk_looked start opening contents contents_after faults old new count shown refusals rows part rows_is part_is desk unclosed is_due same later fault refused leads more is job tells settled quit room dirty unasked shown_now draws =
     desk_of start opening contents_after faults new
     (written_more faults old new _ start opening contents contents_after desk.written
-    (adds_look contents contents_after faults old new 0 count shown refl refusals more is job tells unclosed desk.settled same later fault refused
+    (adds_look contents contents_after faults old new 0 count shown refl refusals more is job tells unclosed is_due desk.settled same later fault refused
     (subst (λ rs. LookLeads (sight contents) rs old.tally.has_unseen_end (part_left old.newest) refusals old.screen new.screen) (rows_is ∙ sym (rows_are start opening contents faults old desk.written))
     (subst (λ p. LookLeads (sight contents) rows old.tally.has_unseen_end p refusals old.screen new.screen) part_is leads)) quit unasked dirty draws))
     settled (λ h. ap (λ (t : Tally). t.closed) is ∙ desk.lost (sym (ap (λ (t : Tally). t.lost) is) ∙ h)) (λ h. absurd (let no = unasked in cc)) (λ h. absurd (let shut = ap (λ (t : Tally). t.closed) is in cc)) room shown_now

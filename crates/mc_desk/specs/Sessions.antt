@@ -1,6 +1,6 @@
 -- A session, as its history tells it: each entry follows from those before it, and from the tree as it stands then. Histories
 -- stand newest first here.
-use Rattle.std.specs.Prelude.{◌≡◌, ◌⊎◌, ℕ, ◌+◌, ◌≤◌, Bool, true, false, ⊤, if◌then◌else◌, List, [], ◌∷◌, Option, Some, None}
+use Rattle.std.specs.Prelude.{◌≡◌, ◌⊎◌, ℕ, ◌+◌, ◌≤◌, Bool, true, false, ⊤, if◌then◌else◌, List, [], ◌∷◌, Option, Some, None, IsSome}
 use Rattle.tree_trait.specs.FileSystem.{View}
 use Rattle.mc_text.specs.Routes.{Route}
 use Rattle.tree_trait.specs.Calls.{Stat, ListFolder}
@@ -62,12 +62,14 @@ pub record IsOrdered (was : Before) (id : ℕ) (answer : Answer) (after : Screen
   pub fits : takes_answer row answer ≡ true
   pub carried_out : after ≡ record was.screen { planned = None }
 
--- What an event makes of the screen. A look takes up a job's end, and shows the part that this left, and the trouble of the
+-- What an event makes of the screen. A look comes only where one is due: the first, which draws the opening frame, and after it
+-- one of the job that was begun or answered. It takes up a job's end, and shows the part that this left, and the trouble of the
 -- live job as its newest report told it. A step is one that the live job may make.
 abbrev pub EventLeads : Before → Event → Screen → Type 0
 EventLeads was (Key key now refusals true) after = TakesKey was.tally × (after ≡ was.screen)
 EventLeads was (Key key now refusals false) after = TakesKey was.tally × KeyWorks was.tree was.rows (next_id was.tally.last) key refusals was.screen after
-EventLeads was (Look refusals) after = (was.tally.closed ≡ false) × LookLeads was.tree was.rows was.tally.has_unseen_end was.part refusals was.screen after
+EventLeads was (Look refusals) after =
+    (was.tally.closed ≡ false) × IsSome was.tally.due × LookLeads was.tree was.rows was.tally.has_unseen_end was.part refusals was.screen after
 EventLeads was (Began id plan background) after = IsBegun was id plan background after
 EventLeads was (Order id (Answered answer)) after = IsOrdered was id answer after
 EventLeads was (Step id did) after =

@@ -66,7 +66,7 @@ impl<N: Tag, T: Tree, S: Sink, P: Spawner> Session<N, T, S, P> {
     }
 
     /// Takes up what the job did, and draws. After the job's end the panel is read again, and a message tells of the part that
-    /// the end left. A session that is closed, or whose end was asked, stays as it is.
+    /// the end left. Where nothing is due all stays as it is: so in a session that is closed, or whose end was asked.
     pub fn look(&mut self, alloc: Global) -> Result<(), DeskError>
         requires uncut { IsUncut self.old }
         ensures shows { OnOk result (self.new.tally.closed ≡ false → ShowsDesk self.new) }
@@ -79,13 +79,10 @@ impl<N: Tag, T: Tree, S: Sink, P: Spawner> Session<N, T, S, P> {
         ensures unclosed { OnOk result (self.new.tally.closed ≡ self.old.tally.closed) }
         ensures quit { self.new.quit ≡ self.old.quit }
     {
-        if self.standing.closed {
+        let Some(_) = self.due() else {
+            self.still(DeskReply::Go)?;
             return Ok(());
-        }
-        if self.standing.quit {
-            self.still(DeskReply::Quit)?;
-            return Ok(());
-        }
+        };
         if self.log.reserve(3).is_err() {
             return Err(DeskError::Memory);
         }
@@ -227,14 +224,13 @@ impl<N: Tag, T: Tree, S: Sink, P: Spawner> Session<N, T, S, P> {
         Err(DeskError::Memory)
     }
 
-    /// The reply where nothing is drawn: the terminal shows the frame still.
+    /// The reply where nothing is drawn: the terminal of an open session shows the frame still.
     fn still(&mut self, reply: DeskReply) -> Result<DeskReply, DeskError>
-        requires unclosed { self.old.tally.closed ≡ false }
         requires looked { self.old.tally.due ≡ None }
-        requires uncut { self.old.out.put.is_cut ≡ false }
+        requires uncut { IsUncut self.old }
         ensures same { self.new ≡ self.old }
         ensures reply { result ≡ Ok reply }
-        ensures shows { ShowsDesk self.new }
+        ensures shows { self.new.tally.closed ≡ false → ShowsDesk self.new }
     {
         let _shown = self.terminal.shown();
         Ok(reply)
