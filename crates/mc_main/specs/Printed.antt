@@ -6,7 +6,7 @@ use Rattle.tree_trait.specs.Change.{CallLog, current}
 use Rattle.tree_trait.specs.Answers.{HasRisen, IfKnown}
 use Rattle.start_words.specs.declared.words.Words.{Words}
 use Rattle.start_words.specs.Sizes.{ScreenSize}
-use Rattle.mc_ui.specs.Causes.{cause_words}
+use Rattle.box_words.specs.Causes.{cause_words}
 use Rattle.mc_desk.specs.declared.starts.Side.{Side}
 use Rattle.mc_desk.specs.declared.starts.StartError.{StartError}
 use Rattle.mc_desk.specs.declared.starts.StartError.TheVariants.{Tree, Memory}

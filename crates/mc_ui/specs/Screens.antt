@@ -22,25 +22,25 @@ use Rattle.mc_ui.specs.declared.asks.Ask.{Ask}
 use Rattle.mc_ui.specs.declared.asks.Ask.TheVariants as ask
 use Rattle.mc_ui.specs.declared.asks.Told.{Told}
 use Rattle.mc_ui.specs.declared.asks.Told.TheVariants as told
-use Rattle.mc_ui.specs.declared.dialog.Dialog.{Dialog}
-use Rattle.mc_ui.specs.declared.dialog.Dialog.TheVariants as dialog
-use Rattle.mc_ui.specs.declared.message.Message.{Message}
-use Rattle.mc_ui.specs.declared.message.Message.TheVariants.{Refused, PartLeft, Help}
+use Rattle.box_words.specs.declared.dialog.Dialog.{Dialog}
+use Rattle.box_words.specs.declared.dialog.Dialog.TheVariants as dialog
+use Rattle.box_words.specs.declared.message.Message.{Message}
+use Rattle.box_words.specs.declared.message.Message.TheVariants.{Refused, PartLeft, Help}
 use Rattle.mc_ui.specs.declared.panel_command.Opens.{Opens}
 use Rattle.mc_ui.specs.declared.panel_command.Opens.TheVariants as opens
 use Rattle.mc_ui.specs.declared.panel_command.PanelCommand.{PanelCommand}
 use Rattle.mc_ui.specs.declared.panel_command.PanelCommand.TheVariants.{Move, SwitchPanel, ShowHelp, Open, Quit, Nothing}
-use Rattle.mc_ui.specs.declared.replies.DeleteReply.{DeleteReply}
-use Rattle.mc_ui.specs.declared.replies.DeleteReply.TheVariants as delete
-use Rattle.mc_ui.specs.declared.replies.LineReply.{LineReply}
-use Rattle.mc_ui.specs.declared.replies.LineReply.TheVariants as line
-use Rattle.mc_ui.specs.declared.replies.TroubleReply.{TroubleReply}
-use Rattle.mc_ui.specs.declared.replies.TroubleReply.TheVariants as trouble
+use Rattle.box_words.specs.declared.replies.DeleteReply.{DeleteReply}
+use Rattle.box_words.specs.declared.replies.DeleteReply.TheVariants as delete
+use Rattle.box_words.specs.declared.replies.LineReply.{LineReply}
+use Rattle.box_words.specs.declared.replies.LineReply.TheVariants as line
+use Rattle.box_words.specs.declared.replies.TroubleReply.{TroubleReply}
+use Rattle.box_words.specs.declared.replies.TroubleReply.TheVariants as trouble
 use Rattle.mc_ui.specs.declared.reread.Reread.{Reread}
 use Rattle.mc_ui.specs.declared.side.Side.{Side}
 use Rattle.mc_ui.specs.declared.side.Side.TheVariants.{Left, Right}
-use Rattle.mc_ui.specs.BoxKeys.{closes_message, delete_reply_to, line_reply, trouble_reply_to}
-use Rattle.mc_ui.specs.BoxLines.{mask_line, target_line, target_text}
+use Rattle.box_words.specs.BoxKeys.{closes_message, delete_reply_to, line_reply, trouble_reply_to}
+use Rattle.box_words.specs.BoxLines.{mask_line, target_line, target_text}
 use Rattle.mc_ui.specs.Copies.{CopyRefused, IsVacant, MayAsk, copy_plan, delete_plan, target_in}
 use Rattle.mc_ui.specs.LiveJobs.{can_answer, none_live, shown_trouble}
 use Rattle.mc_ui.specs.PanelKeys.{panel_command_of}
@@ -161,6 +161,16 @@ abbrev pub after_delete : DeleteReply → List JobRow → Route → Screen → S
 after_delete delete.Stays rows path before = before
 after_delete delete.Shuts rows path before = without_box before
 after_delete delete.Deletes rows path before = if none_live rows then begun (delete_plan path) before else before
+
+-- a line is as it was where its text was taken
+abbrev pub StaysWhereTaken : LineReply → InputState → InputState → Type 0
+StaysWhereTaken line.Stays before after = ⊤
+StaysWhereTaken line.Shuts before after = ⊤
+StaysWhereTaken (line.Takes text) before after = after ≡ before
+
+-- nothing was refused, or the mask
+abbrev pub MayRefuseMask : List Refusal → Type 0
+MayRefuseMask refusals = (refusals ≡ []) ⊎ (refusals ≡ Plan BadMask ∷ [])
 
 -- the source mask's answer: only `*` is read yet, and with it the destination is asked for
 abbrev pub MaskLeads : LineReply → Route → InputState → List Refusal → Screen → Screen → Type 0

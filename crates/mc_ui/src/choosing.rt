@@ -6,8 +6,8 @@ ghost use Rattle.mc_ui.specs.Screens.{sight};
 ghost use Rattle.mc_ui.specs.Choices.{IsChoice, choice_refusals};
 ghost use Rattle.mc_ui.specs.Reading.{ReadsTree};
 
-use crate::dialog::Chosen;
 use crate::panel::Panel;
+use box_words::Chosen;
 use mc_text::{Kind, NoMemory, Path, PathError};
 use std::alloc::Global;
 use tree_trait::{Tree, TreeError};

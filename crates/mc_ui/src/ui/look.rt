@@ -8,9 +8,8 @@ ghost use Rattle.mc_ui.specs.Screens.{HasSameSize, LookLeads, listed, page_of, s
 ghost use Rattle.mc_ui.specs.Panels.{with_names};
 
 use super::Ui;
-use crate::dialog::Dialog;
-use crate::message::Message;
 use crate::reread::{Reread, Rereads, list_both};
+use box_words::{Dialog, Message};
 use job_reports::{JobRows, Trouble};
 use mc_text::{Names, NoMemory, Path};
 use session_history::{Refusal, Refusals};

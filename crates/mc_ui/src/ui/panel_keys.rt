@@ -9,12 +9,10 @@ ghost use Rattle.mc_ui.specs.Screens.{Chooses, CommandLeads, HasSameSize, NoBox,
 
 use super::{Ui, plain_base};
 use crate::asks::{Ask, KeyAct};
-use crate::box_lines::mask_line;
 use crate::choosing::{Choice, choose};
-use crate::dialog::{Chosen, Dialog};
-use crate::message::Message;
 use crate::panel_command::{Opens, PanelCommand, panel_command};
 use crate::side::{Side, opposite};
+use box_words::{Chosen, Dialog, Message, mask_line};
 use job_reports::JobRows;
 use key_screen::{Base, Key};
 use mc_text::NoMemory;

@@ -7,9 +7,9 @@ use Rattle.session_history.specs.declared.refusal.PlanError.TheVariants.{TargetT
 use Rattle.session_history.specs.declared.refusal.Refusal.{Refusal}
 use Rattle.session_history.specs.declared.refusal.Refusal.TheVariants.{Tree, Plan, Begin}
 use Rattle.mc_dialogs.specs.InputKeys.{InputState}
-use Rattle.mc_ui.specs.declared.message.Message.{Message}
-use Rattle.mc_ui.specs.declared.message.Message.TheVariants.{Refused, PartLeft, Help}
-use Rattle.mc_ui.specs.Causes.{refusal_words, trouble_words}
+use Rattle.box_words.specs.declared.message.Message.{Message}
+use Rattle.box_words.specs.declared.message.Message.TheVariants.{Refused, PartLeft, Help}
+use Rattle.box_words.specs.Causes.{refusal_words, trouble_words}
 
 -- the path that a refusal speaks of, if it speaks of one
 abbrev pub refusal_path : Refusal → Option Route

@@ -1,6 +1,6 @@
 //! The texts of causes, as they are shown and printed.
 ghost use Rattle.std.specs.Prelude.{◌≡◌, IfOk};
-ghost use Rattle.mc_ui.specs.Causes.{begin_words, cause_words, plan_words, refusal_words, trouble_words};
+ghost use Rattle.box_words.specs.Causes.{begin_words, cause_words, plan_words, refusal_words, trouble_words};
 
 use job_reports::Cause;
 use mc_text::{NoMemory, Text};
