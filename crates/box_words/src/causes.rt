@@ -34,6 +34,7 @@ fn plan_text(error: &PlanError) -> &'static str
     ensures { result.now ≡ plan_words error.now }
 {
     match error {
+        PlanError::NoSelection => "nothing selected",
         PlanError::TargetThere(_) => "already there",
         PlanError::TargetTooLong => "path too long",
         PlanError::BadMask => "bad mask",

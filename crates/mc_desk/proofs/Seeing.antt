@@ -24,7 +24,7 @@ take_all (x ∷ xs) = ap (λ ys. x ∷ ys) (take_all xs)
 drawn_or_still : (what : Event) (is_first : Bool) (frame : CellGrid) (shown : ℕ) (before after : Put) → EventDraws what is_first frame shown before after
     → ((draws what ≡ true) × DrawsFrame is_first frame shown before after) ⊎ ((draws what ≡ false) × (after ≡ before))
 drawn_or_still (Key key now refusals false) is_first frame shown before after d = inl (refl, d)
-drawn_or_still (Key key now refusals true) is_first frame shown before after d = inr (refl, d)
+drawn_or_still (Key key now refusals true) is_first frame shown before after d = inr (refl, d.same)
 drawn_or_still (Look refusals) is_first frame shown before after d = inl (refl, d)
 drawn_or_still (Began id plan background) is_first frame shown before after d = inr (refl, d)
 drawn_or_still (Order id order) is_first frame shown before after d = inr (refl, d)

@@ -55,10 +55,16 @@ pub record DrawsFrame (is_first : Bool) (frame : CellGrid) (shown : ℕ) (before
   pub drawn : PutsFrame is_first frame shown before after ⊎ CutsFrame is_first frame shown before after
   pub untold : before.bytes ≡ None → after.bytes ≡ None
 
+-- A lost key puts nothing, and its entry counts the bytes of the drawings before it, none of which was cut short.
+pub record PutsNothing (shown : ℕ) (before after : Put) : Type 0 where
+  pub same : after ≡ before
+  pub uncut : before.is_cut ≡ false
+  pub counted : IfKnown before.bytes (λ bytes. shown ≡ length bytes)
+
 -- A key that was worked and a look draw their frame; nothing else puts anything.
 abbrev pub EventDraws : Event → Bool → CellGrid → ℕ → Put → Put → Type 0
 EventDraws (Key key now refusals false) is_first frame shown before after = DrawsFrame is_first frame shown before after
-EventDraws (Key key now refusals true) is_first frame shown before after = after ≡ before
+EventDraws (Key key now refusals true) is_first frame shown before after = PutsNothing shown before after
 EventDraws (Look refusals) is_first frame shown before after = DrawsFrame is_first frame shown before after
 EventDraws (Began id plan background) is_first frame shown before after = after ≡ before
 EventDraws (Order id order) is_first frame shown before after = after ≡ before

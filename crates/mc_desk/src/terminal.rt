@@ -122,6 +122,7 @@ impl<N: Tag, S: Sink> Terminal<N, S> {
     /// How many bytes the drawings that ended have put.
     pub fn shown(&self) -> u128
         ensures counted { result ≡ self.now.shown }
+        ensures all { self.now.put.is_cut ≡ false → CountsAll self.now }
         ensures shows { self.now.put.is_cut ≡ false → ShowsLast self.now }
     {
         self.shown

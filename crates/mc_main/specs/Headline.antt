@@ -92,7 +92,8 @@ left_of stream taken = option_map (drop taken) stream
 abbrev pub TookAll : Option (List ℕ) → Option (List ℕ) → Type 0
 TookAll stream left = IfKnown stream (λ bytes. left ≡ Some [])
 
--- The keys of a run are those of the bytes that its session took, the first that the keyboard gives, and the others are left.
+-- The keys of a run are those of the bytes that its session took, the first that the keyboard gives, and the others are left. Bytes
+-- behind the last key, as half of one at which the keyboard ends, complete none: they were taken, and nothing comes of them.
 -- Where the run was cut short, the second of two keys that the last byte completed may lack, and one byte more may be gone.
 pub record ReadsKeys (bytes : List ℕ) (left : Option (List ℕ)) (status : ℕ) (newest : List Entry) : Type 0 where
   pub taken : ℕ

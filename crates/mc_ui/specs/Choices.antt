@@ -8,20 +8,22 @@ use Rattle.job_reports.specs.Jobs.{is_workable}
 use Rattle.session_history.specs.declared.refusal.Refusal.{Refusal}
 use Rattle.session_history.specs.declared.refusal.Refusal.TheVariants.{Tree}
 use Rattle.mc_ui.specs.declared.choosing.Choice.{Choice}
-use Rattle.mc_ui.specs.declared.choosing.Choice.TheVariants.{Nothing, File, Refused}
+use Rattle.mc_ui.specs.declared.choosing.Choice.TheVariants.{NoSelection, Nothing, File, Refused}
 use Rattle.mc_ui.specs.declared.copying.CopyPlan.{CopyPlan}
 use Rattle.mc_ui.specs.declared.copying.CopyPlan.TheVariants.{Begins, Refuses}
 use Rattle.mc_ui.specs.Copies.{CopyRefused, IsVacant, MayAsk, copy_plan}
 
--- it is nothing that a box may ask of, or a file, or a look at it was refused
+-- there is nothing; or it is nothing that a box may ask of, or a file, or a look at it was refused
 abbrev pub IsChoice : Option View → Option Route → Choice → Type 0
-IsChoice tree None choice = choice ≡ Nothing
+IsChoice tree None choice = choice ≡ NoSelection
+IsChoice tree (Some path) NoSelection = ⊥
 IsChoice tree (Some path) Nothing = MayAsk tree path false
 IsChoice tree (Some path) (File chosen) = MayAsk tree path true × (chosen.path ≡ path)
 IsChoice tree (Some path) (Refused refused e) = refused ≡ path
 
 -- what the look at the thing was refused
 abbrev pub choice_refusals : Choice → List Refusal
+choice_refusals NoSelection = []
 choice_refusals Nothing = []
 choice_refusals (File chosen) = []
 choice_refusals (Refused path e) = Tree path e ∷ []

@@ -15,6 +15,8 @@ use tree_trait::{Tree, TreeError};
 /// What choosing the thing under the cursor comes to.
 #[derive(Debug, Drop)]
 pub enum Choice {
+    /// There is nothing: the cursor stands on `..`, or on no row.
+    NoSelection,
     /// It is no file, or it can't be reached.
     Nothing,
     /// A file.
@@ -31,7 +33,7 @@ pub fn choose<T: Tree>(alloc: Global, tree: &mut T, panel: &Panel) -> Result<Cho
 {
     let path = match panel.current_path(alloc) {
         Ok(Some(path)) => path,
-        Ok(None) => return Ok(Choice::Nothing),
+        Ok(None) => return Ok(Choice::NoSelection),
         Err(PathError::TooLong(_)) => return Ok(Choice::Nothing),
         Err(_) => return Err(NoMemory),
     };

@@ -16,7 +16,7 @@ use box_words::{Chosen, Dialog, Message, mask_line};
 use job_reports::JobRows;
 use key_screen::{Base, Key};
 use mc_text::NoMemory;
-use session_history::{Refusal, Refusals};
+use session_history::{PlanError, Refusal, Refusals};
 use std::alloc::Global;
 use tree_trait::Tree;
 
@@ -89,7 +89,7 @@ impl Ui {
         self.message = Some(Message::Help);
     }
 
-    /// Opens a box on the thing under the cursor, if that is a file and no job is live.
+    /// Opens a box on the thing under the cursor, if that is a file and no job is live. Where nothing is selected a message says so.
     fn open_box<T: Tree>(
         &mut self,
         alloc: Global,
@@ -114,6 +114,7 @@ impl Ui {
             return Ok(asking_nothing(alloc));
         }
         match choose(alloc, tree, self.current())? {
+            Choice::NoSelection => self.refuse(alloc, Refusal::Plan(PlanError::NoSelection)),
             Choice::Nothing => Ok(asking_nothing(alloc)),
             Choice::File(chosen) => {
                 self.dialog = opened(alloc, opens, chosen)?;

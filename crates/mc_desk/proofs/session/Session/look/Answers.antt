@@ -2,7 +2,7 @@
 use Rattle.std.proofs.Common.{rules, ◌≡◌, ◌≤◌, ◌∷◌, false, ℕ, Option, Some, IsSome, refl, ap, sym, ◌∙◌, subst, arith}
 use Rattle.session_history.specs.declared.history.Event.TheVariants.{Look}
 use Rattle.mc_desk.specs.LiveRows.{rows_of, trouble_told}
-use Rattle.mc_desk.specs.Tallies.{part_left}
+use Rattle.mc_desk.specs.Tallies.{news_left}
 use Rattle.mc_desk.proofs.Adding.{entry}
 use Rattle.mc_desk.specs.Outputs.{ShowsFrame}
 use Rattle.mc_ui.specs.Frames.{frame_of}
@@ -26,8 +26,8 @@ invariant_of-self-2 g c =
     let room : 2 ≤ c.note.new.self.spare = search rules in
     record {
       desk = looked_whole g.N.Tag.start g.N.Tag.opening (g.T.Tree.contents inside.tree) (g.T.Tree.contents c.look.new.tree) g.N.Tag.tree_faults _ c.note.new.self _ c.look.new.self inside.standing c.look_taken.new.self _ inside.terminal c.show-drawn.new.self _ _ count
-          c.self.invariant.desk opened.0 opened.1 some c.look.ensures.reads.same (omega (arith, counted, had, later)) c.in-Ok-look.refusals c.in-Ok-rows_of.rows c.in-Ok.part
-          (c.in-Ok-rows_of.ensures ∙ ap (λ es. rows_of inside.standing.job (trouble_told es)) c.reserve.ensures.same) (c.in-Ok.ensures ∙ ap part_left c.reserve.ensures.same)
+          c.self.invariant.desk opened.0 opened.1 some c.look.ensures.reads.same (omega (arith, counted, had, later)) c.in-Ok-look.refusals c.in-Ok-rows_of.rows c.in-Ok.news
+          (c.in-Ok-rows_of.ensures ∙ ap (λ es. rows_of inside.standing.job (trouble_told es)) c.reserve.ensures.same) (c.in-Ok.ensures ∙ ap news_left c.reserve.ensures.same)
           (λ h. let risen = c.in-Ok-look.ensures.reads.fault h in omega (arith, counted, had, risen)) c.in-Ok-look.ensures.reads.called c.in-Ok-look.ensures.leads c.look.ensures.settled
           (c.note.ensures.added ∙ (ap (λ es. entry 0 inside.standing.calls count c.shown.result (Look c.in-Ok-look.refusals) ∷ es) c.reserve.ensures.same
           ∙ ap (λ n. entry 0 inside.standing.calls count n (Look c.in-Ok-look.refusals) ∷ inside.log.newest) c.shown.ensures.counted)) room c.look_taken.ensures c.show-drawn.result
