@@ -89,7 +89,8 @@ impl Ui {
         self.message = Some(Message::Help);
     }
 
-    /// Opens a box on the thing under the cursor, if that is a file and no job is live. Where nothing is selected a message says so.
+    /// Opens a box on the thing under the cursor, if the box may ask of that and no job is live. Where nothing is selected a message
+    /// says so.
     fn open_box<T: Tree>(
         &mut self,
         alloc: Global,
@@ -98,7 +99,7 @@ impl Ui {
         opens: Opens,
     ) -> Result<KeyAct, NoMemory>
         requires clear { self.old.over ≡ NoBox }
-        ensures leads { IfOk result (λ act. Chooses (box_of opens) (sight (T.contents tree.old)) rows.now
+        ensures leads { IfOk result (λ act. Chooses opens (sight (T.contents tree.old)) rows.now
             (current_path (current_panel self.old)) act.refusals self.old self.new) }
         ensures asks { IfOk result (λ act. act.ask ≡ Ask.Nothing) }
         ensures left { self.new.left ≡ self.old.left }
@@ -113,10 +114,10 @@ impl Ui {
         if !rows.0.is_empty() {
             return Ok(asking_nothing(alloc));
         }
-        match choose(alloc, tree, self.current())? {
+        match choose(alloc, tree, self.current(), opens)? {
             Choice::NoSelection => self.refuse(alloc, Refusal::Plan(PlanError::NoSelection)),
             Choice::Nothing => Ok(asking_nothing(alloc)),
-            Choice::File(chosen) => {
+            Choice::Thing(chosen) => {
                 self.dialog = opened(alloc, opens, chosen)?;
                 Ok(asking_nothing(alloc))
             }
@@ -141,7 +142,7 @@ impl Ui {
     }
 }
 
-/// The box on a file.
+/// The box on a thing.
 fn opened(alloc: Global, opens: Opens, chosen: Chosen) -> Result<Dialog, NoMemory>
     ensures { IfOk result (λ dialog. seen_box dialog ≡ box_of opens chosen.path) }
 {
