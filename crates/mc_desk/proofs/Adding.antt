@@ -1,5 +1,5 @@
 -- The entries of a desk, one kind at a time: each may follow.
-use Rattle.std.proofs.Common.{◌≡◌, ◌⊎◌, ℕ, ◌+◌, ◌-◌, ◌≤◌, Bool, true, false, ◌||◌, List, [], ◌∷◌, length, refl, sym, ◌∙◌, ap, subst, inl, inr, Option, Some, None, Ok, Err, arith}
+use Rattle.std.proofs.Common.{◌≡◌, ◌⊎◌, ℕ, ◌+◌, ◌-◌, ◌≤◌, Bool, true, false, ◌||◌, List, [], ◌∷◌, length, refl, sym, ◌∙◌, ap, subst, inl, inr, Option, Some, None, IsSome, Ok, Err, arith}
 use Rattle.std.specs.Prelude.{if◌then◌else◌, map, option_and_then}
 use Rattle.std.specs.Option.{option_map, option_map_or}
 use Rattle.std.proofs.lemmas.Bool.{eq-eqb}
@@ -38,11 +38,11 @@ use Rattle.job_reports.specs.Jobs.{is_workable}
 use Rattle.mc_ui.specs.LiveJobs.{takes_answer}
 use Rattle.mc_ui.specs.Screens.{Begins, Answers, Ends, LookLeads, Screen, sight}
 use Rattle.mc_ui.specs.Refused.{has_fault}
-use Rattle.mc_desk.specs.Tallies.{Tally, faults_in, can_step, end_unseen_event, next_id, part_left}
+use Rattle.mc_desk.specs.Tallies.{Tally, faults_in, can_step, end_unseen_event, next_id, news_left}
 use Rattle.mc_desk.specs.Desks.{Seen, noted, stand_of, stand_with, with_end}
 use Rattle.mc_desk.specs.LiveRows.{row_of, rows_told, trouble_told}
 use Rattle.mc_desk.specs.Granting.{KeyWorks}
-use Rattle.mc_desk.specs.Shown.{DrawsFrame, frame_due, none_before}
+use Rattle.mc_desk.specs.Shown.{DrawsFrame, PutsNothing, frame_due, none_before}
 use Rattle.mc_desk.specs.Sessions.{MayEnd}
 use Rattle.mc_desk.proofs.Answering.{part_told, waits_told}
 use Rattle.mc_desk.proofs.Keeping.{Adds, Leads, before}
@@ -156,7 +156,7 @@ module _ (contents contents_after : Option CallLog) (faults : ℕ) (old new : Se
   pub adds_lost : (key : KeyType) (now : ℕ) → new.newest ≡ entry seat old.tally.calls count shown (Key key now [] true) ∷ old.newest
       → new.tally ≡ record old.tally { lost = true } → new.job ≡ old.job → new.tally.job ≡ option_map told new.job
       → old.tally.closed ≡ false → old.tally.due ≡ None → old.tally.lost ≡ false → old.screen.planned ≡ None → contents_after ≡ contents
-      → faults_in faults old.newest ≤ count → new.screen ≡ old.screen → new.quit ≡ old.quit → old.quit ≡ false → new.dirty ≡ old.dirty → new.out.put ≡ old.out.put
+      → faults_in faults old.newest ≤ count → new.screen ≡ old.screen → new.quit ≡ old.quit → old.quit ≡ false → new.dirty ≡ old.dirty → PutsNothing shown old.out.put new.out.put
       → Adds contents contents_after faults old new (entry seat old.tally.calls count shown (Key key now [] true))
   adds_lost key now more tally job tells unclosed looked unlost settled same later screen quit unasked dirty put = record {
     draws = put;
@@ -174,12 +174,12 @@ module _ (contents contents_after : Option CallLog) (faults : ℕ) (old new : Se
   -- a look
   pub adds_look : (refusals : List Refusal) → new.newest ≡ entry seat old.tally.calls count shown (Look refusals) ∷ old.newest
       → new.tally ≡ record old.tally { has_unseen_end = false; due = if can_step old.tally.job then old.tally.due else None } → new.job ≡ old.job → new.tally.job ≡ option_map told new.job
-      → old.tally.closed ≡ false → old.screen.planned ≡ None → contents_after ≡ contents
+      → old.tally.closed ≡ false → IsSome old.tally.due → old.screen.planned ≡ None → contents_after ≡ contents
       → faults_in faults old.newest ≤ count → (has_fault refusals ≡ true → HasRisen (faults_in faults old.newest) count) → IfKnown contents (λ log. AreRefused ListFolder log refusals)
-      → LookLeads (sight contents) (rows_told old.newest) old.tally.has_unseen_end (part_left old.newest) refusals old.screen new.screen → new.quit ≡ old.quit → old.quit ≡ false → new.dirty ≡ old.dirty
+      → LookLeads (sight contents) (rows_told old.newest) old.tally.has_unseen_end (news_left old.newest) refusals old.screen new.screen → new.quit ≡ old.quit → old.quit ≡ false → new.dirty ≡ old.dirty
       → DrawsFrame (none_before old.newest) (frame_due (noted new) (next_id old.tally.last) (rows_told old.newest)) shown old.out.put new.out.put
       → Adds contents contents_after faults old new (entry seat old.tally.calls count shown (Look refusals))
-  adds_look refusals more tally job tells unclosed settled same later fault refused leads quit unasked dirty draws = record {
+  adds_look refusals more tally job tells unclosed is_due settled same later fault refused leads quit unasked dirty draws = record {
     draws = draws;
     more = more;
     tally = tally
@@ -189,8 +189,9 @@ module _ (contents contents_after : Option CallLog) (faults : ℕ) (old new : Se
     counts = record { seat = main; later = later; fault = fault; calls = omega arith; most = omega arith };
     leads = (
       unclosed,
-      subst (λ s. LookLeads (sight contents) (rows_told old.newest) old.tally.has_unseen_end (part_left old.newest) refusals s (noted new)) (sym (unasked_screen old unasked))
-          (subst (λ s. LookLeads (sight contents) (rows_told old.newest) old.tally.has_unseen_end (part_left old.newest) refusals old.screen s) (sym (unasked_screen new (quit ∙ unasked))) leads),
+      is_due,
+      subst (λ s. LookLeads (sight contents) (rows_told old.newest) old.tally.has_unseen_end (news_left old.newest) refusals s (noted new)) (sym (unasked_screen old unasked))
+          (subst (λ s. LookLeads (sight contents) (rows_told old.newest) old.tally.has_unseen_end (news_left old.newest) refusals old.screen s) (sym (unasked_screen new (quit ∙ unasked))) leads),
     );
     caused = refused;
     traced = leads_still contents contents_after same old new (entry seat old.tally.calls count shown (Look refusals)) refl dirty (λ log stays. (stays, refl)) (job ∙ open_job old.tally.closed old.job unclosed);

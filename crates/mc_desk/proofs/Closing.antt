@@ -12,6 +12,7 @@ use Rattle.mc_desk.specs.declared.starts.Start.{Start}
 use Rattle.mc_desk.specs.declared.standing.Standing.{Standing}
 use Rattle.mc_desk.specs.Logs.{Logged}
 use Rattle.mc_desk.specs.Outputs.{Output}
+use Rattle.mc_desk.specs.Shown.{PutsNothing}
 use Rattle.mc_desk.specs.Standings.{awaited, closed_standing, plain_entry}
 use Rattle.mc_desk.specs.Tallies.{Tally, faults_in}
 use Rattle.mc_desk.specs.Desks.{IsDesk, Seen, seen_of}
@@ -32,9 +33,9 @@ module _ (start : Option Start) (opening contents : Option CallLog) (faults : �
 
   -- a key that was lost, and the end of keys
   pub lost_whole : (key : KeyType) (now shown : ℕ) → was.quit ≡ false → awaited was.due ≡ None
-      → log_after.newest ≡ plain_entry was.calls count Closed ∷ (entry 0 was.calls count shown (Key key now [] true) ∷ log.newest) → 1 ≤ log_after.spare → now_is ≡ closed_standing (record was { lost = true })
+      → log_after.newest ≡ plain_entry was.calls count Closed ∷ (entry 0 was.calls count shown (Key key now [] true) ∷ log.newest) → 1 ≤ log_after.spare → now_is ≡ closed_standing (record was { lost = true }) → PutsNothing shown out.put out.put
       → IsDesk start opening contents faults (seen_of log_after screen now_is dirty out taken pending)
-  lost_whole key now shown unasked looked more room closed =
+  lost_whole key now shown unasked looked more room closed puts =
       subst (λ s. IsDesk start opening contents faults (seen_of log_after screen s dirty out taken pending)) (sym closed)
       (desk_lost start opening contents contents faults _ (seen_of log_after screen (closed_standing (record was { lost = true })) dirty out taken pending) count shown key now desk unclosed unasked looked refl later more
-      (ap (λ j. let t : Tally = record (closed_tally true) { job = j } in t) (closed_told true was.job)) refl refl refl refl room refl refl)
+      (ap (λ j. let t : Tally = record (closed_tally true) { job = j } in t) (closed_told true was.job)) refl refl refl refl room refl refl puts)

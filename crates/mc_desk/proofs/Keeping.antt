@@ -16,7 +16,7 @@ use Rattle.history_laws.proofs.Moments.{traced_count}
 use Rattle.mc_ui.specs.Screens.{Screen, sight}
 use Rattle.mc_desk.specs.declared.starts.Start.{Start}
 use Rattle.mc_desk.specs.Logs.{Logged}
-use Rattle.mc_desk.specs.Tallies.{Tally, tally, after_entry, most_calls, faults_in, next_id, part_left}
+use Rattle.mc_desk.specs.Tallies.{Tally, tally, after_entry, most_calls, faults_in, next_id, news_left}
 use Rattle.mc_desk.specs.LiveRows.{rows_told}
 use Rattle.mc_desk.specs.Sessions.{Before, IsSession, Traces, BeginsIn, EventLeads, HasCauses, IsTimely, Counts, folders_of}
 use Rattle.mc_desk.specs.Starts.{IsOpened}
@@ -63,7 +63,7 @@ Leads contents contents_after old new e =
 
 -- how a desk stands before an entry
 abbrev pub before : Option CallLog → Seen → Before
-before contents desk = record { tree = sight contents; tally = desk.tally; rows = rows_told desk.newest; part = part_left desk.newest; screen = noted desk }
+before contents desk = record { tree = sight contents; tally = desk.tally; rows = rows_told desk.newest; news = news_left desk.newest; screen = noted desk }
 
 -- an entry that may follow: what it makes of the desk, of the screen and of the tree
 pub record Adds (contents contents_after : Option CallLog) (faults : ℕ) (old new : Seen) (e : Entry) : Type 0 where
@@ -148,7 +148,7 @@ module _ (faults : ℕ) (old new : Seen) (e : Entry) where
       record {
         timely = adds.timely;
         counts = subst (λ n. Counts (faults_in faults old.newest) n e) (ap (λ (t : Tally). t.calls) written.tally) adds.counts;
-        leads = subst (λ t. EventLeads (let b : Before = record { tree = sight contents; tally = t; rows = rows_told old.newest; part = part_left old.newest; screen = noted old } in b) e.what (noted new)) written.tally
+        leads = subst (λ t. EventLeads (let b : Before = record { tree = sight contents; tally = t; rows = rows_told old.newest; news = news_left old.newest; screen = noted old } in b) e.what (noted new)) written.tally
             adds.leads;
         caused = adds.caused;
         traced = traced_more start opening contents contents_after written adds;

@@ -1,5 +1,5 @@
 -- A look leaves a whole desk.
-use Rattle.std.proofs.Common.{◌≡◌, ℕ, ◌≤◌, ◌∷◌, Bool, true, false, List, [], Result, refl, sym, ◌∙◌, ap, subst, Option, Some, None, arith}
+use Rattle.std.proofs.Common.{◌≡◌, ℕ, ◌≤◌, ◌∷◌, Bool, true, false, List, [], Result, refl, sym, ◌∙◌, ap, subst, Option, Some, None, IsSome, arith}
 use Rattle.std.specs.Prelude.{if◌then◌else◌}
 use Rattle.std.specs.Option.{option_map}
 use Rattle.tree_trait.specs.declared.devices.SinkError.{SinkError}
@@ -13,6 +13,7 @@ use Rattle.session_history.specs.declared.refusal.Refusal.{Refusal}
 use Rattle.session_history.specs.Refusals.{AreRefused}
 use Rattle.copy_move.specs.Told.{told}
 use Rattle.mc_ui.specs.Screens.{LookLeads, Screen, sight}
+use Rattle.box_words.specs.declared.message.Message.{Message}
 use Rattle.mc_ui.specs.Refused.{has_fault}
 use Rattle.mc_desk.specs.declared.starts.Start.{Start}
 use Rattle.mc_desk.specs.declared.standing.Due.{Due}
@@ -24,8 +25,8 @@ use Rattle.mc_desk.specs.Shown.{frame_at, frame_due, rows_then}
 use Rattle.mc_screen.specs.Drawings.{Display}
 use Rattle.mc_ui.specs.Frames.{frame_of}
 use Rattle.mc_desk.specs.Standings.{after_look, awaited, tally_of}
-use Rattle.mc_desk.specs.Tallies.{Tally, can_step, faults_in, next_id, part_left}
-use Rattle.mc_desk.specs.Desks.{IsDesk, seen_of, with_end}
+use Rattle.mc_desk.specs.Tallies.{Tally, can_step, faults_in, next_id, news_left}
+use Rattle.mc_desk.specs.Desks.{IsDesk, Seen, seen_of, with_end}
 use Rattle.mc_desk.proofs.Adding.{entry}
 use Rattle.mc_desk.proofs.Answering.{steps_told}
 use Rattle.mc_desk.proofs.Showing.{shown_drawn, shown_whole}
@@ -37,20 +38,28 @@ due_by_number : (steps : Bool) (due : Due) → awaited (after_look steps due) �
 due_by_number true due = refl
 due_by_number false due = refl
 
+-- a desk on which something is due is open
+pub open_due : (start : Option Start) (opening contents : Option CallLog) (faults : ℕ) (desk : Seen) (due : ℕ) → IsDesk start opening contents faults desk → desk.tally.due ≡ Some due → (desk.tally.closed ≡ false) × (desk.quit ≡ false)
+open_due start opening contents faults desk due whole is = (go desk.tally.closed whole.shut, go desk.quit whole.asked)
+  where
+    go : (b : Bool) → (b ≡ true → desk.tally.due ≡ None) → b ≡ false
+    go false none = refl
+    go true none = absurd (let not_due = none refl in cc)
+
 abbrev taken_up : Standing → Standing
 taken_up was = record was { has_unseen_end = false; due = after_look (can_step was.job) was.due }
 
 module _ (start : Option Start) (opening contents contents_after : Option CallLog) (faults : ℕ) (log log_after : Logged) (screen screen_after : Screen) (was now_is : Standing) (dirty : List Route) (out out_after : Output) (taken : ℕ)
-    (pending : List ℕ) (count : ℕ) (desk : IsDesk start opening contents faults (seen_of log screen was dirty out taken pending)) (unclosed : was.closed ≡ false) (unasked : was.quit ≡ false)
+    (pending : List ℕ) (count : ℕ) (desk : IsDesk start opening contents faults (seen_of log screen was dirty out taken pending)) (unclosed : was.closed ≡ false) (unasked : was.quit ≡ false) (is_due : IsSome (awaited was.due))
     (same : contents_after ≡ contents) (later : faults_in faults log.newest ≤ count) where
-  pub looked_whole : (refusals : List Refusal) (rows : List JobRow) (part : Option Route) → rows ≡ rows_of was.job (trouble_told log.newest) → part ≡ part_left log.newest
-      → (has_fault refusals ≡ true → HasRisen (faults_in faults log.newest) count) → IfKnown contents (λ l. AreRefused ListFolder l refusals) → LookLeads (sight contents) rows was.has_unseen_end part refusals screen screen_after
+  pub looked_whole : (refusals : List Refusal) (rows : List JobRow) (news : Option Message) → rows ≡ rows_of was.job (trouble_told log.newest) → news ≡ news_left log.newest
+      → (has_fault refusals ≡ true → HasRisen (faults_in faults log.newest) count) → IfKnown contents (λ l. AreRefused ListFolder l refusals) → LookLeads (sight contents) rows was.has_unseen_end news refusals screen screen_after
       → screen_after.planned ≡ None → log_after.newest ≡ entry 0 was.calls count out_after.shown (Look refusals) ∷ log.newest → 2 ≤ log_after.spare → now_is ≡ taken_up was
       → (r : Result (Unit {0}) SinkError) → FitsScreen out_after.display.grid screen_after → ShowsFrame (frame_of screen_after (rows_of was.job (trouble_told log.newest))) r out out_after
       → IsDesk start opening contents_after faults (seen_of log_after screen_after now_is dirty out_after taken pending)
-  looked_whole refusals rows part rows_is part_is fault refused leads settled more room is r fits s =
+  looked_whole refusals rows news rows_is news_is fault refused leads settled more room is r fits s =
       subst (λ s. IsDesk start opening contents_after faults (seen_of log_after screen_after s dirty out_after taken pending)) (sym is)
-      (desk_looked start opening contents contents_after faults _ (seen_of log_after screen_after (taken_up was) dirty out_after taken pending) count out_after.shown refusals rows part rows_is part_is desk unclosed same later fault
+      (desk_looked start opening contents contents_after faults _ (seen_of log_after screen_after (taken_up was) dirty out_after taken pending) count out_after.shown refusals rows news rows_is news_is desk unclosed is_due same later fault
       refused leads more
       (ap (λ d. let t : Tally = record (tally_of was) { has_unseen_end = false; due = d } in t)
       (due_by_number (can_step was.job) was.due ∙ ap (λ b. if b then awaited was.due else None) (sym (steps_told was.job))))

@@ -13,9 +13,8 @@ use Rattle.history_laws.specs.Traces.{Stand}
 use Rattle.mc_ui.specs.Screens.{Screen}
 use Rattle.mc_desk.specs.declared.starts.Start.{Start}
 use Rattle.mc_desk.specs.Sessions.{IsSession}
-use Rattle.mc_desk.specs.Shown.{CutsFrame, DrawsFrame, EventDraws, Put, PutsFrame, frame_due, none_before}
+use Rattle.mc_desk.specs.Shown.{CutsFrame, DrawsFrame, EventDraws, Put, PutsFrame, ShowsOverAny, frame_due, none_before}
 use Rattle.mc_desk.specs.ShownEntries.{CameTo, CutsEntry, NoneDraws, ShowsEach, ShowsEntry, draws}
-use Rattle.mc_screen.specs.Drawings.{Shows}
 
 take_all : (xs : List ℕ) → take (length xs) xs ≡ xs
 take_all [] = refl
@@ -25,7 +24,7 @@ take_all (x ∷ xs) = ap (λ ys. x ∷ ys) (take_all xs)
 drawn_or_still : (what : Event) (is_first : Bool) (frame : CellGrid) (shown : ℕ) (before after : Put) → EventDraws what is_first frame shown before after
     → ((draws what ≡ true) × DrawsFrame is_first frame shown before after) ⊎ ((draws what ≡ false) × (after ≡ before))
 drawn_or_still (Key key now refusals false) is_first frame shown before after d = inl (refl, d)
-drawn_or_still (Key key now refusals true) is_first frame shown before after d = inr (refl, d)
+drawn_or_still (Key key now refusals true) is_first frame shown before after d = inr (refl, d.same)
 drawn_or_still (Look refusals) is_first frame shown before after d = inl (refl, d)
 drawn_or_still (Began id plan background) is_first frame shown before after d = inr (refl, d)
 drawn_or_still (Order id order) is_first frame shown before after d = inr (refl, d)
@@ -64,7 +63,7 @@ module _ (start : Option Start) (opening : Option CallLog) (faults : ℕ) where
     frame = s.frame;
     came = s.came;
     some = let l = length-append earlier more in let had = s.some in omega (arith, l, had);
-    shows = subst (λ b. Shows b s.frame) (sym (take-append-le e.shown earlier more s.some)) s.shows;
+    shows = subst (λ b. ShowsOverAny b s.frame) (sym (take-append-le e.shown earlier more s.some)) s.shows;
   }
 
   -- the newest entry, where it draws
@@ -88,7 +87,7 @@ module _ (start : Option Start) (opening : Option CallLog) (faults : ℕ) where
                   frame = frame;
                   came = came;
                   some = omega (arith, counted);
-                  shows = subst (λ n. Shows (take n all) frame) (sym counted) (subst (λ x. Shows x frame) (sym (take_all all)) (subst (λ x. Shows x frame) whole b.3.shows));
+                  shows = subst (λ n. ShowsOverAny (take n all) frame) (sym counted) (subst (λ x. ShowsOverAny x frame) (sym (take_all all)) (subst (λ x. ShowsOverAny x frame) whole b.3.shows));
                 })
             | inr c ↦
                 let b = c.bytes earlier is in

@@ -14,8 +14,8 @@ use Rattle.mc_desk.specs.Standings.{event_of, followed}
 use Rattle.mc_desk.specs.LiveRows.{trouble_told}
 use Rattle.mc_desk.specs.Desks.{IsShown, Seen, ShowsDesk, frame_now}
 use Rattle.mc_desk.specs.Outputs.{FitsScreen, Output, ShowsFrame, ShowsLast}
-use Rattle.mc_desk.specs.Shown.{Put, none_before}
-use Rattle.mc_screen.specs.Drawings.{Display, HasSizeOf, Shows}
+use Rattle.mc_desk.specs.Shown.{Put, ShowsOverAny, none_before}
+use Rattle.mc_screen.specs.Drawings.{Display, HasSizeOf}
 use Rattle.mc_ui.specs.Screens.{HasSameSize}
 use Rattle.mc_desk.specs.Tallies.{Tally, can_step, tally}
 
@@ -53,6 +53,11 @@ some_written : (newest : List Entry) (job : Running) → (tally newest).job ≡ 
 some_written [] job is = absurd cc
 some_written (e ∷ older) job is = refl
 
+-- something was written down where nothing is due: at first the opening frame is
+pub looked_written : (newest : List Entry) → (tally newest).due ≡ None → none_before newest ≡ false
+looked_written [] none = absurd cc
+looked_written (e ∷ older) none = refl
+
 -- a job that can be stepped is due, so the frame needs not be drawn yet
 pub shown_stepping : (old new : Seen) (live : Running) → IsShown old → old.tally ≡ tally old.newest → old.tally.job ≡ Some (told live) → waits_on live.course ≡ false → new.tally.closed ≡ old.tally.closed → new.tally.due ≡ old.tally.due
     → new.out ≡ old.out → new.screen ≡ old.screen → IsShown new
@@ -78,7 +83,9 @@ ended_uncut frame (Err e) before after s = tt
 
 -- a terminal shows the desk whose frame was drawn
 pub shows_drawn : (desk : Seen) (r : Result (Unit {0}) SinkError) (before : Output) → ShowsFrame (frame_now desk) r before desk.out → desk.out.put.is_cut ≡ false → ShowsLast desk.out → ShowsDesk desk
-shows_drawn desk r before s uncut last bytes known = subst (λ (d : Display). Shows bytes d.grid) (shown_whole (frame_now desk) r before desk.out s uncut) (last bytes known)
+shows_drawn desk r before s uncut last bytes known =
+    let is = shown_whole (frame_now desk) r before desk.out s uncut in
+    subst (λ (d : Display). ShowsOverAny bytes d.grid) is (last (ap (λ (d : Display). d.has_drawn) is) bytes known)
 
 -- what is written down of a request tells of no trouble
 pub trouble_followed : (calls faults : ℕ) (done : Deed) (job : Option Running) (newest : List Entry) → trouble_told (followed calls faults (event_of done job) newest) ≡ trouble_told newest

@@ -1,6 +1,7 @@
 -- A drawing, as the sink and the screen answer it, shows the frame on the terminal of a session.
 use Rattle.std.proofs.Common.{◌≡◌, ◌≢◌, ◌⊎◌, ℕ, ◌+◌, ◌≤◌, Bool, true, false, List, [], ◌∷◌, ◌++◌, length, take, drop, refl, sym, ◌∙◌, ap, subst, inl, inr, Option, Some, None, Result, Ok, Err, append_assoc, length-append, append-nil, arith}
 use Rattle.std.specs.Prelude.{not}
+use Rattle.std.proofs.lemmas.Bool.{false≢true}
 use Rattle.std.proofs.Math.Seq.{drop-append_seam}
 use Rattle.tree_trait.specs.Answers.{HasRisen, IfKnown}
 use Rattle.tree_trait.specs.declared.devices.SinkError.{SinkError}
@@ -8,7 +9,7 @@ use Rattle.key_screen.specs.Grids.{CellGrid}
 use Rattle.mc_screen.specs.Drawings.{Display, HasDrawn, HasSizeOf, IsDrawing, Shows}
 use Rattle.tree_trait.specs.declared.devices.SinkError.TheVariants.{Fault}
 use Rattle.mc_desk.specs.Outputs.{Blames, CountsAll, IsTerminal, Output, ShowsFrame, output_of}
-use Rattle.mc_desk.specs.Shown.{CutsFrame, DrawsBehind, DrawsFrame, HasGiven, Put, PutsFrame, put_since}
+use Rattle.mc_desk.specs.Shown.{CutsFrame, DrawsBehind, DrawsFrame, HasGiven, Put, PutsFrame, ShowsOverAny, put_since}
 
 same_some : (a b : List ℕ) (o : Option (List ℕ)) → o ≡ Some a → o ≡ Some b → a ≡ b
 same_some a b o left right = let both : Some a ≡ Some b = sym left ∙ right in cc
@@ -72,13 +73,21 @@ whole_put bytes = record { bytes = bytes; is_cut = false }
 abbrev cut_put : Option (List ℕ) → Put
 cut_put bytes = record { bytes = bytes; is_cut = true }
 
-module _ (given now now_after : Option (List ℕ)) (display : Display) (frame : CellGrid) (had : HasGiven given (put_since given now) now) (shows : IfKnown (put_since given now) (λ bytes. Shows bytes display.grid))
-    (size : HasSizeOf display.grid frame) (unknown : now ≡ None → now_after ≡ None) where
+module _ (given now now_after : Option (List ℕ)) (display : Display) (frame : CellGrid) (had : HasGiven given (put_since given now) now) (first : display.has_drawn ≡ false → IfKnown (put_since given now) (λ bytes. bytes ≡ []))
+    (shows : display.has_drawn ≡ true → IfKnown (put_since given now) (λ bytes. ShowsOverAny bytes display.grid)) (size : HasSizeOf display.grid frame) (unknown : now ≡ None → now_after ≡ None) where
   behind : (earlier drawn : List ℕ) → put_since given now ≡ Some earlier → IsDrawing display frame drawn → DrawsBehind (not display.has_drawn) earlier frame drawn
   behind earlier drawn known d = record {
-    shows = d.shows earlier display.grid (shows earlier known) size (λ has. refl);
-    sparse = λ later. (display.grid, size, shows earlier known, d.sparse (drawn_before display.has_drawn later));
+    shows = λ before was shown sized. go before was shown sized display.has_drawn refl;
+    sparse = λ later. let has = drawn_before display.has_drawn later in (display.grid, size, shows has earlier known, d.sparse has);
   }
+    where
+      -- the first drawing on whatever a terminal showed, and each later one on the frame before it
+      go : (before : List ℕ) (was : CellGrid) → Shows before was → HasSizeOf was frame → (drawn_so : Bool) → display.has_drawn ≡ drawn_so → Shows (before ++ (earlier ++ drawn)) frame
+      go before was shown sized true is =
+          subst (λ b. Shows b frame) (append_assoc before earlier drawn)
+          (d.shows (before ++ earlier) display.grid (shows is earlier known before was shown (record { lines = sym size.lines ∙ sized.lines; columns = sym size.columns ∙ sized.columns })) size (λ has. refl))
+      go before was shown sized false is =
+          subst (λ e. Shows (before ++ (e ++ drawn)) frame) (sym (first is earlier known)) (d.shows before was shown sized (λ has. absurd (false≢true (sym is ∙ has))))
 
   untold : now ≡ None → put_since given now ≡ None
   untold none = ap (put_since given) none ∙ untold_since given
@@ -155,15 +164,15 @@ nothing_drawn is_first frame shown bytes counted =
     record { uncut = refl; drawn = inr (record { cut = refl; bytes = λ earlier known. (counted earlier known, inl known) }); untold = λ none. none }
 
 -- what is counted and shown after a drawing that ended
-pub ended_counts : (is_first : Bool) (frame : CellGrid) (shown : ℕ) (before after : Option (List ℕ)) → DrawsFrame is_first frame shown (whole_put before) (whole_put after) → IfKnown after (λ bytes. (shown ≡ length bytes) × Shows bytes frame)
+pub ended_counts : (is_first : Bool) (frame : CellGrid) (shown : ℕ) (before after : Option (List ℕ)) → DrawsFrame is_first frame shown (whole_put before) (whole_put after) → IfKnown after (λ bytes. (shown ≡ length bytes) × ShowsOverAny bytes frame)
 ended_counts is_first frame shown before after d bytes known = go before refl d.drawn
   where
-    go : (b : Option (List ℕ)) → before ≡ b → PutsFrame is_first frame shown (whole_put before) (whole_put after) ⊎ CutsFrame is_first frame shown (whole_put before) (whole_put after) → (shown ≡ length bytes) × Shows bytes frame
+    go : (b : Option (List ℕ)) → before ≡ b → PutsFrame is_first frame shown (whole_put before) (whole_put after) ⊎ CutsFrame is_first frame shown (whole_put before) (whole_put after) → (shown ≡ length bytes) × ShowsOverAny bytes frame
     go None is drawn = absurd (let none = d.untold is in cc)
     go (Some earlier) is (inl puts) =
         let p = puts.bytes earlier is in
         let same : earlier ++ p.0 ≡ bytes = same_some (earlier ++ p.0) bytes after p.1 known in
-        (p.2 ∙ ap length same, subst (λ b. Shows b frame) same p.3.shows)
+        (p.2 ∙ ap length same, subst (λ b. ShowsOverAny b frame) same p.3.shows)
     go (Some earlier) is (inr cuts) = absurd (let cut = cuts.cut in cc)
 
 -- the sink's count of faults doesn't fall, and rises where it failed
@@ -203,15 +212,16 @@ module _ (given now now_after : Option (List ℕ)) (faults faults_now : ℕ) (di
     ends : HasGiven given (put_since given now_after) now_after × DrawsFrame (not display.has_drawn) frame shown_after (whole_put (put_since given now)) (whole_put (put_since given now_after))
     ends =
         subst (λ n. HasGiven given (put_since given now_after) now_after × DrawsFrame (not display.has_drawn) frame n (whole_put (put_since given now)) (whole_put (put_since given now_after))) (sym adds)
-        (drawing_ended given now now_after display frame had.puts (had.shows uncut) size unknown shown count counted drawn)
+        (drawing_ended given now now_after display frame had.puts (had.first uncut) (had.shows uncut) size unknown shown count counted drawn)
 
     pub ended_terminal : (faults_after : ℕ) → faults_now ≤ faults_after → IsTerminal given now_after faults faults_after (output_of given now_after display_after shown_after failed is_cut)
     ended_terminal faults_after later = record {
       blames = blames_later failed faults faults_now faults_after had.blames later;
       puts = ends.0;
       counted = λ whole bytes known. (ended_counts (not display.has_drawn) frame shown_after (put_since given now) (put_since given now_after) ends.1 bytes known).0;
-      shows = λ whole bytes known.
-          subst (λ (d : Display). Shows bytes d.grid) (sym done) (ended_counts (not display.has_drawn) frame shown_after (put_since given now) (put_since given now_after) ends.1 bytes known).1;
+      first = λ whole none. absurd (false≢true (sym none ∙ ap (λ (d : Display). d.has_drawn) done));
+      shows = λ whole has bytes known.
+          subst (λ (d : Display). ShowsOverAny bytes d.grid) (sym done) (ended_counts (not display.has_drawn) frame shown_after (put_since given now) (put_since given now_after) ends.1 bytes known).1;
     }
 
     pub ended_shows : ShowsFrame frame (let r : Result (Unit {0}) SinkError = Ok tt in r) (output_of given now display shown failed is_cut) (output_of given now_after display_after shown_after failed is_cut)
@@ -228,7 +238,7 @@ module _ (given now now_after : Option (List ℕ)) (faults faults_now : ℕ) (di
   pub cut_shows : (e : SinkError) (failed_after : Bool) → IfKnown now (λ g. HasDrawn display frame g (let r : Result ℕ SinkError = Err e in r) now_after) → display_after ≡ display → (e ≡ Fault → failed_after ≡ true)
       → ShowsFrame frame (let r : Result (Unit {0}) SinkError = Err e in r) (output_of given now display shown failed is_cut) (output_of given now_after display_after shown failed_after true)
   cut_shows e failed_after drawn same fault = record {
-    drawn = as_whole shown (cut_put (put_since given now_after)) (drawing_cut given now now_after display frame had.puts (had.shows uncut) size unknown shown e counted drawn).1;
+    drawn = as_whole shown (cut_put (put_since given now_after)) (drawing_cut given now now_after display frame had.puts (had.first uncut) (had.shows uncut) size unknown shown e counted drawn).1;
     whole = tt;
     cut = (refl, same);
     sized = subst (λ (d : Display). HasSizeOf display.grid d.grid) (sym same) (record { lines = refl; columns = refl });
@@ -239,16 +249,18 @@ module _ (given now now_after : Option (List ℕ)) (faults faults_now : ℕ) (di
       → IsTerminal given now_after faults faults_after (output_of given now_after display_after shown failed_after true)
   cut_terminal e failed_after faults_after drawn blames = record {
     blames = blames;
-    puts = (drawing_cut given now now_after display frame had.puts (had.shows uncut) size unknown shown e counted drawn).0;
+    puts = (drawing_cut given now now_after display frame had.puts (had.first uncut) (had.shows uncut) size unknown shown e counted drawn).0;
     counted = λ whole. absurd cc;
+    first = λ whole. absurd cc;
     shows = λ whole. absurd cc;
   }
 
 -- at the opening nothing was put
-pub first_terminal : (given now : Option (List ℕ)) (faults faults_now : ℕ) (display : Display) → now ≡ given → faults ≤ faults_now → Shows [] display.grid → IsTerminal given now faults faults_now (output_of given now display 0 false false)
-first_terminal given now faults faults_now display same few blank = record {
+pub first_terminal : (given now : Option (List ℕ)) (faults faults_now : ℕ) (display : Display) → now ≡ given → faults ≤ faults_now → display.has_drawn ≡ false → IsTerminal given now faults faults_now (output_of given now display 0 false false)
+first_terminal given now faults faults_now display same few fresh = record {
   blames = few;
   puts = given_first given now same;
   counted = λ whole bytes known. ap length (sym (first_put given now same bytes known));
-  shows = λ whole bytes known. subst (λ b. Shows b display.grid) (sym (first_put given now same bytes known)) blank;
+  first = λ whole none. first_put given now same;
+  shows = λ whole has. absurd (false≢true (sym fresh ∙ has));
 }

@@ -1,5 +1,5 @@
 -- The entries of a desk leave a whole desk.
-use Rattle.std.proofs.Common.{◌≡◌, ℕ, ◌+◌, ◌-◌, ◌^◌, ◌≤◌, min, Bool, true, false, ◌||◌, List, [], ◌∷◌, ◌++◌, length, refl, sym, ◌∙◌, ap, subst, inl, inr, Option, Some, None, arith}
+use Rattle.std.proofs.Common.{◌≡◌, ℕ, ◌+◌, ◌-◌, ◌^◌, ◌≤◌, min, Bool, true, false, ◌||◌, List, [], ◌∷◌, ◌++◌, length, refl, sym, ◌∙◌, ap, subst, inl, inr, Option, Some, None, IsSome, arith}
 use Rattle.std.specs.Prelude.{if◌then◌else◌}
 use Rattle.std.specs.Option.{option_map}
 use Rattle.key_screen.specs.declared.keys.Key.{Key as KeyType}
@@ -32,13 +32,14 @@ use Rattle.session_history.specs.Refusals.{AreRefused}
 use Rattle.history_laws.specs.Traces.{IsUnclaimed}
 use Rattle.mc_ui.specs.LiveJobs.{takes_answer}
 use Rattle.mc_ui.specs.Screens.{Screen, Begins, Answers, LookLeads, sight}
+use Rattle.box_words.specs.declared.message.Message.{Message}
 use Rattle.mc_ui.specs.Refused.{has_fault}
-use Rattle.mc_desk.specs.Tallies.{Tally, faults_in, can_step, next_id, part_left}
+use Rattle.mc_desk.specs.Tallies.{Tally, faults_in, can_step, next_id, news_left}
 use Rattle.mc_desk.specs.declared.starts.Start.{Start}
 use Rattle.mc_desk.specs.LiveRows.{row_of, rows_of, rows_told, trouble_told}
 use Rattle.mc_desk.specs.Granting.{KeyWorks}
 use Rattle.mc_desk.specs.Outputs.{FitsScreen, Output}
-use Rattle.mc_desk.specs.Shown.{DrawsFrame, frame_due, none_before}
+use Rattle.mc_desk.specs.Shown.{DrawsFrame, PutsNothing, frame_due, none_before}
 use Rattle.mc_desk.specs.Desks.{Seen, kept_room, IsShown, IsWritten, IsDesk, noted, stand_of}
 use Rattle.mc_desk.proofs.Showing.{shown_closed, shown_stepping}
 use Rattle.mc_desk.proofs.Adding.{adds_began, adds_closed, adds_given_up, adds_key, adds_look, adds_lost, adds_order, adds_settled, adds_step, entry, unasked_screen}
@@ -116,13 +117,13 @@ module _ (start : Option Start) (opening contents contents_after : Option CallLo
   -- a key that was lost, and the end of keys
   pub desk_lost : new.newest ≡ entry 0 old.tally.calls count 0 Closed ∷ (entry 0 old.tally.calls count shown (Key key now [] true) ∷ old.newest)
       → new.tally ≡ record old.tally { job = option_map closed_job old.tally.job; closed = true; due = None; lost = true } → new.job ≡ option_map closed_job old.job → new.tally.job ≡ option_map told new.job
-      → new.screen ≡ old.screen → new.quit ≡ old.quit → 1 ≤ new.spare → new.dirty ≡ old.dirty → new.out ≡ old.out
+      → new.screen ≡ old.screen → new.quit ≡ old.quit → 1 ≤ new.spare → new.dirty ≡ old.dirty → new.out ≡ old.out → PutsNothing shown old.out.put old.out.put
       → IsDesk start opening contents_after faults new
-  desk_lost more is job tells screen quit room dirty out = record {
+  desk_lost more is job tells screen quit room dirty out puts = record {
     written =
         written_more faults mid new _ start opening contents_after contents_after
         (written_more faults old mid _ start opening contents contents_after desk.written
-        (adds_lost contents contents_after faults old mid 0 count shown refl key now refl refl refl desk.written.told unclosed looked (unlost start opening contents faults old desk unclosed) desk.settled same later refl refl unasked refl refl))
+        (adds_lost contents contents_after faults old mid 0 count shown refl key now refl refl refl desk.written.told unclosed looked (unlost start opening contents faults old desk unclosed) desk.settled same later refl refl unasked refl puts))
         (adds_closed contents_after contents_after faults mid new 0 count 0 refl more is job tells desk.settled refl (omega arith) screen quit dirty (ap (λ (o : Output). o.put) out));
     settled = ap (λ (s : Screen). s.planned) screen ∙ desk.settled;
     asked = λ h. ap (λ (t : Tally). t.due) is;
@@ -227,20 +228,20 @@ desk_closed start opening contents faults old new count desk unclosed later more
 }
 
 -- a look, written down
-pub desk_looked : (start : Option Start) (opening contents contents_after : Option CallLog) (faults : ℕ) (old new : Seen) (count shown : ℕ) (refusals : List Refusal) (rows : List JobRow) (part : Option Route) → rows ≡ rows_of old.job (trouble_told old.newest) → part ≡ part_left old.newest → IsDesk start opening contents faults old
-    → old.tally.closed ≡ false → contents_after ≡ contents → faults_in faults old.newest ≤ count → (has_fault refusals ≡ true → HasRisen (faults_in faults old.newest) count)
-    → IfKnown contents (λ log. AreRefused ListFolder log refusals) → LookLeads (sight contents) rows old.tally.has_unseen_end part refusals old.screen new.screen
+pub desk_looked : (start : Option Start) (opening contents contents_after : Option CallLog) (faults : ℕ) (old new : Seen) (count shown : ℕ) (refusals : List Refusal) (rows : List JobRow) (news : Option Message) → rows ≡ rows_of old.job (trouble_told old.newest) → news ≡ news_left old.newest → IsDesk start opening contents faults old
+    → old.tally.closed ≡ false → IsSome old.tally.due → contents_after ≡ contents → faults_in faults old.newest ≤ count → (has_fault refusals ≡ true → HasRisen (faults_in faults old.newest) count)
+    → IfKnown contents (λ log. AreRefused ListFolder log refusals) → LookLeads (sight contents) rows old.tally.has_unseen_end news refusals old.screen new.screen
     → new.newest ≡ entry 0 old.tally.calls count shown (Look refusals) ∷ old.newest
     → new.tally ≡ record old.tally { has_unseen_end = false; due = if can_step old.tally.job then old.tally.due else None } → new.job ≡ old.job → new.tally.job ≡ option_map told new.job
     → new.screen.planned ≡ None → new.quit ≡ old.quit → 2 ≤ new.spare → new.dirty ≡ old.dirty → old.quit ≡ false → IsShown new
     → DrawsFrame (none_before old.newest) (frame_due (noted new) (next_id old.tally.last) (rows_told old.newest)) shown old.out.put new.out.put
     → IsDesk start opening contents_after faults new
-desk_looked start opening contents contents_after faults old new count shown refusals rows part rows_is part_is desk unclosed same later fault refused leads more is job tells settled quit room dirty unasked shown_now draws =
+desk_looked start opening contents contents_after faults old new count shown refusals rows news rows_is news_is desk unclosed is_due same later fault refused leads more is job tells settled quit room dirty unasked shown_now draws =
     desk_of start opening contents_after faults new
     (written_more faults old new _ start opening contents contents_after desk.written
-    (adds_look contents contents_after faults old new 0 count shown refl refusals more is job tells unclosed desk.settled same later fault refused
-    (subst (λ rs. LookLeads (sight contents) rs old.tally.has_unseen_end (part_left old.newest) refusals old.screen new.screen) (rows_is ∙ sym (rows_are start opening contents faults old desk.written))
-    (subst (λ p. LookLeads (sight contents) rows old.tally.has_unseen_end p refusals old.screen new.screen) part_is leads)) quit unasked dirty draws))
+    (adds_look contents contents_after faults old new 0 count shown refl refusals more is job tells unclosed is_due desk.settled same later fault refused
+    (subst (λ rs. LookLeads (sight contents) rs old.tally.has_unseen_end (news_left old.newest) refusals old.screen new.screen) (rows_is ∙ sym (rows_are start opening contents faults old desk.written))
+    (subst (λ p. LookLeads (sight contents) rows old.tally.has_unseen_end p refusals old.screen new.screen) news_is leads)) quit unasked dirty draws))
     settled (λ h. ap (λ (t : Tally). t.closed) is ∙ desk.lost (sym (ap (λ (t : Tally). t.lost) is) ∙ h)) (λ h. absurd (let no = unasked in cc)) (λ h. absurd (let shut = ap (λ (t : Tally). t.closed) is in cc)) room shown_now
 
 -- a step makes at most three changing calls

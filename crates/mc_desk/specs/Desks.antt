@@ -16,7 +16,7 @@ use Rattle.copy_move.specs.Settling.{changed_folder}
 use Rattle.job_reports.specs.Paths.{without}
 use Rattle.history_laws.specs.Traces.{Stand, before_others}
 use Rattle.mc_ui.specs.Screens.{Screen, Ends}
-use Rattle.mc_desk.specs.Shown.{none_before}
+use Rattle.mc_desk.specs.Shown.{ShowsOverAny, none_before}
 use Rattle.mc_desk.specs.declared.replies.DeskReply.{DeskReply}
 use Rattle.mc_desk.specs.declared.starts.Start.{Start}
 use Rattle.mc_desk.specs.declared.replies.DeskError.{DeskError}
@@ -28,7 +28,6 @@ use Rattle.mc_desk.specs.Sessions.{IsSession}
 use Rattle.mc_desk.specs.Logs.{Logged}
 use Rattle.mc_desk.specs.Outputs.{FitsScreen, Output}
 use Rattle.mc_desk.specs.LiveRows.{rows_of, trouble_told}
-use Rattle.mc_screen.specs.Drawings.{Shows}
 use Rattle.mc_ui.specs.Frames.{frame_of}
 use Rattle.key_screen.specs.Grids.{CellGrid}
 use Rattle.mc_desk.specs.Standings.{tally_of}
@@ -116,9 +115,9 @@ pub record IsDesk (start : Option Start) (opening contents : Option CallLog) (fa
   pub room : kept_room desk.tally.closed desk.job ≤ desk.spare
   pub shown : IsShown desk
 
--- a terminal shows the frame of the desk, of all bytes that were put
+-- each terminal shows the frame of the desk, of all bytes that were put
 abbrev pub ShowsDesk : Seen → Type 0
-ShowsDesk desk = IfKnown desk.out.put.bytes (λ bytes. Shows bytes (frame_now desk))
+ShowsDesk desk = IfKnown desk.out.put.bytes (λ bytes. ShowsOverAny bytes (frame_now desk))
 
 -- a drawing was cut short only where the desk is closed
 abbrev pub IsUncut : Seen → Type 0

@@ -1,12 +1,12 @@
 -- What a session's terminal keeps: what was put to it, and the frame that it shows.
-use Rattle.std.specs.Prelude.{◌≡◌, ℕ, ◌≤◌, Bool, true, false, not, List, length, Option, None, Result, OnOk, OnErr, Err}
+use Rattle.std.specs.Prelude.{◌≡◌, ℕ, ◌≤◌, Bool, true, false, not, List, [], length, Option, None, Result, OnOk, OnErr, Err}
 use Rattle.tree_trait.specs.Answers.{HasRisen, IfKnown}
 use Rattle.tree_trait.specs.declared.devices.SinkError.{SinkError}
 use Rattle.tree_trait.specs.declared.devices.SinkError.TheVariants.{Fault}
 use Rattle.key_screen.specs.Grids.{CellGrid}
 use Rattle.mc_ui.specs.Screens.{Screen}
-use Rattle.mc_screen.specs.Drawings.{Display, HasSizeOf, Shows}
-use Rattle.mc_desk.specs.Shown.{DrawsFrame, HasGiven, HasPutNothing, Put, put_since}
+use Rattle.mc_screen.specs.Drawings.{Display, HasSizeOf}
+use Rattle.mc_desk.specs.Shown.{DrawsFrame, HasGiven, HasPutNothing, Put, ShowsOverAny, put_since}
 
 -- what was put, the frame drawn last, how many bytes the drawings that ended have put, and whether the screen has failed
 pub record Output : Type 0 where
@@ -20,13 +20,15 @@ abbrev pub Blames : Bool → ℕ → ℕ → Type 0
 Blames false opening now = opening ≤ now
 Blames true opening now = HasRisen opening now
 
--- What holds of a terminal: its sink was given what it was given before, and then what was put; where no drawing was cut short,
--- the bytes are counted, and a terminal shows the frame that was drawn last.
+-- What holds of a terminal: its sink was given what it was given before, and then what was put. Where no drawing was cut short
+-- the bytes are counted, nothing was put before the first drawing, and after it the frame that was drawn last is shown, whatever
+-- was shown before the session.
 pub record IsTerminal (given given_now : Option (List ℕ)) (faults faults_now : ℕ) (out : Output) : Type 0 where
   pub blames : Blames out.failed faults faults_now
   pub puts : HasGiven given out.put.bytes given_now
   pub counted : out.put.is_cut ≡ false → IfKnown out.put.bytes (λ bytes. out.shown ≡ length bytes)
-  pub shows : out.put.is_cut ≡ false → IfKnown out.put.bytes (λ bytes. Shows bytes out.display.grid)
+  pub first : out.put.is_cut ≡ false → out.display.has_drawn ≡ false → IfKnown out.put.bytes (λ bytes. bytes ≡ [])
+  pub shows : out.put.is_cut ≡ false → out.display.has_drawn ≡ true → IfKnown out.put.bytes (λ bytes. ShowsOverAny bytes out.display.grid)
 
 -- what a drawing makes of a terminal: it shows the frame, or the drawing was cut short and the frame drawn last stays
 pub record ShowsFrame (frame : CellGrid) (result : Result (Unit {0}) SinkError) (before after : Output) : Type 0 where
@@ -55,6 +57,6 @@ pub record IsFirstOutput (display : Display) (out : Output) : Type 0 where
 abbrev pub CountsAll : Output → Type 0
 CountsAll out = IfKnown out.put.bytes (λ bytes. out.shown ≡ length bytes)
 
--- a terminal shows the frame that was drawn last
+-- the frame that was drawn last is shown, if one was drawn
 abbrev pub ShowsLast : Output → Type 0
-ShowsLast out = IfKnown out.put.bytes (λ bytes. Shows bytes out.display.grid)
+ShowsLast out = out.display.has_drawn ≡ true → IfKnown out.put.bytes (λ bytes. ShowsOverAny bytes out.display.grid)

@@ -1,6 +1,6 @@
 -- A session, as its history tells it: each entry follows from those before it, and from the tree as it stands then. Histories
 -- stand newest first here.
-use Rattle.std.specs.Prelude.{◌≡◌, ◌⊎◌, ℕ, ◌+◌, ◌≤◌, Bool, true, false, ⊤, if◌then◌else◌, List, [], ◌∷◌, Option, Some, None}
+use Rattle.std.specs.Prelude.{◌≡◌, ◌⊎◌, ℕ, ◌+◌, ◌≤◌, Bool, true, false, ⊤, if◌then◌else◌, List, [], ◌∷◌, Option, Some, None, IsSome}
 use Rattle.tree_trait.specs.FileSystem.{View}
 use Rattle.mc_text.specs.Routes.{Route}
 use Rattle.tree_trait.specs.Calls.{Stat, ListFolder}
@@ -20,6 +20,7 @@ use Rattle.copy_move.specs.Told.{IsAllowedStep}
 use Rattle.session_history.specs.Refusals.{AreRefused}
 use Rattle.session_history.specs.Entries.{calls_in, last_id}
 use Rattle.history_laws.specs.Traces.{Follows, Stand, at_rest, nothing_live}
+use Rattle.box_words.specs.declared.message.Message.{Message}
 use Rattle.mc_ui.specs.Refused.{has_fault}
 use Rattle.mc_ui.specs.LiveJobs.{takes_answer}
 use Rattle.mc_ui.specs.Screens.{Screen, Planned, Begins, Answers, Ends, sight, LookLeads, IsOpening}
@@ -27,7 +28,7 @@ use Rattle.mc_desk.specs.declared.starts.Start.{Start}
 use Rattle.mc_desk.specs.Granting.{KeyWorks}
 use Rattle.mc_desk.specs.LiveRows.{rows_told}
 use Rattle.mc_desk.specs.Shown.{EventDraws, HasPutNothing, Put, frame_due, none_before}
-use Rattle.mc_desk.specs.Tallies.{Tally, tally, most_calls, faults_in, next_id, part_left}
+use Rattle.mc_desk.specs.Tallies.{Tally, tally, most_calls, faults_in, next_id, news_left}
 
 -- no key is worked in a closed session, where something is to be looked at, or after one was lost
 pub record TakesKey (t : Tally) : Type 0 where
@@ -35,13 +36,13 @@ pub record TakesKey (t : Tally) : Type 0 where
   pub looked : t.due ≡ None
   pub unlost : t.lost ≡ false
 
--- How a session stands before an entry: what can be seen of the tree, what the history came to, the rows of its live jobs, the
--- part that the last end left, and the screen.
+-- How a session stands before an entry: what can be seen of the tree, what the history came to, the rows of its live jobs, what
+-- is to be told of the last end, and the screen.
 pub record Before : Type 0 where
   pub tree : Option View
   pub tally : Tally
   pub rows : List JobRow
-  pub part : Option Route
+  pub news : Option Message
   pub screen : Screen
 
 -- Directly after the key that confirmed a job, and nowhere else, it is begun as it was planned, while no other is live, under
@@ -62,12 +63,14 @@ pub record IsOrdered (was : Before) (id : ℕ) (answer : Answer) (after : Screen
   pub fits : takes_answer row answer ≡ true
   pub carried_out : after ≡ record was.screen { planned = None }
 
--- What an event makes of the screen. A look takes up a job's end, and shows the part that this left, and the trouble of the
+-- What an event makes of the screen. A look comes only where one is due: the first, which draws the opening frame, and after it
+-- one of the job that was begun or answered. It takes up a job's end, and tells what there is to tell of it, and shows the trouble of the
 -- live job as its newest report told it. A step is one that the live job may make.
 abbrev pub EventLeads : Before → Event → Screen → Type 0
 EventLeads was (Key key now refusals true) after = TakesKey was.tally × (after ≡ was.screen)
 EventLeads was (Key key now refusals false) after = TakesKey was.tally × KeyWorks was.tree was.rows (next_id was.tally.last) key refusals was.screen after
-EventLeads was (Look refusals) after = (was.tally.closed ≡ false) × LookLeads was.tree was.rows was.tally.has_unseen_end was.part refusals was.screen after
+EventLeads was (Look refusals) after =
+    (was.tally.closed ≡ false) × IsSome was.tally.due × LookLeads was.tree was.rows was.tally.has_unseen_end was.news refusals was.screen after
 EventLeads was (Began id plan background) after = IsBegun was id plan background after
 EventLeads was (Order id (Answered answer)) after = IsOrdered was id answer after
 EventLeads was (Step id did) after =
@@ -124,7 +127,7 @@ Traces (Some opening) e older was before stand contents =
 
 -- how a session stands after these entries
 abbrev pub before_entry : Option View → List Entry → Screen → Before
-before_entry tree older screen = record { tree = tree; tally = tally older; rows = rows_told older; part = part_left older; screen = screen }
+before_entry tree older screen = record { tree = tree; tally = tally older; rows = rows_told older; news = news_left older; screen = screen }
 
 -- An entry after older ones: from the screen, the live jobs with the dirty folders, the tree, and what was put to the terminal,
 -- that these came to, to others.

@@ -27,11 +27,15 @@ pub record HasPutNothing (put : Put) : Type 0 where
   pub bytes : IfKnown put.bytes (λ bytes. bytes ≡ [])
   pub uncut : put.is_cut ≡ false
 
--- These bytes draw a frame behind what was put before: a terminal shows it then. Unless they are the first of the session they
--- write only what differs from the frame that the terminal shows before them.
+-- After these bytes each terminal of a frame's size shows the frame, whatever it was given and showed before, as a blank one.
+abbrev pub ShowsOverAny : List ℕ → CellGrid → Type 0
+ShowsOverAny bytes frame = (earlier : List ℕ) (was : CellGrid) → Shows earlier was → HasSizeOf was frame → Shows (earlier ++ bytes) frame
+
+-- These bytes draw a frame behind what was put before: each terminal shows it then. Unless they are the first of the session they
+-- write only what differs from the frame that each shows before them.
 pub record DrawsBehind (is_first : Bool) (before : List ℕ) (frame : CellGrid) (bytes : List ℕ) : Type 0 where
-  pub shows : Shows (before ++ bytes) frame
-  pub sparse : is_first ≡ false → (was : CellGrid) × HasSizeOf was frame × Shows before was × IsSparse was frame bytes
+  pub shows : ShowsOverAny (before ++ bytes) frame
+  pub sparse : is_first ≡ false → (was : CellGrid) × HasSizeOf was frame × ShowsOverAny before was × IsSparse was frame bytes
 
 -- a drawing that ended: all of such bytes were put, and so many bytes are shown by now
 pub record PutsFrame (is_first : Bool) (frame : CellGrid) (shown : ℕ) (before after : Put) : Type 0 where
@@ -51,10 +55,16 @@ pub record DrawsFrame (is_first : Bool) (frame : CellGrid) (shown : ℕ) (before
   pub drawn : PutsFrame is_first frame shown before after ⊎ CutsFrame is_first frame shown before after
   pub untold : before.bytes ≡ None → after.bytes ≡ None
 
+-- A lost key puts nothing, and its entry counts the bytes of the drawings before it, none of which was cut short.
+pub record PutsNothing (shown : ℕ) (before after : Put) : Type 0 where
+  pub same : after ≡ before
+  pub uncut : before.is_cut ≡ false
+  pub counted : IfKnown before.bytes (λ bytes. shown ≡ length bytes)
+
 -- A key that was worked and a look draw their frame; nothing else puts anything.
 abbrev pub EventDraws : Event → Bool → CellGrid → ℕ → Put → Put → Type 0
 EventDraws (Key key now refusals false) is_first frame shown before after = DrawsFrame is_first frame shown before after
-EventDraws (Key key now refusals true) is_first frame shown before after = after ≡ before
+EventDraws (Key key now refusals true) is_first frame shown before after = PutsNothing shown before after
 EventDraws (Look refusals) is_first frame shown before after = DrawsFrame is_first frame shown before after
 EventDraws (Began id plan background) is_first frame shown before after = after ≡ before
 EventDraws (Order id order) is_first frame shown before after = after ≡ before

@@ -1,4 +1,4 @@
--- What a terminal shows of the bytes that a session put, entry by entry. Histories stand newest first here.
+-- What each terminal shows of the bytes that a session put, entry by entry. Histories stand newest first here.
 use Rattle.std.specs.Prelude.{◌≡◌, ◌⊎◌, ℕ, ◌≤◌, Bool, true, false, ⊤, not, List, [], ◌∷◌, ◌++◌, length, take, Option}
 use Rattle.tree_trait.specs.Change.{CallLog}
 use Rattle.session_history.specs.declared.history.Event.{Event}
@@ -11,8 +11,7 @@ use Rattle.key_screen.specs.Grids.{CellGrid}
 use Rattle.mc_desk.specs.declared.starts.Start.{Start}
 use Rattle.mc_desk.specs.LiveRows.{rows_told}
 use Rattle.mc_desk.specs.Sessions.{IsSession}
-use Rattle.mc_desk.specs.Shown.{DrawsBehind, Put, frame_due, none_before}
-use Rattle.mc_screen.specs.Drawings.{Shows}
+use Rattle.mc_desk.specs.Shown.{DrawsBehind, Put, ShowsOverAny, frame_due, none_before}
 use Rattle.mc_desk.specs.Tallies.{next_id}
 
 -- a key that was worked, and a look, draw
@@ -38,12 +37,13 @@ pub record CameTo (start : Option Start) (opening : Option CallLog) (faults : �
   pub session : IsSession start opening faults (e ∷ older) screen stand contents put
   pub frame_is : frame ≡ frame_due screen (next_id (last_id older)) (rows_told older)
 
--- A terminal shows of the bytes that were put, as many as the entry says, the frame of what the session came to with it.
+-- Each terminal shows of the bytes that were put, as many as the entry says, the frame of what the session came to with it,
+-- whatever it showed before the session.
 pub record ShowsEntry (start : Option Start) (opening : Option CallLog) (faults : ℕ) (e : Entry) (older : List Entry) (put : List ℕ) : Type 0 where
   pub frame : CellGrid
   pub came : CameTo start opening faults e older frame
   pub some : e.shown ≤ length put
-  pub shows : Shows (take e.shown put) frame
+  pub shows : ShowsOverAny (take e.shown put) frame
 
 -- The drawing of an entry was cut short, which is the last that draws: what was put are the bytes of the drawings that ended, as
 -- many as the entry says, and then perhaps a prefix of bytes that would have drawn the frame of what the session came to with it.
@@ -55,7 +55,7 @@ pub record CutsEntry (start : Option Start) (opening : Option CallLog) (faults :
   pub counted : e.shown ≡ length ended
   pub put_is : (put ≡ ended) ⊎ ((drawn : List ℕ) × (count : ℕ) × (put ≡ ended ++ take count drawn) × DrawsBehind (none_before older) ended frame drawn)
 
--- of each entry that draws a terminal shows its frame, but for the last one where its drawing was cut short
+-- of each entry that draws each terminal shows its frame, but for the last one where its drawing was cut short
 abbrev pub ShowsEach : Option Start → Option CallLog → ℕ → List Entry → Bool → List ℕ → Type 0
 ShowsEach start opening faults newest is_cut put =
     (later : List Entry) (e : Entry) (older : List Entry) → newest ≡ later ++ e ∷ older → draws e.what ≡ true

@@ -97,8 +97,8 @@ impl<N: Tag, T: Tree, S: Sink, P: Spawner> Desk<N, T, S, P> {
         self.session.byte(alloc, byte, now)
     }
 
-    /// Takes up what the job did, and draws. After the job's end the panel is read again, and a message tells of the part that
-    /// the end left. A desk that is closed, or whose end was asked, stays as it is.
+    /// Takes up what the job did, and draws. After the job's end the panel is read again, and a message tells of it where memory
+    /// ran out or a part was left. Where nothing is due the desk stays as it is: so one that is closed, or whose end was asked.
     pub fn look(&mut self, alloc: Global) -> Result<(), DeskError>
         ensures shows { OnOk result (self.new.tally.closed ≡ false → ShowsDesk self.new) }
         ensures looked { OnOk result (can_step self.old.tally.job ≡ false → self.new.tally.due ≡ None) }

@@ -1,6 +1,7 @@
 //! A session over its devices: its screen, keys, one job at a time, and the history of it all.
 #![tactic(auto)]
 
+mod carrying;
 mod claims;
 mod confirmed;
 mod desk;

@@ -3,10 +3,11 @@ ghost use Rattle.std.specs.Prelude.{◌≡◌, ◌+◌, ◌-◌, ◌^◌, ◌≤
 ghost use Rattle.mc_desk.specs.Logs.{begun_by, jobs_begun};
 ghost use Rattle.mc_desk.specs.Standings.{followed, plain_entry};
 ghost use Rattle.mc_desk.specs.LiveRows.{is_report as does_report, reported_trouble as trouble_in, trouble_told as last_trouble};
-ghost use Rattle.mc_desk.specs.Tallies.{is_end_or_look as ends_or_looks, named_part as part_named, part_left as last_part};
+ghost use Rattle.mc_desk.specs.Tallies.{is_end_or_look as ends_or_looks, end_news as news_of, news_left as last_news, told_end};
 
-use job_reports::{Did, Trouble, is_end};
+use job_reports::{Did, Ending, Trouble, is_end};
 use mc_text::{NoMemory, Path};
+use mc_ui::Message;
 use session_history::{Entries, Entry, Event, History};
 use std::alloc::Global;
 use std::marker::Model;
@@ -77,11 +78,11 @@ impl Log {
         }
     }
 
-    /// The part that the last job's end left, if no look has taken this end up.
-    pub fn part_left(&self, alloc: Global) -> Result<Option<Path>, NoMemory>
-        ensures { IfOk result (λ part. part ≡ last_part self.now.newest) }
+    /// What is to be told of the last job's end, if no look has taken this end up.
+    pub fn news_left(&self, alloc: Global) -> Result<Option<Message>, NoMemory>
+        ensures { IfOk result (λ news. news ≡ last_news self.now.newest) }
     {
-        part_left(alloc, self.entries.as_slice())
+        news_left(alloc, self.entries.as_slice())
     }
 
     /// The trouble that the newest report of a step tells, if it tells of one.
@@ -142,14 +143,14 @@ fn begun_by(what: &Event) -> u64
     }
 }
 
-/// The part that the last end among these entries left, if no look has taken this end up. The newest entry comes last.
-fn part_left(alloc: Global, entries: &[Entry]) -> Result<Option<Path>, NoMemory>
-    ensures { IfOk result (λ part. part ≡ last_part (reverse entries.now)) }
+/// What is to be told of the last end among these entries, if no look has taken this end up. The newest entry comes last.
+fn news_left(alloc: Global, entries: &[Entry]) -> Result<Option<Message>, NoMemory>
+    ensures { IfOk result (λ news. news ≡ last_news (reverse entries.now)) }
 {
     let mut left = entries;
     while let Some((entry, older)) = left.split_last() {
         if is_end_or_look(&entry.what) {
-            return named_part(alloc, &entry.what);
+            return end_news(alloc, &entry.what);
         }
         left = older;
     }
@@ -167,19 +168,41 @@ fn is_end_or_look(what: &Event) -> bool
     }
 }
 
-/// The part that a job's end names.
-fn named_part(alloc: Global, what: &Event) -> Result<Option<Path>, NoMemory>
-    ensures { IfOk result (λ part. part ≡ part_named what.now) }
+/// What is to be told of an event, where it is a job's end.
+fn end_news(alloc: Global, what: &Event) -> Result<Option<Message>, NoMemory>
+    ensures { IfOk result (λ news. news ≡ news_of what.now) }
 {
     match what {
         Event::Step {
-            did: Did::Ended {
-                part: Some(path),
-                ..
-            },
+            did: Did::Ended { ending, part },
             ..
-        } => Ok(Some(path.copy(alloc)?)),
+        } => told_of_end(alloc, *ending, part),
         _ => Ok(None),
+    }
+}
+
+/// What is told of a job's end: that memory ran out, and the part that it left.
+fn told_of_end(
+    alloc: Global,
+    ending: Ending,
+    part: &Option<Path>,
+) -> Result<Option<Message>, NoMemory>
+    ensures { IfOk result (λ news. news ≡ told_end ending part.now) }
+{
+    let part = copied(alloc, part)?;
+    match ending {
+        Ending::NoMemory => Ok(Some(Message::OutOfMemory(part))),
+        Ending::Finished | Ending::Aborted | Ending::Killed => Ok(part.map(Message::PartLeft)),
+    }
+}
+
+/// A path once more, if there is one.
+fn copied(alloc: Global, path: &Option<Path>) -> Result<Option<Path>, NoMemory>
+    ensures { IfOk result (λ copy. copy ≡ path.now) }
+{
+    match path {
+        None => Ok(None),
+        Some(path) => Ok(Some(path.copy(alloc)?)),
     }
 }
 

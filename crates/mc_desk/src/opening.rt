@@ -1,14 +1,13 @@
 //! The opening of a session: the folders are listed, and room is made for the entry that will close it.
-ghost use Rattle.std.specs.Prelude.{◌≡◌, ◌≤◌, [], true, IfErr, IfOk};
+ghost use Rattle.std.specs.Prelude.{◌≡◌, ◌≤◌, true, false, IfErr, IfOk};
 ghost use Rattle.tree_trait.specs.Change.{current};
 ghost use Rattle.tree_trait.specs.Answers.{IfKnown, HasRisen};
 ghost use Rattle.mc_desk.specs.Outputs.{FitsScreen};
-ghost use Rattle.mc_screen.specs.Drawings.{Shows};
 ghost use Rattle.mc_desk.specs.Starts.{IsOpened, Starts, is_start_fault, start_error};
 
 use crate::log::Log;
 use crate::starts::{Side, Start, StartError};
-use mc_screen::{Screen, a_blank_terminal_shows_a_blank_screen};
+use mc_screen::Screen;
 use mc_text::NoMemory;
 use mc_ui::{Panel, Ui};
 use std::alloc::Global;
@@ -21,7 +20,7 @@ pub fn open<T: Tree>(
     start: Start,
 ) -> Result<(Ui, Log, Screen), StartError>
     ensures opened { IfOk result (λ parts. IsOpened (T.contents tree.old) start parts.0 parts.1) }
-    ensures blank { IfOk result (λ parts. Shows [] parts.2.grid) }
+    ensures fresh { IfOk result (λ parts. parts.2.has_drawn ≡ false) }
     ensures fits { IfOk result (λ parts. FitsScreen parts.2.grid parts.0) }
     ensures cause { IfKnown (T.contents tree.old) (λ log. Starts (current log) start.left start.right result) }
     ensures fault { IfErr result (λ error. is_start_fault error ≡ true → HasRisen (T.fault_count tree.old) (T.fault_count tree.new)) }
@@ -42,7 +41,6 @@ pub fn open<T: Tree>(
         Ok(screen) => screen,
         Err(NoMemory) => return Err(StartError::Memory),
     };
-    a_blank_terminal_shows_a_blank_screen();
     let left_names = match tree.list(alloc, &left) {
         Ok(children) => children.names,
         Err(error) => return Err(refused(Side::Left, error)),

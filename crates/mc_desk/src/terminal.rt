@@ -3,7 +3,7 @@ ghost use Rattle.std.specs.Prelude.{◌≡◌, ◌+◌, ◌≤◌, ◌<◌, ◌^
 ghost use Rattle.mc_desk.specs.LiveRows.{rows_of as rows_for, trouble_told};
 ghost use Rattle.mc_desk.specs.Outputs.{Blames, CountsAll, FitsScreen, IsFirstOutput, ShowsFrame, ShowsLast};
 ghost use Rattle.mc_desk.specs.Shown.{HasGiven, put_since};
-ghost use Rattle.mc_screen.specs.Drawings.{HasSizeOf, Shows};
+ghost use Rattle.mc_screen.specs.Drawings.{HasSizeOf};
 ghost use Rattle.mc_ui.specs.Frames.{frame_of};
 
 use crate::log::Log;
@@ -47,7 +47,7 @@ impl<N: Tag, S: Sink> Terminal<N, S> {
     pub fn new(sink: S, screen: Screen) -> Terminal<N, S>
         requires given { S.given sink ≡ N.given }
         requires faults { N.sink_faults ≤ S.fault_count sink }
-        requires blank { Shows [] screen.grid }
+        requires fresh { screen.has_drawn ≡ false }
         ensures { IsFirstOutput screen result }
     {
         Terminal {
@@ -122,6 +122,7 @@ impl<N: Tag, S: Sink> Terminal<N, S> {
     /// How many bytes the drawings that ended have put.
     pub fn shown(&self) -> u128
         ensures counted { result ≡ self.now.shown }
+        ensures all { self.now.put.is_cut ≡ false → CountsAll self.now }
         ensures shows { self.now.put.is_cut ≡ false → ShowsLast self.now }
     {
         self.shown

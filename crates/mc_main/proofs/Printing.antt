@@ -21,7 +21,7 @@ use Rattle.mc_main.specs.declared.words.Beginning.{Beginning}
 use Rattle.mc_main.specs.declared.words.Beginning.TheVariants.{Session, Print}
 use Rattle.mc_main.specs.Beginnings.{IsBeginning, asked_in, folder_word, printed_for, session_start, status_with, text_of}
 use Rattle.mc_main.specs.Headline.{BeginsNone, IsComplete, IsStatusOr, RefusesStart}
-use Rattle.mc_main.specs.Printed.{IsCauseIn, PrintsCause, PrintsStart, start_line}
+use Rattle.mc_main.specs.Printed.{IsCauseIn, MayPut, MayPutCause, PrintsCause, PrintsStart, PutsSome, start_line}
 
 -- the line for a folder that can't be listed has the cause for which the session doesn't start
 pub prints_start : (contents : Option CallLog) (size : ScreenSize) (asked : Option Words) (start : Start) (typed : Typed) (error : StartError) (faults faults_after : ℕ) (before : List ℕ) (given : Option (List ℕ)) → IsBeginning size asked (Session start typed) → error ≢ Memory
@@ -143,3 +143,29 @@ refuses_none log size asked printed status is = subst (λ o. RefusesStart log o 
 
 pub completes_none : (log : CallLog) (size : ScreenSize) (asked : Option Words) (printed : Printed) (status : ℕ) (failed : Type 0) → printed_for asked ≡ Some printed → IsComplete log (session_start size asked) status failed
 completes_none log size asked printed status failed is = subst (λ o. IsComplete log o status failed) (sym (no_folders size asked printed is)) tt
+
+-- what a run puts that prints a text, or whose start is refused
+pub put_printed : (contents : Option CallLog) (size : ScreenSize) (asked : Option Words) (printed : Printed) (before text : List ℕ) (given : Option (List ℕ)) → printed_for asked ≡ Some printed → text ≡ text_of printed
+    → PutsSome before text given → MayPut contents size asked before given
+put_printed contents size asked printed before text given is says puts = inr (inl (printed, is, subst (λ t. PutsSome before t given) says puts))
+
+pub put_start : (contents : Option CallLog) (size : ScreenSize) (asked : Option Words) (start : Start) (typed : Typed) (error : StartError) (before : List ℕ) (given : Option (List ℕ)) → IsBeginning size asked (Session start typed)
+    → IfKnown contents (λ log. IsStartCause (current log) start.left start.right error) → MayPutCause typed error before given → MayPut contents size asked before given
+put_start contents size asked start typed Memory before given is why same = inl same
+put_start contents size asked start typed (Tree side cause) before given is why (inl same) = inl same
+put_start contents size asked start typed (Tree Left cause) before given is why (inr puts) =
+    inr (inr (
+      Left,
+      cause,
+      subst (λ (o : Option Start). IsSome o) (sym (starts_in size asked start typed is)) refl,
+      λ log known. subst (λ o. IsCauseIn log (session_start size o) (Tree Left cause)) (sym is.0) (why log known),
+      subst (λ o. PutsSome before (start_line (folder_word Left o) cause) given) (sym is.0) puts,
+    ))
+put_start contents size asked start typed (Tree Right cause) before given is why (inr puts) =
+    inr (inr (
+      Right,
+      cause,
+      subst (λ (o : Option Start). IsSome o) (sym (starts_in size asked start typed is)) refl,
+      λ log known. subst (λ o. IsCauseIn log (session_start size o) (Tree Right cause)) (sym is.0) (why log known),
+      subst (λ o. PutsSome before (start_line (folder_word Right o) cause) given) (sym is.0) puts,
+    ))

@@ -27,6 +27,7 @@ use Rattle.mc_desk.specs.Desks.{LacksSecond}
 use Rattle.start_words.specs.declared.words.Words.{Words}
 use Rattle.start_words.specs.Sizes.{ScreenSize}
 use Rattle.mc_main.specs.Beginnings.{printed_for, session_start}
+use Rattle.mc_main.specs.Printed.{MayPut}
 use Rattle.mc_main.specs.declared.session.SessionEnd.{SessionEnd}
 use Rattle.mc_main.specs.declared.session.SessionEnd.TheVariants.{Quit, KeysEnded, KeysFailed, ScreenFailed, NoMemory}
 
@@ -69,14 +70,15 @@ pub record RanSession (folders : Option Start) (opening : Option CallLog) (fault
   pub not_usage : status ≢ 1
   pub not_start : status ≢ 2
 
--- what a run wrote down, the newest first: a session in the folders that the words name, or nothing where none began
+-- What a run wrote down, the newest first: a session in the folders that the words name; or nothing where none began, and then the
+-- screen was given no more than what is printed in its place, or a prefix of that.
 abbrev pub IsRun : ScreenSize → Option Words → Option CallLog → ℕ → ℕ → List Entry → Option CallLog → Type 0 → Option (List ℕ) → Option (List ℕ) → Type 0
 IsRun size asked opening faults status newest contents all_taken given given_after =
     (IsSome (session_start size asked) × RanSession (session_start size asked) opening faults status newest contents all_taken given given_after)
-    ⊎ ((newest ≡ []) × BeginsNone asked status)
+    ⊎ ((newest ≡ []) × BeginsNone asked status × IfKnown given (λ before. MayPut opening size asked before given_after))
 
--- Of each key that was worked and each look a terminal shows, of the bytes that were put by then, the frame of what the screen
--- then showed; but at status 4 or 5 perhaps of the last, whose drawing was cut short.
+-- Of each key that was worked and each look each terminal shows, of the bytes that were put by then, the frame of what the screen
+-- then showed, whatever it showed before the run; but at status 4 or 5 perhaps of the last, whose drawing was cut short.
 abbrev pub ShowsRun : Option Start → Option CallLog → ℕ → ℕ → List Entry → List ℕ → Type 0
 ShowsRun folders opening faults status newest put =
     (later : List Entry) (e : Entry) (older : List Entry) → newest ≡ later ++ e ∷ older → draws e.what ≡ true
@@ -90,7 +92,8 @@ left_of stream taken = option_map (drop taken) stream
 abbrev pub TookAll : Option (List ℕ) → Option (List ℕ) → Type 0
 TookAll stream left = IfKnown stream (λ bytes. left ≡ Some [])
 
--- The keys of a run are those of the bytes that its session took, the first that the keyboard gives, and the others are left.
+-- The keys of a run are those of the bytes that its session took, the first that the keyboard gives, and the others are left. Bytes
+-- behind the last key, as half of one at which the keyboard ends, complete none: they were taken, and nothing comes of them.
 -- Where the run was cut short, the second of two keys that the last byte completed may lack, and one byte more may be gone.
 pub record ReadsKeys (bytes : List ℕ) (left : Option (List ℕ)) (status : ℕ) (newest : List Entry) : Type 0 where
   pub taken : ℕ

@@ -1,19 +1,20 @@
--- What is printed where a folder can't be listed, so that no session begins.
-use Rattle.std.specs.Prelude.{◌≡◌, ℕ, ⊤, true, List, [], ◌∷◌, ◌++◌, Option, Some, None, codes}
+-- What is printed where no session begins, since a folder can't be listed, or a text was asked for in its place.
+use Rattle.std.specs.Prelude.{◌≡◌, ◌⊎◌, ℕ, ⊤, true, List, [], ◌∷◌, ◌++◌, take, Option, Some, None, IsSome, codes}
 use Rattle.mc_text.specs.Drawn.{drawn}
 use Rattle.tree_trait.specs.declared.calls.TreeError.{TreeError}
 use Rattle.tree_trait.specs.Change.{CallLog, current}
 use Rattle.tree_trait.specs.Answers.{HasRisen, IfKnown}
 use Rattle.start_words.specs.declared.words.Words.{Words}
 use Rattle.start_words.specs.Sizes.{ScreenSize}
-use Rattle.mc_ui.specs.Causes.{cause_words}
+use Rattle.box_words.specs.Causes.{cause_words}
 use Rattle.mc_desk.specs.declared.starts.Side.{Side}
 use Rattle.mc_desk.specs.declared.starts.StartError.{StartError}
 use Rattle.mc_desk.specs.declared.starts.StartError.TheVariants.{Tree, Memory}
 use Rattle.mc_desk.specs.declared.starts.Start.{Start}
 use Rattle.mc_desk.specs.Starts.{IsStartCause, is_start_fault}
+use Rattle.mc_main.specs.declared.words.Printed.{Printed}
 use Rattle.mc_main.specs.declared.words.Typed.{Typed}
-use Rattle.mc_main.specs.Beginnings.{folder_word, session_start, word_for}
+use Rattle.mc_main.specs.Beginnings.{folder_word, printed_for, session_start, text_of, word_for}
 
 -- the line for a folder that can't be listed: `mc: WORD: CAUSE`, the word as it is drawn
 abbrev pub start_line : List ℕ → TreeError → List ℕ
@@ -23,6 +24,15 @@ start_line word cause = codes "mc: " ++ (drawn word ++ (codes ": " ++ (cause_wor
 abbrev pub PrintsCause : Typed → StartError → List ℕ → Option (List ℕ) → Type 0
 PrintsCause typed Memory before given = ⊤
 PrintsCause typed (Tree side cause) before given = given ≡ Some (before ++ start_line (word_for side typed) cause)
+
+-- the screen was given a text after these bytes, or a prefix of it
+abbrev pub PutsSome : List ℕ → List ℕ → Option (List ℕ) → Type 0
+PutsSome before text given = (given ≡ Some (before ++ text)) ⊎ ((count : ℕ) × (given ≡ Some (before ++ take count text)))
+
+-- nothing more, or some of that line
+abbrev pub MayPutCause : Typed → StartError → List ℕ → Option (List ℕ) → Type 0
+MayPutCause typed Memory before given = given ≡ Some before
+MayPutCause typed (Tree side cause) before given = (given ≡ Some before) ⊎ PutsSome before (start_line (word_for side typed) cause) given
 
 -- why a session doesn't start in the folders that were named, where these are known
 abbrev pub IsCauseIn : CallLog → Option Start → StartError → Type 0
@@ -37,3 +47,13 @@ pub record PrintsStart (contents : Option CallLog) (size : ScreenSize) (asked : 
   pub is_cause : IfKnown contents (λ log. IsCauseIn log (session_start size asked) (Tree side cause))
   pub risen : is_start_fault (Tree side cause) ≡ true → HasRisen faults faults_after
   pub line : given ≡ Some (before ++ start_line (folder_word side asked) cause)
+
+-- What the screen is given, after these bytes, by a run in which no session begins: nothing; or, whole or cut short, the text that
+-- is printed in place of a session, or the line for a folder of the session that was asked for, with a cause for which it doesn't
+-- start there.
+abbrev pub MayPut : Option CallLog → ScreenSize → Option Words → List ℕ → Option (List ℕ) → Type 0
+MayPut contents size asked before given =
+    (given ≡ Some before)
+    ⊎ (((printed : Printed) × (printed_for asked ≡ Some printed) × PutsSome before (text_of printed) given)
+    ⊎ ((side : Side) × (cause : TreeError) × IsSome (session_start size asked) × IfKnown contents (λ log. IsCauseIn log (session_start size asked) (Tree side cause))
+    × PutsSome before (start_line (folder_word side asked) cause) given))

@@ -6,7 +6,7 @@ ghost use Rattle.history_laws.specs.Traces.{IsTracedTo};
 ghost use Rattle.mc_desk.specs.Logs.{jobs_begun};
 ghost use Rattle.mc_desk.specs.Tallies.{faults_in, has_lost};
 ghost use Rattle.mc_desk.specs.Desks.{IsFresh, RanNothing};
-ghost use Rattle.mc_main.specs.Printed.{PrintsCause, start_line as line_for};
+ghost use Rattle.mc_main.specs.Printed.{MayPutCause, PrintsCause, PutsSome, start_line as line_for};
 ghost use Rattle.mc_main.specs.Headline.{IsStatusOr, IsStatusOf, RanSession, ReadsKeys, TookAll};
 
 use crate::outcome::Outcome;
@@ -88,6 +88,7 @@ pub fn refuse<T, S: Sink, P>(
     ensures status { IsStatusOr status result.status }
     ensures screen { status ≢ 4 → result.status ≡ 4 → HasRisen (S.fault_count screen) (S.fault_count result.screen) }
     ensures line { result.status < 4 → IfKnown (S.given screen) (λ before. S.given result.screen ≡ Some (before ++ line.now)) }
+    ensures put { IfKnown (S.given screen) (λ before. PutsSome before line.now (S.given result.screen)) }
     ensures tree { result.tree ≡ tree }
     ensures spawner { result.spawner ≡ spawner }
     ensures empty { result.history.entries ≡ [] }
@@ -113,6 +114,7 @@ pub fn refuse_start<T, S: Sink, P>(
     ensures cause { result.status ≡ 2 → refused.error ≢ StartError.Memory }
     ensures line { result.status ≡ 2 → IfKnown (S.given refused.screen) (λ before.
         PrintsCause typed.now refused.error before (S.given result.screen)) }
+    ensures put { IfKnown (S.given refused.screen) (λ before. MayPutCause typed.now refused.error before (S.given result.screen)) }
     ensures screen { result.status ≡ 4 → HasRisen (S.fault_count refused.screen) (S.fault_count result.screen) }
     ensures tree { result.tree ≡ refused.tree }
     ensures spawner { result.spawner ≡ refused.spawner }

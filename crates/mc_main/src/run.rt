@@ -91,8 +91,8 @@ pub fn mc_run<N: Tag, T: Tree, K: Source, S: Sink, P: Spawner, C: Clock, G: Gate
         (reverse result.history.entries) (T.contents result.tree) (TookAll (K.left keys.old) (K.left keys.new))
         (S.given screen) (S.given result.screen) }
 
-    // After each key and each look a terminal shows, of the bytes that the session has put by then, as many as its entry says,
-    // the frame of what the screen then shows. At status 4 or 5 the last drawing may be cut short: then the screen was given
+    // After each key and each look a terminal shows, whatever it showed before the run, of the bytes that the session has put by
+    // then, as many as its entry says, the frame of what the screen then shows. At status 4 or 5 the last drawing may be cut short: then the screen was given
     // those of the drawings that ended, and perhaps a prefix of one that would have shown the frame due.
     ensures shown { IfKnown (put_since (S.given screen) (S.given result.screen)) (λ put.
         ShowsRun (start_in env.now words.now) (T.contents tree) (T.fault_count tree) result.status

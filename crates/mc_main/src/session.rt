@@ -64,7 +64,7 @@ fn take_turn<N: Tag, T: Tree, K: Source, S: Sink, P: Spawner, C: Clock>(
     if let Err(error) = work_due(alloc, desk) {
         return Some(failed(error));
     }
-    let byte = match take_byte(keys) {
+    let byte = match take_byte(desk, keys) {
         Err(SourceFault) => return Some(SessionEnd::KeysFailed),
         Ok(None) => return Some(SessionEnd::KeysEnded),
         Ok(Some(byte)) => byte,
@@ -76,8 +76,12 @@ fn take_turn<N: Tag, T: Tree, K: Source, S: Sink, P: Spawner, C: Clock>(
     }
 }
 
-/// Takes one byte, or none at the end of the keys. It may wait.
-fn take_byte<K: Source>(keys: &mut K) -> Result<Option<u8>, SourceFault>
+/// Takes one byte, or none at the end of the keys. It may wait, so on the desk nothing is due.
+fn take_byte<N: Tag, T: Tree, K: Source, S: Sink, P: Spawner>(
+    _desk: &Desk<N, T, S, P>,
+    keys: &mut K,
+) -> Result<Option<u8>, SourceFault>
+    requires worked { _desk.now.tally.due ≡ None }
     ensures first { IfKnown (K.left keys.old) (λ bytes. IfOk result (λ byte. byte ≡ slice_get bytes 0)) }
     ensures left { K.left keys.new ≡ left_of (K.left keys.old) (bytes_given result) }
     ensures cause { HasCause (record {}) (K.fault_count keys.old) (K.fault_count keys.new) result }

@@ -17,7 +17,7 @@ use Rattle.tree_trait.specs.CrashImages.{Among}
 use Rattle.tree_trait.specs.Answers.{IsMeta, IsListing, IsAscending, IfKnown, Reads}
 use Rattle.tree_trait.proofs.Walking.{stat-found, list-found}
 use Rattle.job_reports.proofs.PermittedCalls.{stat_missing}
-use Rattle.mc_ui.specs.declared.dialog.Chosen.{Chosen}
+use Rattle.box_words.specs.declared.dialog.Chosen.{Chosen}
 use Rattle.mc_ui.specs.declared.panel_command.Opens.{Opens}
 use Rattle.mc_ui.specs.declared.choosing.Choice.TheVariants.{Nothing, Thing}
 use Rattle.mc_ui.specs.declared.reread.Reread.{Reread}

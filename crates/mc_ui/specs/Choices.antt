@@ -9,20 +9,22 @@ use Rattle.session_history.specs.declared.refusal.Refusal.{Refusal}
 use Rattle.session_history.specs.declared.refusal.Refusal.TheVariants.{Tree}
 use Rattle.mc_ui.specs.declared.panel_command.Opens.{Opens}
 use Rattle.mc_ui.specs.declared.choosing.Choice.{Choice}
-use Rattle.mc_ui.specs.declared.choosing.Choice.TheVariants.{Nothing, Thing, Refused}
+use Rattle.mc_ui.specs.declared.choosing.Choice.TheVariants.{NoSelection, Nothing, Thing, Refused}
 use Rattle.mc_ui.specs.declared.copying.CopyPlan.{CopyPlan}
 use Rattle.mc_ui.specs.declared.copying.CopyPlan.TheVariants.{Begins, Refuses}
 use Rattle.mc_ui.specs.Copies.{CopyRefused, IsVacant, MayAsk, copy_plan}
 
--- it is nothing that the box may ask of, or a thing that it may, or a look at it was refused
+-- there is nothing; or it is nothing that the box may ask of, or a thing that it may, or a look at it was refused
 abbrev pub IsChoice : Opens → Option View → Option Route → Choice → Type 0
-IsChoice box tree None choice = choice ≡ Nothing
+IsChoice box tree None choice = choice ≡ NoSelection
+IsChoice box tree (Some path) NoSelection = ⊥
 IsChoice box tree (Some path) Nothing = MayAsk box tree path false
 IsChoice box tree (Some path) (Thing chosen) = MayAsk box tree path true × (chosen.path ≡ path)
 IsChoice box tree (Some path) (Refused refused e) = refused ≡ path
 
 -- what the look at the thing was refused
 abbrev pub choice_refusals : Choice → List Refusal
+choice_refusals NoSelection = []
 choice_refusals Nothing = []
 choice_refusals (Thing chosen) = []
 choice_refusals (Refused path e) = Tree path e ∷ []

@@ -8,7 +8,7 @@ use Rattle.tree_trait.specs.FileSystem.{Spot, View}
 use Rattle.tree_trait.specs.Refusals.{file_kind, folder_kind}
 use Rattle.job_reports.specs.declared.job.Job.{Job}
 use Rattle.job_reports.specs.declared.job.Job.TheVariants as plan
-use Rattle.session_history.specs.declared.refusal.PlanError.TheVariants.{TargetThere, TargetTooLong, BadMask}
+use Rattle.session_history.specs.declared.refusal.PlanError.TheVariants.{NoSelection, TargetThere, TargetTooLong, BadMask}
 use Rattle.session_history.specs.declared.refusal.Refusal.{Refusal}
 use Rattle.session_history.specs.declared.refusal.Refusal.TheVariants.{Tree, Plan, Begin}
 use Rattle.mc_ui.specs.declared.panel_command.Opens.{Opens}
@@ -52,6 +52,7 @@ IsVacant tree path = (view : View) → tree ≡ Some view → (view path).value 
 abbrev pub CopyRefused : Option View → Route → Refusal → Type 0
 CopyRefused tree target (Plan (TargetThere there)) = (there ≡ target) × IsTaken tree target
 CopyRefused tree target (Plan TargetTooLong) = 4096 < length (spelled target)
+CopyRefused tree target (Plan NoSelection) = ⊥
 CopyRefused tree target (Plan BadMask) = ⊥
 CopyRefused tree target (Tree path e) = (path ≡ target) × (e ≢ Missing)
 CopyRefused tree target (Begin error) = ⊥

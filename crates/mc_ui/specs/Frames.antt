@@ -18,10 +18,10 @@ use Rattle.mc_frame.specs.Frames.{panels_frame}
 use Rattle.mc_dialogs.specs.Boxes.{with_box}
 use Rattle.mc_dialogs.specs.InputField.{with_input}
 use Rattle.mc_dialogs.specs.QuestionKeys.{plain_lines}
-use Rattle.mc_ui.specs.declared.message.Message.{Message}
+use Rattle.box_words.specs.declared.message.Message.{Message}
 use Rattle.mc_ui.specs.declared.side.Side.{Side}
 use Rattle.mc_ui.specs.declared.side.Side.TheVariants.{Left, Right}
-use Rattle.mc_ui.specs.BoxLines.{delete_lines, message_lines, trouble_lines}
+use Rattle.box_words.specs.BoxLines.{delete_lines, message_lines, trouble_lines}
 use Rattle.mc_ui.specs.Panels.{Shown, current_name, rows_above}
 use Rattle.mc_ui.specs.Screens.{Box, NoBox, DeleteBox, MaskBox, TargetBox, TroubleBox, Screen, page_of}
 

@@ -1,6 +1,3 @@
-pub mod BoxKeys
-pub mod BoxLines
-pub mod Causes
 pub mod Choices
 pub mod Copies
 pub mod Frames

@@ -14,7 +14,7 @@ use Rattle.job_reports.specs.declared.answer.Answer.{Answer}
 use Rattle.job_reports.specs.declared.job.Job.{Job}
 use Rattle.job_reports.specs.declared.row.JobRow.{JobRow}
 use Rattle.job_reports.specs.Jobs.{is_workable}
-use Rattle.session_history.specs.declared.refusal.PlanError.TheVariants.{BadMask}
+use Rattle.session_history.specs.declared.refusal.PlanError.TheVariants.{NoSelection, BadMask}
 use Rattle.session_history.specs.declared.refusal.Refusal.{Refusal}
 use Rattle.session_history.specs.declared.refusal.Refusal.TheVariants.{Tree, Plan}
 use Rattle.mc_dialogs.specs.InputKeys.{InputState, input_after, input_shut}
@@ -22,25 +22,25 @@ use Rattle.mc_ui.specs.declared.asks.Ask.{Ask}
 use Rattle.mc_ui.specs.declared.asks.Ask.TheVariants as ask
 use Rattle.mc_ui.specs.declared.asks.Told.{Told}
 use Rattle.mc_ui.specs.declared.asks.Told.TheVariants as told
-use Rattle.mc_ui.specs.declared.dialog.Dialog.{Dialog}
-use Rattle.mc_ui.specs.declared.dialog.Dialog.TheVariants as dialog
-use Rattle.mc_ui.specs.declared.message.Message.{Message}
-use Rattle.mc_ui.specs.declared.message.Message.TheVariants.{Refused, PartLeft, Help}
+use Rattle.box_words.specs.declared.dialog.Dialog.{Dialog}
+use Rattle.box_words.specs.declared.dialog.Dialog.TheVariants as dialog
+use Rattle.box_words.specs.declared.message.Message.{Message}
+use Rattle.box_words.specs.declared.message.Message.TheVariants.{Refused, Help}
 use Rattle.mc_ui.specs.declared.panel_command.Opens.{Opens}
 use Rattle.mc_ui.specs.declared.panel_command.Opens.TheVariants as opens
 use Rattle.mc_ui.specs.declared.panel_command.PanelCommand.{PanelCommand}
 use Rattle.mc_ui.specs.declared.panel_command.PanelCommand.TheVariants.{Move, SwitchPanel, ShowHelp, Open, Quit, Nothing}
-use Rattle.mc_ui.specs.declared.replies.DeleteReply.{DeleteReply}
-use Rattle.mc_ui.specs.declared.replies.DeleteReply.TheVariants as delete
-use Rattle.mc_ui.specs.declared.replies.LineReply.{LineReply}
-use Rattle.mc_ui.specs.declared.replies.LineReply.TheVariants as line
-use Rattle.mc_ui.specs.declared.replies.TroubleReply.{TroubleReply}
-use Rattle.mc_ui.specs.declared.replies.TroubleReply.TheVariants as trouble
+use Rattle.box_words.specs.declared.replies.DeleteReply.{DeleteReply}
+use Rattle.box_words.specs.declared.replies.DeleteReply.TheVariants as delete
+use Rattle.box_words.specs.declared.replies.LineReply.{LineReply}
+use Rattle.box_words.specs.declared.replies.LineReply.TheVariants as line
+use Rattle.box_words.specs.declared.replies.TroubleReply.{TroubleReply}
+use Rattle.box_words.specs.declared.replies.TroubleReply.TheVariants as trouble
 use Rattle.mc_ui.specs.declared.reread.Reread.{Reread}
 use Rattle.mc_ui.specs.declared.side.Side.{Side}
 use Rattle.mc_ui.specs.declared.side.Side.TheVariants.{Left, Right}
-use Rattle.mc_ui.specs.BoxKeys.{closes_message, delete_reply_to, line_reply, trouble_reply_to}
-use Rattle.mc_ui.specs.BoxLines.{mask_line, target_line, target_text}
+use Rattle.box_words.specs.BoxKeys.{closes_message, delete_reply_to, line_reply, trouble_reply_to}
+use Rattle.box_words.specs.BoxLines.{mask_line, target_line, target_text}
 use Rattle.mc_ui.specs.Copies.{CopyRefused, IsVacant, MayAsk, copy_plan, delete_plan, target_in}
 use Rattle.mc_ui.specs.LiveJobs.{can_answer, none_live, shown_trouble}
 use Rattle.mc_ui.specs.PanelKeys.{panel_command_of}
@@ -130,10 +130,11 @@ abbrev pub box_of : Opens → Route → Box
 box_of opens.Delete path = DeleteBox path
 box_of opens.SourceMask path = MaskBox path mask_line
 
--- the key that asks of the thing under the cursor opens its box, if the box may ask of that and no job is live
+-- The key that asks of the thing under the cursor opens its box, if the box may ask of that and no job is live. Where the cursor
+-- stands on `..` or on no row nothing is selected, and a message says so.
 abbrev pub Chooses : Opens → Option View → List JobRow → Option Route → List Refusal → Screen → Screen → Type 0
 Chooses box tree (row ∷ rows) current refusals before after = (refusals ≡ []) × (after ≡ before)
-Chooses box tree [] None refusals before after = (refusals ≡ []) × (after ≡ before)
+Chooses box tree [] None refusals before after = (refusals ≡ Plan NoSelection ∷ []) × (after ≡ told_refusal (Plan NoSelection) before)
 Chooses box tree [] (Some path) [] before after = (asks : Bool) × MayAsk box tree path asks × (after ≡ (if asks then record before { over = box_of box path } else before))
 Chooses box tree [] (Some path) (refusal ∷ more) before after =
     (e : TreeError) × (refusal ∷ more ≡ Tree path e ∷ []) × (after ≡ told_refusal (Tree path e) before)
@@ -161,6 +162,16 @@ abbrev pub after_delete : DeleteReply → List JobRow → Route → Screen → S
 after_delete delete.Stays rows path before = before
 after_delete delete.Shuts rows path before = without_box before
 after_delete delete.Deletes rows path before = if none_live rows then begun (delete_plan path) before else before
+
+-- a line is as it was where its text was taken
+abbrev pub StaysWhereTaken : LineReply → InputState → InputState → Type 0
+StaysWhereTaken line.Stays before after = ⊤
+StaysWhereTaken line.Shuts before after = ⊤
+StaysWhereTaken (line.Takes text) before after = after ≡ before
+
+-- nothing was refused, or the mask
+abbrev pub MayRefuseMask : List Refusal → Type 0
+MayRefuseMask refusals = (refusals ≡ []) ⊎ (refusals ≡ Plan BadMask ∷ [])
 
 -- the source mask's answer: only `*` is read yet, and with it the destination is asked for
 abbrev pub MaskLeads : LineReply → Route → InputState → List Refusal → Screen → Screen → Type 0
@@ -245,14 +256,14 @@ abbrev pub with_refusal : Option Refusal → Option Message → Option Message
 with_refusal None before = before
 with_refusal (Some refusal) before = Some (Refused refusal)
 
--- and above all of the part that a job left
-abbrev pub with_part : Option Route → Option Message → Option Message
-with_part None before = before
-with_part (Some path) before = Some (PartLeft path)
+-- and above all of a job's end, where something is to be told of it
+abbrev pub with_news : Option Message → Option Message → Option Message
+with_news None before = before
+with_news (Some news) before = Some news
 
 -- A look reads each panel again, after a job's end that was not taken up, and shows the trouble that there is, what it was
--- refused, and the part that this end left.
-pub record LooksAgain (tree : Option View) (has_unseen_end : Bool) (trouble : Option Trouble) (part : Option Route) (refusals : List Refusal) (before after : Screen) : Type 0 where
+-- refused, and what is to be told of this end.
+pub record LooksAgain (tree : Option View) (has_unseen_end : Bool) (trouble : Option Trouble) (news : Option Message) (refusals : List Refusal) (before after : Screen) : Type 0 where
   pub left : Reread
   pub right : Reread
   pub left_is : IsReread tree has_unseen_end before.left.folder left
@@ -263,13 +274,13 @@ pub record LooksAgain (tree : Option View) (has_unseen_end : Bool) (trouble : Op
         left = with_names (page_of before) left.names before.left;
         right = with_names (page_of before) right.names before.right;
         over = with_trouble trouble before.over;
-        message = with_part part (with_refusal (first_refusal refusals) before.message);
+        message = with_news news (with_refusal (first_refusal refusals) before.message);
       }
 
--- What a look makes of the screen: it takes up what the live job did. The trouble of one that waits gets its box; the part that
--- an ended one left is told by a message.
-abbrev pub LookLeads : Option View → List JobRow → Bool → Option Route → List Refusal → Screen → Screen → Type 0
-LookLeads tree rows has_unseen_end part refusals before after = LooksAgain tree has_unseen_end (shown_trouble rows) part refusals before after
+-- What a look makes of the screen: it takes up what the live job did. The trouble of one that waits gets its box; what is to be
+-- told of the end of one, a message.
+abbrev pub LookLeads : Option View → List JobRow → Bool → Option Message → List Refusal → Screen → Screen → Type 0
+LookLeads tree rows has_unseen_end news refusals before after = LooksAgain tree has_unseen_end (shown_trouble rows) news refusals before after
 
 -- the panels show the same folders
 abbrev pub SameFolders : Screen → Screen → Type 0

@@ -7,9 +7,9 @@ ghost use Rattle.mc_ui.specs.Choices.{IsChoice, choice_refusals};
 ghost use Rattle.mc_ui.specs.Copies.{may_open};
 ghost use Rattle.mc_ui.specs.Reading.{ReadsTree};
 
-use crate::dialog::Chosen;
 use crate::panel::Panel;
 use crate::panel_command::Opens;
+use box_words::Chosen;
 use mc_text::{Kind, NoMemory, Path, PathError};
 use std::alloc::Global;
 use tree_trait::{Tree, TreeError};
@@ -17,6 +17,8 @@ use tree_trait::{Tree, TreeError};
 /// What choosing the thing under the cursor comes to.
 #[derive(Debug, Drop)]
 pub enum Choice {
+    /// There is nothing: the cursor stands on `..`, or on no row.
+    NoSelection,
     /// It is nothing that the box may ask of, or it can't be reached.
     Nothing,
     /// A thing that the box may ask of.
@@ -38,7 +40,7 @@ pub fn choose<T: Tree>(
 {
     let path = match panel.current_path(alloc) {
         Ok(Some(path)) => path,
-        Ok(None) => return Ok(Choice::Nothing),
+        Ok(None) => return Ok(Choice::NoSelection),
         Err(PathError::TooLong(_)) => return Ok(Choice::Nothing),
         Err(_) => return Err(NoMemory),
     };

@@ -10,7 +10,7 @@ ghost use Rattle.mc_ui.specs.Screens.{sight};
 ghost use Rattle.mc_ui.specs.Choices.{AfterLook, PlanLeads, plan_refusals};
 ghost use Rattle.mc_ui.specs.Reading.{ReadsTree};
 
-use crate::dialog::Chosen;
+use box_words::Chosen;
 use job_reports::{Job, Pair, Pairs};
 use mc_text::{NoMemory, Path, PathError, Paths};
 use session_history::{PlanError, Refusal};

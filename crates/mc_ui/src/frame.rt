@@ -10,10 +10,8 @@ ghost use Rattle.mc_ui.specs.Screens.{seen_box};
 mod counting;
 mod panes;
 
-use crate::box_lines::{delete_lines, message_lines, trouble_lines};
-use crate::dialog::Dialog;
-use crate::message::Message;
 use crate::ui::Ui;
+use box_words::{Dialog, Message, delete_lines, message_lines, trouble_lines};
 use counting::counts_of;
 use job_reports::JobRows;
 use key_screen::Grid;

@@ -1,5 +1,5 @@
 //! The panel: the names in one folder, a cursor on one of its rows, and the first row on the screen.
-ghost use Rattle.std.specs.Prelude.{◌≡◌, ◌≢◌, ◌<◌, ◌≤◌, ◌^◌, ◌+◌, ◌-◌, IfOk, IfErr, IfSome, Some, length, option_map};
+ghost use Rattle.std.specs.Prelude.{◌≡◌, ◌≢◌, ◌<◌, ◌≤◌, ◌^◌, ◌+◌, ◌-◌, IfOk, IfErr, IfSome, IsSome, Some, length, option_map};
 ghost use Rattle.mc_text.specs.Routes.{spelled};
 ghost use Rattle.mc_ui.specs.Frames.{current_text};
 ghost use Rattle.mc_ui.specs.Panels.{Shown, opened_panel, rows_above, row_count, current_name, current_path, moved_by, place_of, read_again, row_among, with_names};
@@ -97,6 +97,7 @@ impl Panel {
         ensures path { IfOk result (λ path. path ≡ current_path self.now) }
         ensures fits { IfOk result (λ path. IfSome path (λ p. length (spelled p) ≤ 4096)) }
         ensures too_long { IfErr result (λ e. e ≢ PathError.Memory → IfSome (current_path self.now) (λ p. 4096 < length (spelled p))) }
+        ensures some { IfErr result (λ _e. IsSome (current_path self.now)) }
     {
         match self.current_name() {
             None => Ok(None),

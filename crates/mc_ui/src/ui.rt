@@ -11,11 +11,9 @@ mod look;
 mod panel_keys;
 
 use crate::asks::{Ask, KeyAct, Told};
-use crate::dialog::Dialog;
-use crate::message::Message;
 use crate::panel::Panel;
-use crate::replies::closes_message;
 use crate::side::Side;
+use box_words::{Dialog, Message, closes_message};
 use job_reports::JobRows;
 use key_screen::{Base, Key};
 use mc_text::NoMemory;

@@ -6,12 +6,13 @@ use Rattle.tree_trait.specs.Change.{CallLog, current}
 use Rattle.tree_trait.specs.Refusals.{refusal_of}
 use Rattle.job_reports.specs.Reading.{IsRefusedWith}
 use Rattle.session_history.specs.declared.refusal.PlanError.{PlanError}
-use Rattle.session_history.specs.declared.refusal.PlanError.TheVariants.{TargetThere, TargetTooLong, BadMask}
+use Rattle.session_history.specs.declared.refusal.PlanError.TheVariants.{NoSelection, TargetThere, TargetTooLong, BadMask}
 use Rattle.session_history.specs.declared.refusal.Refusal.{Refusal}
 use Rattle.session_history.specs.declared.refusal.Refusal.TheVariants as refusal
 
--- a plan is refused: something stands at its target, the target's path is too long, or its mask isn't read yet
+-- a plan is refused: nothing is selected, something stands at its target, the target's path is too long, or its mask isn't read yet
 abbrev pub IsPlanRefused : CallLog → PlanError → Type 0
+IsPlanRefused log NoSelection = ⊤
 IsPlanRefused log (TargetThere path) = refusal_of (current log) (Stat path) ≡ None
 IsPlanRefused log TargetTooLong = ⊤
 IsPlanRefused log BadMask = ⊤

@@ -9,6 +9,8 @@ use tree_trait::TreeError;
 /// Why a plan could not be made.
 #[derive(Debug, Drop)]
 pub enum PlanError {
+    /// Nothing is selected: the cursor stands on `..`, or on no row.
+    NoSelection,
     /// Something stands at the target.
     TargetThere(Path),
     /// The target's path would have more than 4,096 bytes.
@@ -23,6 +25,7 @@ impl PlanError {
         ensures { IfOk result (λ copy. copy ≡ self.now) }
     {
         match self {
+            PlanError::NoSelection => Ok(PlanError::NoSelection),
             PlanError::TargetThere(path) => Ok(PlanError::TargetThere(path.copy(alloc)?)),
             PlanError::TargetTooLong => Ok(PlanError::TargetTooLong),
             PlanError::BadMask => Ok(PlanError::BadMask),

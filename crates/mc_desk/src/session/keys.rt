@@ -6,6 +6,7 @@ ghost use Rattle.mc_desk.specs.Tallies.{can_step, keys_in};
 ghost use Rattle.mc_desk.specs.Desks.{BlamesScreen, CountsByte, FailsClosed, IsUncut, ShowsDesk, is_over, HasTaken, TakesByte, KeepsKeys};
 
 use super::Session;
+use crate::carrying::{Carried, carry_out};
 use crate::granting::{Granted, work};
 use crate::log::plain;
 use crate::replies::{DeskError, DeskReply};
@@ -65,8 +66,8 @@ impl<N: Tag, T: Tree, S: Sink, P: Spawner> Session<N, T, S, P> {
         }
     }
 
-    /// Takes up what the job did, and draws. After the job's end the panel is read again, and a message tells of the part that
-    /// the end left. A session that is closed, or whose end was asked, stays as it is.
+    /// Takes up what the job did, and draws. After the job's end the panel is read again, and a message tells of it where memory
+    /// ran out or a part was left. Where nothing is due all stays as it is: so in a session that is closed, or whose end was asked.
     pub fn look(&mut self, alloc: Global) -> Result<(), DeskError>
         requires uncut { IsUncut self.old }
         ensures shows { OnOk result (self.new.tally.closed ≡ false → ShowsDesk self.new) }
@@ -79,17 +80,14 @@ impl<N: Tag, T: Tree, S: Sink, P: Spawner> Session<N, T, S, P> {
         ensures unclosed { OnOk result (self.new.tally.closed ≡ self.old.tally.closed) }
         ensures quit { self.new.quit ≡ self.old.quit }
     {
-        if self.standing.closed {
+        let Some(_) = self.due() else {
+            self.still(DeskReply::Go)?;
             return Ok(());
-        }
-        if self.standing.quit {
-            self.still(DeskReply::Quit)?;
-            return Ok(());
-        }
+        };
         if self.log.reserve(3).is_err() {
             return Err(DeskError::Memory);
         }
-        let Ok(part) = self.log.part_left(alloc) else {
+        let Ok(news) = self.log.news_left(alloc) else {
             return Err(DeskError::Memory);
         };
         let Ok(rows) = rows_of(alloc, &self.standing.job, &self.log) else {
@@ -98,7 +96,7 @@ impl<N: Tag, T: Tree, S: Sink, P: Spawner> Session<N, T, S, P> {
         let has_unseen_end = self.standing.has_unseen_end;
         let Ok(refusals) = self
             .ui
-            .look(alloc, &mut self.tree, &rows, has_unseen_end, part)
+            .look(alloc, &mut self.tree, &rows, has_unseen_end, news)
         else {
             return Err(DeskError::Memory);
         };
@@ -170,11 +168,15 @@ impl<N: Tag, T: Tree, S: Sink, P: Spawner> Session<N, T, S, P> {
         };
         let Granted { deed, refusals } = granted;
         let calls = self.standing.calls;
-        let follows = self.standing.carry_out(deed);
+        let Carried { follows, drawn } = carry_out(
+            alloc,
+            deed,
+            &self.ui,
+            &self.log,
+            &mut self.standing,
+            &mut self.terminal,
+        );
         let reply = self.standing.reply();
-        let drawn = self
-            .terminal
-            .show(alloc, &self.ui, &self.standing.job, &self.log);
         let faults = self.tree.faults();
         self.log.note(Entry {
             seat: 0,
@@ -199,6 +201,7 @@ impl<N: Tag, T: Tree, S: Sink, P: Spawner> Session<N, T, S, P> {
         requires unasked { self.old.quit ≡ false }
         requires looked { self.old.tally.due ≡ None }
         requires room { 3 ≤ self.old.spare }
+        requires uncut { self.old.out.put.is_cut ≡ false }
         ensures screen { self.new.screen ≡ self.old.screen }
         ensures keys { keys_in self.new.newest ≡ keys_in self.old.newest ++ key ∷ [] }
         ensures pending { self.new.pending ≡ self.old.pending }
@@ -227,14 +230,13 @@ impl<N: Tag, T: Tree, S: Sink, P: Spawner> Session<N, T, S, P> {
         Err(DeskError::Memory)
     }
 
-    /// The reply where nothing is drawn: the terminal shows the frame still.
+    /// The reply where nothing is drawn: the terminal of an open session shows the frame still.
     fn still(&mut self, reply: DeskReply) -> Result<DeskReply, DeskError>
-        requires unclosed { self.old.tally.closed ≡ false }
         requires looked { self.old.tally.due ≡ None }
-        requires uncut { self.old.out.put.is_cut ≡ false }
+        requires uncut { IsUncut self.old }
         ensures same { self.new ≡ self.old }
         ensures reply { result ≡ Ok reply }
-        ensures shows { ShowsDesk self.new }
+        ensures shows { self.new.tally.closed ≡ false → ShowsDesk self.new }
     {
         let _shown = self.terminal.shown();
         Ok(reply)

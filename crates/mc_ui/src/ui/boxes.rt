@@ -1,7 +1,7 @@
 //! Keys while a question box is open. Its dialog was taken out, and is put back where the box stays.
 ghost use Rattle.std.specs.Prelude.{◌≡◌, [], false, true, not, OnErr, IfOk, if◌then◌else◌};
 ghost use Rattle.job_reports.specs.Reports.{passes_over};
-ghost use Rattle.mc_ui.specs.BoxKeys.{delete_reply_to as deletes_by, trouble_reply_to as answers_by};
+ghost use Rattle.box_words.specs.BoxKeys.{delete_reply_to as deletes_by, trouble_reply_to as answers_by};
 ghost use Rattle.mc_ui.specs.LiveJobs.{can_answer as may_answer, none_live as is_idle, takes_answer as may_take};
 ghost use Rattle.mc_ui.specs.Screens.{DeleteBox, NoBox, TroubleBox, WellAsked, after_delete, after_trouble, is_request, seen_box, with_ask};
 
@@ -9,8 +9,7 @@ use super::Ui;
 use super::panel_keys::{asking, asking_nothing};
 use crate::asks::{Ask, KeyAct};
 use crate::copying::deletion_of;
-use crate::dialog::{Chosen, Dialog};
-use crate::replies::{DeleteReply, TroubleReply, delete_reply_to, trouble_reply_to};
+use box_words::{Chosen, DeleteReply, Dialog, TroubleReply, delete_reply_to, trouble_reply_to};
 use job_reports::{Answer, Job, JobRow, JobRows, JobState, Trouble};
 use key_screen::Key;
 use mc_text::NoMemory;

@@ -4,31 +4,30 @@ ghost use Rattle.tree_trait.specs.Calls.{ListFolder};
 ghost use Rattle.session_history.specs.declared.refusal.Refusal.{Refusal as RefusalType};
 ghost use Rattle.mc_ui.specs.LiveJobs.{shown_trouble as trouble_in};
 ghost use Rattle.mc_ui.specs.Reading.{ReadsTree};
-ghost use Rattle.mc_ui.specs.Screens.{HasSameSize, LookLeads, listed, page_of, sight, first_refusal, with_part, with_refusal, with_trouble};
+ghost use Rattle.mc_ui.specs.Screens.{HasSameSize, LookLeads, listed, page_of, sight, first_refusal, with_news, with_refusal, with_trouble};
 ghost use Rattle.mc_ui.specs.Panels.{with_names};
 
 use super::Ui;
-use crate::dialog::Dialog;
-use crate::message::Message;
 use crate::reread::{Reread, Rereads, list_both};
+use box_words::{Dialog, Message};
 use job_reports::{JobRows, Trouble};
-use mc_text::{Names, NoMemory, Path};
+use mc_text::{Names, NoMemory};
 use session_history::{Refusal, Refusals};
 use std::alloc::Global;
 use tree_trait::Tree;
 
 impl Ui {
     /// Takes up what the live jobs did. After a job's end, which `has_unseen_end` says, each panel is read again. A trouble gets
-    /// its box, and what was refused and the part that the end left get a message. It takes the time of the names that are read.
+    /// its box; what was refused, or the news of that end, a message. It takes the time of the names that are read.
     pub fn look<T: Tree>(
         &mut self,
         alloc: Global,
         tree: &mut T,
         rows: &JobRows,
         has_unseen_end: bool,
-        part: Option<Path>,
+        news: Option<Message>,
     ) -> Result<Refusals, NoMemory>
-        ensures leads { IfOk result (λ refusals. LookLeads (sight (T.contents tree.old)) rows.now has_unseen_end part refusals self.old self.new) }
+        ensures leads { IfOk result (λ refusals. LookLeads (sight (T.contents tree.old)) rows.now has_unseen_end news refusals self.old self.new) }
         ensures left { self.new.left.folder ≡ self.old.left.folder }
         ensures right { self.new.right.folder ≡ self.old.right.folder }
         ensures size { HasSameSize self.old self.new }
@@ -54,7 +53,7 @@ impl Ui {
         self.take_names(left_names, right_names);
         self.show(trouble);
         self.tell_first(first);
-        self.tell_part(part);
+        self.tell_news(news);
         Ok(refusals)
     }
 
@@ -85,12 +84,12 @@ impl Ui {
         }
     }
 
-    /// Puts up the message of a part that was left.
-    fn tell_part(&mut self, part: Option<Path>)
-        ensures { self.new ≡ record self.old { message = with_part part self.old.message } }
+    /// Puts up the message of a job's end.
+    fn tell_news(&mut self, news: Option<Message>)
+        ensures { self.new ≡ record self.old { message = with_news news self.old.message } }
     {
-        if let Some(path) = part {
-            self.message = Some(Message::PartLeft(path));
+        if let Some(news) = news {
+            self.message = Some(news);
         }
     }
 }

@@ -9,16 +9,14 @@ ghost use Rattle.mc_ui.specs.Screens.{Chooses, CommandLeads, HasSameSize, NoBox,
 
 use super::{Ui, plain_base};
 use crate::asks::{Ask, KeyAct};
-use crate::box_lines::mask_line;
 use crate::choosing::{Choice, choose};
-use crate::dialog::{Chosen, Dialog};
-use crate::message::Message;
 use crate::panel_command::{Opens, PanelCommand, panel_command};
 use crate::side::{Side, opposite};
+use box_words::{Chosen, Dialog, Message, mask_line};
 use job_reports::JobRows;
 use key_screen::{Base, Key};
 use mc_text::NoMemory;
-use session_history::{Refusal, Refusals};
+use session_history::{PlanError, Refusal, Refusals};
 use std::alloc::Global;
 use tree_trait::Tree;
 
@@ -91,7 +89,8 @@ impl Ui {
         self.message = Some(Message::Help);
     }
 
-    /// Opens a box on the thing under the cursor, if the box may ask of that and no job is live.
+    /// Opens a box on the thing under the cursor, if the box may ask of that and no job is live. Where nothing is selected a message
+    /// says so.
     fn open_box<T: Tree>(
         &mut self,
         alloc: Global,
@@ -116,6 +115,7 @@ impl Ui {
             return Ok(asking_nothing(alloc));
         }
         match choose(alloc, tree, self.current(), opens)? {
+            Choice::NoSelection => self.refuse(alloc, Refusal::Plan(PlanError::NoSelection)),
             Choice::Nothing => Ok(asking_nothing(alloc)),
             Choice::Thing(chosen) => {
                 self.dialog = opened(alloc, opens, chosen)?;

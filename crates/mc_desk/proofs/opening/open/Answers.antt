@@ -1,6 +1,4 @@
 -- Two listings open the screen.
-use Rattle.std.proofs.Common.{ap, subst, sym, refl}
-use Rattle.mc_screen.specs.Drawings.{Display, Shows}
 use Rattle.mc_desk.proofs.Openings.{opens}
 use Rattle.mc_desk.proofs.opening.open.Goals as goal
 

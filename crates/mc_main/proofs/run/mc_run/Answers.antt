@@ -6,7 +6,7 @@ use Rattle.mc_desk.specs.declared.starts.Start.{Start}
 use Rattle.mc_desk.specs.Tallies.{faults_in}
 use Rattle.mc_main.specs.Beginnings.{asked_in, session_start, size_in, status_with}
 use Rattle.mc_main.specs.Headline.{IsStatusOr, TookAll}
-use Rattle.mc_main.proofs.Printing.{at_most_five, begins_none, below_four, completes_none, not_at, print_is, prints_it, prints_not, prints_start, refuses_none, session_is, some_prints_not, starts_in, status_few, text_given, usage_asked}
+use Rattle.mc_main.proofs.Printing.{at_most_five, begins_none, below_four, completes_none, not_at, print_is, prints_it, prints_not, prints_start, put_printed, put_start, refuses_none, session_is, some_prints_not, starts_in, status_few, text_given, usage_asked}
 use Rattle.mc_main.proofs.Starting.{completes, completes_by_five, may_refuse, refuses_by, refuses_listed}
 use Rattle.mc_main.proofs.Taking.{reads_none}
 use Rattle.mc_main.proofs.Runs.{none_counted, calmed_to, finished_to, replayed_to, run_in, run_shows, shows_none, safe_to, traced_none, refused_start}
@@ -169,7 +169,12 @@ returns-in-Ok-Print-clause-untouched g c some =
 
 pub returns-in-Ok-Print-clause-session : goal.returns-in-Ok-Print-clause-session
 returns-in-Ok-Print-clause-session g c =
-    inr (ap reverse c.refuse.ensures.empty, begins_none (asked_in c.args.env.now.folder c.args.words.now) c.in-Ok-Print.printed c.refuse.result.status (print_is (size_in c.args.env.now) (asked_in c.args.env.now.folder c.args.words.now) c.in-Ok-Print.field-0 c.in-Ok-Print.printed c.in-Ok-Print.ensures c.in-Ok-Print.field-0-is) (subst (λ n. IsStatusOr n c.refuse.result.status) c.status-status.ensures.value c.refuse.ensures.status))
+    let is = print_is (size_in c.args.env.now) (asked_in c.args.env.now.folder c.args.words.now) c.in-Ok-Print.field-0 c.in-Ok-Print.printed c.in-Ok-Print.ensures c.in-Ok-Print.field-0-is in
+    inr (
+      ap reverse c.refuse.ensures.empty,
+      begins_none (asked_in c.args.env.now.folder c.args.words.now) c.in-Ok-Print.printed c.refuse.result.status is (subst (λ n. IsStatusOr n c.refuse.result.status) c.status-status.ensures.value c.refuse.ensures.status),
+      λ before known. put_printed (g.T.Tree.contents c.args.tree) (size_in c.args.env.now) (asked_in c.args.env.now.folder c.args.words.now) c.in-Ok-Print.printed before c.text-text.result.now (g.S.Sink.given c.refuse.result.screen) is c.text-text.ensures (c.refuse.ensures.put before known),
+    )
 
 pub returns-in-Ok-Print-clause-start : goal.returns-in-Ok-Print-clause-start
 returns-in-Ok-Print-clause-start g c two =
@@ -213,7 +218,7 @@ returns-in-Err-clause-untouched g c some =
 
 pub returns-in-Err-clause-session : goal.returns-in-Err-clause-session
 returns-in-Err-clause-session g c =
-    inr (ap reverse c.without_session.ensures.empty, inr (inr (inr (inr c.without_session.ensures.status))))
+    inr (ap reverse c.without_session.ensures.empty, inr (inr (inr (inr c.without_session.ensures.status))), λ before known. inl (ap g.S.Sink.given c.without_session.ensures.screen ∙ known))
 
 pub returns-in-Err-clause-refuses_start : goal.returns-in-Err-clause-refuses_start
 returns-in-Err-clause-refuses_start g c log known =
@@ -258,7 +263,13 @@ returns-clause-untouched g c some =
 
 pub returns-clause-session : goal.returns-clause-session
 returns-clause-session g c =
-    inr (ap reverse c.refuse_start.ensures.empty, inr (inr c.refuse_start.ensures.status))
+    inr (
+      ap reverse c.refuse_start.ensures.empty,
+      inr (inr c.refuse_start.ensures.status),
+      λ before known. put_start (g.T.Tree.contents c.args.tree) (size_in c.args.env.now) (asked_in c.args.env.now.folder c.args.words.now) c.in-Ok-Session.start c.in-Ok-Session.typed c.in-Err-begin.refused.error before (g.S.Sink.given c.refuse_start.result.screen)
+          (session_is (size_in c.args.env.now) (asked_in c.args.env.now.folder c.args.words.now) c.in-Ok-Session.field-0 c.in-Ok-Session.start c.in-Ok-Session.typed c.in-Ok-Session.ensures c.in-Ok-Session.field-0-is) c.in-Err-begin.ensures.cause
+          (c.refuse_start.ensures.put before (ap g.S.Sink.given c.in-Err-begin.ensures.same_screen ∙ known)),
+    )
 
 pub returns-clause-start : goal.returns-clause-start
 returns-clause-start g c two log known =

@@ -1,12 +1,13 @@
 -- A look is written down as it was made.
-use Rattle.std.proofs.Common.{rules, ◌≡◌, ◌≤◌, ◌∷◌, false, refl, ap, sym, ◌∙◌, subst, arith}
+use Rattle.std.proofs.Common.{rules, ◌≡◌, ◌≤◌, ◌∷◌, false, ℕ, Option, Some, IsSome, refl, ap, sym, ◌∙◌, subst, arith}
 use Rattle.session_history.specs.declared.history.Event.TheVariants.{Look}
 use Rattle.mc_desk.specs.LiveRows.{rows_of, trouble_told}
-use Rattle.mc_desk.specs.Tallies.{part_left}
+use Rattle.mc_desk.specs.Tallies.{news_left}
 use Rattle.mc_desk.proofs.Adding.{entry}
 use Rattle.mc_desk.specs.Outputs.{ShowsFrame}
 use Rattle.mc_ui.specs.Frames.{frame_of}
-use Rattle.mc_desk.proofs.Looked.{looked_whole}
+use Rattle.mc_desk.specs.Standings.{awaited}
+use Rattle.mc_desk.proofs.Looked.{looked_whole, open_due}
 use Rattle.mc_desk.specs.declared.standing.Standing.{Standing}
 use Rattle.mc_desk.specs.Desks.{Seen, ShowsDesk, seen_of}
 use Rattle.mc_desk.proofs.Showing.{ended_uncut, fits_after, shows_drawn}
@@ -15,8 +16,9 @@ use Rattle.mc_desk.proofs.session.Session.look.Goals as goal
 pub invariant_of-self-2 : goal.invariant_of-self-2
 invariant_of-self-2 g c =
     let inside = c.self.inside in
-    let unclosed : inside.standing.closed ≡ false = search rules in
-    let unasked : inside.standing.quit ≡ false = search rules in
+    let due : awaited inside.standing.due ≡ Some c.in-Some.field-0 = ap (λ (d : Seen). d.tally.due) c.self.view_is ∙ sym c.in-Some.ensures in
+    let opened = open_due g.N.Tag.start g.N.Tag.opening (g.T.Tree.contents inside.tree) g.N.Tag.tree_faults _ c.in-Some.field-0 c.self.invariant.desk due in
+    let some : IsSome (awaited inside.standing.due) = subst (λ (o : Option ℕ). IsSome o) (sym due) refl in
     let count = c.faults.result in
     let counted = c.faults.ensures in
     let had = c.self.invariant.counted in
@@ -24,8 +26,8 @@ invariant_of-self-2 g c =
     let room : 2 ≤ c.note.new.self.spare = search rules in
     record {
       desk = looked_whole g.N.Tag.start g.N.Tag.opening (g.T.Tree.contents inside.tree) (g.T.Tree.contents c.look.new.tree) g.N.Tag.tree_faults _ c.note.new.self _ c.look.new.self inside.standing c.look_taken.new.self _ inside.terminal c.show-drawn.new.self _ _ count
-          c.self.invariant.desk unclosed unasked c.look.ensures.reads.same (omega (arith, counted, had, later)) c.in-Ok-look.refusals c.in-Ok-rows_of.rows c.in-Ok.part
-          (c.in-Ok-rows_of.ensures ∙ ap (λ es. rows_of inside.standing.job (trouble_told es)) c.reserve.ensures.same) (c.in-Ok.ensures ∙ ap part_left c.reserve.ensures.same)
+          c.self.invariant.desk opened.0 opened.1 some c.look.ensures.reads.same (omega (arith, counted, had, later)) c.in-Ok-look.refusals c.in-Ok-rows_of.rows c.in-Ok.news
+          (c.in-Ok-rows_of.ensures ∙ ap (λ es. rows_of inside.standing.job (trouble_told es)) c.reserve.ensures.same) (c.in-Ok.ensures ∙ ap news_left c.reserve.ensures.same)
           (λ h. let risen = c.in-Ok-look.ensures.reads.fault h in omega (arith, counted, had, risen)) c.in-Ok-look.ensures.reads.called c.in-Ok-look.ensures.leads c.look.ensures.settled
           (c.note.ensures.added ∙ (ap (λ es. entry 0 inside.standing.calls count c.shown.result (Look c.in-Ok-look.refusals) ∷ es) c.reserve.ensures.same
           ∙ ap (λ n. entry 0 inside.standing.calls count n (Look c.in-Ok-look.refusals) ∷ inside.log.newest) c.shown.ensures.counted)) room c.look_taken.ensures c.show-drawn.result
@@ -34,6 +36,13 @@ invariant_of-self-2 g c =
       counted = search rules;
       spawner = c.self.invariant.spawner;
     }
+
+pub show-drawn-requires-clause-uncut : goal.show-drawn-requires-clause-uncut
+show-drawn-requires-clause-uncut g c =
+    let inside = c.self.inside in
+    let due : awaited inside.standing.due ≡ Some c.in-Some.field-0 = ap (λ (d : Seen). d.tally.due) c.self.view_is ∙ sym c.in-Some.ensures in
+    let opened = open_due g.N.Tag.start g.N.Tag.opening (g.T.Tree.contents inside.tree) g.N.Tag.tree_faults _ c.in-Some.field-0 c.self.invariant.desk due in
+    ap (λ (d : Seen). d.out.put.is_cut) c.self.view_is ∙ c.requires.uncut (sym (ap (λ (d : Seen). d.tally.closed) c.self.view_is) ∙ opened.0)
 
 pub after_draw-requires-clause-whole : goal.after_draw-requires-clause-whole
 after_draw-requires-clause-whole g c = ended_uncut _ c.show-drawn.result c.self.inside.terminal c.show-drawn.new.self c.show-drawn.ensures.shows

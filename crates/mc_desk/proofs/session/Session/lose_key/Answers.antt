@@ -1,5 +1,5 @@
 -- The key is written down as lost, and the desk closed.
-use Rattle.std.proofs.Common.{rules, ◌≡◌, ◌≤◌, ◌∷◌, false, true, None, ap, ◌∙◌, arith}
+use Rattle.std.proofs.Common.{rules, ◌≡◌, ◌≤◌, ◌∷◌, false, true, None, refl, ap, ◌∙◌, arith}
 use Rattle.session_history.specs.declared.history.Entry.{Entry}
 use Rattle.session_history.specs.declared.history.Event.TheVariants.{Closed, Key}
 use Rattle.mc_desk.specs.Desks.{Seen}
@@ -14,6 +14,7 @@ invariant_of-self g c =
     let unclosed : inside.standing.closed ≡ false = ap (λ (d : Seen). d.tally.closed) c.self.view_is ∙ c.requires.unclosed in
     let unasked : inside.standing.quit ≡ false = ap (λ (d : Seen). d.quit) c.self.view_is ∙ c.requires.unasked in
     let looked : awaited inside.standing.due ≡ None = ap (λ (d : Seen). d.tally.due) c.self.view_is ∙ c.requires.looked in
+    let uncut : inside.terminal.put.is_cut ≡ false = ap (λ (d : Seen). d.out.put.is_cut) c.self.view_is ∙ c.requires.uncut in
     let count = c.faults-faults.result in
     let counted = c.faults-faults.ensures in
     let had = c.self.invariant.counted in
@@ -22,7 +23,7 @@ invariant_of-self g c =
       desk = lost_whole _ _ _ _ _ c.note-2.new.self _ inside.standing c.close.new.self _ _ _ _ count c.self.invariant.desk unclosed (omega (arith, counted, had)) c.args.key c.args.now c.shown.result unasked looked
           (c.note-2.ensures.added ∙ (ap (λ (e : Entry). e ∷ c.note.new.self.newest) c.plain.ensures
           ∙ ap (λ es. plain_entry inside.standing.calls count Closed ∷ es) (c.note.ensures.added ∙ ap (λ rs. entry 0 inside.standing.calls count c.shown.result (Key c.args.key c.args.now rs true) ∷ inside.log.newest) c.new.ensures.items)))
-          room c.close.ensures;
+          room c.close.ensures (record { same = refl; uncut = uncut; counted = λ bytes known. c.shown.ensures.counted ∙ c.shown.ensures.all uncut bytes known });
       counted = search rules;
       spawner = c.self.invariant.spawner;
     }

@@ -30,15 +30,15 @@ invariant_of-self-2 g c =
     let worked : IsWorked (sight (g.T.Tree.contents inside.tree)) c.in-Ok.rows (next_id inside.standing.last_id) c.args.key inside.ui c.work.new.ui done.deed done.refusals =
     subst (λ n. IsWorked (sight (g.T.Tree.contents inside.tree)) c.in-Ok.rows n c.args.key inside.ui c.work.new.ui done.deed done.refusals) c.next_id-next.ensures c.in-Ok-work.ensures.worked in
     let room : 2 ≤ c.note_after.new.self.spare = search rules in
-    let shows : ShowsFrame (frame_of c.work.new.ui (rows_of (after_deed done.deed inside.standing).job (trouble_told inside.log.newest))) c.show-drawn.result inside.terminal c.show-drawn.new.self =
-    subst (λ (s : Standing). ShowsFrame (frame_of c.work.new.ui (rows_of s.job (trouble_told inside.log.newest))) c.show-drawn.result inside.terminal c.show-drawn.new.self) c.carry_out-follows.ensures.done c.show-drawn.ensures.shows in
+    let shows : ShowsFrame (frame_of c.work.new.ui (rows_of (after_deed done.deed inside.standing).job (trouble_told inside.log.newest))) c.carry_out-follows.result.drawn inside.terminal c.carry_out-follows.new.terminal =
+    subst (λ (s : Standing). ShowsFrame (frame_of c.work.new.ui (rows_of s.job (trouble_told inside.log.newest))) c.carry_out-follows.result.drawn inside.terminal c.carry_out-follows.new.terminal) c.carry_out-follows.ensures.done c.carry_out-follows.ensures.shows in
     record {
-      desk = subst (λ s. IsDesk g.N.Tag.start g.N.Tag.opening (g.T.Tree.contents c.work.new.tree) g.N.Tag.tree_faults (seen_of c.note_after.new.self c.work.new.ui s inside.dirty c.show-drawn.new.self inside.taken inside.keys))
+      desk = subst (λ s. IsDesk g.N.Tag.start g.N.Tag.opening (g.T.Tree.contents c.work.new.tree) g.N.Tag.tree_faults (seen_of c.note_after.new.self c.work.new.ui s inside.dirty c.carry_out-follows.new.terminal inside.taken inside.keys))
           (sym c.carry_out-follows.ensures.done)
           (desk_worked g.N.Tag.start g.N.Tag.opening (g.T.Tree.contents inside.tree) (g.T.Tree.contents c.work.new.tree) g.N.Tag.tree_faults inside.log c.note_after.new.self inside.ui c.work.new.ui inside.standing inside.dirty inside.terminal
-          c.show-drawn.new.self inside.taken inside.keys count c.args.key c.args.now c.self.invariant.desk unclosed unasked looked c.work.ensures.reads.same (omega (arith, counted, had, later)) done.refusals
-          (λ h. let risen = c.in-Ok-work.ensures.reads.fault h in omega (arith, counted, had, risen)) c.in-Ok-work.ensures.reads.called room c.in-Ok.rows c.in-Ok.ensures c.show-drawn.result done.deed worked
-          (fits_after inside.terminal.display.grid c.show-drawn.new.self.display.grid inside.ui c.work.new.ui c.self.invariant.desk.shown.size c.show-drawn.ensures.shows.sized worked.size) shows
+          c.carry_out-follows.new.terminal inside.taken inside.keys count c.args.key c.args.now c.self.invariant.desk unclosed unasked looked c.work.ensures.reads.same (omega (arith, counted, had, later)) done.refusals
+          (λ h. let risen = c.in-Ok-work.ensures.reads.fault h in omega (arith, counted, had, risen)) c.in-Ok-work.ensures.reads.called room c.in-Ok.rows c.in-Ok.ensures c.carry_out-follows.result.drawn done.deed worked
+          (fits_after inside.terminal.display.grid c.carry_out-follows.new.terminal.display.grid inside.ui c.work.new.ui c.self.invariant.desk.shown.size c.carry_out-follows.ensures.shows.sized worked.size) shows
           (c.note_after.ensures.added ∙ (ap (λ f. followed inside.standing.calls count f c.note.new.self.newest) c.carry_out-follows.ensures.told
           ∙ ap (λ es. followed inside.standing.calls count (event_of done.deed inside.standing.job) es)
           (c.note.ensures.added ∙ ap (λ n. entry 0 inside.standing.calls count n (Key c.args.key c.args.now done.refusals false) ∷ inside.log.newest) c.shown.ensures.counted))));
@@ -46,26 +46,26 @@ invariant_of-self-2 g c =
       spawner = c.self.invariant.spawner;
     }
 
-pub carry_out-follows-requires : goal.carry_out-follows-requires
-carry_out-follows-requires g c =
+pub carry_out-follows-requires-clause-may : goal.carry_out-follows-requires-clause-may
+carry_out-follows-requires-clause-may g c =
     may_carry_out g.N.Tag.start g.N.Tag.opening (g.T.Tree.contents c.self.inside.tree) g.N.Tag.tree_faults _ c.self.invariant.desk c.in-Ok.rows c.in-Ok.ensures c.next_id-next.result c.in-Ok-work.granted.deed c.in-Ok-work.ensures.worked.can
 
 pub after_draw-requires-clause-whole : goal.after_draw-requires-clause-whole
-after_draw-requires-clause-whole g c = ended_uncut _ c.show-drawn.result c.self.inside.terminal c.show-drawn.new.self c.show-drawn.ensures.shows
+after_draw-requires-clause-whole g c = ended_uncut _ c.carry_out-follows.result.drawn c.self.inside.terminal c.carry_out-follows.new.terminal c.carry_out-follows.ensures.shows
 
 pub returns-clause-shows : goal.returns-clause-shows
 returns-clause-shows g c unclosed =
     let inside = c.self.inside in
-    let standing = c.carry_out-follows.new.self in
-    let desk : Seen = seen_of c.note_after.new.self c.work.new.ui standing inside.dirty c.show-drawn.new.self inside.taken inside.keys in
+    let standing = c.carry_out-follows.new.standing in
+    let desk : Seen = seen_of c.note_after.new.self c.work.new.ui standing inside.dirty c.carry_out-follows.new.terminal inside.taken inside.keys in
     let same : c.after_draw.new.self ≡ desk = c.in_ok-after_draw.ensures.same in
     let whole : desk.out.put.is_cut ≡ false = sym (ap (λ (d : Seen). d.out.put.is_cut) same) ∙ c.in_ok-after_draw.ensures.whole in
     let trouble : trouble_told c.note_after.new.self.newest ≡ trouble_told inside.log.newest =
     ap trouble_told (c.note_after.ensures.added ∙ ap (λ f. followed inside.standing.calls c.faults-faults.result f c.note.new.self.newest) c.carry_out-follows.ensures.told)
     ∙ (trouble_followed inside.standing.calls c.faults-faults.result c.in-Ok-work.granted.deed inside.standing.job c.note.new.self.newest ∙ ap trouble_told c.note.ensures.added) in
     subst ShowsDesk (sym same)
-    (shows_drawn desk c.show-drawn.result inside.terminal
-    (subst (λ t. ShowsFrame (frame_of c.work.new.ui (rows_of standing.job t)) c.show-drawn.result inside.terminal c.show-drawn.new.self) (sym trouble) c.show-drawn.ensures.shows) whole (c.shown.ensures.shows whole))
+    (shows_drawn desk c.carry_out-follows.result.drawn inside.terminal
+    (subst (λ t. ShowsFrame (frame_of c.work.new.ui (rows_of standing.job t)) c.carry_out-follows.result.drawn inside.terminal c.carry_out-follows.new.terminal) (sym trouble) c.carry_out-follows.ensures.shows) whole (c.shown.ensures.shows whole))
 
 pub returns-clause-looked : goal.returns-clause-looked
 returns-clause-looked g c unknown =

@@ -8,6 +8,7 @@ invariant_of-self g c = record {
   blames = c.self.invariant.blames;
   puts = c.self.invariant.puts;
   counted = λ whole. absurd cc;
+  first = λ whole. absurd cc;
   shows = λ whole. absurd cc;
 }
 

@@ -1,6 +1,6 @@
 //! The texts of causes, as they are shown and printed.
 ghost use Rattle.std.specs.Prelude.{◌≡◌, IfOk};
-ghost use Rattle.mc_ui.specs.Causes.{begin_words, cause_words, plan_words, refusal_words, trouble_words};
+ghost use Rattle.box_words.specs.Causes.{begin_words, cause_words, plan_words, refusal_words, trouble_words};
 
 use job_reports::Cause;
 use mc_text::{NoMemory, Text};
@@ -34,6 +34,7 @@ fn plan_text(error: &PlanError) -> &'static str
     ensures { result.now ≡ plan_words error.now }
 {
     match error {
+        PlanError::NoSelection => "nothing selected",
         PlanError::TargetThere(_) => "already there",
         PlanError::TargetTooLong => "path too long",
         PlanError::BadMask => "bad mask",

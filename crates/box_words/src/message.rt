@@ -9,6 +9,8 @@ pub enum Message {
     Refused(Refusal),
     /// The part that a job's end left, since it could not be removed.
     PartLeft(Path),
+    /// That a job ended since memory ran out, and the part that it left, if it left one.
+    OutOfMemory(Option<Path>),
     /// The words of the program, and what the function keys do.
     Help,
 }

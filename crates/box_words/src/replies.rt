@@ -1,6 +1,6 @@
 //! What the boxes' answers to a key come to.
 ghost use Rattle.std.specs.Prelude.{◌≡◌};
-ghost use Rattle.mc_ui.specs.BoxKeys.{closes_message as does_close, delete_letters, delete_reply as delete_reply_of, delete_reply_to as deletes_by, letter_answer, line_reply as line_reply_of, trouble_letters as letters_of, trouble_reply as trouble_reply_of, trouble_reply_to as answers_by};
+ghost use Rattle.box_words.specs.BoxKeys.{closes_message as does_close, delete_letters, delete_reply as delete_reply_of, delete_reply_to as deletes_by, letter_answer, line_reply as line_reply_of, trouble_letters as letters_of, trouble_reply as trouble_reply_of, trouble_reply_to as answers_by};
 
 use job_reports::Answer;
 use key_screen::{Base, Key};

@@ -2,7 +2,7 @@
 ghost use Rattle.std.specs.Prelude.{◌≡◌, ◌∷◌, ◌++◌, [], IfOk};
 ghost use Rattle.std.specs.Option.{option_map_or};
 ghost use Rattle.mc_text.specs.Routes.{path_text as path_text_of};
-ghost use Rattle.mc_ui.specs.BoxLines.{delete_lines as lines_of_deletion, mask_line as line_of_mask, message_lines as lines_of_message, target_line as line_of_target, target_text as text_of_target, trouble_letter_words, trouble_lines as lines_of_trouble};
+ghost use Rattle.box_words.specs.BoxLines.{delete_lines as lines_of_deletion, mask_line as line_of_mask, message_lines as lines_of_message, target_line as line_of_target, target_text as text_of_target, trouble_letter_words, trouble_lines as lines_of_trouble};
 
 use crate::causes::{refusal_text, trouble_text};
 use crate::message::Message;
@@ -70,6 +70,7 @@ pub fn message_lines(alloc: Global, message: &Message) -> Result<Rows, NoMemory>
     match message {
         Message::Refused(refusal) => refusal_lines(alloc, refusal),
         Message::PartLeft(path) => part_lines(alloc, path),
+        Message::OutOfMemory(part) => memory_lines(alloc, part),
         Message::Help => help_lines(alloc),
     }
 }
@@ -81,6 +82,7 @@ fn refusal_lines(alloc: Global, refusal: &Refusal) -> Result<Rows, NoMemory>
     let words = Text::from_str(alloc, refusal_text(refusal))?;
     match refusal {
         Refusal::Tree(path, _) => words_and_path(alloc, words, path),
+        Refusal::Plan(PlanError::NoSelection) => words_alone(alloc, words),
         Refusal::Plan(PlanError::TargetThere(path)) => words_and_path(alloc, words, path),
         Refusal::Plan(PlanError::TargetTooLong) => words_alone(alloc, words),
         Refusal::Plan(PlanError::BadMask) => words_alone(alloc, words),
@@ -109,6 +111,19 @@ fn part_lines(alloc: Global, path: &Path) -> Result<Rows, NoMemory>
     ensures { IfOk result (λ lines. lines ≡ lines_of_message (Message.PartLeft path.now)) }
 {
     words_and_path(alloc, Text::from_str(alloc, "part left")?, path)
+}
+
+/// That a job ended since memory ran out, and the part that it left.
+fn memory_lines(alloc: Global, part: &Option<Path>) -> Result<Rows, NoMemory>
+    ensures { IfOk result (λ lines. lines ≡ lines_of_message (Message.OutOfMemory part.now)) }
+{
+    let mut lines = Rows::new(alloc);
+    lines.push(Text::from_str(alloc, "job ended: out of memory")?)?;
+    if let Some(path) = part {
+        lines.push(Text::from_str(alloc, "part left")?)?;
+        lines.push(path.text(alloc)?)?;
+    }
+    Ok(lines)
 }
 
 fn help_lines(alloc: Global) -> Result<Rows, NoMemory>

@@ -1,5 +1,5 @@
--- What a key makes of each box: one table a box.
-use Rattle.std.specs.Prelude.{◌≡◌, ◌⊎◌, ⊤, ℕ, Bool, true, false, ◌==◌, if◌then◌else◌, List, [], ◌∷◌}
+-- What a key makes of each box: one table a box. Own, but for the letters, which are those of a question box of `mc_dialogs`.
+use Rattle.std.specs.Prelude.{ℕ, Bool, true, false, ◌==◌, if◌then◌else◌, List, [], ◌∷◌}
 use Rattle.key_screen.specs.declared.keys.Key.{Key}
 use Rattle.key_screen.specs.declared.keys.Base.{Base}
 use Rattle.key_screen.specs.declared.keys.Base.TheVariants.{Enter, Escape}
@@ -8,17 +8,13 @@ use Rattle.job_reports.specs.declared.answer.Answer.TheVariants.{Retry, Skip, Sk
 use Rattle.mc_dialogs.specs.declared.shut.Shut.{Shut}
 use Rattle.mc_dialogs.specs.declared.shut.Shut.TheVariants.{Stay, Closed}
 use Rattle.mc_dialogs.specs.declared.shut.Reply.TheVariants.{Line, Letter}
-use Rattle.mc_dialogs.specs.InputKeys.{InputState}
 use Rattle.mc_dialogs.specs.QuestionKeys.{letters_shut}
-use Rattle.session_history.specs.declared.refusal.PlanError.TheVariants.{BadMask}
-use Rattle.session_history.specs.declared.refusal.Refusal.{Refusal}
-use Rattle.session_history.specs.declared.refusal.Refusal.TheVariants.{Plan}
-use Rattle.mc_ui.specs.declared.replies.DeleteReply.{DeleteReply}
-use Rattle.mc_ui.specs.declared.replies.DeleteReply.TheVariants as delete
-use Rattle.mc_ui.specs.declared.replies.TroubleReply.{TroubleReply}
-use Rattle.mc_ui.specs.declared.replies.TroubleReply.TheVariants as trouble
-use Rattle.mc_ui.specs.declared.replies.LineReply.{LineReply}
-use Rattle.mc_ui.specs.declared.replies.LineReply.TheVariants as line
+use Rattle.box_words.specs.declared.replies.DeleteReply.{DeleteReply}
+use Rattle.box_words.specs.declared.replies.DeleteReply.TheVariants as delete
+use Rattle.box_words.specs.declared.replies.TroubleReply.{TroubleReply}
+use Rattle.box_words.specs.declared.replies.TroubleReply.TheVariants as trouble
+use Rattle.box_words.specs.declared.replies.LineReply.{LineReply}
+use Rattle.box_words.specs.declared.replies.LineReply.TheVariants as line
 
 -- the letters of the delete box: `y` deletes, `g` too, until jobs run in the background, and `n` doesn't
 abbrev pub delete_letters : List ℕ
@@ -58,16 +54,6 @@ abbrev pub line_reply : Shut → LineReply
 line_reply Stay = line.Stays
 line_reply (Closed (Line text background)) = line.Takes text
 line_reply (Closed other) = line.Shuts
-
--- a line is as it was where its text was taken
-abbrev pub StaysWhereTaken : LineReply → InputState → InputState → Type 0
-StaysWhereTaken line.Stays before after = ⊤
-StaysWhereTaken line.Shuts before after = ⊤
-StaysWhereTaken (line.Takes text) before after = after ≡ before
-
--- nothing was refused, or the mask
-abbrev pub MayRefuseMask : List Refusal → Type 0
-MayRefuseMask refusals = (refusals ≡ []) ⊎ (refusals ≡ Plan BadMask ∷ [])
 
 -- the keys that close a message
 abbrev pub closes_message : Base → Bool

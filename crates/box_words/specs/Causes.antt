@@ -6,7 +6,7 @@ use Rattle.tree_trait.specs.declared.calls.TreeError.TheVariants.{Missing, NotFo
 use Rattle.job_reports.specs.declared.report.Cause.{Cause}
 use Rattle.job_reports.specs.declared.report.Cause.TheVariants as cause
 use Rattle.session_history.specs.declared.refusal.PlanError.{PlanError}
-use Rattle.session_history.specs.declared.refusal.PlanError.TheVariants.{TargetThere, TargetTooLong, BadMask}
+use Rattle.session_history.specs.declared.refusal.PlanError.TheVariants.{NoSelection, TargetThere, TargetTooLong, BadMask}
 use Rattle.session_history.specs.declared.refusal.BeginError.{BeginError}
 use Rattle.session_history.specs.declared.refusal.BeginError.TheVariants.{NoMoreIds}
 use Rattle.session_history.specs.declared.refusal.Refusal.{Refusal}
@@ -30,6 +30,7 @@ cause_words Memory = codes "out of memory"
 
 -- what is said of a plan that can't be made
 abbrev pub plan_words : PlanError → List ℕ
+plan_words NoSelection = codes "nothing selected"
 plan_words (TargetThere path) = codes "already there"
 plan_words TargetTooLong = codes "path too long"
 plan_words BadMask = codes "bad mask"

@@ -3,17 +3,18 @@ use Rattle.std.specs.Prelude.{ℕ, Bool, true, false, List, [], ◌∷◌, ◌++
 use Rattle.std.specs.Option.{option_map_or}
 use Rattle.mc_text.specs.Routes.{Route, path_text, spelled}
 use Rattle.job_reports.specs.declared.report.Trouble.{Trouble}
-use Rattle.session_history.specs.declared.refusal.PlanError.TheVariants.{TargetThere, TargetTooLong, BadMask}
+use Rattle.session_history.specs.declared.refusal.PlanError.TheVariants.{NoSelection, TargetThere, TargetTooLong, BadMask}
 use Rattle.session_history.specs.declared.refusal.Refusal.{Refusal}
 use Rattle.session_history.specs.declared.refusal.Refusal.TheVariants.{Tree, Plan, Begin}
 use Rattle.mc_dialogs.specs.InputKeys.{InputState}
-use Rattle.mc_ui.specs.declared.message.Message.{Message}
-use Rattle.mc_ui.specs.declared.message.Message.TheVariants.{Refused, PartLeft, Help}
-use Rattle.mc_ui.specs.Causes.{refusal_words, trouble_words}
+use Rattle.box_words.specs.declared.message.Message.{Message}
+use Rattle.box_words.specs.declared.message.Message.TheVariants.{Refused, PartLeft, OutOfMemory, Help}
+use Rattle.box_words.specs.Causes.{refusal_words, trouble_words}
 
 -- the path that a refusal speaks of, if it speaks of one
 abbrev pub refusal_path : Refusal → Option Route
 refusal_path (Tree path e) = Some path
+refusal_path (Plan NoSelection) = None
 refusal_path (Plan (TargetThere path)) = Some path
 refusal_path (Plan TargetTooLong) = None
 refusal_path (Plan BadMask) = None
@@ -24,10 +25,16 @@ abbrev pub path_lines : Option Route → List (List ℕ)
 path_lines None = []
 path_lines (Some path) = path_text path ∷ []
 
+-- the lines that tell of a part that is left, if one is
+abbrev pub part_lines : Option Route → List (List ℕ)
+part_lines None = []
+part_lines (Some path) = codes "part left" ∷ path_text path ∷ []
+
 -- the lines of a message: what is said, and the path that it is said of
 abbrev pub message_lines : Message → List (List ℕ)
 message_lines (Refused refusal) = refusal_words refusal ∷ path_lines (refusal_path refusal)
-message_lines (PartLeft path) = codes "part left" ∷ path_text path ∷ []
+message_lines (PartLeft path) = part_lines (Some path)
+message_lines (OutOfMemory part) = codes "job ended: out of memory" ∷ part_lines part
 message_lines Help =
     codes "usage: mc [-b] [-V] [-h] [-P FILE] [-v FILE | -e FILE | --drill N | DIR1 [DIR2]]"
     ∷ codes "F1 help  F2 menu  F3 view  F4 edit  F5 copy  F6 move  F7 mkdir  F8 delete  F9 options  F10 quit"

@@ -1,0 +1,3 @@
+pub mod BoxKeys
+pub mod BoxLines
+pub mod Causes

@@ -1,0 +1,19 @@
+//! What the boxes and messages over the panels say, and what a key makes of a box.
+#![tactic(auto)]
+
+mod box_lines;
+mod causes;
+mod dialog;
+mod message;
+mod replies;
+
+pub use box_lines::{
+    delete_lines, mask_line, message_lines, target_line, target_text, trouble_lines,
+};
+pub use causes::cause_text;
+pub use dialog::{Chosen, Dialog};
+pub use message::Message;
+pub use replies::{
+    DeleteReply, LineReply, TroubleReply, closes_message, delete_reply_to, line_reply,
+    trouble_reply_to,
+};
