@@ -1,0 +1,62 @@
+-- Where a walk stands, and where it stands once it goes on.
+use Rattle.std.specs.Prelude.{◌≡◌, ℕ, ◌+◌, ◌-◌, Bool, true, false, ◌||◌, List, [], ◌∷◌, drop}
+use Rattle.mc_text.specs.Routes.{Route}
+
+-- a folder that is open, the names in it that are yet to be met, and whether one of those that were met was left
+pub record OpenFolder : Type 0 where
+  pub path : Route
+  pub names : List (List ℕ)
+  pub spared : Bool
+
+-- the folders around the one that is worked, the nearest first, and for how many more there is room
+pub record FoldersAround : Type 0 where
+  pub nearest : List OpenFolder
+  pub spare : ℕ
+
+-- the place of a walk: the folder that is worked, those around it, the nearest first, and how many levels it may go down
+pub record Place : Type 0 where
+  pub inner : OpenFolder
+  pub around : List OpenFolder
+  pub left : ℕ
+
+-- a walk, and for how many folders there is room
+pub record Walking : Type 0 where
+  pub place : Place
+  pub spare : ℕ
+
+abbrev pub is_empty : List OpenFolder → Bool
+is_empty [] = true
+is_empty (folder ∷ folders) = false
+
+-- no folder is around the one that is worked
+abbrev pub is_outermost : Place → Bool
+is_outermost place = is_empty place.around
+
+-- a folder of which nothing was met yet
+abbrev pub opened : Route → List (List ℕ) → OpenFolder
+opened path names = record { path = path; names = names; spared = false }
+
+-- a walk that is to begin; it goes down 256 levels below its outermost folder
+abbrev pub unopened : Place
+unopened = record { inner = opened [] []; around = []; left = 256 }
+
+abbrev pub noted : Bool → OpenFolder → OpenFolder
+noted left folder = record folder { spared = folder.spared || left }
+
+abbrev pub without_next : OpenFolder → OpenFolder
+without_next folder = record folder { names = drop 1 folder.names }
+
+-- the next name is done with
+abbrev pub passed : Bool → Place → Place
+passed left place = record place { inner = noted left (without_next place.inner) }
+
+-- the walk goes down into the folder that has the next name
+abbrev pub entered : Route → List (List ℕ) → Place → Place
+entered path names place = record { inner = opened path names; around = without_next place.inner ∷ place.around; left = place.left - 1 }
+
+-- the folder that is worked is done with, and the one around it is worked again
+pub record IsLeft (left : Bool) (old new : Place) : Type 0 where
+  pub outer : OpenFolder
+  pub was : old.around ≡ outer ∷ new.around
+  pub inner : new.inner ≡ noted left outer
+  pub levels : new.left ≡ old.left + 1

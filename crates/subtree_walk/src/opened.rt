@@ -1,0 +1,101 @@
+//! A folder whose children are met one by one.
+ghost use Rattle.std.specs.Prelude.{◌≡◌, ◌≤◌, ◌^◌, ◌||◌, [], ◌∷◌, drop, length, false, reverse, IfSome, IfNone};
+
+use mc_text::{Name, Names, Path};
+use std::alloc::Global;
+use std::marker::Model;
+
+/// A folder that is open: its path, the names in it that are yet to be met, of which it keeps the last one first, and whether
+/// one of those that were met was left where it stands.
+#[derive(Debug, Drop)]
+pub struct Opened {
+    path: Path,
+    names: Vec<Name>,
+    spared: bool,
+}
+
+impl Model for Opened {
+    ghost use Rattle.std.specs.Prelude.{reverse};
+    ghost use Rattle.subtree_walk.specs.Places.{OpenFolder};
+
+    ghost Value = { OpenFolder };
+
+    ghost view = { λ o. record { path = o.path; names = reverse o.names.items; spared = o.spared } };
+}
+
+impl Opened {
+    /// No folder yet. It takes no memory.
+    pub fn nothing(alloc: Global) -> Opened
+        ensures { result ≡ record { path = []; names = []; spared = false } }
+    {
+        Opened {
+            path: Path::root(alloc),
+            names: Vec::new(alloc),
+            spared: false,
+        }
+    }
+
+    /// A folder with these children, none of which was met yet.
+    pub fn new(path: Path, names: Names) -> Opened
+        ensures opened { result ≡ record { path = path; names = names; spared = false } }
+        ensures few { length names ≤ 2 ^ 64 }
+    {
+        let mut names = names.0;
+        names.reverse();
+        Opened {
+            path,
+            names,
+            spared: false,
+        }
+    }
+
+    /// The folder's path.
+    pub fn path(&self) -> &Path
+        ensures { result.now ≡ self.now.path }
+    {
+        &self.path
+    }
+
+    /// The name that is met next.
+    pub fn first(&self) -> Option<&Name>
+        ensures some { IfSome result (λ name. self.now.names ≡ name.now ∷ drop 1 self.now.names) }
+        ensures none { IfNone result (self.now.names ≡ []) }
+    {
+        self.names.last()
+    }
+
+    /// Whether something in it was left.
+    pub fn is_spared(&self) -> bool
+        ensures { result ≡ self.now.spared }
+    {
+        self.spared
+    }
+
+    /// Passes the name that is met next.
+    pub fn pass(&mut self)
+        ensures { self.new ≡ record self.old { names = drop 1 self.old.names } }
+    {
+        let _passed = self.names.pop();
+    }
+
+    /// Something in it may have been left.
+    pub fn note(&mut self, left: bool)
+        ensures { self.new ≡ record self.old { spared = self.old.spared || left } }
+    {
+        self.spared = either(self.spared, left);
+    }
+
+    /// The path of a folder that is done with.
+    pub fn into_path(self) -> Path
+        ensures { result ≡ self.path }
+    {
+        self.path
+    }
+}
+
+/// One of them. (The prover keeps no branch of a call.)
+fn either(a: bool, b: bool) -> bool
+    ensures { result ≡ (a || b) }
+{
+    a || b
+}

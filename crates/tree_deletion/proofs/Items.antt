@@ -1,0 +1,136 @@
+-- What a deletion takes up, and how it goes into a folder.
+use Rattle.std.proofs.Common.{◌≡◌, ℕ, ◌+◌, ◌<◌, suc, Bool, inl, inr, IfSome, IfNone, List, [], refl, sym, ◌∙◌, ap, subst, Option, Some, None, Ok, Err}
+use Rattle.mc_text.specs.Routes.{Route}
+use Rattle.tree_trait.specs.declared.file_system.FileSystem.{FileSystem}
+use Rattle.tree_trait.specs.Change.{CallLog, current}
+use Rattle.job_reports.specs.declared.report.Cause.{Cause}
+use Rattle.job_reports.specs.declared.report.Cause.TheVariants.{TooDeep, TooLong, Memory}
+use Rattle.job_reports.specs.declared.report.Trouble.{Trouble}
+use Rattle.job_reports.specs.Stops.{IsTroubleWithPath}
+use Rattle.job_reports.specs.Paths.{folder_of}
+use Rattle.job_reports.proofs.Reading.{told}
+use Rattle.tree_trait.specs.declared.calls.Children.{Children}
+use Rattle.subtree_walk.specs.Places.{IsLeft, Place, entered, opened, passed}
+use Rattle.subtree_walk.specs.Ranks.{rank, rank_around, weight}
+use Rattle.tree_deletion.specs.declared.deletion.Depth.TheVariants.{Top, Inside}
+use Rattle.tree_deletion.specs.declared.deletion.Deletion.{Deletion}
+use Rattle.tree_deletion.specs.declared.looking.Found.TheVariants as found
+use Rattle.tree_deletion.specs.declared.meeting.Met.TheVariants as met
+use Rattle.tree_deletion.specs.declared.deletion.Stage.{Stage}
+use Rattle.tree_deletion.specs.Standing.{Decides, IsDone, Item, Thing, End, Leaves, after_item, item, item_at, item_of, rank_at, worked}
+use Rattle.tree_deletion.specs.Steps.{IsThing, KeepsRest, Passes}
+use Rattle.tree_deletion.specs.Descending.{GoesInto, IsAt, IsNext, Meets, StandsSo, StopsAt, ThingStops, opened_at}
+
+pub at_itself : (d : Deletion) → IsAt d d
+at_itself d = record { place = refl; depth_is = refl; stage_is = refl; path_is = refl; folder_is = refl }
+
+pub top_item : (d : Deletion) → d.depth ≡ Top → item d ≡ Thing d.path
+top_item d depth = ap (λ x. item_at x d.path d.walk.place) depth
+
+pub next_item : (d : Deletion) (path : Route) → d.depth ≡ Inside → IsNext path d.walk.place → item d ≡ Thing path
+next_item d path depth n =
+    ap (λ x. item_at x d.path d.walk.place) depth ∙ (ap (λ ns. item_of ns d.walk.place.inner.path (worked d.path d.walk.place)) n.names ∙ ap (λ p. Thing p) (sym n.is))
+
+pub end_item : (d : Deletion) → d.depth ≡ Inside → d.walk.place.inner.names ≡ [] → item d ≡ End (worked d.path d.walk.place)
+end_item d depth none = ap (λ x. item_at x d.path d.walk.place) depth ∙ ap (λ ns. item_of ns d.walk.place.inner.path (worked d.path d.walk.place)) none
+
+-- out of memory anything stops
+pub memory_stops : (s : FileSystem) (i : Item) → StopsAt s i Memory None
+memory_stops s (Thing path) = refl
+memory_stops s (End folder) = (refl, refl)
+
+pub at_thing : (s : FileSystem) (i : Item) (path : Route) (cause : Cause) (named : Option Route) → i ≡ Thing path → ThingStops s path cause named → StopsAt s i cause named
+at_thing s i path cause named is stops = subst (λ x. StopsAt s x cause named) (sym is) stops
+
+pub deep_stops : (s : FileSystem) (i : Item) (path : Route) (t : Trouble) → i ≡ Thing path → IsTroubleWithPath TooDeep path t → StopsAt s i t.cause t.path
+deep_stops s i path t is with_path = at_thing s i path t.cause t.path is (told (λ (u : Trouble). ThingStops s path u.cause u.path) TooDeep path t with_path refl refl)
+
+pub long_stops : (s : FileSystem) (i : Item) (path folder : Route) (t : Trouble) → i ≡ Thing path → folder ≡ folder_of path → IsTroubleWithPath TooLong folder t → StopsAt s i t.cause t.path
+long_stops s i path folder t is of with_path =
+    at_thing s i path t.cause t.path is (told (λ (u : Trouble). ThingStops s path u.cause u.path) TooLong folder t with_path (ap (λ p. Some p) of) refl)
+
+-- what a look came to at the item that is taken up
+module _ (contents : Option CallLog) (old : Deletion) (path : Route) (is : item old ≡ Thing path) where
+  pub meets_thing : Meets contents old (Ok (met.Thing path)) old
+  meets_thing = (at_itself old, is)
+
+  pub meets_stopped : (t : Trouble) → StandsSo contents path (Err t) → Meets contents old (Err t) old
+  meets_stopped t stops = (at_itself old, λ log known. at_thing (current log) (item old) path t.cause t.path is (stops log known))
+
+  pub meets_folder : (new : Deletion) (children : Children) → StandsSo contents path (Ok (found.Folder children)) → GoesInto old path children.names (Ok met.Entered) new
+      → Meets contents old (Ok met.Entered) new
+  meets_folder new children stands goes =
+      ((path, record { children = children; takes = is; lists = stands.1; all = stands.0; opened_is = goes.0 }), goes.1)
+
+  pub meets_no_room : (new : Deletion) (children : Children) (t : Trouble) → GoesInto old path children.names (Err t) new → Meets contents old (Err t) new
+  meets_no_room new children t goes =
+      (goes.0, λ log known. subst (λ (u : Trouble). StopsAt (current log) (item old) u.cause u.path) (sym goes.1) (memory_stops (current log) (item old)))
+
+-- the folder that is deleted is opened
+pub opens : (old new : Deletion) (folder : Route) (names : List (List ℕ)) → old.depth ≡ Top → new.walk.place ≡ record old.walk.place { inner = opened folder names } → new.depth ≡ Inside
+    → new.stage ≡ old.stage → new.path ≡ old.path → new.folder ≡ old.folder
+    → rank new.walk.place < weight (suc old.walk.place.left) + rank_around (suc old.walk.place.left) old.walk.place.around
+    → GoesInto old folder names (Ok met.Entered) new
+opens old new folder names depth place inside stage path up falls = (
+  record {
+    place = place ∙ ap (λ x. opened_at x folder names old.walk.place) (sym depth);
+    depth_is = inside;
+    stage_is = stage;
+    path_is = path;
+    folder_is = up;
+  },
+  subst (λ x. rank_at new.depth new.walk.place < rank_at x old.walk.place) (sym depth) (subst (λ x. rank_at x new.walk.place < rank_at Top old.walk.place) (sym inside) falls),
+)
+
+-- a folder in it is gone into
+pub enters : (old new : Deletion) (folder : Route) (names : List (List ℕ)) → old.depth ≡ Inside → new.walk.place ≡ entered folder names old.walk.place → new.depth ≡ old.depth
+    → new.stage ≡ old.stage → new.path ≡ old.path → new.folder ≡ old.folder → rank new.walk.place < rank old.walk.place
+    → GoesInto old folder names (Ok met.Entered) new
+enters old new folder names depth place same stage path up falls = (
+  record {
+    place = place ∙ ap (λ x. opened_at x folder names old.walk.place) (sym depth);
+    depth_is = same ∙ depth;
+    stage_is = stage;
+    path_is = path;
+    folder_is = up;
+  },
+  subst (λ x. rank_at new.depth new.walk.place < rank_at x old.walk.place) (sym depth) (subst (λ x. rank_at x new.walk.place < rank_at Inside old.walk.place) (sym (same ∙ depth)) falls),
+)
+
+-- of the thing that is deleted nothing is left to be met
+pub top_passes : (d : Deletion) (left : Bool) → d.depth ≡ Top → Passes left d d
+top_passes d left depth = (
+  subst (λ x. IsDone x (item d) left d.walk.place d.walk.place) (sym depth) refl,
+  record { depth_is = refl; stage_is = refl; path_is = refl; folder_is = refl },
+)
+
+-- the next name is done with
+pub name_passes : (old new : Deletion) (left : Bool) → old.depth ≡ Inside → IsThing (item old) → new.walk.place ≡ passed left old.walk.place → KeepsRest old new → Passes left old new
+name_passes old new left depth thing is keeps = (subst (λ x. IsDone x (item old) left old.walk.place new.walk.place) (sym depth) (inside (item old) thing), keeps)
+  where
+    inside : (i : Item) → IsThing i → IsDone Inside i left old.walk.place new.walk.place
+    inside (Thing path) t = is
+    inside (End folder) t = absurd t
+
+-- a folder is done with
+pub leaves_by : (r : Option Route) (P : Route → Type 0) (left : Bool) (old new : Place) → IfSome r (λ path. P path × IsLeft left old new) → IfNone r ((old.around ≡ []) × (new ≡ old)) → Leaves left old new
+leaves_by None P left old new some none = inr none
+leaves_by (Some path) P left old new some none = inl some.1
+
+-- what was taken up is decided
+pub thing_decides : (old mid : Deletion) (left : Bool) (path : Route) (stage to : Stage) → Passes left old mid → to ≡ after_item mid.path path stage → Decides old left path stage (record mid { stage = to })
+thing_decides old mid left path stage to passes is = record {
+  place = passes.0;
+  stage_is = is ∙ ap (λ p. after_item p path stage) (let k = passes.1 in k.path_is);
+  path_is = let k = passes.1 in k.path_is;
+  folder_is = let k = passes.1 in k.folder_is;
+  depth_is = let k = passes.1 in k.depth_is;
+}
+
+pub folder_decides : (old mid : Deletion) (left : Bool) (path : Route) (stage to : Stage) → old.depth ≡ Inside → item old ≡ End path → Leaves left old.walk.place mid.walk.place → KeepsRest old mid
+    → to ≡ after_item mid.path path stage → Decides old left path stage (record mid { stage = to })
+folder_decides old mid left path stage to depth next leaves keeps is =
+    thing_decides old mid left path stage to (
+      subst (λ x. IsDone x (item old) left old.walk.place mid.walk.place) (sym depth) (subst (λ i. IsDone Inside i left old.walk.place mid.walk.place) (sym next) leaves),
+      keeps,
+    ) is

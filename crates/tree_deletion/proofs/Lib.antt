@@ -1,0 +1,6 @@
+mod Decided
+mod Items
+mod OnWay
+mod Refusals
+mod Synced
+mod Worked

@@ -1,0 +1,16 @@
+-- It is on its way down, and nothing was changed; there are fewer things with each folder that it goes into.
+use Rattle.std.proofs.Common.{◌≡◌, ◌≤◌}
+use Rattle.tree_deletion.specs.Standing.{rank_at}
+use Rattle.tree_deletion.proofs.OnWay.{IsOnWay}
+use Rattle.tree_deletion.proofs.deletion.Deletion.work.Given as goal
+
+abbrev pub invariant-loop-stepped : goal.invariant-loop-stepped
+invariant-loop-stepped g l = record {
+  way : IsOnWay (g.T.Tree.contents l.fn.tree) l.fn.self l.self;
+  same : g.T.Tree.contents l.tree ≡ g.T.Tree.contents l.fn.tree;
+  later : g.T.Tree.fault_count l.fn.tree ≤ g.T.Tree.fault_count l.tree;
+  folders : l.unsynced ≡ l.fn.unsynced;
+}
+
+abbrev pub decreases-loop-stepped : goal.decreases-loop-stepped
+decreases-loop-stepped g l = rank_at l.self.depth l.self.walk.place

@@ -1,0 +1,21 @@
+-- Folders with a change of names that no sync has brought onto the disk.
+use Rattle.std.specs.Prelude.{◌≡◌, Bool, false, ◌||◌, List, [], ◌∷◌, ◌++◌, if◌then◌else◌}
+use Rattle.std.specs.List.{list_any}
+use Rattle.mc_text.specs.Routes.{Route, same_path, is_prefix}
+use Rattle.tree_trait.specs.CrashImages.{Among}
+
+-- it is one of these
+abbrev pub is_one_of : Route → List Route → Bool
+is_one_of folder folders = list_any (λ kept. same_path kept folder) folders
+
+-- one more, unless it is one of them
+abbrev pub joined : Route → List Route → List Route
+joined folder folders = if is_one_of folder folders then folders else folders ++ folder ∷ []
+
+-- it is this folder, or the top or below that: so a deletion of the top, which lies in the folder, may have changed it
+abbrev pub is_of : Route → Route → Route → Bool
+is_of folder top kept = same_path kept folder || is_prefix top kept
+
+-- none of these is
+abbrev pub NoneOf : Route → Route → List Route → Type 0
+NoneOf folder top folders = (kept : Route) → Among folders kept → is_of folder top kept ≡ false

@@ -1,0 +1,4 @@
+pub mod Folders
+pub mod Standing
+pub mod Descending
+pub mod Steps

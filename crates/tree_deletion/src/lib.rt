@@ -1,0 +1,17 @@
+//! The deletion of a thing with all that lies in it, a name a step, over any tree.
+#![tactic(auto)]
+
+mod deletion;
+mod ending;
+mod looking;
+mod meeting;
+mod removing;
+mod reports;
+mod skipping;
+mod unsynced;
+mod working;
+
+pub use deletion::{Deletion, Depth, Stage};
+pub use looking::Found;
+pub use meeting::Met;
+pub use unsynced::Unsynced;

@@ -1,0 +1,40 @@
+//! Reports of steps with and without a call.
+ghost use Rattle.std.specs.Prelude.{◌≡◌, Err, None};
+ghost use Rattle.job_reports.specs.Stops.{calls_made_for, trouble_at};
+
+use job_reports::{Cause, Did, Ending, StepResult, Trouble, out_of_memory};
+use mc_text::Path;
+use tree_trait::TreeError;
+
+pub(crate) fn without_call(did: Did) -> StepResult
+    ensures { result ≡ record { did = did; calls = 0 } }
+{
+    StepResult { did, calls: 0 }
+}
+
+pub(crate) fn with_call(did: Did) -> StepResult
+    ensures { result ≡ record { did = did; calls = 1 } }
+{
+    StepResult { did, calls: 1 }
+}
+
+pub(crate) fn ended(ending: Ending) -> Did
+    ensures { result ≡ Did.Ended ending None }
+{
+    Did::Ended { ending, part: None }
+}
+
+/// The report of a refused call. One that found no memory was not made.
+pub(crate) fn refused(error: TreeError, path: Path, barrier: bool) -> StepResult
+    ensures did { result.did ≡ Did.Troubled (trouble_at error path barrier) }
+    ensures calls { result.calls ≡ calls_made_for (Err error) }
+{
+    match error {
+        TreeError::Memory => without_call(Did::Troubled(out_of_memory(barrier))),
+        error => with_call(Did::Troubled(Trouble {
+            cause: Cause::Tree(error),
+            path: Some(path),
+            barrier,
+        })),
+    }
+}

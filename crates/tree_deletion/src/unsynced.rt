@@ -1,0 +1,100 @@
+//! Folders with a change of names that no sync has brought onto the disk.
+ghost use Rattle.std.specs.Prelude.{◌≡◌, ◌-◌, ◌||◌, [], length, take, true, IfNone, IfOk, IfSome, OnErr, OnOk, if◌then◌else◌};
+ghost use Rattle.job_reports.specs.Paths.{without};
+ghost use Rattle.tree_deletion.specs.Folders.{NoneOf, is_of, is_one_of, joined};
+
+use mc_text::{NoMemory, Path};
+use std::alloc::Global;
+use std::marker::Model;
+
+/// Some folders, each once, in the order in which they joined.
+#[derive(Debug, Drop)]
+pub struct Unsynced {
+    folders: Vec<Path>,
+}
+
+impl Model for Unsynced {
+    ghost use Rattle.std.specs.Prelude.{List};
+    ghost use Rattle.mc_text.specs.Routes.{Route};
+
+    ghost Value = { List Route };
+
+    ghost view = { λ u. u.folders.items };
+}
+
+impl Unsynced {
+    /// None yet. It takes no memory.
+    pub fn new(alloc: Global) -> Unsynced
+        ensures { result ≡ [] }
+    {
+        Unsynced {
+            folders: Vec::new(alloc),
+        }
+    }
+
+    /// How many they are.
+    pub fn len(&self) -> usize
+        ensures { result ≡ length self.now }
+    {
+        self.folders.len()
+    }
+
+    /// One more, unless it is one of them; whether it joined.
+    pub(crate) fn join(&mut self, alloc: Global, folder: &Path) -> Result<bool, NoMemory>
+        ensures joined { OnOk result (self.new ≡ joined folder.now self.old) }
+        ensures back { IfOk result (λ more. (if more then take (length self.new - 1) self.new else self.new) ≡ self.old) }
+        ensures refused { OnErr result (self.new ≡ self.old) }
+    {
+        if self.holds(folder) {
+            return Ok(false);
+        }
+        let folder = folder.copy(alloc)?;
+        self.folders.push(folder)?;
+        Ok(true)
+    }
+
+    /// Whether this is one of them.
+    fn holds(&self, folder: &Path) -> bool
+        ensures { result ≡ is_one_of folder.now self.now }
+    {
+        self.folders.iter().any(|kept| kept.same(folder))
+    }
+
+    /// The one that joined last leaves them again, if one did.
+    pub(crate) fn drop_last_if(&mut self, more: bool)
+        ensures { self.new ≡ (if more then take (length self.old - 1) self.old else self.old) }
+    {
+        if more {
+            self.folders.pop();
+        }
+    }
+
+    /// A folder was synced, or is gone.
+    pub(crate) fn remove(&mut self, folder: &Path)
+        ensures { self.new ≡ without folder.now self.old }
+    {
+        self.folders.retain(|kept| !kept.same(folder));
+    }
+
+    /// The first that is this folder, or the top or below that.
+    pub(crate) fn first_of(&self, folder: &Path, top: &Path) -> Option<&Path>
+        ensures some { IfSome result (λ kept. is_of folder.now top.now kept.now ≡ true) }
+        ensures none { IfNone result (NoneOf folder.now top.now self.now) }
+    {
+        let mut rest = self.folders.as_slice();
+        while let Some((first, more)) = rest.split_first() {
+            if is_of_deletion(first, folder, top) {
+                return Some(first);
+            }
+            rest = more;
+        }
+        None
+    }
+}
+
+/// Whether it is this folder, or the top or below that.
+fn is_of_deletion(kept: &Path, folder: &Path, top: &Path) -> bool
+    ensures { result ≡ is_of folder.now top.now kept.now }
+{
+    kept.same(folder) || top.is_prefix_of(kept)
+}
