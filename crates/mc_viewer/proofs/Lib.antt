@@ -7,3 +7,5 @@ pub mod StartLemmas
 pub mod ReadingLemmas
 pub mod SightLemmas
 pub mod StepLemmas
+pub mod PlaceLemmas
+pub mod SeekLemmas

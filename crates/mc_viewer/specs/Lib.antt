@@ -4,3 +4,4 @@ pub mod Viewing
 pub mod Pages
 pub mod Windows
 pub mod Steps
+pub mod Searches

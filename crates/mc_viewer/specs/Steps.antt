@@ -1,11 +1,12 @@
 -- Where a viewer stands, and where each step leads (own; mc(1) has the keys).
-use Rattle.std.specs.Prelude.{ℕ, ◌+◌, ◌-◌, ◌^◌, min, Bool, true, false, not, ◌&&◌, List, length, if◌then◌else◌}
+use Rattle.std.specs.Prelude.{ℕ, ◌+◌, ◌-◌, ◌^◌, min, Bool, true, false, not, ◌&&◌, List, length, Option, None, if◌then◌else◌}
 use Rattle.mc_viewer.specs.declared.layout.Shape.{Shape}
 use Rattle.mc_viewer.specs.declared.layout.Shape.TheVariants.{Wrapped, Unwrapped, Hex}
 use Rattle.mc_viewer.specs.declared.layout.Layout.{Layout}
 use Rattle.mc_viewer.specs.declared.state.State.{State}
 use Rattle.mc_viewer.specs.declared.state.ViewStep.{ViewStep}
 use Rattle.mc_viewer.specs.declared.state.ViewStep.TheVariants as step
+use Rattle.mc_viewer.specs.declared.search.Hit.{Hit}
 use Rattle.mc_viewer.specs.declared.subject.Subject.{Subject}
 use Rattle.mc_viewer.specs.Rows.{all_rows, row_holding, rows_down, rows_up, line_behind}
 use Rattle.mc_viewer.specs.Pages.{page_rows}
@@ -68,16 +69,18 @@ after_step bytes (step.Byte byte) s = to_byte bytes s byte
 after_step bytes step.Wrap s = to_byte bytes (record s { wraps = not s.wraps }) s.top
 after_step bytes step.Hex s = to_byte bytes (record s { is_hex = not s.is_hex }) s.top
 
--- a viewer: what is viewed, and where it stands
+-- a viewer: what is viewed, where it stands, and what was found last
 pub record Viewing : Type 0 where
   pub subject : Subject
   pub state : State
+  pub last : Option Hit
 
--- it begins at the top, with lines wrapped
+-- it begins at the top, with lines wrapped, and nothing found
 abbrev pub begun : Subject → ℕ → ℕ → Viewing
 begun subject lines columns = record {
   subject = subject;
   state = record { lines = lines; columns = columns; wraps = true; is_hex = false; left = 0; top = 0 };
+  last = None;
 }
 
 -- what is shown

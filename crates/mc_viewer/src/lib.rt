@@ -1,4 +1,4 @@
-//! A viewer of a file or an output: pages of rows and moves, that read no more of it than they have to.
+//! A viewer of a file or an output: pages of rows, moves and searches, that read no more of it than they have to.
 #![tactic(auto)]
 
 mod error;
@@ -9,14 +9,18 @@ mod moves;
 mod pages;
 mod reading;
 mod rows;
+mod search;
+mod seeking;
 mod state;
 mod subject;
 mod text;
 mod units;
 mod viewer;
 mod walking;
+mod window;
 
 pub use error::ViewError;
+pub use search::Search;
 pub use state::ViewStep;
 pub use subject::Subject;
 pub use viewer::Viewer;

@@ -1,13 +1,16 @@
 //! A viewer of a file or an output.
-ghost use Rattle.std.specs.Prelude.{◌≡◌, ◌≤◌, IfOk, IfErr, OnOk, OnErr};
+ghost use Rattle.std.specs.Prelude.{◌≡◌, ◌≤◌, Ok, IfOk, IfErr, OnOk, OnErr};
 ghost use Rattle.tree_trait.specs.Answers.{IfKnown, HasCause};
 ghost use Rattle.mc_viewer.specs.Viewing.{held, IsReadError, AsTheTreeSays};
+ghost use Rattle.mc_viewer.specs.Searches.{after_search, after_next, moved_on, IsMissed, IsSearchError};
 ghost use Rattle.mc_viewer.specs.Steps.{begun, page_of, after_step};
 
 use crate::error::ViewError;
 use crate::moves::moved;
 use crate::pages::page_rows;
 use crate::reading::size_of;
+use crate::search::{Hit, Search};
+use crate::seeking::{first_landing, next_landing};
 use crate::state::{State, ViewStep, layout_of, page_lines};
 use crate::subject::Subject;
 use mc_text::Rows;
@@ -16,11 +19,12 @@ use std::marker::Model;
 use tree_trait::{Tree, TreeError};
 
 /// A viewer. It keeps none of what it shows: each call reads what it needs, as it stands then. Contracts see what is viewed,
-/// and where the viewer stands.
+/// and where the viewer stands, and what was found last.
 #[derive(Debug, Drop)]
 pub struct Viewer {
     subject: Subject,
     state: State,
+    last: Option<Hit>,
 }
 
 impl Model for Viewer {
@@ -29,7 +33,7 @@ impl Model for Viewer {
 
     ghost Value = { Viewing };
 
-    ghost view = { λ v. record { subject = v.subject; state = v.state } };
+    ghost view = { λ v. record { subject = v.subject; state = v.state; last = v.last } };
 
     ghost invariant = { λ v. 1 ≤ v.state.columns };
 }
@@ -60,7 +64,11 @@ impl Viewer {
             left: 0,
             top: 0,
         };
-        Ok(Viewer { subject, state })
+        Ok(Viewer {
+            subject,
+            state,
+            last: None,
+        })
     }
 
     /// The rows that are shown.
@@ -101,5 +109,65 @@ impl Viewer {
         let state = moved(alloc, tree, &self.subject, self.state, step)?;
         self.state = state;
         Ok(())
+    }
+
+    /// Searches from the top on. A search that fails leaves the viewer where it stood, and what was found before is still the
+    /// last.
+    pub fn search<T: Tree>(
+        &mut self,
+        alloc: Global,
+        tree: &mut T,
+        what: Search,
+    ) -> Result<(), ViewError>
+        ensures found { IfKnown (held (T.contents tree.old) self.old.subject) (λ bytes.
+            OnOk result (after_search bytes what self.old ≡ Ok self.new)) }
+        ensures missed { IfKnown (held (T.contents tree.old) self.old.subject) (λ bytes.
+            IfErr result (IsMissed (after_search bytes what self.old))) }
+        ensures subject { self.new.subject ≡ self.old.subject }
+        ensures stays { OnErr result (self.new ≡ self.old) }
+        ensures refused { IfKnown (T.contents tree.old) (λ log. IfErr result (AsTheTreeSays log self.old.subject)) }
+        ensures kinds { IfErr result IsSearchError }
+        ensures same { T.contents tree.new ≡ T.contents tree.old }
+        ensures cause { HasCause (ViewError.Tree TreeError.Fault) (T.fault_count tree.old) (T.fault_count tree.new) result }
+    {
+        let landing = first_landing(alloc, tree, &self.subject, self.state, &what)?;
+        self.state = landing.state;
+        self.last = Some(Hit {
+            what,
+            place: landing.place,
+        });
+        Ok(())
+    }
+
+    /// Searches once more, behind what was found last. Before that nothing is found.
+    pub fn next<T: Tree>(&mut self, alloc: Global, tree: &mut T) -> Result<(), ViewError>
+        ensures found { IfKnown (held (T.contents tree.old) self.old.subject) (λ bytes.
+            OnOk result (after_next bytes self.old ≡ Ok self.new)) }
+        ensures missed { IfKnown (held (T.contents tree.old) self.old.subject) (λ bytes.
+            IfErr result (IsMissed (after_next bytes self.old))) }
+        ensures subject { self.new.subject ≡ self.old.subject }
+        ensures stays { OnErr result (self.new ≡ self.old) }
+        ensures refused { IfKnown (T.contents tree.old) (λ log. IfErr result (AsTheTreeSays log self.old.subject)) }
+        ensures kinds { IfErr result IsSearchError }
+        ensures same { T.contents tree.new ≡ T.contents tree.old }
+        ensures cause { HasCause (ViewError.Tree TreeError.Fault) (T.fault_count tree.old) (T.fault_count tree.new) result }
+    {
+        let landing = next_landing(alloc, tree, &self.subject, self.state, &self.last)?;
+        self.state = landing.state;
+        self.last = moved_on(self.last.take(), landing.place);
+        Ok(())
+    }
+}
+
+/// What was found last, at another place.
+fn moved_on(last: Option<Hit>, place: u64) -> Option<Hit>
+    ensures { result ≡ moved_on last place }
+{
+    match last {
+        Some(hit) => Some(Hit {
+            what: hit.what,
+            place,
+        }),
+        None => None,
     }
 }
