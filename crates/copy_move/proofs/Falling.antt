@@ -5,7 +5,7 @@ use Rattle.mc_text.specs.Routes.{Route}
 use Rattle.job_reports.specs.declared.report.Ending.{Ending}
 use Rattle.job_reports.specs.declared.report.Ending.TheVariants.{Finished, Aborted, Killed, NoMemory}
 use Rattle.job_reports.specs.declared.report.Did.{Did}
-use Rattle.job_reports.specs.declared.report.Did.TheVariants.{Began, Chunk, Placed, Removed, Skipped, Cleaned, Barrier, Troubled, Ended}
+use Rattle.job_reports.specs.declared.report.Did.TheVariants.{Began, Chunk, Placed, Removed, Kept, Skipped, Cleaned, Barrier, Troubled, Ended}
 use Rattle.file_copy.specs.declared.stage.Stage.{Stage}
 use Rattle.file_copy.specs.declared.stage.Stage.TheVariants.{Begin, Fill, Clean, Left, Decided}
 use Rattle.file_copy.specs.declared.stage.Next.TheVariants as next
@@ -94,6 +94,7 @@ copy_falls old new (Ended Aborted part) t sound h = absurd t
 copy_falls old new (Ended Killed part) t sound h = absurd t
 copy_falls old new (Ended NoMemory part) t sound h = absurd t
 copy_falls old new (Removed path) t sound h = absurd t
+copy_falls old new (Kept path) t sound h = absurd t
 copy_falls old new (Skipped path cause) t sound h = absurd t
 
 tried_low : (stage : DeletionStage) → last_deletion_steps stage < deletion_rank stage
@@ -121,6 +122,7 @@ deletion_falls old new (Ended NoMemory part) t h = absurd t
 deletion_falls old new (Began part) t h = absurd t
 deletion_falls old new (Chunk count) t h = absurd t
 deletion_falls old new (Placed path) t h = absurd t
+deletion_falls old new (Kept kept) t h = absurd t
 deletion_falls old new (Skipped path cause) t h = absurd t
 deletion_falls old new (Cleaned part) t h = absurd t
 
@@ -133,6 +135,7 @@ last_copy_falls ending old new (Began part) w falls h = absurd w
 last_copy_falls ending old new (Chunk count) w falls h = absurd w
 last_copy_falls ending old new (Placed path) w falls h = absurd w
 last_copy_falls ending old new (Removed path) w falls h = absurd w
+last_copy_falls ending old new (Kept kept) w falls h = absurd w
 last_copy_falls ending old new (Skipped path cause) w falls h = absurd w
 last_copy_falls ending old new (Troubled trouble) w falls h = absurd w
 
@@ -144,6 +147,7 @@ last_deletion_falls ending old new (Began part) w h = absurd w
 last_deletion_falls ending old new (Chunk count) w h = absurd w
 last_deletion_falls ending old new (Placed path) w h = absurd w
 last_deletion_falls ending old new (Removed path) w h = absurd w
+last_deletion_falls ending old new (Kept kept) w h = absurd w
 last_deletion_falls ending old new (Skipped path cause) w h = absurd w
 last_deletion_falls ending old new (Cleaned part) w h = absurd w
 last_deletion_falls ending old new (Troubled trouble) w h = absurd w

@@ -16,7 +16,7 @@ use Rattle.job_reports.specs.declared.report.Cause.TheVariants.{Memory}
 use Rattle.job_reports.specs.declared.report.Ending.{Ending}
 use Rattle.job_reports.specs.declared.report.Ending.TheVariants.{Finished, Aborted, Killed, NoMemory}
 use Rattle.job_reports.specs.declared.report.Did.{Did}
-use Rattle.job_reports.specs.declared.report.Did.TheVariants.{Began, Chunk, Placed, Removed, Skipped, Cleaned, Barrier, Troubled, Ended}
+use Rattle.job_reports.specs.declared.report.Did.TheVariants.{Began, Chunk, Placed, Removed, Kept, Skipped, Cleaned, Barrier, Troubled, Ended}
 use Rattle.file_copy.specs.declared.stage.Stage.{Stage}
 use Rattle.file_copy.specs.declared.stage.Stage.TheVariants as at
 use Rattle.file_copy.specs.declared.stage.FolderState.{FolderState}
@@ -60,6 +60,7 @@ copy_stays c new (Ended Aborted part) t = absurd t
 copy_stays c new (Ended Killed part) t = absurd t
 copy_stays c new (Ended NoMemory part) t = absurd t
 copy_stays c new (Removed path) t = absurd t
+copy_stays c new (Kept path) t = absurd t
 copy_stays c new (Skipped path cause) t = absurd t
 
 -- a deletion stays at its path
@@ -74,6 +75,7 @@ deletion_stays d new (Ended NoMemory part) t = absurd t
 deletion_stays d new (Began part) t = absurd t
 deletion_stays d new (Chunk count) t = absurd t
 deletion_stays d new (Placed path) t = absurd t
+deletion_stays d new (Kept kept) t = absurd t
 deletion_stays d new (Skipped path cause) t = absurd t
 deletion_stays d new (Cleaned part) t = absurd t
 
@@ -92,6 +94,7 @@ copy_winds_there ending c new (Began part) w = absurd w
 copy_winds_there ending c new (Chunk count) w = absurd w
 copy_winds_there ending c new (Placed path) w = absurd w
 copy_winds_there ending c new (Removed path) w = absurd w
+copy_winds_there ending c new (Kept kept) w = absurd w
 copy_winds_there ending c new (Skipped path cause) w = absurd w
 copy_winds_there ending c new (Troubled trouble) w = absurd w
 
@@ -102,6 +105,7 @@ deletion_winds_there ending d new (Began part) w = absurd w
 deletion_winds_there ending d new (Chunk count) w = absurd w
 deletion_winds_there ending d new (Placed path) w = absurd w
 deletion_winds_there ending d new (Removed path) w = absurd w
+deletion_winds_there ending d new (Kept kept) w = absurd w
 deletion_winds_there ending d new (Skipped path cause) w = absurd w
 deletion_winds_there ending d new (Cleaned part) w = absurd w
 deletion_winds_there ending d new (Troubled trouble) w = absurd w
@@ -125,6 +129,7 @@ clean_copy c new (Ended Aborted part) t changed clean = absurd t
 clean_copy c new (Ended Killed part) t changed clean = absurd t
 clean_copy c new (Ended NoMemory part) t changed clean = absurd t
 clean_copy c new (Removed path) t changed clean = absurd t
+clean_copy c new (Kept path) t changed clean = absurd t
 clean_copy c new (Skipped path cause) t changed clean = absurd t
 
 clean_deletion : (d new : Deleting) (did : Did) → deletions.Tells d did new → deletions.is_fresh d.stage ≡ false → deletions.is_dirty d.stage ≡ false → deletions.is_dirty new.stage ≡ false
@@ -138,6 +143,7 @@ clean_deletion d new (Ended NoMemory part) t changed clean = absurd t
 clean_deletion d new (Began part) t changed clean = absurd t
 clean_deletion d new (Chunk count) t changed clean = absurd t
 clean_deletion d new (Placed path) t changed clean = absurd t
+clean_deletion d new (Kept kept) t changed clean = absurd t
 clean_deletion d new (Skipped path cause) t changed clean = absurd t
 clean_deletion d new (Cleaned part) t changed clean = absurd t
 

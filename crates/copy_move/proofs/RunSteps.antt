@@ -5,7 +5,7 @@ use Rattle.tree_trait.specs.declared.calls.TreeError.{TreeError}
 use Rattle.tree_trait.specs.Change.{CallLog}
 use Rattle.job_reports.specs.declared.report.Ending.{Ending}
 use Rattle.job_reports.specs.declared.report.Did.{Did}
-use Rattle.job_reports.specs.declared.report.Did.TheVariants.{Began, Chunk, Placed, Removed, Skipped, Cleaned, Barrier, Troubled, Ended}
+use Rattle.job_reports.specs.declared.report.Did.TheVariants.{Began, Chunk, Placed, Removed, Kept, Skipped, Cleaned, Barrier, Troubled, Ended}
 use Rattle.job_reports.specs.Reports.{IsFault}
 use Rattle.copy_move.specs.declared.work.Work.{Work}
 use Rattle.copy_move.specs.declared.work.Work.TheVariants.{Copy, Delete}
@@ -24,6 +24,7 @@ quiet_end ending old new (Began part) w h = h
 quiet_end ending old new (Chunk count) w h = h
 quiet_end ending old new (Placed path) w h = h
 quiet_end ending old new (Removed path) w h = h
+quiet_end ending old new (Kept kept) w h = h
 quiet_end ending old new (Skipped path cause) w h = h
 quiet_end ending old new (Cleaned part) w h = h
 quiet_end ending old new Barrier w h = h

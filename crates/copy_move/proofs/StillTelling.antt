@@ -7,9 +7,9 @@ use Rattle.tree_trait.specs.Calls.{Call, RemoveFile, SyncFolder}
 use Rattle.tree_trait.specs.Change.{CallLog, current}
 use Rattle.tree_trait.specs.Answers.{Performs}
 use Rattle.job_reports.specs.declared.report.Cause.{Cause}
-use Rattle.job_reports.specs.declared.report.Cause.TheVariants.{Tree, TargetKind, SpecialSource, PartTaken, TooLong, Changed, Memory}
+use Rattle.job_reports.specs.declared.report.Cause.TheVariants.{Tree, TargetKind, SpecialSource, TooDeep, PartTaken, TooLong, Unnamed, Changed, Memory}
 use Rattle.job_reports.specs.declared.report.Did.{Did}
-use Rattle.job_reports.specs.declared.report.Did.TheVariants.{Began, Chunk, Placed, Removed, Skipped, Cleaned, Barrier, Troubled, Ended}
+use Rattle.job_reports.specs.declared.report.Did.TheVariants.{Began, Chunk, Placed, Removed, Kept, Skipped, Cleaned, Barrier, Troubled, Ended}
 use Rattle.file_copy.specs.declared.stage.Stage.{Stage}
 use Rattle.file_copy.specs.declared.stage.Stage.TheVariants.{Begin, Fill, Clean, Left, Decided}
 use Rattle.job_reports.specs.CallRuns.{RunStops, StopsAt}
@@ -48,6 +48,7 @@ deletion_tells d (Ended ending part) log after h = (log, h)
 deletion_tells d (Began part) log after h = absurd h
 deletion_tells d (Chunk count) log after h = absurd h
 deletion_tells d (Placed path) log after h = absurd h
+deletion_tells d (Kept kept) log after h = absurd h
 deletion_tells d (Skipped path cause) log after h = absurd h
 deletion_tells d (Cleaned part) log after h = absurd h
 
@@ -58,6 +59,7 @@ last_tells d (Began part) log after h = absurd h
 last_tells d (Chunk count) log after h = absurd h
 last_tells d (Placed path) log after h = absurd h
 last_tells d (Removed path) log after h = absurd h
+last_tells d (Kept kept) log after h = absurd h
 last_tells d (Skipped path cause) log after h = absurd h
 last_tells d (Cleaned part) log after h = absurd h
 last_tells d (Troubled trouble) log after h = absurd h
@@ -73,6 +75,8 @@ run_tells calls (Tree e) path log after h = stops_tell log calls h.0 e after h.2
 run_tells calls Memory path log after h = all_some (take h.1.0 calls) log after h.1.2
 run_tells calls (TargetKind kind) path log after h = absurd h
 run_tells calls SpecialSource path log after h = absurd h
+run_tells calls TooDeep path log after h = absurd h
+run_tells calls (Unnamed count) path log after h = absurd h
 run_tells calls PartTaken path log after h = absurd h
 run_tells calls TooLong path log after h = absurd h
 run_tells calls (Changed said got) path log after h = absurd h
@@ -98,6 +102,7 @@ copy_tells unclaimed c (Cleaned part) new log after h = all_some (RemoveFile par
 copy_tells unclaimed c Barrier new log after h = all_some (SyncFolder (folder_of c.target) ∷ []) log after h
 copy_tells unclaimed c (Troubled trouble) new log after h = trouble_tells unclaimed (places_of c) c.stage trouble.cause trouble.path log after h
 copy_tells unclaimed c (Removed path) new log after h = absurd h
+copy_tells unclaimed c (Kept path) new log after h = absurd h
 copy_tells unclaimed c (Skipped path cause) new log after h = (log, h)
 copy_tells unclaimed c (Ended ending part) new log after h = (log, h)
 
@@ -113,6 +118,7 @@ wind_tells c (Began part) log after h = absurd h
 wind_tells c (Chunk count) log after h = absurd h
 wind_tells c (Placed path) log after h = absurd h
 wind_tells c (Removed path) log after h = absurd h
+wind_tells c (Kept kept) log after h = absurd h
 wind_tells c (Skipped path cause) log after h = absurd h
 wind_tells c (Troubled trouble) log after h = absurd h
 

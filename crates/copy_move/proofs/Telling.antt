@@ -10,7 +10,7 @@ use Rattle.job_reports.specs.declared.report.Trouble.{Trouble}
 use Rattle.job_reports.specs.declared.report.Ending.{Ending}
 use Rattle.job_reports.specs.declared.report.Ending.TheVariants.{Finished, Aborted, Killed, NoMemory}
 use Rattle.job_reports.specs.declared.report.Did.{Did}
-use Rattle.job_reports.specs.declared.report.Did.TheVariants.{Began, Chunk, Placed, Removed, Skipped, Cleaned, Barrier, Troubled, Ended}
+use Rattle.job_reports.specs.declared.report.Did.TheVariants.{Began, Chunk, Placed, Removed, Kept, Skipped, Cleaned, Barrier, Troubled, Ended}
 use Rattle.file_copy.specs.declared.stage.Next.{Next}
 use Rattle.file_copy.specs.declared.stage.Next.TheVariants as next
 use Rattle.file_copy.specs.declared.stage.Stage.{Stage}
@@ -139,6 +139,7 @@ copy_told id old new (Ended Aborted part) t h = absurd t
 copy_told id old new (Ended Killed part) t h = absurd t
 copy_told id old new (Ended NoMemory part) t h = absurd t
 copy_told id old new (Removed path) t h = absurd t
+copy_told id old new (Kept path) t h = absurd t
 copy_told id old new (Skipped path cause) t h = absurd t
 
 -- a deletion that goes on
@@ -154,6 +155,7 @@ deletion_told id old new (Ended NoMemory part) t h = absurd t
 deletion_told id old new (Began part) t h = absurd t
 deletion_told id old new (Chunk count) t h = absurd t
 deletion_told id old new (Placed path) t h = absurd t
+deletion_told id old new (Kept kept) t h = absurd t
 deletion_told id old new (Skipped path cause) t h = absurd t
 deletion_told id old new (Cleaned part) t h = absurd t
 
@@ -167,6 +169,7 @@ copy_winds id ending old new (Began part) t h = absurd t
 copy_winds id ending old new (Chunk count) t h = absurd t
 copy_winds id ending old new (Placed path) t h = absurd t
 copy_winds id ending old new (Removed path) t h = absurd t
+copy_winds id ending old new (Kept kept) t h = absurd t
 copy_winds id ending old new (Skipped path cause) t h = absurd t
 copy_winds id ending old new (Troubled trouble) t h = absurd t
 
@@ -178,6 +181,7 @@ deletion_winds id ending old new (Began part) t h = absurd t
 deletion_winds id ending old new (Chunk count) t h = absurd t
 deletion_winds id ending old new (Placed path) t h = absurd t
 deletion_winds id ending old new (Removed path) t h = absurd t
+deletion_winds id ending old new (Kept kept) t h = absurd t
 deletion_winds id ending old new (Skipped path cause) t h = absurd t
 deletion_winds id ending old new (Cleaned part) t h = absurd t
 deletion_winds id ending old new (Troubled trouble) t h = absurd t
@@ -215,6 +219,7 @@ step_told job new (Began part) t = sym (told_follows job new (Began part) t refl
 step_told job new (Chunk count) t = sym (told_follows job new (Chunk count) t refl)
 step_told job new (Placed path) t = sym (told_follows job new (Placed path) t refl)
 step_told job new (Removed path) t = sym (told_follows job new (Removed path) t refl)
+step_told job new (Kept kept) t = sym (told_follows job new (Kept kept) t refl)
 step_told job new (Skipped path cause) t = sym (told_follows job new (Skipped path cause) t refl)
 step_told job new (Cleaned part) t = sym (told_follows job new (Cleaned part) t refl)
 step_told job new Barrier t = sym (told_follows job new Barrier t refl)

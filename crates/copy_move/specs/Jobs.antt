@@ -7,7 +7,7 @@ use Rattle.job_reports.specs.declared.report.Cause.TheVariants.{Memory}
 use Rattle.job_reports.specs.declared.report.Ending.{Ending}
 use Rattle.job_reports.specs.declared.report.Ending.TheVariants.{Aborted}
 use Rattle.job_reports.specs.declared.report.Did.{Did}
-use Rattle.job_reports.specs.declared.report.Did.TheVariants.{Began, Chunk, Placed, Removed, Skipped, Cleaned, Barrier, Troubled, Ended}
+use Rattle.job_reports.specs.declared.report.Did.TheVariants.{Began, Chunk, Placed, Removed, Kept, Skipped, Cleaned, Barrier, Troubled, Ended}
 use Rattle.job_reports.specs.Reports.{passes_over}
 use Rattle.file_copy.specs.Copying.{begun}
 use Rattle.file_copy.specs.Copying as copying
@@ -123,6 +123,7 @@ course_after (Began part) = GoesOn
 course_after (Chunk count) = GoesOn
 course_after (Placed path) = GoesOn
 course_after (Removed path) = GoesOn
+course_after (Kept kept) = GoesOn
 course_after (Skipped path cause) = GoesOn
 course_after (Cleaned part) = GoesOn
 course_after Barrier = GoesOn

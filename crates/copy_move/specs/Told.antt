@@ -6,7 +6,7 @@ use Rattle.mc_text.specs.Routes.{Route}
 use Rattle.job_reports.specs.declared.report.Trouble.{Trouble}
 use Rattle.job_reports.specs.declared.report.Ending.TheVariants.{NoMemory}
 use Rattle.job_reports.specs.declared.report.Did.{Did}
-use Rattle.job_reports.specs.declared.report.Did.TheVariants.{Began, Chunk, Placed, Removed, Skipped, Cleaned, Barrier, Troubled, Ended}
+use Rattle.job_reports.specs.declared.report.Did.TheVariants.{Began, Chunk, Placed, Removed, Kept, Skipped, Cleaned, Barrier, Troubled, Ended}
 use Rattle.file_copy.specs.declared.stage.SourceFacts.{SourceFacts}
 use Rattle.file_copy.specs.declared.stage.Stage.{Stage}
 use Rattle.file_copy.specs.declared.stage.Stage.TheVariants as at
@@ -81,6 +81,7 @@ after_step (Began part) job = Some (record job { work = with_part part job.work 
 after_step (Chunk count) job = Some job
 after_step (Placed path) job = Some (record job { work = placed job.work })
 after_step (Removed path) job = Some (record job { work = removed job.work })
+after_step (Kept kept) job = Some job
 after_step (Skipped path cause) job = Some (record job { work = skipped job.work; course = GoesOn })
 after_step (Cleaned part) job = Some (record job { work = cleaned job.course job.work })
 after_step Barrier job = Some (record job { work = synced job.work })

@@ -6,7 +6,7 @@ use Rattle.tree_trait.specs.declared.calls.Meta.{Meta}
 use Rattle.tree_trait.specs.Calls.{Stat}
 use Rattle.tree_trait.specs.Refusals.{refusal_of}
 use Rattle.job_reports.specs.declared.report.Cause.{Cause}
-use Rattle.job_reports.specs.declared.report.Cause.TheVariants.{Tree, TargetKind, SpecialSource, PartTaken, TooLong, Changed, Memory}
+use Rattle.job_reports.specs.declared.report.Cause.TheVariants.{Tree, TargetKind, SpecialSource, TooDeep, PartTaken, TooLong, Unnamed, Changed, Memory}
 use Rattle.file_copy.specs.Copying.{Places}
 use Rattle.job_reports.specs.Paths.{folder_of}
 use Rattle.file_copy.specs.Looking.{IsThere, LookStops, Passes}
@@ -25,6 +25,8 @@ module _ (s : FileSystem) (p : Places) where
   first_look Memory path h = h
   first_look (TargetKind kind) path h = absurd h
   first_look SpecialSource path h = absurd h
+  first_look TooDeep path h = absurd h
+  first_look (Unnamed count) path h = absurd h
   first_look PartTaken path h = absurd h
   first_look TooLong path h = absurd h
   first_look (Changed said got) path h = absurd h
@@ -35,6 +37,8 @@ module _ (s : FileSystem) (p : Places) where
     second_look Memory path h = h.0
     second_look (TargetKind kind) path h = absurd h.0
     second_look SpecialSource path h = absurd h.0
+    second_look TooDeep path h = absurd h.0
+    second_look (Unnamed count) path h = absurd h.0
     second_look PartTaken path h = absurd h.0
     second_look TooLong path h = absurd h.0
     second_look (Changed said got) path h = absurd h.0
@@ -46,6 +50,8 @@ module _ (s : FileSystem) (p : Places) where
       third_look Memory path h = h
       third_look (TargetKind kind) path h = absurd h
       third_look SpecialSource path h = absurd h
+      third_look TooDeep path h = absurd h
+      third_look (Unnamed count) path h = absurd h
       third_look PartTaken path h = absurd h
       third_look TooLong path h = absurd h
       third_look (Changed said got) path h = absurd h
@@ -56,6 +62,8 @@ module _ (s : FileSystem) (p : Places) where
       fourth_look Memory path folder h = h
       fourth_look (TargetKind kind) path folder h = absurd h
       fourth_look SpecialSource path folder h = absurd h
+      fourth_look TooDeep path folder h = absurd h
+      fourth_look (Unnamed count) path folder h = absurd h
       fourth_look PartTaken path folder h = absurd h
       fourth_look TooLong path folder h = absurd h
       fourth_look (Changed said got) path folder h = absurd h

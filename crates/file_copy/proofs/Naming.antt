@@ -8,7 +8,7 @@ use Rattle.tree_trait.specs.Calls.{Stat}
 use Rattle.tree_trait.specs.Refusals.{refusal_of}
 use Rattle.tree_trait.proofs.Visible.{same_path-true, same_path-self}
 use Rattle.job_reports.specs.declared.report.Cause.{Cause}
-use Rattle.job_reports.specs.declared.report.Cause.TheVariants.{Tree, TargetKind, SpecialSource, PartTaken, TooLong, Changed, Memory}
+use Rattle.job_reports.specs.declared.report.Cause.TheVariants.{Tree, TargetKind, SpecialSource, TooDeep, PartTaken, TooLong, Unnamed, Changed, Memory}
 use Rattle.job_reports.specs.declared.report.Trouble.{Trouble}
 use Rattle.file_copy.specs.Copying.{Places}
 use Rattle.file_copy.specs.PartNames.{IsFree, IsShort, NameStops, NoneFree, TryStops, part_path}
@@ -75,6 +75,8 @@ module _ (s : FileSystem) (claims_none : Route → Type 0) (p : Places) (k : ℕ
   try_stops few none Memory path h = h
   try_stops few none (TargetKind kind) path h = absurd h
   try_stops few none SpecialSource path h = absurd h
+  try_stops few none TooDeep path h = absurd h
+  try_stops few none (Unnamed count) path h = absurd h
   try_stops few none PartTaken path h = absurd h
   try_stops few none (Changed said got) path h = absurd h
 

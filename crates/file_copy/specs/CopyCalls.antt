@@ -5,9 +5,9 @@ use Rattle.tree_trait.specs.declared.file_system.FileSystem.{FileSystem}
 use Rattle.tree_trait.specs.Calls.{Call, ReadAt, MakeFile, WriteAt, SetMode, Rename, RemoveFile, SyncFile, SyncFolder}
 use Rattle.tree_trait.specs.Change.{CallLog, current}
 use Rattle.job_reports.specs.declared.report.Cause.{Cause}
-use Rattle.job_reports.specs.declared.report.Cause.TheVariants.{Tree, TargetKind, SpecialSource, PartTaken, TooLong, Changed, Memory}
+use Rattle.job_reports.specs.declared.report.Cause.TheVariants.{Tree, TargetKind, SpecialSource, TooDeep, PartTaken, TooLong, Unnamed, Changed, Memory}
 use Rattle.job_reports.specs.declared.report.Did.{Did}
-use Rattle.job_reports.specs.declared.report.Did.TheVariants.{Began, Chunk, Placed, Removed, Skipped, Cleaned, Barrier, Troubled, Ended}
+use Rattle.job_reports.specs.declared.report.Did.TheVariants.{Began, Chunk, Placed, Removed, Kept, Skipped, Cleaned, Barrier, Troubled, Ended}
 use Rattle.file_copy.specs.declared.stage.SourceFacts.{SourceFacts}
 use Rattle.file_copy.specs.declared.stage.Stage.{Stage}
 use Rattle.file_copy.specs.declared.stage.Stage.TheVariants.{Begin, Fill, Clean, Left, Decided}
@@ -61,6 +61,8 @@ ReadStops s source facts done (Changed size got) path =
 ReadStops s source facts done Memory path = path ≡ None
 ReadStops s source facts done (TargetKind kind) path = ⊥
 ReadStops s source facts done SpecialSource path = ⊥
+ReadStops s source facts done TooDeep path = ⊥
+ReadStops s source facts done (Unnamed count) path = ⊥
 ReadStops s source facts done PartTaken path = ⊥
 ReadStops s source facts done TooLong path = ⊥
 
@@ -102,5 +104,6 @@ CopyCalls unclaimed c (Cleaned part) new log after = AllDone log (RemoveFile par
 CopyCalls unclaimed c Barrier new log after = AllDone log (SyncFolder (folder_of c.target) ∷ []) after
 CopyCalls unclaimed c (Troubled trouble) new log after = CopyStops unclaimed (places_of c) c.stage trouble.cause trouble.path log after
 CopyCalls unclaimed c (Removed path) new log after = ⊥
+CopyCalls unclaimed c (Kept path) new log after = ⊥
 CopyCalls unclaimed c (Skipped path cause) new log after = after ≡ Some log
 CopyCalls unclaimed c (Ended ending part) new log after = after ≡ Some log

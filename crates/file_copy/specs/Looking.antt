@@ -13,7 +13,7 @@ use Rattle.tree_trait.specs.Change.{found}
 use Rattle.tree_trait.specs.Refusals.{refusal_of}
 use Rattle.tree_trait.specs.Answers.{IsMeta}
 use Rattle.job_reports.specs.declared.report.Cause.{Cause}
-use Rattle.job_reports.specs.declared.report.Cause.TheVariants.{Tree, TargetKind, SpecialSource, PartTaken, TooLong, Changed, Memory}
+use Rattle.job_reports.specs.declared.report.Cause.TheVariants.{Tree, TargetKind, SpecialSource, TooDeep, PartTaken, TooLong, Unnamed, Changed, Memory}
 use Rattle.job_reports.specs.declared.report.Trouble.{Trouble}
 use Rattle.job_reports.specs.Reading.{IsRefusedWith}
 use Rattle.file_copy.specs.declared.stage.SourceFacts.{SourceFacts}
@@ -65,6 +65,8 @@ LookStops s p (TargetKind kind) path =
 LookStops s p SpecialSource path =
     (path ≡ Some p.source) × AllPass s (looks_at p) × (refusal_of s (Stat p.target) ≡ Some refused.Missing) × ((file_at s p.source).kind ≢ File)
 LookStops s p Memory path = path ≡ None
+LookStops s p TooDeep path = ⊥
+LookStops s p (Unnamed count) path = ⊥
 LookStops s p PartTaken path = ⊥
 LookStops s p TooLong path = ⊥
 LookStops s p (Changed said got) path = ⊥

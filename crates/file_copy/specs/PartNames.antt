@@ -7,7 +7,7 @@ use Rattle.tree_trait.specs.declared.calls.TreeError.TheVariants as refused
 use Rattle.tree_trait.specs.Calls.{Stat}
 use Rattle.tree_trait.specs.Refusals.{refusal_of}
 use Rattle.job_reports.specs.declared.report.Cause.{Cause}
-use Rattle.job_reports.specs.declared.report.Cause.TheVariants.{Tree, TargetKind, SpecialSource, PartTaken, TooLong, Changed, Memory}
+use Rattle.job_reports.specs.declared.report.Cause.TheVariants.{Tree, TargetKind, SpecialSource, TooDeep, PartTaken, TooLong, Unnamed, Changed, Memory}
 use Rattle.file_copy.specs.Copying.{Places}
 use Rattle.job_reports.specs.Paths.{folder_of}
 use Rattle.job_reports.specs.Reading.{IsRefusedWith, TargetStops}
@@ -53,6 +53,8 @@ NameStops s claims_none p PartTaken path = (path ≡ Some p.target) × NoneFree 
 NameStops s claims_none p Memory path = path ≡ None
 NameStops s claims_none p (TargetKind kind) path = ⊥
 NameStops s claims_none p SpecialSource path = ⊥
+NameStops s claims_none p TooDeep path = ⊥
+NameStops s claims_none p (Unnamed count) path = ⊥
 NameStops s claims_none p (Changed said got) path = ⊥
 
 -- what the choice gives: the first path that may be taken
@@ -85,5 +87,7 @@ TryStops s claims_none p k (Tree e) path = PathStops s (part_path p k) (Tree e) 
 TryStops s claims_none p k Memory path = path ≡ None
 TryStops s claims_none p k (TargetKind kind) path = ⊥
 TryStops s claims_none p k SpecialSource path = ⊥
+TryStops s claims_none p k TooDeep path = ⊥
+TryStops s claims_none p k (Unnamed count) path = ⊥
 TryStops s claims_none p k PartTaken path = ⊥
 TryStops s claims_none p k (Changed said got) path = ⊥

@@ -8,7 +8,7 @@ use Rattle.tree_trait.specs.Change.{CallLog, current}
 use Rattle.tree_trait.specs.CrashImages.{all_settled}
 use Rattle.crash_law.specs.Guarded.{Marks}
 use Rattle.job_reports.specs.declared.report.Did.{Did}
-use Rattle.job_reports.specs.declared.report.Did.TheVariants.{Began, Chunk, Placed, Removed, Skipped, Cleaned, Barrier, Troubled, Ended}
+use Rattle.job_reports.specs.declared.report.Did.TheVariants.{Began, Chunk, Placed, Removed, Kept, Skipped, Cleaned, Barrier, Troubled, Ended}
 use Rattle.job_reports.specs.declared.report.Ending.{Ending}
 use Rattle.job_reports.specs.Paths.{folder_of}
 use Rattle.file_copy.specs.Copying as copying
@@ -51,6 +51,7 @@ winds_none ending (Copy c) (Delete new) did t h = t
 winds_none ending (Delete d) (Copy new) did t h = t
 winds_none ending old new (Chunk count) t h = false≢true h
 winds_none ending old new (Placed path) t h = false≢true h
+winds_none ending old new (Kept kept) t h = false≢true h
 winds_none ending old new (Skipped path why) t h = false≢true h
 winds_none ending old new (Cleaned part) t h = false≢true h
 winds_none ending old new Barrier t h = false≢true h
@@ -76,6 +77,7 @@ module _ (told : Said) (dirty : List Route) (marks : Marks) (s : FileSystem) (co
   fresh_then (Copy c) (Copy new) (Removed path) t h clean k = absurd t
   fresh_then (Copy c) (Copy new) (Chunk count) t h clean k = absurd (false≢true h)
   fresh_then (Copy c) (Copy new) (Placed path) t h clean k = absurd (false≢true h)
+  fresh_then (Copy c) (Copy new) (Kept kept) t h clean k = absurd (false≢true h)
   fresh_then (Copy c) (Copy new) (Skipped path why) t h clean k = absurd (false≢true h)
   fresh_then (Copy c) (Copy new) (Cleaned part) t h clean k = absurd (false≢true h)
   fresh_then (Copy c) (Copy new) Barrier t h clean k = absurd (false≢true h)
@@ -87,6 +89,7 @@ module _ (told : Said) (dirty : List Route) (marks : Marks) (s : FileSystem) (co
   fresh_then (Delete d) (Delete new) (Began part) t h clean k = absurd t
   fresh_then (Delete d) (Delete new) (Chunk count) t h clean k = absurd (false≢true h)
   fresh_then (Delete d) (Delete new) (Placed path) t h clean k = absurd (false≢true h)
+  fresh_then (Delete d) (Delete new) (Kept kept) t h clean k = absurd (false≢true h)
   fresh_then (Delete d) (Delete new) (Skipped path why) t h clean k = absurd (false≢true h)
   fresh_then (Delete d) (Delete new) (Cleaned part) t h clean k = absurd (false≢true h)
   fresh_then (Delete d) (Delete new) Barrier t h clean k = absurd (false≢true h)

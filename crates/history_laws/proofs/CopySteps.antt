@@ -19,7 +19,7 @@ use Rattle.job_reports.specs.declared.report.Cause.{Cause}
 use Rattle.job_reports.specs.declared.report.Cause.TheVariants as cause
 use Rattle.job_reports.specs.declared.report.Ending.TheVariants.{Finished, Aborted, Killed, NoMemory}
 use Rattle.job_reports.specs.declared.report.Did.{Did}
-use Rattle.job_reports.specs.declared.report.Did.TheVariants.{Began, Chunk, Placed, Removed, Skipped, Cleaned, Barrier, Troubled, Ended}
+use Rattle.job_reports.specs.declared.report.Did.TheVariants.{Began, Chunk, Placed, Removed, Kept, Skipped, Cleaned, Barrier, Troubled, Ended}
 use Rattle.file_copy.specs.declared.stage.FolderState.TheVariants.{Synced, Dirty}
 use Rattle.file_copy.specs.declared.stage.Next.{Next}
 use Rattle.file_copy.specs.declared.stage.Next.TheVariants as next
@@ -125,6 +125,8 @@ module _ (told : Said) (dirty dirty_after : List Route) (marks : Marks) (log now
   write_stops part i done bytes cause.Memory path has (none, (suc count, few, end)) = absurd (omega (arith, few))
   write_stops part i done bytes (cause.TargetKind kind) path has stop = absurd stop
   write_stops part i done bytes cause.SpecialSource path has stop = absurd stop
+  write_stops part i done bytes cause.TooDeep path has stop = absurd stop
+  write_stops part i done bytes (cause.Unnamed count) path has stop = absurd stop
   write_stops part i done bytes cause.PartTaken path has stop = absurd stop
   write_stops part i done bytes cause.TooLong path has stop = absurd stop
   write_stops part i done bytes (cause.Changed said got) path has stop = absurd stop
@@ -245,4 +247,5 @@ module _ (told : Said) (dirty dirty_after : List Route) (marks : Marks) (log now
   copy_tells new (Ended Killed part) knows tells done settled leaves = absurd tells
   copy_tells new (Ended NoMemory part) knows tells done settled leaves = absurd tells
   copy_tells new (Removed path) knows tells done settled leaves = absurd tells
+  copy_tells new (Kept path) knows tells calls settled leaves = absurd tells
   copy_tells new (Skipped path why) knows tells done settled leaves = absurd tells

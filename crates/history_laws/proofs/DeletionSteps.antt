@@ -12,7 +12,7 @@ use Rattle.crash_law.proofs.Leading.{current_more}
 use Rattle.job_reports.specs.declared.report.Ending.{Ending}
 use Rattle.job_reports.specs.declared.report.Ending.TheVariants.{Finished, Aborted, Killed, NoMemory}
 use Rattle.job_reports.specs.declared.report.Did.{Did}
-use Rattle.job_reports.specs.declared.report.Did.TheVariants.{Began, Chunk, Placed, Removed, Skipped, Cleaned, Barrier, Troubled, Ended}
+use Rattle.job_reports.specs.declared.report.Did.TheVariants.{Began, Chunk, Placed, Removed, Kept, Skipped, Cleaned, Barrier, Troubled, Ended}
 use Rattle.job_reports.specs.Paths.{folder_of, without}
 use Rattle.job_reports.specs.Stops.{sync_answer}
 use Rattle.job_reports.proofs.CallAnswers.{some_log}
@@ -123,6 +123,7 @@ module _ (told : Said) (dirty dirty_after : List Route) (marks : Marks) (log now
   deletion_tells d new (Began part) knows tells done settled leaves = absurd tells
   deletion_tells d new (Chunk count) knows tells done settled leaves = absurd tells
   deletion_tells d new (Placed path) knows tells done settled leaves = absurd tells
+  deletion_tells d new (Kept kept) knows tells done settled leaves = absurd tells
   deletion_tells d new (Skipped path cause) knows tells done settled leaves = absurd tells
   deletion_tells d new (Cleaned part) knows tells done settled leaves = absurd tells
 
@@ -138,6 +139,7 @@ module _ (told : Said) (dirty dirty_after : List Route) (marks : Marks) (log now
   deletion_winds d new ending (Chunk count) left knows tells answer calls leaves = absurd tells
   deletion_winds d new ending (Placed path) left knows tells answer calls leaves = absurd tells
   deletion_winds d new ending (Removed path) left knows tells answer calls leaves = absurd tells
+  deletion_winds d new ending (Kept kept) left knows tells answer calls leaves = absurd tells
   deletion_winds d new ending (Skipped path cause) left knows tells answer calls leaves = absurd tells
   deletion_winds d new ending (Cleaned part) left knows tells answer calls leaves = absurd tells
   deletion_winds d new ending (Troubled trouble) left knows tells answer calls leaves = absurd tells

@@ -11,7 +11,7 @@ use Rattle.tree_trait.proofs.Visible.{same_path-self}
 use Rattle.job_reports.specs.declared.report.Ending.{Ending}
 use Rattle.job_reports.specs.declared.report.Ending.TheVariants.{Finished, Aborted}
 use Rattle.job_reports.specs.declared.report.Did.{Did}
-use Rattle.job_reports.specs.declared.report.Did.TheVariants.{Began, Chunk, Placed, Removed, Skipped, Cleaned, Barrier, Troubled, Ended}
+use Rattle.job_reports.specs.declared.report.Did.TheVariants.{Began, Chunk, Placed, Removed, Kept, Skipped, Cleaned, Barrier, Troubled, Ended}
 use Rattle.job_reports.specs.Stops.{cause_of}
 use Rattle.file_copy.specs.Copying.{Copying}
 use Rattle.file_copy.specs.Copying as copying
@@ -54,6 +54,7 @@ dirty_then (Copy c) (Copy new) (Began part) t h = ap (λ (x : Copying). copying.
 dirty_then (Copy c) (Copy new) (Removed path) t h = absurd t
 dirty_then (Copy c) (Copy new) (Chunk count) t h = absurd (false≢true h)
 dirty_then (Copy c) (Copy new) (Placed path) t h = absurd (false≢true h)
+dirty_then (Copy c) (Copy new) (Kept kept) t h = absurd (false≢true h)
 dirty_then (Copy c) (Copy new) (Skipped path why) t h = absurd (false≢true h)
 dirty_then (Copy c) (Copy new) (Cleaned part) t h = absurd (false≢true h)
 dirty_then (Copy c) (Copy new) Barrier t h = absurd (false≢true h)
@@ -65,6 +66,7 @@ dirty_then (Delete d) (Delete new) (Removed path) (stage, path_is, new_is) h = a
 dirty_then (Delete d) (Delete new) (Began part) t h = absurd t
 dirty_then (Delete d) (Delete new) (Chunk count) t h = absurd (false≢true h)
 dirty_then (Delete d) (Delete new) (Placed path) t h = absurd (false≢true h)
+dirty_then (Delete d) (Delete new) (Kept kept) t h = absurd (false≢true h)
 dirty_then (Delete d) (Delete new) (Skipped path why) t h = absurd (false≢true h)
 dirty_then (Delete d) (Delete new) (Cleaned part) t h = absurd (false≢true h)
 dirty_then (Delete d) (Delete new) Barrier t h = absurd (false≢true h)
@@ -156,6 +158,7 @@ after_going (Began part) = tt
 after_going (Chunk count) = tt
 after_going (Placed path) = tt
 after_going (Removed path) = tt
+after_going (Kept kept) = tt
 after_going (Skipped path why) = tt
 after_going (Cleaned part) = tt
 after_going Barrier = tt

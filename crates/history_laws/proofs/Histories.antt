@@ -65,6 +65,7 @@ doubt_anywhere (reported.Placed path) part = refl
 doubt_anywhere (reported.Removed path) part = refl
 doubt_anywhere (reported.Cleaned gone) part = refl
 doubt_anywhere (reported.Chunk count) part = refl
+doubt_anywhere (reported.Kept kept) part = refl
 doubt_anywhere (reported.Skipped path cause) part = refl
 doubt_anywhere reported.Barrier part = refl
 doubt_anywhere (reported.Troubled trouble) part = refl

@@ -7,7 +7,7 @@ use Rattle.tree_trait.specs.Change.{CallLog, current}
 use Rattle.tree_trait.specs.CrashImages.{Among}
 use Rattle.tree_trait.proofs.Visible.{same_path-self}
 use Rattle.job_reports.specs.declared.report.Did.{Did}
-use Rattle.job_reports.specs.declared.report.Did.TheVariants.{Began, Chunk, Placed, Removed, Skipped, Cleaned, Barrier, Troubled, Ended}
+use Rattle.job_reports.specs.declared.report.Did.TheVariants.{Began, Chunk, Placed, Removed, Kept, Skipped, Cleaned, Barrier, Troubled, Ended}
 use Rattle.job_reports.specs.Jobs.{Item, Copies, Removes}
 use Rattle.file_copy.specs.Copied.{copied}
 use Rattle.session_history.specs.declared.history.Event.{Event}
@@ -44,6 +44,7 @@ step_unnamed log (Ended ending (Some part)) item v path unnamed = put_off v part
 step_unnamed log (Ended ending None) item v path unnamed = refl
 step_unnamed log (Began part) item v path unnamed = refl
 step_unnamed log (Chunk count) item v path unnamed = refl
+step_unnamed log (Kept kept) item v path unnamed = refl
 step_unnamed log (Skipped file cause) item v path unnamed = refl
 step_unnamed log (Cleaned part) item v path unnamed = refl
 step_unnamed log Barrier item v path unnamed = refl
@@ -70,6 +71,7 @@ named_step (Began part) parts path unnamed (inr among) = among
 named_step (Placed target) parts path unnamed among = in_filter (λ kept. Rattle.std.specs.Prelude.not (same_path kept target)) path parts among
 named_step (Chunk count) parts path unnamed among = among
 named_step (Removed file) parts path unnamed among = among
+named_step (Kept kept) parts path unnamed among = among
 named_step (Skipped file cause) parts path unnamed among = among
 named_step (Cleaned part) parts path unnamed among = among
 named_step Barrier parts path unnamed among = among

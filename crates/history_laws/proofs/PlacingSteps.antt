@@ -145,6 +145,8 @@ module _ (told : Said) (dirty : List Route) (target part : Route) (i : ℕ) wher
           comes_then told told dirty dirty log mid now _ _ (mode_set marks log mid mode kept has done) (λ m k knows. tail_front m mid now count k knows.0 (omega (arith, few)) more)
       by b (cause.TargetKind kind) stop = absurd stop
       by b cause.SpecialSource stop = absurd stop
+      by b cause.TooDeep stop = absurd stop
+      by b (cause.Unnamed count) stop = absurd stop
       by b cause.PartTaken stop = absurd stop
       by b cause.TooLong stop = absurd stop
       by b (cause.Changed said got) stop = absurd stop

@@ -6,7 +6,7 @@ use Rattle.mc_text.specs.Routes.{Route, parent_of}
 use Rattle.tree_trait.specs.declared.file_system.FileSystem.{FileSystem}
 use Rattle.crash_law.specs.Guarded.{Marks}
 use Rattle.job_reports.specs.declared.report.Did.{Did}
-use Rattle.job_reports.specs.declared.report.Did.TheVariants.{Began, Chunk, Placed, Removed, Skipped, Cleaned, Barrier, Troubled, Ended}
+use Rattle.job_reports.specs.declared.report.Did.TheVariants.{Began, Chunk, Placed, Removed, Kept, Skipped, Cleaned, Barrier, Troubled, Ended}
 use Rattle.job_reports.specs.declared.job.Job.{Job}
 use Rattle.job_reports.specs.declared.job.Job.TheVariants as plan
 use Rattle.job_reports.specs.Jobs.{Item}
@@ -46,6 +46,7 @@ module _ (told : Said) (dirty : List Route) (marks : Marks) (s : FileSystem) (ne
   knows_after (Chunk count) k = k
   knows_after (Placed path) k = k
   knows_after (Removed path) k = k
+  knows_after (Kept kept) k = k
   knows_after (Skipped path why) k = k
   knows_after (Cleaned part) k = k
   knows_after Barrier k = k
@@ -70,6 +71,7 @@ module _ (id : ℕ) (item : Item) (part : Option Route) (new : Running) (same : 
   live_after (Chunk count) = stays part _ (kept_if (id == id) _ _ (same_id id))
   live_after (Placed path) = stays None _ (kept_if (id == id) _ _ (same_id id))
   live_after (Removed path) = stays part _ (kept_if (id == id) _ _ (same_id id))
+  live_after (Kept kept) = stays part _ (kept_if (id == id) _ _ (same_id id))
   live_after (Skipped path why) = stays part _ (kept_if (id == id) _ _ (same_id id))
   live_after (Cleaned p) = stays None _ (kept_if (id == id) _ _ (same_id id))
   live_after Barrier = stays part _ (kept_if (id == id) _ _ (same_id id))

@@ -9,7 +9,7 @@ use Rattle.job_reports.specs.Jobs.{Item, Copies, Removes, folder_changed, item_o
 use Rattle.job_reports.specs.declared.report.Ending.{Ending}
 use Rattle.job_reports.specs.declared.report.Ending.TheVariants.{Finished, Aborted, Killed, NoMemory}
 use Rattle.job_reports.specs.declared.report.Did.{Did}
-use Rattle.job_reports.specs.declared.report.Did.TheVariants.{Began, Chunk, Placed, Removed, Skipped, Cleaned, Barrier, Troubled, Ended}
+use Rattle.job_reports.specs.declared.report.Did.TheVariants.{Began, Chunk, Placed, Removed, Kept, Skipped, Cleaned, Barrier, Troubled, Ended}
 use Rattle.file_copy.specs.Copying.{Copying, Tells}
 use Rattle.file_copy.specs.LastSteps.{Winds}
 use Rattle.job_reports.specs.declared.answer.Answer.{Answer}
@@ -62,6 +62,7 @@ copy_paths c new (Ended Aborted part) t = absurd t
 copy_paths c new (Ended Killed part) t = absurd t
 copy_paths c new (Ended NoMemory part) t = absurd t
 copy_paths c new (Removed path) t = absurd t
+copy_paths c new (Kept path) t = absurd t
 copy_paths c new (Skipped path why) t = absurd t
 
 deletion_paths : (d new : Deleting) (did : Did) → deletions.Tells d did new → item_in (Delete new) ≡ item_in (Delete d)
@@ -75,6 +76,7 @@ deletion_paths d new (Ended NoMemory part) t = absurd t
 deletion_paths d new (Began part) t = absurd t
 deletion_paths d new (Chunk count) t = absurd t
 deletion_paths d new (Placed path) t = absurd t
+deletion_paths d new (Kept kept) t = absurd t
 deletion_paths d new (Skipped path why) t = absurd t
 deletion_paths d new (Cleaned part) t = absurd t
 
@@ -86,6 +88,7 @@ copy_winds ending c new (Began part) t = absurd t
 copy_winds ending c new (Chunk count) t = absurd t
 copy_winds ending c new (Placed path) t = absurd t
 copy_winds ending c new (Removed path) t = absurd t
+copy_winds ending c new (Kept kept) t = absurd t
 copy_winds ending c new (Skipped path why) t = absurd t
 copy_winds ending c new (Troubled trouble) t = absurd t
 
@@ -96,6 +99,7 @@ deletion_winds ending d new (Began part) t = absurd t
 deletion_winds ending d new (Chunk count) t = absurd t
 deletion_winds ending d new (Placed path) t = absurd t
 deletion_winds ending d new (Removed path) t = absurd t
+deletion_winds ending d new (Kept kept) t = absurd t
 deletion_winds ending d new (Skipped path why) t = absurd t
 deletion_winds ending d new (Cleaned part) t = absurd t
 deletion_winds ending d new (Troubled trouble) t = absurd t

@@ -12,7 +12,7 @@ use Rattle.tree_trait.proofs.Visible.{same_path-self, same_path-true}
 use Rattle.job_reports.specs.Jobs.{Item, item_of}
 use Rattle.crash_law.specs.Guarded.{Marks}
 use Rattle.job_reports.specs.declared.report.Did.{Did}
-use Rattle.job_reports.specs.declared.report.Did.TheVariants.{Began, Chunk, Placed, Removed, Skipped, Cleaned, Barrier, Troubled, Ended}
+use Rattle.job_reports.specs.declared.report.Did.TheVariants.{Began, Chunk, Placed, Removed, Kept, Skipped, Cleaned, Barrier, Troubled, Ended}
 use Rattle.file_copy.specs.declared.stage.Stage.{Stage}
 use Rattle.file_copy.specs.declared.stage.Stage.TheVariants.{Begin, Fill, Clean, Left, Decided}
 use Rattle.file_copy.specs.Copying.{Copying}
@@ -108,6 +108,7 @@ unnamed_sure (Placed target) part before path sure unnamed other =
 unnamed_sure (Removed file) part before path sure unnamed other = untold_facts (before path) (same_path path file) sure unnamed
 unnamed_sure (Cleaned gone) part before path sure unnamed other = untold_facts (before path) (same_path path gone) sure unnamed
 unnamed_sure (Chunk count) part before path sure unnamed other = sure
+unnamed_sure (Kept kept) part before path sure unnamed other = sure
 unnamed_sure (Skipped file cause) part before path sure unnamed other = sure
 unnamed_sure Barrier part before path sure unnamed other = sure
 unnamed_sure (Troubled trouble) part before path sure unnamed other = sure
@@ -183,6 +184,7 @@ part_before (Placed target) part path unnamed is = absurd (let f : ⊥ = cc in f
 part_before (Cleaned gone) part path unnamed is = absurd (let f : ⊥ = cc in f)
 part_before (Chunk count) part path unnamed is = is
 part_before (Removed file) part path unnamed is = is
+part_before (Kept kept) part path unnamed is = is
 part_before (Skipped file cause) part path unnamed is = is
 part_before Barrier part path unnamed is = is
 part_before (Troubled trouble) part path unnamed is = is
@@ -208,6 +210,7 @@ module _ (path : Route) where
   report_part id (Chunk count) (job ∷ jobs) unnamed h = stepped_part (job.id == id) job (Chunk count) jobs (after_report id (Chunk count) jobs) unnamed (report_part id (Chunk count) jobs unnamed) h
   report_part id (Placed target) (job ∷ jobs) unnamed h = stepped_part (job.id == id) job (Placed target) jobs (after_report id (Placed target) jobs) unnamed (report_part id (Placed target) jobs unnamed) h
   report_part id (Removed file) (job ∷ jobs) unnamed h = stepped_part (job.id == id) job (Removed file) jobs (after_report id (Removed file) jobs) unnamed (report_part id (Removed file) jobs unnamed) h
+  report_part id (Kept kept) (job ∷ jobs) unnamed h = stepped_part (job.id == id) job (Kept kept) jobs (after_report id (Kept kept) jobs) unnamed (report_part id (Kept kept) jobs unnamed) h
   report_part id (Skipped file cause) (job ∷ jobs) unnamed h =
       stepped_part (job.id == id) job (Skipped file cause) jobs (after_report id (Skipped file cause) jobs) unnamed (report_part id (Skipped file cause) jobs unnamed) h
   report_part id (Cleaned gone) (job ∷ jobs) unnamed h = stepped_part (job.id == id) job (Cleaned gone) jobs (after_report id (Cleaned gone) jobs) unnamed (report_part id (Cleaned gone) jobs unnamed) h

@@ -7,7 +7,7 @@ use Rattle.mc_text.specs.Routes.{Route, same_path}
 use Rattle.tree_trait.specs.Change.{Change, CallLog, with_change}
 use Rattle.crash_law.specs.Guarded.{Marks}
 use Rattle.job_reports.specs.declared.report.Did.{Did}
-use Rattle.job_reports.specs.declared.report.Did.TheVariants.{Began, Chunk, Placed, Removed, Skipped, Cleaned, Barrier, Troubled, Ended}
+use Rattle.job_reports.specs.declared.report.Did.TheVariants.{Began, Chunk, Placed, Removed, Kept, Skipped, Cleaned, Barrier, Troubled, Ended}
 use Rattle.copy_move.specs.declared.work.Work.{Work}
 use Rattle.history_laws.specs.Replayed.{replayed_step, keeping}
 use Rattle.session_history.specs.Named.{changed_by, named_by}
@@ -64,6 +64,7 @@ part_after (Cleaned part) before = None
 part_after (Ended ending part) before = None
 part_after (Chunk count) before = before
 part_after (Removed path) before = before
+part_after (Kept kept) before = before
 part_after (Skipped path cause) before = before
 part_after Barrier before = before
 part_after (Troubled trouble) before = before
@@ -75,6 +76,7 @@ doubt_by (Placed path) part before = λ p. (before p || same_path p path) || opt
 doubt_by (Removed path) part before = λ p. before p || same_path p path
 doubt_by (Cleaned gone) part before = λ p. before p || same_path p gone
 doubt_by (Chunk count) part before = before
+doubt_by (Kept kept) part before = before
 doubt_by (Skipped path cause) part before = before
 doubt_by Barrier part before = before
 doubt_by (Troubled trouble) part before = before

@@ -4,7 +4,7 @@ use Rattle.std.specs.Prelude.{if◌then◌else◌, is_some, ◌&&◌}
 use Rattle.std.proofs.lemmas.Bool.{true≢false}
 use Rattle.mc_text.specs.Routes.{Route, parent_of}
 use Rattle.job_reports.specs.declared.report.Did.{Did}
-use Rattle.job_reports.specs.declared.report.Did.TheVariants.{Began, Chunk, Placed, Removed, Skipped, Cleaned, Barrier, Troubled, Ended}
+use Rattle.job_reports.specs.declared.report.Did.TheVariants.{Began, Chunk, Placed, Removed, Kept, Skipped, Cleaned, Barrier, Troubled, Ended}
 use Rattle.copy_move.specs.declared.deletion.Stage.{Stage}
 use Rattle.copy_move.specs.declared.deletion.Stage.TheVariants.{Remove, Sync, Finish, PassedOver}
 use Rattle.job_reports.specs.declared.job.Job.{Job}
@@ -61,6 +61,7 @@ clean_after (Began part) job new none h clean = absurd (true≢false none)
 clean_after (Removed path) job new none h clean = absurd (true≢false none)
 clean_after (Chunk count) job new none h clean = some_job job new h ∙ clean
 clean_after (Placed path) job new none h clean = some_job (record job { work = placed job.work }) new h ∙ (placed_dirty job.work ∙ clean)
+clean_after (Kept kept) job new none h clean = some_job job new h ∙ clean
 clean_after (Skipped path why) job new none h clean = some_job (record job { work = skipped job.work; course = Rattle.copy_move.specs.declared.run.Course.TheVariants.GoesOn }) new h ∙ (skipped_dirty job.work ∙ clean)
 clean_after (Cleaned part) job new none h clean = some_job (record job { work = cleaned job.course job.work }) new h ∙ (cleaned_dirty job.course job.work ∙ clean)
 clean_after Barrier job new none h clean = some_job (record job { work = synced job.work }) new h ∙ synced_clean job.work

@@ -5,7 +5,7 @@ use Rattle.mc_text.specs.Routes.{Route}
 use Rattle.tree_trait.specs.FileSystem.{View, put, value_at, visible_tree}
 use Rattle.tree_trait.specs.Change.{CallLog, current}
 use Rattle.job_reports.specs.declared.report.Did.{Did}
-use Rattle.job_reports.specs.declared.report.Did.TheVariants.{Began, Chunk, Placed, Removed, Skipped, Cleaned, Barrier, Troubled, Ended}
+use Rattle.job_reports.specs.declared.report.Did.TheVariants.{Began, Chunk, Placed, Removed, Kept, Skipped, Cleaned, Barrier, Troubled, Ended}
 use Rattle.session_history.specs.Named.{changed_by}
 use Rattle.file_copy.specs.Copied.{copied}
 use Rattle.session_history.specs.declared.history.Event.{Event}
@@ -34,6 +34,7 @@ replayed_step log (Ended ending (Some part)) item v = put v part (value_at (curr
 replayed_step log (Ended ending None) item v = v
 replayed_step log (Began part) item v = v
 replayed_step log (Chunk count) item v = v
+replayed_step log (Kept kept) item v = v
 replayed_step log (Skipped path cause) item v = v
 replayed_step log (Cleaned part) item v = v
 replayed_step log Barrier item v = v

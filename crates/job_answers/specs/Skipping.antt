@@ -6,7 +6,7 @@ use Rattle.tree_trait.specs.declared.calls.TreeError.TheVariants as refused
 use Rattle.job_reports.specs.declared.report.Cause.{Cause}
 use Rattle.job_reports.specs.declared.report.Cause.TheVariants as cause
 use Rattle.job_answers.specs.declared.skips.CauseKind.{CauseKind}
-use Rattle.job_answers.specs.declared.skips.CauseKind.TheVariants.{Tree, TargetKind, SpecialSource, PartTaken, TooLong, Changed, Memory}
+use Rattle.job_answers.specs.declared.skips.CauseKind.TheVariants.{Tree, TargetKind, SpecialSource, TooDeep, PartTaken, TooLong, Unnamed, Changed, Memory}
 use Rattle.job_answers.specs.declared.skips.SkippedRefusals.{SkippedRefusals}
 use Rattle.job_answers.specs.declared.skips.Skips.{Skips}
 
@@ -15,8 +15,10 @@ abbrev pub kind_in : Cause → CauseKind
 kind_in (cause.Tree e) = Tree e
 kind_in (cause.TargetKind kind) = TargetKind
 kind_in cause.SpecialSource = SpecialSource
+kind_in cause.TooDeep = TooDeep
 kind_in cause.PartTaken = PartTaken
 kind_in cause.TooLong = TooLong
+kind_in (cause.Unnamed count) = Unnamed
 kind_in (cause.Changed said got) = Changed
 kind_in cause.Memory = Memory
 
@@ -41,8 +43,10 @@ abbrev pub holds : Skips → CauseKind → Bool
 holds s (Tree e) = holds_refusal s.refusals e
 holds s TargetKind = s.target_kind
 holds s SpecialSource = s.special_source
+holds s TooDeep = s.too_deep
 holds s PartTaken = s.part_taken
 holds s TooLong = s.too_long
+holds s Unnamed = s.unnamed
 holds s Changed = s.changed
 holds s Memory = s.memory
 
@@ -67,8 +71,10 @@ abbrev pub with_kind : CauseKind → Skips → Skips
 with_kind (Tree e) s = record s { refusals = with_refusal e s.refusals }
 with_kind TargetKind s = record s { target_kind = true }
 with_kind SpecialSource s = record s { special_source = true }
+with_kind TooDeep s = record s { too_deep = true }
 with_kind PartTaken s = record s { part_taken = true }
 with_kind TooLong s = record s { too_long = true }
+with_kind Unnamed s = record s { unnamed = true }
 with_kind Changed s = record s { changed = true }
 with_kind Memory s = record s { memory = true }
 
@@ -96,8 +102,10 @@ no_skips = record {
   refusals = no_refusals;
   target_kind = false;
   special_source = false;
+  too_deep = false;
   part_taken = false;
   too_long = false;
+  unnamed = false;
   changed = false;
   memory = false;
 }

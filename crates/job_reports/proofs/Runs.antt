@@ -7,7 +7,7 @@ use Rattle.tree_trait.specs.Calls.{Call}
 use Rattle.tree_trait.specs.Change.{Change, CallLog, with_change}
 use Rattle.tree_trait.specs.Answers.{IfKnown, HasRisen, HasCause, Performs}
 use Rattle.job_reports.specs.declared.report.Cause.{Cause}
-use Rattle.job_reports.specs.declared.report.Cause.TheVariants.{Tree, TargetKind, SpecialSource, PartTaken, TooLong, Changed, Memory}
+use Rattle.job_reports.specs.declared.report.Cause.TheVariants.{Tree, TargetKind, SpecialSource, TooDeep, PartTaken, TooLong, Unnamed, Changed, Memory}
 use Rattle.job_reports.specs.declared.stop.Stop.{Stop}
 use Rattle.job_reports.specs.CallRuns.{AllDone, StopsAt, RunStops, HasMore, path_of}
 use Rattle.job_reports.specs.Stops.{RanFolded, Ran, calls_of, made_or_stopped_of, after_calls_of}
@@ -142,6 +142,8 @@ run_then xs ys log mid Memory path after h k =
     (k.0, (length xs + k.1.0, omega (arith, less, length-append xs ys), some_then xs ys log mid k.1.0 after h k.1.2))
 run_then xs ys log mid (TargetKind kind) path after h k = k
 run_then xs ys log mid SpecialSource path after h k = k
+run_then xs ys log mid TooDeep path after h k = k
+run_then xs ys log mid (Unnamed count) path after h k = k
 run_then xs ys log mid PartTaken path after h k = k
 run_then xs ys log mid TooLong path after h k = k
 run_then xs ys log mid (Changed said got) path after h k = k
@@ -154,6 +156,8 @@ run_more xs ys log Memory path after k =
     (k.0, (k.1.0, omega (arith, less, length-append xs ys), some_more xs ys log k.1.0 after less k.1.2))
 run_more xs ys log (TargetKind kind) path after k = k
 run_more xs ys log SpecialSource path after k = k
+run_more xs ys log TooDeep path after k = k
+run_more xs ys log (Unnamed count) path after k = k
 run_more xs ys log PartTaken path after k = k
 run_more xs ys log TooLong path after k = k
 run_more xs ys log (Changed said got) path after k = k

@@ -6,7 +6,7 @@ use Rattle.tree_trait.specs.Change.{CallLog}
 use Rattle.tree_trait.specs.Answers.{Performs}
 use Rattle.tree_trait.specs.declared.calls.TreeError.{TreeError}
 use Rattle.job_reports.specs.declared.report.Cause.{Cause}
-use Rattle.job_reports.specs.declared.report.Cause.TheVariants.{Tree, TargetKind, SpecialSource, PartTaken, TooLong, Changed, Memory}
+use Rattle.job_reports.specs.declared.report.Cause.TheVariants.{Tree, TargetKind, SpecialSource, TooDeep, PartTaken, TooLong, Unnamed, Changed, Memory}
 
 -- all were done, one after the other
 abbrev pub AllDone : CallLog → List Call → Option CallLog → Type 0
@@ -43,6 +43,8 @@ RunStops calls (Tree e) path log after = (call : Call) × (path ≡ Some (path_o
 RunStops calls Memory path log after = (path ≡ None) × ((count : ℕ) × (count < length calls) × AllDone log (take count calls) after)
 RunStops calls (TargetKind kind) path log after = ⊥
 RunStops calls SpecialSource path log after = ⊥
+RunStops calls TooDeep path log after = ⊥
+RunStops calls (Unnamed count) path log after = ⊥
 RunStops calls PartTaken path log after = ⊥
 RunStops calls TooLong path log after = ⊥
 RunStops calls (Changed said got) path log after = ⊥

@@ -9,7 +9,7 @@ use Rattle.tree_trait.specs.Change.{CallLog}
 use Rattle.tree_trait.specs.Refusals.{refusal_of}
 use Rattle.tree_trait.specs.Answers.{HasRisen}
 use Rattle.job_reports.specs.declared.report.Cause.{Cause}
-use Rattle.job_reports.specs.declared.report.Cause.TheVariants.{Tree, TargetKind, SpecialSource, PartTaken, TooLong, Changed, Memory}
+use Rattle.job_reports.specs.declared.report.Cause.TheVariants.{Tree, TargetKind, SpecialSource, TooDeep, PartTaken, TooLong, Unnamed, Changed, Memory}
 use Rattle.job_reports.specs.declared.report.Trouble.{Trouble}
 
 -- a reading call is refused with this error: as the tree gives it, or by a fault
@@ -24,6 +24,8 @@ StatStops s look (Tree e) path = (path ≡ Some look) × IsRefusedWith s (Stat l
 StatStops s look Memory path = path ≡ None
 StatStops s look (TargetKind kind) path = ⊥
 StatStops s look SpecialSource path = ⊥
+StatStops s look TooDeep path = ⊥
+StatStops s look (Unnamed count) path = ⊥
 StatStops s look PartTaken path = ⊥
 StatStops s look TooLong path = ⊥
 StatStops s look (Changed said got) path = ⊥

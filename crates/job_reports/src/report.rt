@@ -15,10 +15,14 @@ pub enum Cause {
     TargetKind(Kind),
     /// The source is no file.
     SpecialSource,
+    /// It lies more than 256 folders below its source.
+    TooDeep,
     /// All 1,000 names of a part are taken.
     PartTaken,
-    /// The path of the part would have more than 4,096 bytes.
+    /// A path would have more than 4,096 bytes.
     TooLong,
+    /// So many names in a folder are no text, so they can't be shown or worked.
+    Unnamed(u64),
     /// The source was said to have so many bytes, and gave so many.
     Changed { said: u64, got: u64 },
     /// No memory was left.
@@ -77,6 +81,8 @@ pub enum Did {
     Placed(Path),
     /// The thing at this path is gone from its folder.
     Removed(Path),
+    /// The folder at this path stays, since something in it was left.
+    Kept(Path),
     /// The source at this path was left as it is.
     Skipped(Path, Cause),
     /// The part at this path was removed.

@@ -5,7 +5,7 @@ use Rattle.mc_text.specs.Routes.{Route}
 use Rattle.tree_trait.specs.declared.calls.TreeError.{TreeError}
 use Rattle.tree_trait.specs.Change.{CallLog}
 use Rattle.job_reports.specs.declared.report.Did.{Did}
-use Rattle.job_reports.specs.declared.report.Did.TheVariants.{Began, Chunk, Placed, Removed, Skipped, Cleaned, Barrier, Troubled, Ended}
+use Rattle.job_reports.specs.declared.report.Did.TheVariants.{Began, Chunk, Placed, Removed, Kept, Skipped, Cleaned, Barrier, Troubled, Ended}
 use Rattle.job_reports.specs.declared.report.Ending.{Ending}
 use Rattle.job_reports.specs.declared.report.Ending.TheVariants.{Finished, Aborted, Killed, NoMemory}
 use Rattle.file_copy.specs.Copying as copying
@@ -55,6 +55,7 @@ copy_synced c new (Cleaned part) (follows, at, is) was now = absurd (true≢fals
 copy_synced c new (Troubled trouble) t was now = absurd (true≢false (sym was ∙ (sym (ap (λ (n : copying.Copying). copying.is_dirty n.folder) t.1) ∙ now)))
 copy_synced c new (Ended ending part) t was now = absurd (true≢false (sym was ∙ (copy_finishes c new ending part t).1))
 copy_synced c new (Removed path) t was now = absurd t
+copy_synced c new (Kept path) t was now = absurd t
 copy_synced c new (Skipped path cause) t was now = absurd t
 
 deletion_synced : (d new : deletions.Deleting) (did : Did) → deletions.Tells d did new → deletions.is_dirty d.stage ≡ true → deletions.is_dirty new.stage ≡ false → did ≡ Barrier
@@ -65,6 +66,7 @@ deletion_synced d new (Ended ending part) t was now = absurd (true≢false (sym 
 deletion_synced d new (Began part) t was now = absurd t
 deletion_synced d new (Chunk count) t was now = absurd t
 deletion_synced d new (Placed path) t was now = absurd t
+deletion_synced d new (Kept kept) t was now = absurd t
 deletion_synced d new (Skipped path cause) t was now = absurd t
 deletion_synced d new (Cleaned part) t was now = absurd t
 
@@ -100,6 +102,7 @@ module _ (job : Option Running) (newest older : List Entry) (dirty dirty_after :
   tries folder refusal (Chunk bytes) is left = inl left
   tries folder refusal (Placed path) is left = inl left
   tries folder refusal (Removed path) is left = inl left
+  tries folder refusal (Kept kept) is left = inl left
   tries folder refusal (Skipped path cause) is left = inl left
   tries folder refusal (Cleaned part) is left = inl left
   tries folder refusal (Troubled trouble) is left = inl left

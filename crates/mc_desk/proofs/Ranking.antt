@@ -8,7 +8,7 @@ use Rattle.tree_trait.specs.Change.{CallLog}
 use Rattle.tree_trait.specs.CrashImages.{Among}
 use Rattle.tree_trait.proofs.Visible.{same_path-self}
 use Rattle.job_reports.specs.declared.report.Did.{Did}
-use Rattle.job_reports.specs.declared.report.Did.TheVariants.{Began, Chunk, Placed, Removed, Skipped, Cleaned, Barrier, Troubled, Ended}
+use Rattle.job_reports.specs.declared.report.Did.TheVariants.{Began, Chunk, Placed, Removed, Kept, Skipped, Cleaned, Barrier, Troubled, Ended}
 use Rattle.file_copy.specs.declared.stage.Stage.{Stage}
 use Rattle.file_copy.specs.declared.stage.Stage.TheVariants.{Begin, Fill, Clean, Left, Decided}
 use Rattle.file_copy.specs.declared.stage.Next.TheVariants as next
@@ -134,6 +134,7 @@ tried_more (Began part) left folder dirty = omega arith
 tried_more (Chunk bytes) left folder dirty = omega arith
 tried_more (Placed path) left folder dirty = omega arith
 tried_more (Removed path) left folder dirty = omega arith
+tried_more (Kept kept) left folder dirty = omega arith
 tried_more (Skipped path cause) left folder dirty = omega arith
 tried_more (Cleaned part) left folder dirty = omega arith
 tried_more (Troubled trouble) left folder dirty = omega arith

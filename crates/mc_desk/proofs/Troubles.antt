@@ -11,7 +11,7 @@ use Rattle.job_reports.specs.declared.answer.AnswerError.{AnswerError}
 use Rattle.job_reports.specs.declared.answer.AnswerError.TheVariants.{NotAsked, WrongAnswer}
 use Rattle.job_reports.specs.Reports.{passes_over}
 use Rattle.job_reports.specs.declared.report.Did.{Did}
-use Rattle.job_reports.specs.declared.report.Did.TheVariants.{Began as BeganPart, Chunk, Placed, Removed, Skipped, Cleaned, Barrier, Troubled, Ended}
+use Rattle.job_reports.specs.declared.report.Did.TheVariants.{Began as BeganPart, Chunk, Placed, Removed, Kept, Skipped, Cleaned, Barrier, Troubled, Ended}
 use Rattle.job_reports.specs.declared.report.Ending.{Ending}
 use Rattle.job_reports.specs.declared.report.Trouble.{Trouble}
 use Rattle.job_reports.specs.declared.row.JobState.TheVariants as state
@@ -119,6 +119,7 @@ step_waits id live (BeganPart part) allowed = λ waits. absurd (not_ready live (
 step_waits id live (Chunk count) allowed = λ waits. absurd (not_ready live (Chunk count) allowed waits)
 step_waits id live (Placed path) allowed = λ waits. absurd (not_ready live (Placed path) allowed waits)
 step_waits id live (Removed path) allowed = λ waits. absurd (not_ready live (Removed path) allowed waits)
+step_waits id live (Kept kept) allowed = λ waits. absurd (not_ready live (Kept kept) allowed waits)
 step_waits id live (Skipped path cause) allowed = λ waits. absurd (false≢true waits)
 step_waits id live (Cleaned part) allowed = λ waits. absurd (not_ready live (Cleaned part) allowed waits)
 step_waits id live Barrier allowed = λ waits. absurd (not_ready live Barrier allowed waits)

@@ -1,5 +1,6 @@
 -- What a look at a tree says of what can be seen of it.
 use Rattle.std.proofs.Common.{◌≡◌, ◌↔◌, ℕ, ◌≤◌, Bool, true, false, ◌&&◌, List, ◌∷◌, length, refl, sym, ◌∙◌, ap, subst, inl, Option, Some, None, IsSome, IfSome, IfOk, IfErr, Result, Ok, Err, arith}
+use Rattle.std.proofs.lemmas.Bool.{false≢true}
 use Rattle.std.specs.Prelude.{nat_le, option_and_then}
 use Rattle.std.specs.Option.{option_map, option_map_or}
 use Rattle.mc_text.specs.Routes.{Route, spelled}
@@ -10,49 +11,57 @@ use Rattle.tree_trait.specs.declared.calls.Meta.{Meta}
 use Rattle.tree_trait.specs.declared.calls.Children.{Children}
 use Rattle.tree_trait.specs.Calls.{Stat, ListFolder}
 use Rattle.tree_trait.specs.FileSystem.{lookup, node, value, value_at, View, visible_tree}
-use Rattle.tree_trait.specs.Refusals.{file_kind, refusal_of}
+use Rattle.tree_trait.specs.Refusals.{refusal_of}
 use Rattle.tree_trait.specs.Change.{CallLog, current, found}
 use Rattle.tree_trait.specs.CrashImages.{Among}
 use Rattle.tree_trait.specs.Answers.{IsMeta, IsListing, IsAscending, IfKnown, Reads}
 use Rattle.tree_trait.proofs.Walking.{stat-found, list-found}
 use Rattle.job_reports.proofs.PermittedCalls.{stat_missing}
 use Rattle.mc_ui.specs.declared.dialog.Chosen.{Chosen}
-use Rattle.mc_ui.specs.declared.choosing.Choice.TheVariants.{File}
+use Rattle.mc_ui.specs.declared.panel_command.Opens.{Opens}
+use Rattle.mc_ui.specs.declared.choosing.Choice.TheVariants.{Nothing, Thing}
 use Rattle.mc_ui.specs.declared.reread.Reread.{Reread}
 use Rattle.mc_ui.specs.Choices.{IsChoice}
 use Rattle.mc_ui.specs.Panels.{ListsFolder}
-use Rattle.mc_ui.specs.Copies.{IsTaken, IsVacant, MayAsk, is_file_spot}
+use Rattle.mc_ui.specs.Copies.{IsTaken, IsVacant, MayAsk, is_spot_of, may_open}
 use Rattle.mc_ui.specs.Screens.{IsReread, sight}
 
 -- what `stat` says of a path is what can be seen there
-spot_kind : (log : CallLog) (path : Route) (meta : Meta) → refusal_of (current log) (Stat path) ≡ None → IsMeta (current log) path meta
-    → is_file_spot (visible_tree (current log) path) ≡ file_kind meta.kind
-spot_kind log path meta permits is =
+spot_kind : (box : Opens) (log : CallLog) (path : Route) (meta : Meta) → refusal_of (current log) (Stat path) ≡ None → IsMeta (current log) path meta
+    → is_spot_of box (visible_tree (current log) path) ≡ may_open box meta.kind
+spot_kind box log path meta permits is =
     let at = stat-found (current log) path permits in
-    ap (λ o. option_map_or (λ v. file_kind v.kind) (option_map (λ i. value (node (current log) i)) o) false) at ∙ ap file_kind (sym is.kind)
+    ap (λ o. option_map_or (λ v. may_open box v.kind) (option_map (λ i. value (node (current log) i)) o) false) at ∙ ap (may_open box) (sym is.kind)
 
 le_true : (n m : ℕ) → n ≤ m → nat_le n m ≡ true
 le_true n m h = grind arith
 
-both_true : (a b : Bool) → a ≡ true → b ≡ true → true ≡ (a && b)
-both_true a b p q = rw (p, q) refl
+first_decides : (a b asks : Bool) → a ≡ asks → b ≡ true → asks ≡ (a && b)
+first_decides true true asks p q = sym p
+first_decides true false asks p q = absurd (false≢true q)
+first_decides false b asks p q = sym p
 
--- a file that is near enough may be asked of
-may_ask : (contents : Option CallLog) (path : Route) (meta : Meta) → length (spelled path) ≤ 4096
-    → IfKnown contents (λ log. Reads log (Stat path) (let r : Result Meta TreeError = Ok meta in r) (IsMeta (current log) path)) → file_kind meta.kind ≡ true → MayAsk (sight contents) path true
-may_ask None path meta near reads file = tt
-may_ask (Some log) path meta near reads file =
+-- a thing that is near enough may be asked of exactly where it is of the box's kinds
+may_ask : (box : Opens) (contents : Option CallLog) (path : Route) (meta : Meta) (asks : Bool) → length (spelled path) ≤ 4096
+    → IfKnown contents (λ log. Reads log (Stat path) (let r : Result Meta TreeError = Ok meta in r) (IsMeta (current log) path)) → may_open box meta.kind ≡ asks → MayAsk box (sight contents) path asks
+may_ask box None path meta asks near reads kind = tt
+may_ask box (Some log) path meta asks near reads kind =
     let r = reads log refl in
-    both_true _ _ (spot_kind log path meta r.0 r.1 ∙ file) (le_true _ _ near)
+    first_decides _ _ asks (spot_kind box log path meta r.0 r.1 ∙ kind) (le_true _ _ near)
 
 pub near : (field : Option Route) (path : Route) → field ≡ Some path → IfSome field (λ p. length (spelled p) ≤ 4096) → length (spelled path) ≤ 4096
 near None path is h = absurd cc
 near (Some p) path is h = let e : p ≡ path = cc in subst (λ q. length (spelled q) ≤ 4096) e h
 
-pub file_choice : (contents : Option CallLog) (current_is : Option Route) (path : Route) (chosen : Chosen) (meta : Meta) → current_is ≡ Some path → chosen.path ≡ path → length (spelled path) ≤ 4096
-    → IfKnown contents (λ log. Reads log (Stat path) (let r : Result Meta TreeError = Ok meta in r) (IsMeta (current log) path)) → file_kind meta.kind ≡ true → IsChoice (sight contents) current_is (File chosen)
-file_choice contents current_is path chosen meta is same close reads file =
-    subst (λ q. IsChoice (sight contents) q (File chosen)) (sym is) (may_ask contents path meta close reads file, same)
+pub thing_choice : (box : Opens) (contents : Option CallLog) (current_is : Option Route) (path : Route) (chosen : Chosen) (meta : Meta) → current_is ≡ Some path → chosen.path ≡ path → length (spelled path) ≤ 4096
+    → IfKnown contents (λ log. Reads log (Stat path) (let r : Result Meta TreeError = Ok meta in r) (IsMeta (current log) path)) → may_open box meta.kind ≡ true → IsChoice box (sight contents) current_is (Thing chosen)
+thing_choice box contents current_is path chosen meta is same close reads kind =
+    subst (λ q. IsChoice box (sight contents) q (Thing chosen)) (sym is) (may_ask box contents path meta true close reads kind, same)
+
+pub no_choice : (box : Opens) (contents : Option CallLog) (current_is : Option Route) (path : Route) (meta : Meta) → current_is ≡ Some path → length (spelled path) ≤ 4096
+    → IfKnown contents (λ log. Reads log (Stat path) (let r : Result Meta TreeError = Ok meta in r) (IsMeta (current log) path)) → may_open box meta.kind ≡ false → IsChoice box (sight contents) current_is Nothing
+no_choice box contents current_is path meta is close reads kind =
+    subst (λ q. IsChoice box (sight contents) q Nothing) (sym is) (may_ask box contents path meta false close reads kind)
 
 -- something stands where a look was answered
 pub taken : (contents : Option CallLog) (path : Route) (result : Result Meta TreeError)

@@ -49,7 +49,9 @@ abbrev pub trouble_words : Cause → List ℕ
 trouble_words (cause.Tree e) = cause_words e
 trouble_words (cause.TargetKind kind) = codes "target is of another kind"
 trouble_words cause.SpecialSource = codes "special file"
+trouble_words cause.TooDeep = codes "too deep"
 trouble_words cause.PartTaken = codes "no free part name"
 trouble_words cause.TooLong = codes "path too long"
+trouble_words (cause.Unnamed count) = decimal count ++ codes " names can't be shown"
 trouble_words (cause.Changed said got) = codes "said " ++ (decimal said ++ (codes " bytes, got " ++ decimal got))
 trouble_words cause.Memory = codes "out of memory"

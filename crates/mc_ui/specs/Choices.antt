@@ -7,23 +7,24 @@ use Rattle.tree_trait.specs.FileSystem.{View}
 use Rattle.job_reports.specs.Jobs.{is_workable}
 use Rattle.session_history.specs.declared.refusal.Refusal.{Refusal}
 use Rattle.session_history.specs.declared.refusal.Refusal.TheVariants.{Tree}
+use Rattle.mc_ui.specs.declared.panel_command.Opens.{Opens}
 use Rattle.mc_ui.specs.declared.choosing.Choice.{Choice}
-use Rattle.mc_ui.specs.declared.choosing.Choice.TheVariants.{Nothing, File, Refused}
+use Rattle.mc_ui.specs.declared.choosing.Choice.TheVariants.{Nothing, Thing, Refused}
 use Rattle.mc_ui.specs.declared.copying.CopyPlan.{CopyPlan}
 use Rattle.mc_ui.specs.declared.copying.CopyPlan.TheVariants.{Begins, Refuses}
 use Rattle.mc_ui.specs.Copies.{CopyRefused, IsVacant, MayAsk, copy_plan}
 
--- it is nothing that a box may ask of, or a file, or a look at it was refused
-abbrev pub IsChoice : Option View → Option Route → Choice → Type 0
-IsChoice tree None choice = choice ≡ Nothing
-IsChoice tree (Some path) Nothing = MayAsk tree path false
-IsChoice tree (Some path) (File chosen) = MayAsk tree path true × (chosen.path ≡ path)
-IsChoice tree (Some path) (Refused refused e) = refused ≡ path
+-- it is nothing that the box may ask of, or a thing that it may, or a look at it was refused
+abbrev pub IsChoice : Opens → Option View → Option Route → Choice → Type 0
+IsChoice box tree None choice = choice ≡ Nothing
+IsChoice box tree (Some path) Nothing = MayAsk box tree path false
+IsChoice box tree (Some path) (Thing chosen) = MayAsk box tree path true × (chosen.path ≡ path)
+IsChoice box tree (Some path) (Refused refused e) = refused ≡ path
 
 -- what the look at the thing was refused
 abbrev pub choice_refusals : Choice → List Refusal
 choice_refusals Nothing = []
-choice_refusals (File chosen) = []
+choice_refusals (Thing chosen) = []
 choice_refusals (Refused path e) = Tree path e ∷ []
 
 -- what planning a copy comes to: the plan, where nothing stands at its target, or why it is refused

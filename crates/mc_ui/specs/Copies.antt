@@ -1,24 +1,32 @@
 -- What a box may ask of, and the plans that it confirms.
-use Rattle.std.specs.Prelude.{◌≡◌, ◌≢◌, ◌<◌, Bool, false, ◌&&◌, nat_le, ⊤, [], ◌∷◌, length, IsSome, Option, Some, None}
+use Rattle.std.specs.Prelude.{◌≡◌, ◌≢◌, ◌<◌, Bool, false, not, ◌&&◌, nat_le, ⊤, [], ◌∷◌, length, IsSome, Option, Some, None}
 use Rattle.std.specs.Option.{option_map_or}
+use Rattle.mc_text.specs.declared.kind.Kind.{Kind}
 use Rattle.mc_text.specs.Routes.{Route, spelled}
 use Rattle.tree_trait.specs.declared.calls.TreeError.TheVariants.{Missing}
 use Rattle.tree_trait.specs.FileSystem.{Spot, View}
-use Rattle.tree_trait.specs.Refusals.{file_kind}
+use Rattle.tree_trait.specs.Refusals.{file_kind, folder_kind}
 use Rattle.job_reports.specs.declared.job.Job.{Job}
 use Rattle.job_reports.specs.declared.job.Job.TheVariants as plan
 use Rattle.session_history.specs.declared.refusal.PlanError.TheVariants.{TargetThere, TargetTooLong, BadMask}
 use Rattle.session_history.specs.declared.refusal.Refusal.{Refusal}
 use Rattle.session_history.specs.declared.refusal.Refusal.TheVariants.{Tree, Plan, Begin}
+use Rattle.mc_ui.specs.declared.panel_command.Opens.{Opens}
+use Rattle.mc_ui.specs.declared.panel_command.Opens.TheVariants as opens
 
--- a file stands there
-abbrev pub is_file_spot : Spot → Bool
-is_file_spot spot = option_map_or (λ v. file_kind v.kind) spot.value false
+-- a file may be copied, and all but a folder deleted
+abbrev pub may_open : Opens → Kind → Bool
+may_open opens.SourceMask kind = file_kind kind
+may_open opens.Delete kind = not (folder_kind kind)
 
--- a box may ask of the thing at a path: exactly where a file stands there, as far as the tree can be seen
-abbrev pub MayAsk : Option View → Route → Bool → Type 0
-MayAsk None path asks = ⊤
-MayAsk (Some view) path asks = asks ≡ (is_file_spot (view path) && nat_le (length (spelled path)) 4096)
+-- a thing of such a kind stands there
+abbrev pub is_spot_of : Opens → Spot → Bool
+is_spot_of box spot = option_map_or (λ v. may_open box v.kind) spot.value false
+
+-- a box may ask of the thing at a path: exactly where a thing of its kinds stands there, as far as the tree can be seen
+abbrev pub MayAsk : Opens → Option View → Route → Bool → Type 0
+MayAsk box None path asks = ⊤
+MayAsk box (Some view) path asks = asks ≡ (is_spot_of box (view path) && nat_le (length (spelled path)) 4096)
 
 -- the plans of one file
 abbrev pub delete_plan : Route → Job

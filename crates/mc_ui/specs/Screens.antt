@@ -130,11 +130,11 @@ abbrev pub box_of : Opens → Route → Box
 box_of opens.Delete path = DeleteBox path
 box_of opens.SourceMask path = MaskBox path mask_line
 
--- the key that asks of the thing under the cursor opens its box, if that is a file and no job is live
-abbrev pub Chooses : (Route → Box) → Option View → List JobRow → Option Route → List Refusal → Screen → Screen → Type 0
+-- the key that asks of the thing under the cursor opens its box, if the box may ask of that and no job is live
+abbrev pub Chooses : Opens → Option View → List JobRow → Option Route → List Refusal → Screen → Screen → Type 0
 Chooses box tree (row ∷ rows) current refusals before after = (refusals ≡ []) × (after ≡ before)
 Chooses box tree [] None refusals before after = (refusals ≡ []) × (after ≡ before)
-Chooses box tree [] (Some path) [] before after = (asks : Bool) × MayAsk tree path asks × (after ≡ (if asks then record before { over = box path } else before))
+Chooses box tree [] (Some path) [] before after = (asks : Bool) × MayAsk box tree path asks × (after ≡ (if asks then record before { over = box_of box path } else before))
 Chooses box tree [] (Some path) (refusal ∷ more) before after =
     (e : TreeError) × (refusal ∷ more ≡ Tree path e ∷ []) × (after ≡ told_refusal (Tree path e) before)
 
@@ -143,7 +143,7 @@ abbrev pub CommandLeads : PanelCommand → Option View → List JobRow → List 
 CommandLeads (Move base) tree rows refusals before after = (refusals ≡ []) × (after ≡ with_move before.current base before)
 CommandLeads SwitchPanel tree rows refusals before after = (refusals ≡ []) × (after ≡ record before { current = opposite before.current })
 CommandLeads ShowHelp tree rows refusals before after = (refusals ≡ []) × (after ≡ record before { message = Some Help })
-CommandLeads (Open opens) tree rows refusals before after = Chooses (box_of opens) tree rows (current_path (current_panel before)) refusals before after
+CommandLeads (Open opens) tree rows refusals before after = Chooses opens tree rows (current_path (current_panel before)) refusals before after
 CommandLeads Quit tree rows refusals before after = (refusals ≡ []) × (after ≡ record before { planned = Some Ends })
 CommandLeads Nothing tree rows refusals before after = (refusals ≡ []) × (after ≡ before)
 

@@ -68,11 +68,20 @@ pub fn trouble_text(alloc: Global, cause: Cause) -> Result<Text, NoMemory>
         Cause::Tree(error) => Text::from_str(alloc, cause_text(error)),
         Cause::TargetKind(_) => Text::from_str(alloc, "target is of another kind"),
         Cause::SpecialSource => Text::from_str(alloc, "special file"),
+        Cause::TooDeep => Text::from_str(alloc, "too deep"),
         Cause::PartTaken => Text::from_str(alloc, "no free part name"),
         Cause::TooLong => Text::from_str(alloc, "path too long"),
+        Cause::Unnamed(count) => unnamed_text(alloc, count),
         Cause::Changed { said, got } => changed_text(alloc, said, got),
         Cause::Memory => Text::from_str(alloc, "out of memory"),
     }
+}
+
+/// What is said of a folder with so many names that are no text.
+fn unnamed_text(alloc: Global, count: u64) -> Result<Text, NoMemory>
+    ensures { IfOk result (λ text. text ≡ trouble_words (Cause.Unnamed count)) }
+{
+    Ok(Text(format!(in alloc; "{count} names can't be shown")?))
 }
 
 /// What is said of a source that was said to have so many bytes, and gave so many.

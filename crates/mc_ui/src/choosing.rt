@@ -1,13 +1,15 @@
 //! The look at the thing under the cursor.
-ghost use Rattle.std.specs.Prelude.{IfOk};
+ghost use Rattle.std.specs.Prelude.{◌≡◌, IfOk};
 ghost use Rattle.tree_trait.specs.Calls.{Stat};
 ghost use Rattle.mc_ui.specs.Panels.{current_path};
 ghost use Rattle.mc_ui.specs.Screens.{sight};
 ghost use Rattle.mc_ui.specs.Choices.{IsChoice, choice_refusals};
+ghost use Rattle.mc_ui.specs.Copies.{may_open};
 ghost use Rattle.mc_ui.specs.Reading.{ReadsTree};
 
 use crate::dialog::Chosen;
 use crate::panel::Panel;
+use crate::panel_command::Opens;
 use mc_text::{Kind, NoMemory, Path, PathError};
 use std::alloc::Global;
 use tree_trait::{Tree, TreeError};
@@ -15,17 +17,22 @@ use tree_trait::{Tree, TreeError};
 /// What choosing the thing under the cursor comes to.
 #[derive(Debug, Drop)]
 pub enum Choice {
-    /// It is no file, or it can't be reached.
+    /// It is nothing that the box may ask of, or it can't be reached.
     Nothing,
-    /// A file.
-    File(Chosen),
+    /// A thing that the box may ask of.
+    Thing(Chosen),
     /// A look at it was refused.
     Refused(Path, TreeError),
 }
 
-/// Looks at the thing under the cursor.
-pub fn choose<T: Tree>(alloc: Global, tree: &mut T, panel: &Panel) -> Result<Choice, NoMemory>
-    ensures chosen { IfOk result (IsChoice (sight (T.contents tree.old)) (current_path panel.now)) }
+/// Looks at the thing under the cursor, of which a box may ask.
+pub fn choose<T: Tree>(
+    alloc: Global,
+    tree: &mut T,
+    panel: &Panel,
+    opens: Opens,
+) -> Result<Choice, NoMemory>
+    ensures chosen { IfOk result (IsChoice opens (sight (T.contents tree.old)) (current_path panel.now)) }
     ensures reads { ReadsTree Stat choice_refusals result (T.contents tree.old) (T.contents tree.new)
         (T.fault_count tree.old) (T.fault_count tree.new) }
 {
@@ -36,11 +43,26 @@ pub fn choose<T: Tree>(alloc: Global, tree: &mut T, panel: &Panel) -> Result<Cho
         Err(_) => return Err(NoMemory),
     };
     match tree.stat(alloc, &path) {
-        Ok(meta) => match meta.kind {
-            Kind::File => Ok(Choice::File(Chosen { path })),
-            Kind::Folder | Kind::Link | Kind::Other => Ok(Choice::Nothing),
-        },
+        Ok(meta) => {
+            if may_ask_of(opens, meta.kind) {
+                Ok(Choice::Thing(Chosen { path }))
+            } else {
+                Ok(Choice::Nothing)
+            }
+        }
         Err(TreeError::Memory) => Err(NoMemory),
         Err(error) => Ok(Choice::Refused(path, error)),
+    }
+}
+
+/// Whether a box may ask of a thing of this kind: a file may be copied, and all but a folder deleted.
+fn may_ask_of(opens: Opens, kind: Kind) -> bool
+    ensures { result ≡ may_open opens kind }
+{
+    match (opens, kind) {
+        (Opens::SourceMask, Kind::File) => true,
+        (Opens::SourceMask, Kind::Folder | Kind::Link | Kind::Other) => false,
+        (Opens::Delete, Kind::Folder) => false,
+        (Opens::Delete, Kind::File | Kind::Link | Kind::Other) => true,
     }
 }

@@ -10,11 +10,13 @@ use Rattle.std.proofs.lemmas.List.Elements.{All-head, All-tail, All-append, All-
 use Rattle.std.proofs.lemmas.List.Sorted.{All-permutation, IsPermutation-map}
 use Rattle.std.specs.Ordering.{is_lt}
 use Rattle.tagging.proofs.KeepLemmas.{filter-take_more}
+use Rattle.tree_trait.specs.Answers.{IsAscending}
 use Rattle.panel_listing.specs.Orders.{is_shown, item_cmp, AreArranged}
-use Rattle.panel_listing.specs.Arranging.{names_of, behind_name, marked, items_at, item_in, IsNumberOf}
+use Rattle.panel_listing.specs.Arranging.{names_of, behind_name, marked, items_at, item_in, comes_before, IsNumberOf}
 use Rattle.panel_listing.specs.declared.item.Item.{Item}
 use Rattle.panel_listing.specs.declared.arranging.Numbered.{Numbered}
 use Rattle.panel_listing.specs.declared.wish.Wish.{Wish}
+use Rattle.panel_listing.proofs.StrictLemmas.{arranged-strictly}
 
 -- ---- names
 
@@ -123,11 +125,11 @@ module _ (wish : Wish) (items : List Item) (rows sorted : List Numbered) (number
       All-map (λ number. number < length items) (λ (row : Numbered). row.number) sorted
       (All-weaker (IsNumberOf items) (λ row. row.number < length items) (λ row h. h.within) sorted still)
 
-  pub numbers-arranged : map item_in rows ≡ filter (is_shown wish) items
-      → IsSortedBy (λ a b. is_lt (item_cmp wish (item_in a) (item_in b))) sorted
+  pub numbers-arranged : IsAscending (names_of items) → map item_in rows ≡ filter (is_shown wish) items
+      → IsSortedBy (comes_before wish) sorted
       → AreArranged wish items (items_at items (map (λ row. row.number) sorted))
-  numbers-arranged shown order =
-      subst (AreArranged wish items) (sym (items-numbered items sorted still)) (record {
-        kept = subst (λ (kept : List Item). IsPermutation kept (map item_in sorted)) shown (IsPermutation-map item_in rows sorted moved);
-        ordered = sorted-mapped item_in (λ a b. is_lt (item_cmp wish a b)) sorted order;
-      })
+  numbers-arranged ascending shown order =
+      subst (AreArranged wish items) (sym (items-numbered items sorted still))
+      (arranged-strictly wish items (map item_in sorted) ascending
+      (subst (λ (kept : List Item). IsPermutation kept (map item_in sorted)) shown (IsPermutation-map item_in rows sorted moved))
+      (sorted-mapped item_in (λ a b. is_lt (item_cmp wish a b)) sorted order))

@@ -1,5 +1,6 @@
 pub mod ItemLemmas
 pub mod OrderLemmas
+pub mod StrictLemmas
 pub mod ArrangeLemmas
 pub mod FormatLemmas
 pub mod RowLemmas

@@ -4,7 +4,7 @@ use Rattle.std.specs.Option.{option_map_or}
 use Rattle.std.specs.Ordering.{nat_cmp, int_cmp, ordering_then}
 use Rattle.std.specs.declared.cmp.Ordering.{Ordering}
 use Rattle.std.specs.declared.cmp.Ordering.TheVariants.{Equal}
-use Rattle.std.specs.List.Sorted.{IsPermutation, IsSorted}
+use Rattle.std.specs.List.Sorted.{IsPermutation, IsStrictlySortedBy}
 use Rattle.tree_trait.specs.Answers.{name_cmp}
 use Rattle.tagging.specs.Patterns.{PatternText, is_found}
 use Rattle.panel_listing.specs.Items.{leads_to_folder}
@@ -68,7 +68,8 @@ within_cmp wish a b = if wish.reverse then order_cmp wish.order b a else order_c
 abbrev pub item_cmp : Wish → Item → Item → Ordering
 item_cmp wish a b = ordering_then (nat_cmp (group a) (group b)) (within_cmp wish a b)
 
--- these are the shown ones of a folder's items, each as often as it is there, in the order that is wished for
+-- These are the shown ones of a folder's items, each as often as it is there, in the strict order that is wished for: each
+-- comes before all that stand behind it, and no two tie.
 pub record AreArranged (wish : Wish) (items shown : List Item) : Type 0 where
   pub kept : IsPermutation (filter (is_shown wish) items) shown
-  pub ordered : IsSorted (item_cmp wish) shown
+  pub ordered : IsStrictlySortedBy (item_cmp wish) shown

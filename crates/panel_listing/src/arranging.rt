@@ -1,8 +1,10 @@
 //! Which items are shown, and in which order. What is moved are their numbers, never their names.
 ghost use Rattle.std.specs.Prelude.{◌≡◌, ◌<◌, ◌++◌, ◌∷◌, [], All, true, map, option_map, filter, replicate, length, if◌then◌else◌, IfOk, OnOk};
+ghost use Rattle.std.specs.List.Sorted.{IsPermutation, IsSortedBy};
+ghost use Rattle.tree_trait.specs.Answers.{IsAscending};
 ghost use Rattle.tagging.specs.Patterns.{is_found};
 ghost use Rattle.panel_listing.specs.Orders.{is_shown, passes, AreArranged};
-ghost use Rattle.panel_listing.specs.Arranging.{names_of, marked, behind_name, items_at, item_in, IsNumberOf};
+ghost use Rattle.panel_listing.specs.Arranging.{names_of, marked, behind_name, items_at, item_in, comes_before, IsNumberOf};
 
 use crate::item::Item;
 use crate::wish::Wish;
@@ -17,16 +19,26 @@ pub struct Numbered<'a> {
     item: &'a Item,
 }
 
-/// The numbers of the items that are shown, in the order that is wished for. The time grows as the number of the shown
-/// ones times its logarithm; a pattern is read once.
+/// The numbers of the items that are shown, in the order that is wished for. No two of them tie: the names of a folder differ,
+/// and ties go by them. The time grows as the number of the shown ones times its logarithm; a pattern is read once.
 pub fn arranged(alloc: Global, items: &[Item], wish: &Wish) -> Result<Places, NoMemory>
+    requires { IsAscending (names_of items.now) }
     ensures within { IfOk result (λ shown. All (λ number. number < length items.now) shown) }
     ensures arranged { IfOk result (λ shown. AreArranged wish.now items.now (items_at items.now shown)) }
 {
     let mut rows = shown(alloc, items, wish)?;
-    rows.sort_by(|mine, theirs| wish.compare(mine.item, theirs.item))?;
+    sort_rows(&mut rows, wish)?;
     let numbers = numbers(alloc, rows.as_slice())?;
     Ok(numbers)
+}
+
+/// Sorts the rows as it is wished.
+fn sort_rows(rows: &mut Vec<Numbered>, wish: &Wish) -> Result<(), NoMemory>
+    ensures kept { OnOk result (IsPermutation rows.old.items rows.new.items) }
+    ensures ordered { OnOk result (IsSortedBy (comes_before wish.now) rows.new.items) }
+{
+    rows.sort_by(|mine, theirs| wish.compare(mine.item, theirs.item))?;
+    Ok(())
 }
 
 /// The numbers of items.

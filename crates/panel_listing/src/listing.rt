@@ -1,5 +1,7 @@
 //! The listing of a folder.
 ghost use Rattle.std.specs.Prelude.{◌≡◌, ◌<◌, ◌≤◌, None, MatchOption, length, option_copied, slice_index_or, IfOk, OnOk, OnErr};
+ghost use Rattle.tree_trait.specs.Answers.{IsAscending};
+ghost use Rattle.panel_listing.specs.Arranging.{names_of};
 ghost use Rattle.panel_listing.specs.Orders.{AreArranged};
 ghost use Rattle.panel_listing.specs.Listings.{rows_in, place_of};
 
@@ -26,8 +28,7 @@ pub struct Listing {
 }
 
 impl Model for Listing {
-    ghost use Rattle.std.specs.Prelude.{◌<◌, All, length};
-    ghost use Rattle.panel_listing.specs.Arranging.{items_at};
+    ghost use Rattle.panel_listing.specs.Arranging.{items_at, AreSound};
     ghost use Rattle.panel_listing.specs.Listings.{Listed};
 
     ghost Value = { Listed };
@@ -39,7 +40,7 @@ impl Model for Listing {
       unnamed = l.unnamed;
     } };
 
-    ghost invariant = { λ l. All (λ number. number < length l.items.items) l.shown };
+    ghost invariant = { λ l. AreSound l.items.items l.shown };
 }
 
 impl Listing {
@@ -51,6 +52,7 @@ impl Listing {
         unnamed: u64,
         wish: &Wish,
     ) -> Result<Listing, NoMemory>
+        requires { IsAscending (names_of items.items) }
         ensures parent { IfOk result (λ listing. listing.has_parent ≡ has_parent) }
         ensures items { IfOk result (λ listing. listing.items ≡ items.items) }
         ensures unnamed { IfOk result (λ listing. listing.unnamed ≡ unnamed) }

@@ -4,6 +4,7 @@ ghost use Rattle.tree_trait.specs.Calls.{ListFolder};
 ghost use Rattle.tree_trait.specs.Change.{current};
 ghost use Rattle.tree_trait.specs.Answers.{IfKnown, Reads, HasCause};
 ghost use Rattle.panel_listing.specs.Items.{child_item};
+ghost use Rattle.panel_listing.specs.Arranging.{names_of};
 ghost use Rattle.panel_listing.specs.Orders.{AreArranged};
 ghost use Rattle.panel_listing.specs.Listings.{IsListingOf, has_parent};
 
@@ -60,6 +61,7 @@ fn items_of<T: Tree>(
 ) -> Result<Vec<Item>, TreeError>
     ensures answer { IfKnown (T.contents tree.old) (λ log.
         IfOk result (λ items. items.items ≡ map (child_item (current log) folder.now) names.items)) }
+    ensures named { IfOk result (λ items. names_of items.items ≡ names.items) }
     ensures refused { IfErr result (λ e. (e ≡ TreeError.Memory) ⊎ (e ≡ TreeError.Fault)) }
     ensures same { T.contents tree.new ≡ T.contents tree.old }
     ensures cause { HasCause TreeError.Fault (T.fault_count tree.old) (T.fault_count tree.new) result }

@@ -6,7 +6,7 @@ ghost use Rattle.panel_listing.specs.RowTexts.{link_letter, type_letter, name_to
 use crate::format::Field;
 use crate::item::{Item, LinkKind};
 use crate::layout::Cell;
-use mc_text::{Kind, NoMemory, Text, drawn, perm_text, size_text, time_text};
+use mc_text::{Kind, NoMemory, Text, drawn, perm_text, push_blanks, size_text, time_text};
 use std::alloc::Global;
 use std::convert::AsStr;
 

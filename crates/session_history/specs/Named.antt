@@ -3,7 +3,7 @@ use Rattle.std.specs.Prelude.{◌≡◌, ◌⊎◌, ℕ, ◌==◌, Bool, true, f
 use Rattle.std.specs.Option.{option_map_or}
 use Rattle.mc_text.specs.Routes.{Route, same_path}
 use Rattle.job_reports.specs.declared.report.Did.{Did}
-use Rattle.job_reports.specs.declared.report.Did.TheVariants.{Began, Chunk, Placed, Removed, Skipped, Cleaned, Barrier, Troubled, Ended}
+use Rattle.job_reports.specs.declared.report.Did.TheVariants.{Began, Chunk, Placed, Removed, Kept, Skipped, Cleaned, Barrier, Troubled, Ended}
 use Rattle.job_reports.specs.Paths.{without}
 use Rattle.session_history.specs.declared.history.Event.{Event}
 use Rattle.session_history.specs.declared.history.Event.TheVariants.{Key, Look, Order, Step, Closed}
@@ -18,6 +18,7 @@ names (Removed file) path = same_path path file
 names (Cleaned part) path = same_path path part
 names (Ended ending part) path = option_map_or (same_path path) part false
 names (Chunk count) path = false
+names (Kept kept) path = false
 names (Skipped file cause) path = false
 names Barrier path = false
 names (Troubled trouble) path = false
@@ -41,6 +42,7 @@ changed_by (Placed path) = Some path
 changed_by (Removed path) = Some path
 changed_by (Began part) = None
 changed_by (Chunk count) = None
+changed_by (Kept kept) = None
 changed_by (Skipped path cause) = None
 changed_by (Cleaned part) = None
 changed_by Barrier = None
@@ -53,6 +55,7 @@ named_by (Began part) before = part ∷ before
 named_by (Placed path) before = without path before
 named_by (Chunk count) before = before
 named_by (Removed path) before = before
+named_by (Kept kept) before = before
 named_by (Skipped path cause) before = before
 named_by (Cleaned part) before = before
 named_by Barrier before = before
@@ -78,6 +81,7 @@ begins_change (Began part) = true
 begins_change (Removed path) = true
 begins_change (Chunk count) = false
 begins_change (Placed path) = false
+begins_change (Kept kept) = false
 begins_change (Skipped path cause) = false
 begins_change (Cleaned part) = false
 begins_change Barrier = false

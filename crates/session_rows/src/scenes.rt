@@ -1,5 +1,6 @@
 //! The trees that the rows begin with.
 ghost use Rattle.std.specs.Prelude.{◌≡◌, ◌≤◌, ◌<◌, [], length};
+ghost use Rattle.tree_trait.specs.Answers.{IsLinkText};
 
 use anyhow::{Result, bail};
 use mc_text::Path;
@@ -18,6 +19,7 @@ fn scene_tree(alloc: Global, scene: &str) -> Result<MemTree> {
         "one file" => one_file(alloc, 0o755),
         "fixed folder" => one_file(alloc, 0o555),
         "two files" => two_files(alloc),
+        "no files" => no_files(alloc),
         "room for 9" => file_and_mount(alloc, 9),
         "room for 1" => file_and_mount(alloc, 1),
         _ => bail!("no such tree"),
@@ -40,6 +42,15 @@ fn two_files(alloc: Global) -> Result<MemTree> {
     put_folder(alloc, &mut tree, "/a", 0o755)?;
     put_file(alloc, &mut tree, "/a/x", 0o644, b"hi")?;
     put_file(alloc, &mut tree, "/a/y", 0o644, b"ho")?;
+    Ok(tree)
+}
+
+/// The folder `/a` with the link `l` and the pipe `p`.
+fn no_files(alloc: Global) -> Result<MemTree> {
+    let mut tree = MemTree::new(alloc, 0)?;
+    put_folder(alloc, &mut tree, "/a", 0o755)?;
+    put_link(alloc, &mut tree, "/a/l", "x")?;
+    put_pipe(alloc, &mut tree, "/a/p")?;
     Ok(tree)
 }
 
@@ -71,5 +82,24 @@ fn put_file(alloc: Global, tree: &mut MemTree, path: &str, mode: u16, bytes: &[u
 {
     let path = Path::parse(alloc, path)?;
     tree.put_file(alloc, &path, mode, 0, bytes)?;
+    Ok(())
+}
+
+fn put_link(alloc: Global, tree: &mut MemTree, path: &str, text: &str) -> Result<()>
+    requires unused { tree.old.log.changes ≡ [] }
+    requires link_text { IsLinkText text.now }
+    ensures unused { tree.new.log.changes ≡ [] }
+{
+    let path = Path::parse(alloc, path)?;
+    tree.put_link(alloc, &path, text)?;
+    Ok(())
+}
+
+fn put_pipe(alloc: Global, tree: &mut MemTree, path: &str) -> Result<()>
+    requires unused { tree.old.log.changes ≡ [] }
+    ensures unused { tree.new.log.changes ≡ [] }
+{
+    let path = Path::parse(alloc, path)?;
+    tree.put_other(alloc, &path)?;
     Ok(())
 }

@@ -91,7 +91,7 @@ impl Ui {
         self.message = Some(Message::Help);
     }
 
-    /// Opens a box on the thing under the cursor, if that is a file and no job is live.
+    /// Opens a box on the thing under the cursor, if the box may ask of that and no job is live.
     fn open_box<T: Tree>(
         &mut self,
         alloc: Global,
@@ -100,7 +100,7 @@ impl Ui {
         opens: Opens,
     ) -> Result<KeyAct, NoMemory>
         requires clear { self.old.over ≡ NoBox }
-        ensures leads { IfOk result (λ act. Chooses (box_of opens) (sight (T.contents tree.old)) rows.now
+        ensures leads { IfOk result (λ act. Chooses opens (sight (T.contents tree.old)) rows.now
             (current_path (current_panel self.old)) act.refusals self.old self.new) }
         ensures asks { IfOk result (λ act. act.ask ≡ Ask.Nothing) }
         ensures left { self.new.left ≡ self.old.left }
@@ -115,9 +115,9 @@ impl Ui {
         if !rows.0.is_empty() {
             return Ok(asking_nothing(alloc));
         }
-        match choose(alloc, tree, self.current())? {
+        match choose(alloc, tree, self.current(), opens)? {
             Choice::Nothing => Ok(asking_nothing(alloc)),
-            Choice::File(chosen) => {
+            Choice::Thing(chosen) => {
                 self.dialog = opened(alloc, opens, chosen)?;
                 Ok(asking_nothing(alloc))
             }
@@ -142,7 +142,7 @@ impl Ui {
     }
 }
 
-/// The box on a file.
+/// The box on a thing.
 fn opened(alloc: Global, opens: Opens, chosen: Chosen) -> Result<Dialog, NoMemory>
     ensures { IfOk result (λ dialog. seen_box dialog ≡ box_of opens chosen.path) }
 {

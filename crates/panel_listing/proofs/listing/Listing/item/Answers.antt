@@ -10,7 +10,7 @@ pub index-requires : goal.index-requires
 index-requires c =
     let here = c.in-Some.ensures in
     let within : c.in-Some.number < length c.self.inside.items.items =
-    subst (λ n. n < length c.self.inside.items.items) here.1 (c.self.invariant c.in_ok-place.place c.in-Some.number here.0) in
+    subst (λ n. n < length c.self.inside.items.items) here.1 (c.self.invariant.within c.in_ok-place.place c.in-Some.number here.0) in
     omega (arith, within)
 
 pub returns-in-Some : goal.returns-in-Some
@@ -23,7 +23,7 @@ returns-in-Some c =
     let item = c.index.result.now in
     let here = c.in-Some.ensures in
     let there : place_of above c.args.row ≡ Some place = sym c.in_ok-place.ensures in
-    let within : number < length items = subst (λ n. n < length items) here.1 (c.self.invariant place number here.0) in
+    let within : number < length items = subst (λ n. n < length items) here.1 (c.self.invariant.within place number here.0) in
     ap Some (c.index.ensures ∙ get_or_default items number item (unseen []) within ∙ ap (λ n. slice_index_or items n (unseen [])) (sym here.1))
     ∙ sym (row-there above items numbers c.args.row place number there here.0)
     ∙ ap (λ listing. slice_index_or (rows_in listing) c.args.row None) c.self.view_is

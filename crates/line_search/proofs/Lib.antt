@@ -1,0 +1,2 @@
+mod MeaningLemmas
+pub mod LineLemmas
