@@ -1,0 +1,2 @@
+pub mod FolderCopying
+pub mod FolderSteps

@@ -1,0 +1,4 @@
+pub mod Answers
+pub mod Questions
+pub mod Skipping
+pub mod Standings

@@ -1,0 +1,112 @@
+//! What may be answered to a question, to a trouble and at a barrier, and what the job does then.
+ghost use Rattle.std.specs.Prelude.{◌≡◌};
+ghost use Rattle.job_answers.specs.Answers.{answered, to_barrier, to_question, to_trouble, waiting_of};
+
+use job_reports::{AnswerError, Cause, Trouble};
+
+/// What is answered to a job that waits.
+#[derive(Clone, Copy, Debug, Drop, PartialEq, Eq)]
+pub enum Answer {
+    /// This item replaces what stands at its target.
+    Yes,
+    /// This item doesn't.
+    No,
+    /// This and each later item replaces what stands at its target.
+    All,
+    /// They do where the source was changed later than the target.
+    Update,
+    /// None does.
+    Nothing,
+    /// They do where source and target differ in size.
+    SizeDiffers,
+    /// What was refused is tried again.
+    Retry,
+    /// The item is left as it is.
+    Skip,
+    /// So is each later one that meets a trouble of the same kind.
+    SkipAll,
+    Abort,
+}
+
+/// What a job waits with.
+#[derive(Clone, Copy, Debug, Drop, PartialEq, Eq)]
+pub enum Waiting {
+    /// Something stands at the target.
+    Question,
+    /// A trouble that can be skipped, with this cause.
+    Trouble(Cause),
+    /// A trouble at a barrier, where nothing can be skipped.
+    Barrier,
+}
+
+/// What a job does when its answer was taken.
+#[derive(Clone, Copy, Debug, Drop, PartialEq, Eq)]
+pub enum Then {
+    /// The item's question is decided.
+    Decides,
+    Retries,
+    Skips,
+    /// It makes its last steps.
+    Ends,
+}
+
+/// What a job in trouble waits with.
+pub fn waiting_in(trouble: &Trouble) -> Waiting
+    ensures { result ≡ waiting_of trouble.now }
+{
+    if trouble.barrier {
+        return Waiting::Barrier;
+    }
+    Waiting::Trouble(trouble.cause)
+}
+
+/// What a job does after this answer. `NotAsked` where it doesn't wait, `WrongAnswer` where the answer is none to that.
+pub fn then_after(waiting: Option<Waiting>, answer: Answer) -> Result<Then, AnswerError>
+    ensures { result ≡ answered waiting answer }
+{
+    match waiting {
+        None => Err(AnswerError::NotAsked),
+        Some(Waiting::Question) => after_question(answer),
+        Some(Waiting::Trouble(_)) => after_trouble(answer),
+        Some(Waiting::Barrier) => at_barrier(answer),
+    }
+}
+
+fn after_question(answer: Answer) -> Result<Then, AnswerError>
+    ensures { result ≡ to_question answer }
+{
+    match answer {
+        Answer::Yes | Answer::No => Ok(Then::Decides),
+        Answer::All | Answer::Update | Answer::Nothing | Answer::SizeDiffers => Ok(Then::Decides),
+        Answer::Abort => Ok(Then::Ends),
+        Answer::Retry | Answer::Skip | Answer::SkipAll => Err(AnswerError::WrongAnswer),
+    }
+}
+
+fn after_trouble(answer: Answer) -> Result<Then, AnswerError>
+    ensures { result ≡ to_trouble answer }
+{
+    match answer {
+        Answer::Retry => Ok(Then::Retries),
+        Answer::Skip | Answer::SkipAll => Ok(Then::Skips),
+        Answer::Abort => Ok(Then::Ends),
+        Answer::Yes | Answer::No => Err(AnswerError::WrongAnswer),
+        Answer::All | Answer::Update | Answer::Nothing | Answer::SizeDiffers => {
+            Err(AnswerError::WrongAnswer)
+        }
+    }
+}
+
+fn at_barrier(answer: Answer) -> Result<Then, AnswerError>
+    ensures { result ≡ to_barrier answer }
+{
+    match answer {
+        Answer::Retry => Ok(Then::Retries),
+        Answer::Abort => Ok(Then::Ends),
+        Answer::Skip | Answer::SkipAll => Err(AnswerError::WrongAnswer),
+        Answer::Yes | Answer::No => Err(AnswerError::WrongAnswer),
+        Answer::All | Answer::Update | Answer::Nothing | Answer::SizeDiffers => {
+            Err(AnswerError::WrongAnswer)
+        }
+    }
+}

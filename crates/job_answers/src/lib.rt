@@ -1,0 +1,14 @@
+//! Questions before a thing is replaced, what may be answered to them and to troubles, and what answers for all later items decide.
+#![tactic(auto)]
+
+mod answer;
+mod placing;
+mod question;
+mod skips;
+mod standing;
+
+pub use answer::{Answer, Then, Waiting, then_after, waiting_in};
+pub use placing::{Origin, Placing, placing_of};
+pub use question::Question;
+pub use skips::{CauseKind, SkippedRefusals, Skips, kind_of};
+pub use standing::{Decision, ItemAnswer, Rule, Standing};
