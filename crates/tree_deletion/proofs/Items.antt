@@ -1,5 +1,5 @@
 -- What a deletion takes up, and how it goes into a folder.
-use Rattle.std.proofs.Common.{◌≡◌, ℕ, ◌+◌, ◌<◌, suc, Bool, inl, inr, IfSome, IfNone, List, [], refl, sym, ◌∙◌, ap, subst, Option, Some, None, Ok, Err}
+use Rattle.std.proofs.Common.{◌≡◌, ℕ, ◌+◌, ◌<◌, suc, Bool, inl, inr, IfSome, IfNone, List, [], refl, sym, ◌∙◌, ap, subst, Option, Some, None, Ok, Err, true}
 use Rattle.mc_text.specs.Routes.{Route}
 use Rattle.tree_trait.specs.declared.file_system.FileSystem.{FileSystem}
 use Rattle.tree_trait.specs.Change.{CallLog, current}
@@ -18,7 +18,7 @@ use Rattle.tree_deletion.specs.declared.looking.Found.TheVariants as found
 use Rattle.tree_deletion.specs.declared.meeting.Met.TheVariants as met
 use Rattle.tree_deletion.specs.declared.deletion.Stage.{Stage}
 use Rattle.tree_deletion.specs.Standing.{Decides, IsDone, Item, Thing, End, Leaves, after_item, item, item_at, item_of, rank_at, worked}
-use Rattle.tree_deletion.specs.Steps.{IsThing, KeepsRest, Passes}
+use Rattle.tree_deletion.specs.Steps.{IsThing, KeepsRest, Passes, TakesOff, path_of}
 use Rattle.tree_deletion.specs.Descending.{GoesInto, IsAt, IsNext, Meets, StandsSo, StopsAt, ThingStops, opened_at}
 
 pub at_itself : (d : Deletion) → IsAt d d
@@ -134,3 +134,14 @@ folder_decides old mid left path stage to depth next leaves keeps is =
       subst (λ x. IsDone x (item old) left old.walk.place mid.walk.place) (sym depth) (subst (λ i. IsDone Inside i left old.walk.place mid.walk.place) (sym next) leaves),
       keeps,
     ) is
+
+-- the thing that is deleted is left
+pub top_taken : (d : Deletion) (path : Route) → d.depth ≡ Top → path ≡ d.path → TakesOff path d d
+top_taken d path depth is = inl (is ∙ sym (ap path_of (top_item d depth)), top_passes d true depth)
+
+-- the next thing is left
+pub next_taken : (old new : Deletion) (path : Route) → old.depth ≡ Inside → IsNext path old.walk.place → Passes true old new → TakesOff path old new
+next_taken old new path depth next passes = inl (sym (ap path_of (next_item old path depth next)), passes)
+
+pub next_thing : (d : Deletion) (path : Route) → d.depth ≡ Inside → IsNext path d.walk.place → IsThing (item d)
+next_thing d path depth next = subst IsThing (sym (next_item d path depth next)) tt

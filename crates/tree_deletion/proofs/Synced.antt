@@ -1,5 +1,6 @@
 -- A sync is one call of the tree, with its answer.
-use Rattle.std.proofs.Common.{◌≡◌, ℕ, ◌≤◌, true, List, refl, sym, subst, Option, None, Result, Ok, Err, arith}
+use Rattle.std.proofs.Common.{◌≡◌, ℕ, ◌≤◌, true, List, refl, sym, subst, Option, None, Result, Ok, Err, arith, ◌+◌, ◌∙◌, ap, Some}
+use Rattle.std.specs.Prelude.{remove, slice_get}
 use Rattle.mc_text.specs.Routes.{Route}
 use Rattle.tree_trait.specs.declared.calls.TreeError.{TreeError}
 use Rattle.tree_trait.specs.declared.calls.TreeError.TheVariants as refused
@@ -7,14 +8,15 @@ use Rattle.tree_trait.specs.Calls.{SyncFolder}
 use Rattle.tree_trait.specs.Change.{CallLog}
 use Rattle.tree_trait.specs.Answers.{IfKnown, HasRisen, Performs}
 use Rattle.job_reports.specs.declared.report.Did.{Did}
+use Rattle.job_reports.specs.declared.report.Ending.{Ending}
 use Rattle.job_reports.specs.declared.report.Did.TheVariants.{Barrier, Troubled}
 use Rattle.job_reports.specs.CallRuns.{HasMore}
 use Rattle.job_reports.specs.Paths.{without}
 use Rattle.job_reports.specs.Stops.{calls_made_for, trouble_at}
 use Rattle.job_reports.proofs.Tried.{counts_try, tries_few}
 use Rattle.tree_deletion.specs.declared.deletion.Deletion.{Deletion}
-use Rattle.tree_deletion.specs.Folders.{is_of}
-use Rattle.tree_deletion.specs.Steps.{SyncSteps}
+use Rattle.tree_deletion.specs.Folders.{IsOwnAt, is_of}
+use Rattle.tree_deletion.specs.Steps.{LastSteps, SyncSteps}
 use Rattle.tree_deletion.proofs.Worked.{fault-cause}
 
 module _ (d : Deletion) (folders folders_after : List Route) (before after : Option CallLog) (faults faults_after : ℕ) where
@@ -47,3 +49,40 @@ module _ (d : Deletion) (folders folders_after : List Route) (before after : Opt
         later = later;
         fault = λ h. fault (fault-cause e h);
       }
+
+same_kept : (x : Option Route) (a b : Route) → x ≡ Some a → x ≡ Some b → a ≡ b
+same_kept x a b p q = let e : (let o : Option Route = Some a in o) ≡ Some b = sym p ∙ q in cc
+
+module _ (d : Deletion) (ending : Ending) (from next at : ℕ) (folder : Route) (folders folders_after : List Route) (before after : Option CallLog) (faults faults_after : ℕ)
+    (own : IsOwnAt d.folder d.path folders from at) (stands : slice_get folders at ≡ Some folder) where
+  abbrev Last : Did → ℕ → Option TreeError → Type 0
+  Last did calls left = LastSteps ending d from next did calls left folders folders_after before after faults faults_after
+
+  is_own : is_of d.folder d.path folder ≡ true
+  is_own = subst (λ q. is_of d.folder d.path q ≡ true) (same_kept (slice_get folders at) own.kept folder own.stands stands) own.is
+
+  -- a try that was done
+  pub tries_done : (did : Did) (calls : ℕ) (left : Option TreeError) → did ≡ Barrier → calls ≡ 1 → left ≡ None → folders_after ≡ remove folders at → next ≡ at → Synced d folders folders_after before after faults faults_after folder (Ok tt)
+      → (before ≡ None → after ≡ None) → faults ≤ faults_after → Last did calls left
+  tries_done did calls left is count none gone next_is called unknown later =
+      subst (λ x. Last x calls left) (sym is) (subst (λ x. Last Barrier calls x) (sym none) record {
+        tries = (at, folder, own.least, stands, is_own, gone, next_is, called);
+        counted = counted d folders folders_after before after faults faults_after folder (Ok tt) calls count called;
+        few = omega (arith, count);
+        unknown = unknown;
+        later = later;
+        fault = λ h. absurd cc;
+      })
+
+  -- a try in vain
+  pub tries_vainly : (did : Did) (calls : ℕ) (left : Option TreeError) (e : TreeError) → did ≡ Barrier → calls ≡ calls_made_for (Err e) → left ≡ Some e → folders_after ≡ folders → next ≡ at + 1
+      → Synced d folders folders_after before after faults faults_after folder (Err e) → (before ≡ None → after ≡ None) → faults ≤ faults_after → (e ≡ refused.Fault → HasRisen faults faults_after) → Last did calls left
+  tries_vainly did calls left e is count some same next_is called unknown later fault =
+      subst (λ x. Last x calls left) (sym is) (subst (λ x. Last Barrier calls x) (sym some) record {
+        tries = (at, folder, own.least, stands, is_own, same, next_is, called);
+        counted = counted d folders folders_after before after faults faults_after folder (Err e) calls count called;
+        few = let most = tries_few (Err e) in omega (arith, count, most);
+        unknown = unknown;
+        later = later;
+        fault = λ h. fault (let f : e ≡ refused.Fault = cc in f);
+      })

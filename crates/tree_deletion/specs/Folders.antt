@@ -1,5 +1,5 @@
 -- Folders with a change of names that no sync has brought onto the disk.
-use Rattle.std.specs.Prelude.{◌≡◌, Bool, false, ◌||◌, List, [], ◌∷◌, ◌++◌, if◌then◌else◌}
+use Rattle.std.specs.Prelude.{◌≡◌, ◌<◌, ◌≤◌, ℕ, Bool, true, false, ◌||◌, List, [], ◌∷◌, ◌++◌, length, slice_get, Some, if◌then◌else◌}
 use Rattle.std.specs.List.{list_any}
 use Rattle.mc_text.specs.Routes.{Route, same_path, is_prefix}
 use Rattle.tree_trait.specs.CrashImages.{Among}
@@ -19,3 +19,11 @@ is_of folder top kept = same_path kept folder || is_prefix top kept
 -- none of these is
 abbrev pub NoneOf : Route → Route → List Route → Type 0
 NoneOf folder top folders = (kept : Route) → Among folders kept → is_of folder top kept ≡ false
+
+-- from this place on the first that is stands there
+pub record IsOwnAt (folder top : Route) (folders : List Route) (from at : ℕ) : Type 0 where
+  pub least : from ≤ at
+  pub few : at < length folders
+  pub kept : Route
+  pub stands : slice_get folders at ≡ Some kept
+  pub is : is_of folder top kept ≡ true

@@ -1,11 +1,13 @@
 -- What a step of a deletion reports, where the deletion stands then, and what it says of the tree's calls.
-use Rattle.std.specs.Prelude.{◌≡◌, ◌⊎◌, ℕ, ◌<◌, ◌≤◌, ⊤, Bool, true, false, List, Option, Some, None, Ok, Err}
+use Rattle.std.specs.Prelude.{◌≡◌, ◌⊎◌, ℕ, ◌<◌, ◌≤◌, ⊤, Bool, true, false, List, Option, Some, None, Ok, Err, ◌+◌, remove, slice_get}
 use Rattle.mc_text.specs.Routes.{Route}
 use Rattle.tree_trait.specs.declared.calls.TreeError.{TreeError}
+use Rattle.tree_trait.specs.declared.calls.TreeError.TheVariants.{Fault}
 use Rattle.tree_trait.specs.Calls.{Call, RemoveFile, RemoveFolder, SyncFolder}
 use Rattle.tree_trait.specs.Change.{CallLog, current}
 use Rattle.tree_trait.specs.Answers.{IfKnown, HasRisen, Performs}
 use Rattle.job_reports.specs.declared.report.Cause.{Cause}
+use Rattle.job_reports.specs.declared.report.Ending.{Ending}
 use Rattle.job_reports.specs.declared.report.Ending.TheVariants.{Finished}
 use Rattle.job_reports.specs.declared.report.StepResult.{StepResult}
 use Rattle.job_reports.specs.declared.report.Did.{Did}
@@ -13,10 +15,10 @@ use Rattle.job_reports.specs.declared.report.Did.TheVariants.{Removed, Kept, Ski
 use Rattle.job_reports.specs.CallRuns.{HasMore}
 use Rattle.job_reports.specs.Paths.{folder_of, without}
 use Rattle.job_reports.specs.Reports.{IsFault}
-use Rattle.job_reports.specs.Stops.{out_of_memory_at, trouble_at}
+use Rattle.job_reports.specs.Stops.{out_of_memory_at, sync_answer, trouble_at}
 use Rattle.tree_deletion.specs.declared.deletion.Deletion.{Deletion}
 use Rattle.tree_deletion.specs.declared.deletion.Stage.TheVariants.{Going}
-use Rattle.tree_deletion.specs.Standing.{Item, Thing, End, Decides, IsDone, after_item, at_barrier, item, rank_at, things_left}
+use Rattle.tree_deletion.specs.Standing.{Item, Thing, End, Decides, IsDone, Leaves, after_item, at_barrier, item, rank_at, things_left, worked}
 use Rattle.tree_deletion.specs.Descending.{Descends, Enters, IsAt, StopsAt}
 use Rattle.tree_deletion.specs.Folders.{NoneOf, is_of, joined}
 
@@ -115,11 +117,21 @@ abbrev pub IsThing : Item → Type 0
 IsThing (Thing path) = ⊤
 IsThing (End folder) = ⊥
 
--- the report of what was left, where the deletion stands then, or that there was no memory for it
+-- the folder that is worked is left with all that is left in it
+pub record LeavesFolder (path : Route) (old new : Deletion) : Type 0 where
+  pub path_is : path ≡ worked old.path old.walk.place
+  pub place : Leaves true old.walk.place new.walk.place
+  pub rest : KeepsRest old new
+
+-- what is taken up is left, or the folder in which it lies
+abbrev pub TakesOff : Route → Deletion → Deletion → Type 0
+TakesOff path old new = ((path ≡ path_of (item old)) × Passes true old new) ⊎ LeavesFolder path old new
+
+-- the report of what was left, and where the deletion stands then; or that there was no memory for it
 abbrev pub Skips : Cause → Deletion → Did → Deletion → Type 0
 Skips cause old did new =
-    ((path : Route) × (did ≡ Skipped path cause) × (new.stage ≡ after_item old.path path old.stage) × (new.path ≡ old.path))
-    ⊎ ((did ≡ Troubled (out_of_memory_at (at_barrier old.stage))) × IsAt old new)
+    ((path : Route) × (did ≡ Skipped path cause) × ((mid : Deletion) × TakesOff path old mid × (new ≡ record mid { stage = after_item old.path path old.stage })))
+    ⊎ ((did ≡ Troubled (out_of_memory_at (at_barrier old.stage))) × (new ≡ old))
 
 -- A step that syncs: a folder that this deletion changed is on the disk, or that was refused; where there is none it is finished.
 abbrev pub Syncs : Deletion → Did → List Route → List Route → Option CallLog → Option CallLog → Type 0
@@ -139,3 +151,30 @@ pub record SyncSteps (d : Deletion) (did : Did) (calls : ℕ) (folders folders_a
   pub unknown : before ≡ None → after ≡ None
   pub later : faults ≤ faults_after
   pub fault : IsFault did → HasRisen faults faults_after
+
+-- what is left of the folders once this one was tried, and from where on they are yet to be tried
+abbrev pub after_try : Option TreeError → ℕ → List Route → List Route
+after_try None at folders = remove folders at
+after_try (Some e) at folders = folders
+
+abbrev pub next_try : Option TreeError → ℕ → ℕ
+next_try None at = at
+next_try (Some e) at = at + 1
+
+-- A last step: the next folder that this deletion changed, from this one on, was tried once, or it ends as it was ordered. It tells
+-- the refusal of a try in vain.
+abbrev pub Tries : Ending → Deletion → ℕ → ℕ → Did → Option TreeError → List Route → List Route → Option CallLog → Option CallLog → Type 0
+Tries ending d from next Barrier left folders folders_after before after =
+    (at : ℕ) × (folder : Route) × (from ≤ at) × (slice_get folders at ≡ Some folder) × (is_of d.folder d.path folder ≡ true) × (folders_after ≡ after_try left at folders) × (next ≡ next_try left at)
+    × IfKnown before (λ log. Performs {A = Unit {0}} log (SyncFolder folder) (sync_answer left) after)
+Tries ending d from next (Ended how part) left folders folders_after before after =
+    (how ≡ ending) × (part ≡ None) × (left ≡ None) × (folders_after ≡ folders) × (next ≡ from) × (after ≡ before)
+Tries ending d from next did left folders folders_after before after = ⊥
+
+pub record LastSteps (ending : Ending) (d : Deletion) (from next : ℕ) (did : Did) (calls : ℕ) (left : Option TreeError) (folders folders_after : List Route) (before after : Option CallLog) (faults faults_after : ℕ) : Type 0 where
+  pub tries : Tries ending d from next did left folders folders_after before after
+  pub counted : IfKnown before (λ log. IfKnown after (HasMore log calls))
+  pub few : calls ≤ 1
+  pub unknown : before ≡ None → after ≡ None
+  pub later : faults ≤ faults_after
+  pub fault : left ≡ Some Fault → HasRisen faults faults_after

@@ -1,7 +1,6 @@
 //! What is left as it is.
-ghost use Rattle.std.specs.Prelude.{◌≡◌, OnErr};
-ghost use Rattle.tree_deletion.specs.Descending.{IsAt};
-ghost use Rattle.tree_deletion.specs.Steps.{KeepsRest, Skips};
+ghost use Rattle.std.specs.Prelude.{◌≡◌, IfOk, OnErr};
+ghost use Rattle.tree_deletion.specs.Steps.{LeavesFolder, Skips, TakesOff};
 
 use crate::deletion::{Deletion, Depth, stage_after};
 use job_reports::{Cause, Did, out_of_memory};
@@ -25,17 +24,26 @@ impl Deletion {
     /// What stands in trouble is passed, and its path is given; without memory all is as it was. Where a path below a folder
     /// would be too long, the folder is left.
     fn take_off(&mut self, alloc: Global) -> Result<Path, NoMemory>
-        ensures rest { KeepsRest self.old self.new }
+        ensures taken { IfOk result (λ path. TakesOff path self.old self.new) }
         ensures same { OnErr result (self.new ≡ self.old) }
     {
         match self.depth {
-            Depth::Top => self.path.copy(alloc),
-            Depth::Inside => self.take_off_below(alloc),
+            Depth::Top => self.take_off_top(alloc),
+            Depth::Inside => self.take_off_next(alloc),
         }
     }
 
-    fn take_off_below(&mut self, alloc: Global) -> Result<Path, NoMemory>
-        ensures rest { KeepsRest self.old self.new }
+    fn take_off_top(&mut self, alloc: Global) -> Result<Path, NoMemory>
+        requires depth { self.old.depth ≡ Depth.Top }
+        ensures taken { IfOk result (λ path. TakesOff path self.old self.new) }
+        ensures same { OnErr result (self.new ≡ self.old) }
+    {
+        Ok(self.path.copy(alloc)?)
+    }
+
+    fn take_off_next(&mut self, alloc: Global) -> Result<Path, NoMemory>
+        requires depth { self.old.depth ≡ Depth.Inside }
+        ensures taken { IfOk result (λ path. TakesOff path self.old self.new) }
         ensures same { OnErr result (self.new ≡ self.old) }
     {
         let Some(name) = self.walk.next_name() else {
@@ -43,7 +51,7 @@ impl Deletion {
         };
         match self.walk.folder().join(alloc, name) {
             Ok(path) => {
-                self.walk.pass(true);
+                self.pass_name(true);
                 Ok(path)
             }
             Err(PathError::TooLong(_)) => self.take_off_folder(alloc),
@@ -53,7 +61,7 @@ impl Deletion {
 
     /// The folder that is worked is left.
     fn take_off_folder(&mut self, alloc: Global) -> Result<Path, NoMemory>
-        ensures rest { KeepsRest self.old self.new }
+        ensures taken { IfOk result (λ path. LeavesFolder path self.old self.new) }
         ensures same { OnErr result (self.new ≡ self.old) }
     {
         let path = self.worked().copy(alloc)?;

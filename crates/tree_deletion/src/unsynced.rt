@@ -1,7 +1,7 @@
 //! Folders with a change of names that no sync has brought onto the disk.
-ghost use Rattle.std.specs.Prelude.{◌≡◌, ◌-◌, ◌||◌, [], length, take, true, IfNone, IfOk, IfSome, OnErr, OnOk, if◌then◌else◌};
+ghost use Rattle.std.specs.Prelude.{◌≡◌, ◌+◌, ◌<◌, ◌^◌, ◌-◌, ◌||◌, [], length, remove, slice_get, take, true, Some, IfNone, IfOk, IfSome, OnErr, OnOk, if◌then◌else◌};
 ghost use Rattle.job_reports.specs.Paths.{without};
-ghost use Rattle.tree_deletion.specs.Folders.{NoneOf, is_of, is_one_of, joined};
+ghost use Rattle.tree_deletion.specs.Folders.{IsOwnAt, NoneOf, is_of, is_one_of, joined};
 
 use mc_text::{NoMemory, Path};
 use std::alloc::Global;
@@ -89,6 +89,39 @@ impl Unsynced {
             rest = more;
         }
         None
+    }
+}
+
+impl Unsynced {
+    /// From this one on, where the first stands that is this folder, or the top or below that.
+    pub(crate) fn first_from(&self, from: usize, folder: &Path, top: &Path) -> Option<usize>
+        ensures own { IfSome result (IsOwnAt folder.now top.now self.now from) }
+        ensures fits { IfSome result (λ at. at + 1 < 2 ^ 64) }
+    {
+        let mut at = from;
+        while at < self.folders.len() {
+            if is_of_deletion(self.get(at), folder, top) {
+                return Some(at);
+            }
+            at += 1;
+        }
+        None
+    }
+
+    /// The one that stands there.
+    pub(crate) fn get(&self, at: usize) -> &Path
+        requires { at < length self.now }
+        ensures { slice_get self.now at ≡ Some result.now }
+    {
+        &self.folders[at]
+    }
+
+    /// The one that stands there was synced.
+    pub(crate) fn remove_at(&mut self, at: usize)
+        requires { at < length self.old }
+        ensures { self.new ≡ remove self.old at }
+    {
+        let _synced = self.folders.remove(at);
     }
 }
 

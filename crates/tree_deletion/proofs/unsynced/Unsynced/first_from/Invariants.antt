@@ -1,0 +1,9 @@
+-- It goes on from there.
+use Rattle.std.proofs.Common.{◌≤◌, ◌-◌, length}
+use Rattle.tree_deletion.proofs.unsynced.Unsynced.first_from.Given as goal
+
+abbrev pub invariant-loop-at : goal.invariant-loop-at
+invariant-loop-at l = l.fn.from ≤ l.at
+
+abbrev pub decreases-loop-at : goal.decreases-loop-at
+decreases-loop-at l = length l.fn.self - l.at
