@@ -1,0 +1,3 @@
+pub mod LastTries
+pub mod LinkCopying
+pub mod LinkSteps
