@@ -6,7 +6,7 @@ mod fields;
 mod page;
 
 pub use crate::fault::Fault;
-pub use crate::fields::{number, two_fields};
+pub use crate::fields::{bytes_of, number, repeated, two_fields};
 pub use crate::page::Page;
 use std::io::Read;
 

@@ -26,6 +26,8 @@ fn tell_section(page: &mut Page, name: &str, rows: &str) {
         "trees" => tree_rows::tell_rows(page, rows),
         "plans" => plan_rows::tell_rows(page, rows),
         "copies" => copy_rows::tell_copies(page),
+        "resolving" => resolving_rows::tell_rows(page, rows),
+        "listings" => listing_rows::tell_rows(page, rows),
         _ => page.fail(),
     }
 }

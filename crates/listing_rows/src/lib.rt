@@ -1,0 +1,64 @@
+//! Reads folders of trees in memory, and writes the names and rows of their listings; and reads formats.
+#![tactic(auto)]
+
+ghost use Rattle.std.specs.Prelude.{◌≡◌, []};
+
+mod folders;
+mod formats;
+mod home;
+mod listings;
+mod painted;
+mod wishes;
+
+use mem_tree::MemTree;
+use row_page::{Page, two_fields};
+use row_trees::fresh;
+use tree_trait::Tree;
+
+/// Each block of rows with what comes of it, on a tree of its own. Before a line `listed` stands what is on its disk.
+pub fn tell_rows(page: &mut Page, blocks: &str) {
+    for block in blocks.split("\n\n") {
+        tell_block(page, block);
+        page.put("\n");
+    }
+}
+
+fn tell_block(page: &mut Page, block: &str) {
+    match fresh(page.alloc(), 0) {
+        Ok(mut tree) => tell_block_on(page, &mut tree, block),
+        Err(_error) => page.fail(),
+    }
+}
+
+fn tell_block_on(page: &mut Page, tree: &mut MemTree, block: &str)
+    requires { tree.old.log.changes ≡ [] }
+{
+    let (things, rows) = block.split_once("listed\n").unwrap_or((block, ""));
+    folders::put_things(page, tree, things);
+    page.put(things);
+    page.put("listed\n");
+    tell_asked(page, tree, rows);
+}
+
+/// Each row with its answer.
+fn tell_asked<T: Tree>(page: &mut Page, tree: &mut T, rows: &str) {
+    for row in rows.lines() {
+        page.put(row);
+        page.put(" => ");
+        tell_row(page, tree, row);
+        page.put("\n");
+    }
+}
+
+/// What comes of a row. The word before its first bar says what is asked.
+fn tell_row<T: Tree>(page: &mut Page, tree: &mut T, row: &str) {
+    let (asked, fields) = two_fields(row, '|');
+    match asked {
+        "format" => formats::tell_format(page, fields),
+        "list" => listings::tell_read(page, tree, fields),
+        "again" => listings::tell_again(page, tree, fields),
+        "each" => listings::tell_each(page, tree, fields),
+        "rows" => painted::tell_painted(page, tree, fields),
+        _ => page.fail(),
+    }
+}
