@@ -26,6 +26,7 @@ fn tell_section(page: &mut Page, name: &str, rows: &str) {
         "trees" => tree_rows::tell_rows(page, rows),
         "plans" => plan_rows::tell_rows(page, rows),
         "copies" => copy_rows::tell_copies(page),
+        "answers" => answer_rows::tell_rows(page, rows),
         _ => page.fail(),
     }
 }
