@@ -28,6 +28,7 @@ fn tell_section(page: &mut Page, name: &str, rows: &str) {
         "copies" => copy_rows::tell_copies(page),
         "resolving" => resolving_rows::tell_rows(page, rows),
         "listings" => listing_rows::tell_rows(page, rows),
+        "answers" => answer_rows::tell_rows(page, rows),
         _ => page.fail(),
     }
 }
