@@ -1,0 +1,15 @@
+-- A panel that was told to go to a folder shows it.
+use Rattle.std.proofs.Common.{◌≡◌, ℕ, Bool, true, false, if◌then◌else◌, None, refl, sym}
+use Rattle.mc_text.specs.Routes.{Route, same_path}
+use Rattle.tree_trait.proofs.Visible.{same_path-true}
+use Rattle.panel_listing.specs.Listings.{Listed}
+use Rattle.mc_panels.specs.Panels.{PanelState}
+use Rattle.mc_panels.specs.Readings.{read_again, went_to, gone_to}
+
+pub gone_folder : (page : ℕ) (folder : Route) (listing : Listed) (p : PanelState) → (gone_to page folder listing p).folder ≡ folder
+gone_folder page folder listing p = go (same_path folder p.folder) refl
+  where
+    go : (same : Bool) → same_path folder p.folder ≡ same
+        → (if same then read_again page listing p else went_to page folder listing None p).folder ≡ folder
+    go true is = sym (same_path-true folder p.folder is)
+    go false is = refl

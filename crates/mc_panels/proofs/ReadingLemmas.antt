@@ -1,0 +1,67 @@
+-- What a refused reading is told as, and how many rows a listing has.
+use Rattle.std.proofs.Common.{◌≡◌, ℕ, ◌+◌, ◌<◌, ◌≤◌, ◌^◌, Bool, true, false, if◌then◌else◌, List, [], ◌∷◌, ◌++◌, length, map, filter, Option, Some, None, Err, refl, sym, ap, ◌∙◌, arith, length-append}
+use Rattle.std.proofs.lemmas.List.{length-map}
+use Rattle.std.proofs.lemmas.List.Sorted.{length_permutation}
+use Rattle.mc_text.specs.Routes.{Route}
+use Rattle.tree_trait.specs.declared.calls.TreeError.{TreeError}
+use Rattle.tree_trait.specs.declared.calls.TreeError.TheVariants as tree
+use Rattle.tree_trait.specs.Calls.{ListFolder}
+use Rattle.tree_trait.specs.Change.{CallLog, current}
+use Rattle.tree_trait.specs.Answers.{Reads}
+use Rattle.resolving.specs.Errors.{refused_by, CarriesCause}
+use Rattle.panel_listing.specs.declared.item.Item.{Item}
+use Rattle.panel_listing.specs.declared.wish.Wish.{Wish}
+use Rattle.panel_listing.specs.Orders.{is_shown, AreArranged}
+use Rattle.panel_listing.specs.Listings.{Listed, IsListingOf, rows_in}
+use Rattle.mc_panels.specs.Readings.{ListsFolder}
+
+-- a refusal of `list` is told as it is
+pub list_refused : (log : CallLog) (folder : Route) (e : TreeError) → Reads {A = Listed} log (ListFolder folder) (Err e) (IsListingOf (current log) folder)
+    → ListsFolder log folder (Err (refused_by folder e))
+list_refused log folder tree.Fault h = tt
+list_refused log folder tree.Memory h = tt
+list_refused log folder tree.Missing h = (refl, h)
+list_refused log folder tree.NotFolder h = (refl, h)
+list_refused log folder tree.Denied h = (refl, h)
+list_refused log folder tree.Exists h = (refl, h)
+list_refused log folder tree.IsFolder h = (refl, h)
+list_refused log folder tree.NotEmpty h = (refl, h)
+list_refused log folder tree.IntoItself h = (refl, h)
+list_refused log folder tree.Mounted h = (refl, h)
+list_refused log folder tree.CrossMount h = (refl, h)
+list_refused log folder tree.NoSpace h = (refl, h)
+list_refused log folder tree.Special h = (refl, h)
+
+pub carries_cause : (path : Route) (e : TreeError) → CarriesCause (refused_by path e)
+carries_cause path tree.Fault = tt
+carries_cause path tree.Memory = tt
+carries_cause path tree.Missing = tt
+carries_cause path tree.NotFolder = tt
+carries_cause path tree.Denied = tt
+carries_cause path tree.Exists = tt
+carries_cause path tree.IsFolder = tt
+carries_cause path tree.NotEmpty = tt
+carries_cause path tree.IntoItself = tt
+carries_cause path tree.Mounted = tt
+carries_cause path tree.CrossMount = tt
+carries_cause path tree.NoSpace = tt
+carries_cause path tree.Special = tt
+
+filter-short : {A : Type 0} (p : A → Bool) (xs : List A) → length (filter p xs) ≤ length xs
+filter-short p [] = omega arith
+filter-short p (x ∷ xs) = go (p x) (filter-short p xs)
+  where
+    go : (keeps : Bool) → length (filter p xs) ≤ length xs → length (if keeps then x ∷ filter p xs else filter p xs) ≤ length (x ∷ xs)
+    go true h = omega (arith, h)
+    go false h = omega (arith, h)
+
+-- there are at most as many rows as items, and one more
+pub rows_within : (wish : Wish) (listing : Listed) → AreArranged wish listing.items listing.shown → length (rows_in listing) ≤ 1 + length listing.items
+rows_within wish listing arranged = go listing.has_parent
+  where
+    shown : length listing.shown ≤ length listing.items
+    shown = omega (arith, length_permutation (filter (is_shown wish) listing.items) listing.shown arranged.kept, filter-short (is_shown wish) listing.items)
+
+    go : (above : Bool) → length ((if above then None ∷ [] else []) ++ map {A = Item} {B = Option Item} Some listing.shown) ≤ 1 + length listing.items
+    go true = omega (arith, shown, length-map {A = Item} {B = Option Item} listing.shown Some)
+    go false = omega (arith, shown, length-map {A = Item} {B = Option Item} listing.shown Some)

@@ -1,0 +1,10 @@
+pub mod Visits
+pub mod Formats
+pub mod Panels
+pub mod Wanted
+pub mod Readings
+pub mod Goings
+pub mod Selections
+pub mod Arrangements
+pub mod Windows
+pub mod Comparisons

@@ -1,0 +1,246 @@
+//! Going from a folder to another one.
+ghost use Rattle.std.specs.Prelude.{◌≡◌, ◌<◌, ◌^◌, None, length, IfOk, IfErr, OnOk, OnErr};
+ghost use Rattle.mc_text.specs.Routes.{last_of};
+ghost use Rattle.tree_trait.specs.Refusals.{holder};
+ghost use Rattle.tree_trait.specs.Answers.{IfKnown, HasCause};
+ghost use Rattle.resolving.specs.Errors.{CarriesCause};
+ghost use Rattle.panel_listing.specs.Orders.{AreArranged};
+ghost use Rattle.panel_listing.specs.Listings.{rows_in};
+ghost use Rattle.mc_panels.specs.Readings.{ShowsFolder, outcome, went_to, gone_to, shown_anew};
+ghost use Rattle.mc_panels.specs.Goings.{way_of, Enters, Reads, GoesBack, GoesForward, ShowsNext};
+
+use crate::panel::Panel;
+use crate::reading::read_folder;
+use crate::scrolling::{rows_shown, scrolled};
+use crate::searching::row_from;
+use mc_text::{Name, NoMemory, Path};
+use panel_listing::Listing;
+use resolving::{ResolveError, resolve_folder};
+use std::alloc::Global;
+use std::convert::AsStr;
+use tree_trait::Tree;
+
+/// Whether a key led to a folder.
+#[derive(Clone, Copy, Debug, Drop, PartialEq, Eq)]
+pub enum Going {
+    Went,
+    /// There was no folder to go to, and nothing was looked at.
+    NoFolder,
+}
+
+/// Where Enter on a row leads: to the folder above, into a folder or along a link to one, or nowhere.
+#[derive(Clone, Copy, Debug, Drop, PartialEq, Eq)]
+pub enum Way {
+    Nowhere,
+    Up,
+    Into,
+}
+
+impl Panel {
+    /// Enters the folder of the current row, or the one that a link there leads to. From `..` the cursor comes to stand on
+    /// the folder that was left. Where it is refused the panel stays as it was.
+    pub fn enter<T: Tree>(
+        &mut self,
+        alloc: Global,
+        tree: &mut T,
+        page: usize,
+    ) -> Result<Going, ResolveError>
+        requires { page < 2 ^ 16 }
+        ensures done { IfOk result (Enters (way_of self.old) page self.old self.new) }
+        ensures refused { OnErr result (self.new ≡ self.old) }
+        ensures answer { IfKnown (T.contents tree.old) (λ log. Reads (way_of self.old) log self.old (outcome result self.new)) }
+        ensures same { T.contents tree.new ≡ T.contents tree.old }
+        ensures cause { HasCause ResolveError.Fault (T.fault_count tree.old) (T.fault_count tree.new) result }
+        ensures carried { IfErr result CarriesCause }
+    {
+        match self.way() {
+            Way::Nowhere => Ok(Going::NoFolder),
+            Way::Up => self.go_up(alloc, tree, page),
+            Way::Into => self.go_into(alloc, tree, page),
+        }
+    }
+
+    /// Goes to a folder, whose path has no links. Its own folder is read again.
+    pub fn go_to<T: Tree>(
+        &mut self,
+        alloc: Global,
+        tree: &mut T,
+        page: usize,
+        folder: Path,
+    ) -> Result<(), ResolveError>
+        requires { page < 2 ^ 16 }
+        ensures done { OnOk result (self.new ≡ gone_to page folder self.new.listing self.old) }
+        ensures refused { OnErr result (self.new ≡ self.old) }
+        ensures answer { IfKnown (T.contents tree.old) (λ log. ShowsFolder log folder (outcome result self.new)) }
+        ensures same { T.contents tree.new ≡ T.contents tree.old }
+        ensures cause { HasCause ResolveError.Fault (T.fault_count tree.old) (T.fault_count tree.new) result }
+        ensures carried { IfErr result CarriesCause }
+    {
+        if folder.same(&self.folder) {
+            return self.read_again(alloc, tree, page);
+        }
+        self.change_to(alloc, tree, page, folder, None)
+    }
+
+    /// Goes back to the folder that was shown before this one, if there is one.
+    pub fn back<T: Tree>(
+        &mut self,
+        alloc: Global,
+        tree: &mut T,
+        page: usize,
+    ) -> Result<Going, ResolveError>
+        requires { page < 2 ^ 16 }
+        ensures done { IfOk result (GoesBack page self.old self.new) }
+        ensures refused { OnErr result (self.new ≡ self.old) }
+        ensures answer { IfKnown (T.contents tree.old) (λ log. ShowsNext log self.old.visits.behind (outcome result self.new)) }
+        ensures same { T.contents tree.new ≡ T.contents tree.old }
+        ensures cause { HasCause ResolveError.Fault (T.fault_count tree.old) (T.fault_count tree.new) result }
+        ensures carried { IfErr result CarriesCause }
+    {
+        let Some(folder) = self.visits.behind() else {
+            return Ok(Going::NoFolder);
+        };
+        let folder = folder.copy(alloc)?;
+        let listing = read_folder(alloc, tree, &folder, &self.wish)?;
+        self.visits.go_back(alloc, &self.folder)?;
+        self.show(page, folder, listing, None);
+        Ok(Going::Went)
+    }
+
+    /// Goes forward to the folder that was gone back from last, if there is one.
+    pub fn forward<T: Tree>(
+        &mut self,
+        alloc: Global,
+        tree: &mut T,
+        page: usize,
+    ) -> Result<Going, ResolveError>
+        requires { page < 2 ^ 16 }
+        ensures done { IfOk result (GoesForward page self.old self.new) }
+        ensures refused { OnErr result (self.new ≡ self.old) }
+        ensures answer { IfKnown (T.contents tree.old) (λ log. ShowsNext log self.old.visits.ahead (outcome result self.new)) }
+        ensures same { T.contents tree.new ≡ T.contents tree.old }
+        ensures cause { HasCause ResolveError.Fault (T.fault_count tree.old) (T.fault_count tree.new) result }
+        ensures carried { IfErr result CarriesCause }
+    {
+        let Some(folder) = self.visits.ahead() else {
+            return Ok(Going::NoFolder);
+        };
+        let folder = folder.copy(alloc)?;
+        let listing = read_folder(alloc, tree, &folder, &self.wish)?;
+        self.visits.go_forward(alloc, &self.folder)?;
+        self.show(page, folder, listing, None);
+        Ok(Going::Went)
+    }
+
+    /// Where Enter leads.
+    fn way(&self) -> Way
+        ensures { result ≡ way_of self.now }
+    {
+        match self.listing.item(self.cursor) {
+            Some(item) if item.leads_to_folder() => Way::Into,
+            Some(_) => Way::Nowhere,
+            None if self.cursor < self.listing.len() => Way::Up,
+            None => Way::Nowhere,
+        }
+    }
+
+    /// Goes to the folder above, with the cursor on the folder that is left.
+    fn go_up<T: Tree>(
+        &mut self,
+        alloc: Global,
+        tree: &mut T,
+        page: usize,
+    ) -> Result<Going, ResolveError>
+        requires { page < 2 ^ 16 }
+        ensures done { IfOk result (Enters Way.Up page self.old self.new) }
+        ensures refused { OnErr result (self.new ≡ self.old) }
+        ensures answer { IfKnown (T.contents tree.old) (λ log. Reads Way.Up log self.old (outcome result self.new)) }
+        ensures same { T.contents tree.new ≡ T.contents tree.old }
+        ensures cause { HasCause ResolveError.Fault (T.fault_count tree.old) (T.fault_count tree.new) result }
+        ensures carried { IfErr result CarriesCause }
+    {
+        let above = above(alloc, &self.folder)?;
+        let left = last_name(alloc, &self.folder)?;
+        self.change_to(alloc, tree, page, above, left)?;
+        Ok(Going::Went)
+    }
+
+    /// Goes into the folder of the current row, or along its link.
+    fn go_into<T: Tree>(
+        &mut self,
+        alloc: Global,
+        tree: &mut T,
+        page: usize,
+    ) -> Result<Going, ResolveError>
+        requires { page < 2 ^ 16 }
+        ensures done { IfOk result (Enters Way.Into page self.old self.new) }
+        ensures refused { OnErr result (self.new ≡ self.old) }
+        ensures answer { IfKnown (T.contents tree.old) (λ log. Reads Way.Into log self.old (outcome result self.new)) }
+        ensures same { T.contents tree.new ≡ T.contents tree.old }
+        ensures cause { HasCause ResolveError.Fault (T.fault_count tree.old) (T.fault_count tree.new) result }
+        ensures carried { IfErr result CarriesCause }
+    {
+        let name = self.current_text(alloc)?;
+        let folder = resolve_folder(alloc, tree, &self.folder, name.as_str())?;
+        self.go_to(alloc, tree, page, folder)?;
+        Ok(Going::Went)
+    }
+
+    /// Goes to another folder, with the cursor on a name there.
+    fn change_to<T: Tree>(
+        &mut self,
+        alloc: Global,
+        tree: &mut T,
+        page: usize,
+        folder: Path,
+        on: Option<Name>,
+    ) -> Result<(), ResolveError>
+        requires { page < 2 ^ 16 }
+        ensures done { OnOk result (self.new ≡ went_to page folder self.new.listing on self.old) }
+        ensures refused { OnErr result (self.new ≡ self.old) }
+        ensures answer { IfKnown (T.contents tree.old) (λ log. ShowsFolder log folder (outcome result self.new)) }
+        ensures same { T.contents tree.new ≡ T.contents tree.old }
+        ensures cause { HasCause ResolveError.Fault (T.fault_count tree.old) (T.fault_count tree.new) result }
+        ensures carried { IfErr result CarriesCause }
+    {
+        let found = read_folder(alloc, tree, &folder, &self.wish)?;
+        self.visits.leave(alloc, &self.folder)?;
+        self.show(page, folder, found, on);
+        Ok(())
+    }
+
+    /// Shows another folder: nothing is tagged, and the cursor is on a name, or else on the first row. It takes no memory.
+    fn show(&mut self, page: usize, folder: Path, listing: Listing, on: Option<Name>)
+        requires page { page < 2 ^ 16 }
+        requires arranged { AreArranged self.old.wish listing.items listing.shown }
+        requires small { length (rows_in listing) < 2 ^ 60 }
+        ensures { self.new ≡ shown_anew page folder listing on self.old.visits self.old }
+    {
+        let row = row_from(&listing, &on, 0);
+        self.first = scrolled(rows_shown(self.format.layout(), page), 0, row);
+        self.cursor = row;
+        self.folder = folder;
+        self.listing = listing;
+        self.tags.untag();
+    }
+}
+
+/// The folder above; the root is its own.
+fn above(alloc: Global, folder: &Path) -> Result<Path, NoMemory>
+    ensures { IfOk result (λ path. path ≡ holder folder.now) }
+{
+    match folder.parent(alloc)? {
+        Some(path) => Ok(path),
+        None => Ok(Path::root(alloc)),
+    }
+}
+
+/// The last name of a path. The root has none.
+fn last_name(alloc: Global, folder: &Path) -> Result<Option<Name>, NoMemory>
+    ensures { IfOk result (λ name. name ≡ last_of folder.now) }
+{
+    match folder.names() {
+        [] => Ok(None),
+        [.., last] => Ok(Some(last.copy(alloc)?)),
+    }
+}

@@ -1,0 +1,23 @@
+//! The state of a panel: a folder's listing, a cursor, tags and the folders that were shown, and what each key makes of it.
+#![tactic(auto)]
+
+mod arranging;
+mod comparing;
+mod format;
+mod going;
+mod kept;
+mod panel;
+mod reading;
+mod scrolling;
+mod searching;
+mod selecting;
+mod visits;
+mod wanted;
+mod window;
+
+pub use arranging::Arrangement;
+pub use comparing::compare_panels;
+pub use format::{Layout, PanelFormat};
+pub use going::Going;
+pub use panel::Panel;
+pub use window::{Mark, View};
