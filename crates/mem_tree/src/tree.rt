@@ -229,7 +229,13 @@ impl MemTree {
         ensures member { IfOk result (λ tree. IsCrashImage self.now.log at_call tree.log.opening) }
     {
         let records = &self.records[..at_call as usize];
-        let image = image_of(alloc, &self.opening, records, choice.bits(), choice.fill)?;
+        let image = image_of(
+            alloc,
+            &self.opening,
+            records,
+            choice.keep.0.as_slice(),
+            choice.fill,
+        )?;
         let stands = standing_of(alloc, &image)?;
         Ok(unused(alloc, image, stands, self.time))
     }
