@@ -113,7 +113,7 @@ fn names_in<'a>(
 }
 
 /// The last name of a path, if it lies directly in the folder.
-fn child_name<'a>(folder: &Path, path: &'a Path) -> Option<&'a str>
+pub fn child_name<'a>(folder: &Path, path: &'a Path) -> Option<&'a str>
     ensures { IfSome result (λ name. path.now ≡ name.now ∷ folder.now) }
 {
     if path.names().len() == folder.names().len() + 1 && folder.is_prefix_of(path) {
