@@ -9,27 +9,27 @@ use Rattle.tree_trait.specs.CrashImages.{all_settled}
 use Rattle.crash_law.specs.Guarded.{Marks}
 use Rattle.job_reports.specs.declared.report.Did.{Did}
 use Rattle.job_reports.specs.declared.report.Did.TheVariants.{Began, Chunk, Placed, Removed, Kept, Skipped, Cleaned, Barrier, Troubled, Ended}
-use Rattle.job_reports.specs.declared.report.Ending.{Ending}
 use Rattle.job_reports.specs.Paths.{folder_of}
 use Rattle.file_copy.specs.Copying as copying
 use Rattle.session_history.specs.declared.history.Event.TheVariants.{Step}
 use Rattle.session_history.specs.declared.history.Entry.{Entry}
 use Rattle.copy_move.specs.declared.run.Course.{Course}
-use Rattle.copy_move.specs.declared.run.Course.TheVariants.{GoesOn, InTrouble, OwedSyncFailed, Skips, Ends}
+use Rattle.copy_move.specs.declared.run.Course.TheVariants.{GoesOn}
 use Rattle.copy_move.specs.declared.work.Work.{Work}
 use Rattle.copy_move.specs.declared.work.Work.TheVariants.{Copy, Delete}
 use Rattle.copy_move.specs.Deletions as deletions
-use Rattle.copy_move.specs.Jobs.{Running, TellsOn, WorkTells, WorkWinds, is_fresh}
+use Rattle.copy_move.specs.Jobs.{Running, WorkTells, is_fresh}
 use Rattle.copy_move.specs.Settling.{changed_folder, is_dirty}
 use Rattle.copy_move.specs.Steps.{SyncsFolder}
 use Rattle.history_laws.specs.Calmed.{CalmLaw, HasBegun}
-use Rattle.history_laws.specs.Doubt.{is_unsettled}
+use Rattle.history_laws.specs.Doubt.{name_waits}
 use Rattle.session_history.specs.LiveJobs.{live_jobs, live_item}
 use Rattle.history_laws.specs.Owed.{IsApart}
 use Rattle.session_history.specs.Named.{begins_change, has_changed, names_path}
 use Rattle.history_laws.specs.Replayed.{log_prefix}
 use Rattle.session_history.specs.Entries.{calls_in}
 use Rattle.history_laws.specs.Traces.{EventLeads, WorkLeads}
+use Rattle.history_laws.proofs.Beginnings.{goes_then}
 use Rattle.history_laws.proofs.Done.{IsFound, found_moment, same_item}
 use Rattle.history_laws.proofs.Finished.{AreTidy, IsTidyJob, traced_tidy}
 use Rattle.history_laws.proofs.Prefixes.{told_of}
@@ -40,31 +40,6 @@ use Rattle.history_laws.proofs.Moments.{prefix_is, log_of, traced_count}
 use Rattle.history_laws.proofs.Owing.{owed_law}
 use Rattle.history_laws.proofs.Reports.{HasLive, JobsKnow}
 use Rattle.history_laws.proofs.Staying.{event_still}
-
--- a change begins only in work that goes on
-winds_none : (ending : Ending) (old new : Work) (did : Did) → WorkWinds ending old did new → begins_change did ≡ true → ⊥
-winds_none ending (Copy c) (Copy new) (Began part) t h = t
-winds_none ending (Copy c) (Copy new) (Removed path) t h = t
-winds_none ending (Delete d) (Delete new) (Began part) t h = t
-winds_none ending (Delete d) (Delete new) (Removed path) t h = t
-winds_none ending (Copy c) (Delete new) did t h = t
-winds_none ending (Delete d) (Copy new) did t h = t
-winds_none ending old new (Chunk count) t h = false≢true h
-winds_none ending old new (Placed path) t h = false≢true h
-winds_none ending old new (Kept kept) t h = false≢true h
-winds_none ending old new (Skipped path why) t h = false≢true h
-winds_none ending old new (Cleaned part) t h = false≢true h
-winds_none ending old new Barrier t h = false≢true h
-winds_none ending old new (Troubled trouble) t h = false≢true h
-winds_none ending old new (Ended how part) t h = false≢true h
-
-goes_then : (job new : Running) (did : Did) (course : Course) → job.course ≡ course → TellsOn course job did new → begins_change did ≡ true → (job.course ≡ GoesOn) × ((work : Work) × WorkTells job.work did work)
-goes_then job new did GoesOn is (work, tells, new_is) h = (is, (work, tells))
-goes_then job new did (InTrouble why) is t h = absurd t
-goes_then job new did (OwedSyncFailed why) is t h = absurd t
-goes_then job new did (Skips why) is (inl (did_is, new_is)) h = absurd (false≢true (sym (ap begins_change did_is) ∙ h))
-goes_then job new did (Skips why) is (inr (did_is, new_is)) h = absurd (false≢true (sym (ap begins_change did_is) ∙ h))
-goes_then job new did (Ends ending) is (work, winds, new_is) h = absurd (winds_none ending job.work work did winds h)
 
 -- work that begins a change with a clean folder has changed nothing yet, and no part of it stands
 module _ (told : Said) (dirty : List Route) (marks : Marks) (s : FileSystem) (course : Course) where
@@ -100,18 +75,18 @@ no_route : (part : Option Route) (path : Route) → part ≡ None → part ≡ S
 no_route part path none some = let f : ⊥ = cc in f
 
 module _ (opening : CallLog) (tree : IsTree (current opening)) (settled : all_settled opening.changes ≡ true) (end : CallLog) (e : Entry) (older : List Entry) (folder path : Route) (h : HasBegun e older folder)
-    (f : IsFound opening tree settled end e older) (waits : is_unsettled f.now path ≡ true) where
+    (f : IsFound opening tree settled end e older) (waits : name_waits f.now path ≡ true) where
   abbrev Calm : Type 0
   Calm = (names_path e.what path ≡ true) ⊎ IsApart f.before folder (folder_of path)
 
   of_works : (job new : Running) → f.was.jobs ≡ job ∷ [] → job.id ≡ h.id → WorkLeads job h.did new f.was.dirty f.after.dirty f.before f.now → Calm
-  of_works job new jobs_is id_is works = by (names_path e.what path) (is_unsettled f.before path) refl refl
+  of_works job new jobs_is id_is works = by (names_path e.what path) (name_waits f.before path) refl refl
     where
       r : Rattle.history_laws.proofs.Histories.IsReached opening older f.was f.before
       r = traced_reached opening tree settled older f.was f.before f.traced
 
-      tidy : IsTidyJob older f.was.dirty job
-      tidy = subst (λ js. AreTidy older f.was.dirty js) jobs_is (traced_tidy opening tree settled older f.was f.before f.traced)
+      tidy : IsTidyJob opening older f.was.dirty job
+      tidy = subst (λ js. AreTidy opening older f.was.dirty js) jobs_is (traced_tidy opening tree settled older f.was f.before f.traced)
 
       goes : (job.course ≡ GoesOn) × ((work : Work) × WorkTells job.work h.did work)
       goes = goes_then job new h.did job.course refl works.tells h.begins
@@ -124,7 +99,7 @@ module _ (opening : CallLog) (tree : IsTree (current opening)) (settled : all_se
       folder_is = h.within ∙ same_item opening tree settled end e older job (live_jobs older) r.part h.item (subst (λ js. HasLive (live_jobs older) js r.part) jobs_is r.live)
           (subst (λ n. live_item n (live_jobs older) ≡ Some h.item) (sym id_is) h.its)
 
-      by : (named waited : Bool) → names_path e.what path ≡ named → is_unsettled f.before path ≡ waited → Calm
+      by : (named waited : Bool) → names_path e.what path ≡ named → name_waits f.before path ≡ waited → Calm
       by true waited named_is waited_is = inl named_is
       by false true named_is waited_is =
           inr (subst (λ q. IsApart f.before q (folder_of path)) (sym folder_is) (works.settled goes.0 start.0 (folder_of path) (owed_law opening f.before older f.was path tree settled f.traced waited_is)))
@@ -156,7 +131,7 @@ calm_law opening now newest stand tree settled traced e older folder path h mome
     let c = f.calls in
     let at_end : log_prefix opening e.calls now ≡ f.now = prefix_is opening now e.calls f.now f.later f.later_is (omega (arith, c)) in
     let at_start : log_prefix opening (calls_in older) now ≡ f.before = prefix_is opening now (calls_in older) f.before f.rest f.end_is (omega (arith, n)) in
-    elim (calm opening tree settled now e older folder path h f (subst (λ (l : CallLog). is_unsettled l path ≡ true) at_end waits)) [
+    elim (calm opening tree settled now e older folder path h f (subst (λ (l : CallLog). name_waits l path ≡ true) at_end waits)) [
       | inl named ↦ inl named
       | inr apart ↦ inr (subst (λ (l : CallLog). IsApart l folder (folder_of path)) (sym at_start) apart)
     ]

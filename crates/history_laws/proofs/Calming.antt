@@ -124,8 +124,12 @@ module _ (said : Said) (dirty : List Route) (marks : Marks) (log : CallLog) (kno
     was_shown = k.was_shown;
     shows = k.shows;
     part = k.part;
-    tracked = λ g m waits. let t = k.tracked g m waits in (t.0, still_listed up t.0 dirty t.1 (off g m waits t.0 t.2), t.2);
+    tracked = λ g m waits. elim (k.tracked g m waits) [
+      | inl t ↦ inl (t.0, still_listed up t.0 dirty t.1 (off g m waits t.0 t.2), t.2)
+      | inr none ↦ inr none
+    ];
     doubts = k.doubts;
+    stand = k.stand;
   }
     where
       k : IsKnown said dirty marks (with_change log (Syncs f))

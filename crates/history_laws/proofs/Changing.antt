@@ -20,7 +20,6 @@ use Rattle.crash_law.proofs.Guarding.{find_same, said}
 use Rattle.crash_law.proofs.Leading.{current_more}
 use Rattle.crash_law.proofs.Removing.{removal_law}
 use Rattle.crash_law.proofs.Tops.{under_removed, none_below}
-use Rattle.history_laws.proofs.Pending.{settles_none_removed}
 use Rattle.history_laws.proofs.Knowing.{Said, IsKnown, held, nowhere}
 use Rattle.history_laws.proofs.Renaming.{naming_known}
 
@@ -72,6 +71,7 @@ pub record SaysGone (said after : Said) (marks : Marks) (log : CallLog) (path : 
   pub was : marks.aside path ≡ false → held (current log) (marks.was path) ≡ (after.earlier path).value
   pub part : after.part ≡ None
   pub doubts : (p : Route) → said.doubt p ≡ true → after.doubt p ≡ true
+  pub folders : (p : Route) → after.folders p ≡ said.folders p
   pub doubted : after.doubt path ≡ true
 
 module _ (told after : Said) (dirty dirty_after : List Route) (marks : Marks) (log : CallLog) (known : IsKnown told dirty marks log) (path : Route) (r : IsRemovable (current log) path) (k : ℕ) where
@@ -89,7 +89,6 @@ module _ (told after : Said) (dirty dirty_after : List Route) (marks : Marks) (l
   removed_known says was listed more = naming_known told after dirty dirty_after marks log removes r.up path path r.f known (record {
     naming = naming;
     within = refl;
-    settles = settles_none_removed r.f r.name k;
     stands = stands;
     folder = removed_folder;
     here = λ g m h. sym (same_name-true r.f g r.name m (said_one (same_name r.f r.name g m) None h)).0;
@@ -103,6 +102,7 @@ module _ (told after : Said) (dirty dirty_after : List Route) (marks : Marks) (l
     more = more;
     at = λ m h. let m_is = (same_name-true r.f r.f r.name m (said_one (same_name r.f r.name r.f m) None h)).1 in inl (ap (λ q. (let l : Route = q ∷ r.up in l)) (sym m_is) ∙ sym r.path_is);
     doubts = says.doubts;
+    folders = says.folders;
     touched = λ p at. subst (λ q. after.doubt q ≡ true) (sym (either p at)) says.doubted;
     named = says.named;
     off = λ p first second. let o = says.off p first in (off_path p first, o.0, o.1, o.2);

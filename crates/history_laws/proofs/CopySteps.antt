@@ -43,7 +43,7 @@ use Rattle.history_laws.proofs.Calming.{written_known}
 use Rattle.history_laws.proofs.Changing.{off_itself, removed_known}
 use Rattle.history_laws.proofs.Deleted.{IsRemoval, comes_refused, removal_done}
 use Rattle.history_laws.proofs.DeletionSteps.{Steps, ends, same_dirty, tried}
-use Rattle.history_laws.proofs.Filling.{begun, filled_more, listed_now, target_free}
+use Rattle.history_laws.proofs.Filling.{begun, filled_more, listed_now, making_stands, target_free}
 use Rattle.history_laws.proofs.Knowing.{Said, IsKnown, IsKept, settled_marks}
 use Rattle.history_laws.proofs.JobKnows.{HasPart, IsUntouched, KnowsAfter, StageKnows, WorkKnows, part_settled, untouched_settled, work_course}
 use Rattle.history_laws.proofs.PartNodes.{part_on, part_there, written_node}
@@ -81,6 +81,7 @@ part_cleaned told dirty marks log now work target part i kept has listed done = 
           was = λ out. absurd (both_ways _ out aside);
           part = refl;
           doubts = λ p h. or_left _ _ h;
+          folders = λ p. refl;
           doubted = or_right _ _ (same_path-self part);
         }) (λ out. absurd (both_ways _ out aside)) (subst (λ q. Among dirty q) (sym folder_is ∙ ap folder_of it.r.path_is) listed) (λ q among. among) in
         let after = with_change log (Removes it.r.f it.r.name it.k) in
@@ -188,7 +189,8 @@ module _ (told : Said) (dirty dirty_after : List Route) (marks : Marks) (log now
       let at_begin = subst (λ x. StageKnows told marks (current log) GoesOn c x) stage knows in
       let is_said = subst (λ (x : Copying). BeganOf (current log) (places_of c) x.stage) new_is began_of in
       let on_list = listed_now told dirty dirty_after marks log now kept c listed (leaves ∙ ap (λ (x : Copying). moves_dirty (is_dirty c.folder) (is_dirty x.folder) up dirty) new_is) c.folder refl in
-      let untouched = target_free told dirty dirty_after marks log now kept c name ready at_begin.1 (λ e. settled (ap (λ x. is_fresh x c.folder) stage ∙ e)) c.folder refl in
+      let stands = making_stands log now c k (one_done log (making (current log) (places_of c) k) now rows) in
+      let untouched = target_free told dirty dirty_after marks log now kept c name stands ready at_begin.1 (λ e. settled (ap (λ x. is_fresh x c.folder) stage ∙ e)) c.folder refl in
       subst (λ (x : Copying). Steps told dirty dirty_after marks log now kept (Began part) GoesOn (Copy c) (Copy x)) (sym new_is)
       (subst (λ q. Steps told dirty dirty_after marks log now kept (Began q) GoesOn (Copy c) (Copy (record c { stage = Fill q said 0; folder = Dirty }))) (sym part_is)
       (begun told dirty dirty_after marks log now kept c said k name ready is_said free at_begin.0 untouched (one_done log (making (current log) (places_of c) k) now rows) on_list.0 on_list.1))

@@ -1,5 +1,5 @@
 -- Each step of a deletion keeps what is known.
-use Rattle.std.proofs.Common.{◌≡◌, ◌⊎◌, ℕ, false, List, ◌∷◌, sym, ◌∙◌, ap, subst, inl, inr, Option, Some, None, Ok, cond}
+use Rattle.std.proofs.Common.{◌≡◌, ◌⊎◌, ℕ, false, List, ◌∷◌, refl, sym, ◌∙◌, ap, subst, inl, inr, Option, Some, None, Ok, cond}
 use Rattle.std.proofs.lemmas.Bool.{both_ways, false_from_ne_true, or_left, or_right}
 use Rattle.mc_text.specs.Routes.{Route, same_path}
 use Rattle.tree_trait.specs.declared.file_system.FileSystem.{FileSystem}
@@ -19,11 +19,12 @@ use Rattle.job_reports.specs.Paths.{folder_of}
 use Rattle.job_reports.proofs.CallAnswers.{done_call, IsDoneCall}
 use Rattle.copy_move.specs.declared.work.Work.{Work}
 use Rattle.copy_move.specs.declared.run.Course.{Course}
-use Rattle.history_laws.specs.Doubt.{is_unsettled}
+use Rattle.history_laws.specs.Doubt.{is_unsettled, name_waits}
 use Rattle.history_laws.proofs.Calming.{nothing_known}
 use Rattle.history_laws.proofs.Changing.{removed_known}
 use Rattle.history_laws.proofs.Knowing.{Said, IsKnown, IsKept, held, settled_marks}
 use Rattle.history_laws.proofs.JobKnows.{WorkKnows, work_settled}
+use Rattle.history_laws.proofs.Resting.{folder_at, folder_at_of, sure_path}
 use Rattle.history_laws.proofs.Stepped.{Comes, comes_none, comes_one, said_after}
 
 -- no mount begins at what is no folder
@@ -70,13 +71,20 @@ removal_done log now path tree done =
 
 -- a file is removed
 pub removes_file : (told : Said) (dirty dirty_after : List Route) (marks : Marks) (log now : CallLog) (path : Route) (work : Work) (knows : Marks → Type 0) → IsKept told dirty marks log → told.part ≡ None
-    → is_unsettled log path ≡ false → Among dirty_after (folder_of path) → ((q : Route) → Among dirty q → Among dirty_after q)
+    → name_waits log path ≡ false → Among dirty_after (folder_of path) → ((q : Route) → Among dirty q → Among dirty_after q)
     → Performs {A = Unit {0}} log (RemoveFile path) (Ok tt) (Some now) → ((m : Marks) → knows m) → Comes told (said_after now (Removed path) work told) dirty_after log now knows
-removes_file told dirty dirty_after marks log now path work knows kept none sure listed more done known_of =
+removes_file told dirty dirty_after marks log now path work knows kept none calm listed more done known_of =
     at (removal_done log now path kept.known.guarded.tree done)
   where
     no_part : (p : Route) → told.part ≡ Some p → ⊥
     no_part p is = let e : (let o : Option Route = None in o) ≡ Some p = sym none ∙ is in cc
+
+    -- where it is removed its folder stands
+    sure_of : IsRemoval log now path → is_unsettled log path ≡ false
+    sure_of it =
+        let tree = kept.known.guarded.tree in
+        let up : folder_of path ≡ it.r.up = ap folder_of it.r.path_is in
+        sure_path log tree kept.known.files path (ap (folder_at (current log)) up ∙ folder_at_of (current log) it.r.up it.r.f it.r.folder (tree.in_folders it.r.f it.r.name it.r.i it.r.leads)) calm
 
     shown : told.tree path ≡ visible_tree (current log) path
     shown = sym (kept.known.shows path (no_part path))
@@ -88,11 +96,12 @@ removes_file told dirty dirty_after marks log now path work knows kept none sure
           named = kept.known.aside;
           off = λ p off. (put_off told.tree path None p off, put_off told.earlier path (told.tree path).value p off, no_part p);
           gone = put_at told.tree path None ∙ ap (λ b. (let s : Spot = record { value = None; is_mount = b } in s)) mountless;
-          was = λ out. ap (held (current log)) (kept.was path out sure) ∙ (sym (ap (λ (s : Spot). s.value) shown) ∙ sym (ap (λ (s : Spot). s.value) (put_at told.earlier path (told.tree path).value)));
+          was = λ out. ap (held (current log)) (kept.was path out (sure_of it)) ∙ (sym (ap (λ (s : Spot). s.value) shown) ∙ sym (ap (λ (s : Spot). s.value) (put_at told.earlier path (told.tree path).value)));
           part = none;
           doubts = λ p h. or_left _ _ h;
+          folders = λ p. refl;
           doubted = or_right _ _ (same_path-self path);
-        }) (λ out. kept.was path out sure) (subst (λ q. Among dirty_after (folder_of q)) it.r.path_is listed) more))
+        }) (λ out. kept.was path out (sure_of it)) (subst (λ q. Among dirty_after (folder_of q)) it.r.path_is listed) more))
         (known_of (settled_marks now marks))
       where
         leads : find (current log) path ≡ Some it.r.i

@@ -90,7 +90,7 @@ module _ (told : Said) (dirty dirty_after : List Route) (marks : Marks) (log now
       leaves ∙ (ap (λ x. moves_dirty (deletions.is_dirty x) (deletions.is_dirty new.stage) (folder_of d.path) dirty) stage ∙ ap (λ (x : Deleting). moves_dirty false (deletions.is_dirty x.stage) (folder_of d.path) dirty) new_is) in
       let at_path : path ≡ name.name ∷ folder_of d.path = path_is ∙ name.is in
       let folder : folder_of path ≡ folder_of d.path = ap folder_of path_is in
-      let sure = ap (Rattle.history_laws.specs.Doubt.is_unsettled log) at_path ∙ none_waits told dirty marks log (folder_of d.path) kept.known (settled (ap is_fresh stage)) name.name in
+      let sure = ap (Rattle.history_laws.specs.Doubt.name_waits log) at_path ∙ none_waits told dirty marks log (folder_of d.path) kept.known (settled (ap is_fresh stage)) name.name in
       removes_file told dirty dirty_after marks log now path (Delete d) (KnowsAfter (Removed path) (said_after now (Removed path) (Delete d) told) dirty_after (current now) GoesOn (Delete new)) kept none sure
       (subst (λ xs. Among xs (folder_of path)) (sym routes) (subst (λ q. Among (dirty ++ folder_of d.path ∷ []) q) (sym folder) (last_among (folder_of d.path) dirty)))
       (λ q among. subst (λ xs. Among xs q) (sym routes) (among_more (folder_of d.path) q dirty among)) done

@@ -30,7 +30,7 @@ use Rattle.job_reports.specs.Stops.{trouble_at, cause_of}
 use Rattle.copy_move.specs.Jobs.{Running}
 use Rattle.session_history.specs.Entries.{is_closed}
 use Rattle.history_laws.specs.Calmed.{HasBegun}
-use Rattle.history_laws.specs.Doubt.{is_unsettled}
+use Rattle.history_laws.specs.Doubt.{is_unsettled, name_waits}
 use Rattle.session_history.specs.LiveJobs.{IsLivePart, LiveJob, live_jobs}
 use Rattle.history_laws.specs.Owed.{IsApart}
 use Rattle.history_laws.specs.Replayed.{earlier_tree, log_prefix, replayed_tree}
@@ -275,7 +275,7 @@ first_change = record {
 }
 
 -- then the first file is in doubt no more, as the law says
-calmed : is_unsettled (log_prefix (log []) 5 changed_log) the_file ≡ true → ⊥
+calmed : name_waits (log_prefix (log []) 5 changed_log) the_file ≡ true → ⊥
 calmed waits = by (calm_law (log []) changed_log changed_entries (stand (changed ∷ []) ([] ∷ [])) small_tree refl changed_traced change settled_entries [] the_file first_change (inl (refl, refl, refl)) waits)
   where
     by : (names_path change.what the_file ≡ true) ⊎ IsApart (log_prefix (log []) 4 changed_log) [] [] → ⊥
@@ -330,7 +330,7 @@ no_live_part : IsLivePart (live_jobs settled_entries) the_file → ⊥
 no_live_part (found, inl same, is) = let none : (let o : Option Route = None in o) ≡ Some the_file = ap (λ (l : LiveJob). l.part) (sym same) ∙ is in cc
 no_live_part (found, inr none, is) = none
 
-still_settled : is_unsettled (log_prefix (log []) 6 finished_log) the_file ≡ false
+still_settled : name_waits (log_prefix (log []) 6 finished_log) the_file ≡ false
 still_settled =
     stays_law (log []) finished_log ended_entries settled_entries ended_entries ended_entries (stand [] []) 6 the_file small_tree refl ended_traced (inl (refl, refl, refl)) since since
     refl no_live_part

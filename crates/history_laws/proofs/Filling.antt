@@ -34,9 +34,16 @@ use Rattle.history_laws.proofs.Calming.{written_known}
 use Rattle.history_laws.proofs.Knowing.{Said, IsKnown, IsKept, settled_marks}
 use Rattle.history_laws.proofs.JobKnows.{HasName, HasPart, IsFilled, IsUntouched, WorkKnows, none_waits, part_settled, untouched_free}
 use Rattle.history_laws.proofs.MakingParts.{MakesPart, made_known, marks_new, new_node, off_part, part_leads, part_node, with_part}
+use Rattle.history_laws.proofs.Resting.{folder_at, folder_at_of, sure_path}
 use Rattle.history_laws.proofs.PartNodes.{other_node, part_on, part_there, written_node}
 use Rattle.history_laws.proofs.Stepped.{Comes, comes_one, said_after}
 use Rattle.history_laws.proofs.DeletionSteps.{among_more, last_among}
+
+-- the folder in which a part was made stands
+pub making_stands : (log now : CallLog) (c : Copying) (k : ℕ) → IsDoneCall log (making (current log) (places_of c) k) now → folder_at (current log) (folder_of c.target) ≡ true
+making_stands log now c k d =
+    let passes = making_passes (current log) (part_name c.job k) (folder_of c.target) (part_mode (node (current log) (found (current log) c.source)).mode) d.permits in
+    folder_at_of (current log) (folder_of c.target) (found (current log) (folder_of c.target)) passes.folder passes.holds
 
 module _ (told : Said) (dirty dirty_after : List Route) (marks : Marks) (log now : CallLog) (kept : IsKept told dirty marks log) (c : Copying) where
   abbrev up : Route
@@ -49,12 +56,13 @@ module _ (told : Said) (dirty dirty_after : List Route) (marks : Marks) (log now
       (λ m. WorkKnows (said_after now (Began part) (Copy c) told) dirty_after m (current now) GoesOn (Copy (record c { stage = Fill part said 0; folder = Dirty })))
 
   -- the target of a copy that begins
-  pub target_free : HasName c.target → IsReady (current log) (places_of c) → (c.folder ≡ Dirty → IsUntouched marks (current log) c.target)
+  pub target_free : HasName c.target → folder_at (current log) up ≡ true → IsReady (current log) (places_of c) → (c.folder ≡ Dirty → IsUntouched marks (current log) c.target)
       → (not (is_dirty c.folder) ≡ true → NoneOwed (current log) up dirty) → (f : FolderState) → c.folder ≡ f → IsUntouched marks (current log) c.target
-  target_free name ready untouched settled Dirty is = untouched is
-  target_free name ready untouched settled Synced is =
+  target_free name stands ready untouched settled Dirty is = untouched is
+  target_free name stands ready untouched settled Synced is =
       untouched_free told dirty marks log c.target kept
-      (ap (Rattle.history_laws.specs.Doubt.is_unsettled log) name.is ∙ none_waits told dirty marks log up kept.known (settled (ap (λ x. not (is_dirty x)) is)) name.name)
+      (sure_path log kept.known.guarded.tree kept.known.files c.target stands
+      (ap (Rattle.history_laws.specs.Doubt.name_waits log) name.is ∙ none_waits told dirty marks log up kept.known (settled (ap (λ x. not (is_dirty x)) is)) name.name))
       (stat_missing (current log) c.target ready.target)
 
   -- the folder is listed, and what was listed is

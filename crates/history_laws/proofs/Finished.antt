@@ -34,17 +34,19 @@ use Rattle.copy_move.specs.Deletions as deletions
 use Rattle.copy_move.specs.Jobs.{Running, TellsOn, WorkTells, answered_on, closed_course, closed_job, course_after, first_work, skipped, taken_anew}
 use Rattle.job_reports.specs.Reports.{ends}
 use Rattle.copy_move.specs.Settling.{changed_folder, is_dirty, with_change}
-use Rattle.job_reports.specs.Paths.{without}
+use Rattle.job_reports.specs.Paths.{folder_of, without}
 use Rattle.copy_move.specs.Steps.{LeavesDirty, SyncsFolder}
-use Rattle.history_laws.specs.Doubt.{is_unsettled}
+use Rattle.history_laws.specs.Doubt.{name_waits}
 use Rattle.history_laws.specs.Owed.{FinishedLaw}
 use Rattle.session_history.specs.Named.{begins_change, changed_after, has_changed}
 use Rattle.session_history.specs.Entries.{is_closed}
 use Rattle.copy_move.specs.Told.{running}
 use Rattle.history_laws.specs.Traces.{EventLeads, IsTraced, Stand, SyncLeads, WorkLeads, before_others, if_closed, ordered, with_job}
+use Rattle.history_laws.proofs.Beginnings.{begins_in}
 use Rattle.history_laws.proofs.Histories.{IsReached, only_job, traced_reached}
 use Rattle.history_laws.proofs.Owing.{in_filter, owed_law}
 use Rattle.history_laws.proofs.Reports.{with_one}
+use Rattle.history_laws.proofs.Resting.{folder_at, sure_path}
 use Rattle.history_laws.proofs.Sources.{folder_same, tells_same, work_paths}
 use Rattle.history_laws.proofs.Unchanged.{first_clean, step_clean}
 
@@ -140,14 +142,15 @@ module _ (job new : Running) (did : Did) (dirty dirty_after : List Route) (log n
   tidy_works w old = tidy_on job.course refl w.tells w.leaves old
 
 -- what is kept of the live job
-pub record IsTidyJob (g : List Entry) (dirty : List Route) (job : Running) : Type 0 where
+pub record IsTidyJob (opening : CallLog) (g : List Entry) (dirty : List Route) (job : Running) : Type 0 where
   pub tidy : IsTidy (has_changed job.id g) dirty job
   pub aborted : (ending : Ending) → job.course ≡ Ends ending → ending ≡ Aborted
   pub clean : has_changed job.id g ≡ false → is_dirty job.work ≡ false
+  pub stands : has_changed job.id g ≡ true → folder_at (current opening) (changed_folder job.work) ≡ true
 
-abbrev pub AreTidy : List Entry → List Route → List Running → Type 0
-AreTidy g dirty [] = Unit {0}
-AreTidy g dirty (job ∷ jobs) = IsTidyJob g dirty job
+abbrev pub AreTidy : CallLog → List Entry → List Route → List Running → Type 0
+AreTidy opening g dirty [] = Unit {0}
+AreTidy opening g dirty (job ∷ jobs) = IsTidyJob opening g dirty job
 
 no_end : {A : Type 0} (course : Course) (ending : Ending) → IsGoing course → course ≡ Ends ending → A
 no_end course ending going is = absurd (subst IsGoing is going)
@@ -174,12 +177,13 @@ tells_aborted job new did (Skips why) is (inr (did_is, new_is)) old ending e = n
 tells_aborted job new did (Ends first) is (work, winds, new_is) old ending e = old ending (sym (ap (λ (x : Running). x.course) new_is) ∙ e)
 
 -- a job with the same work and number, that goes on only where it went on
-kept_tidy : (g : List Entry) (dirty : List Route) (job new : Running) → new.id ≡ job.id → is_dirty new.work ≡ is_dirty job.work → changed_folder new.work ≡ changed_folder job.work
-    → (IsGoing new.course → IsGoing job.course) → ((ending : Ending) → new.course ≡ Ends ending → ending ≡ Aborted) → IsTidyJob g dirty job → IsTidyJob g dirty new
-kept_tidy g dirty job new id_is dirty_is folder_is on aborted old = record {
+kept_tidy : (opening : CallLog) (g : List Entry) (dirty : List Route) (job new : Running) → new.id ≡ job.id → is_dirty new.work ≡ is_dirty job.work → changed_folder new.work ≡ changed_folder job.work
+    → (IsGoing new.course → IsGoing job.course) → ((ending : Ending) → new.course ≡ Ends ending → ending ≡ Aborted) → IsTidyJob opening g dirty job → IsTidyJob opening g dirty new
+kept_tidy opening g dirty job new id_is dirty_is folder_is on aborted old = record {
   tidy = λ changed going clean among. old.tidy (ap (λ n. has_changed n g) (sym id_is) ∙ changed) (on going) (sym dirty_is ∙ clean) (subst (λ q. Among dirty q) folder_is among);
   aborted = aborted;
   clean = λ unchanged. dirty_is ∙ old.clean (ap (λ n. has_changed n g) (sym id_is) ∙ unchanged);
+  stands = λ changed. ap (folder_at (current opening)) folder_is ∙ old.stands (ap (λ n. has_changed n g) (sym id_is) ∙ changed);
 }
 
 anew_dirty : (work : Work) → (is_dirty (taken_anew work) ≡ is_dirty work) × (changed_folder (taken_anew work) ≡ changed_folder work)
@@ -189,69 +193,71 @@ anew_dirty (Delete d) = (refl, refl)
 some_end : (a b : Ending) → (let c : Course = Ends a in c) ≡ Ends b → b ≡ a
 some_end a b h = cc
 
-answer_tidy : (g : List Entry) (dirty : List Route) (job : Running) (course : Course) → job.course ≡ course → (answer : Answer) → IsTidyJob g dirty job → IsTidyJob g dirty (answered_on course answer job)
-answer_tidy g dirty job (InTrouble why) is Retry t =
-    let a = anew_dirty job.work in kept_tidy g dirty job (record job { work = taken_anew job.work; course = GoesOn }) refl a.0 a.1 (λ going. subst IsGoing (sym is) tt) (λ ending e. no_end GoesOn ending tt e) t
-answer_tidy g dirty job (InTrouble why) is Skip t = kept_tidy g dirty job (record job { course = Skips why }) refl refl refl (λ going. subst IsGoing (sym is) tt) (λ ending e. no_end (Skips why) ending tt e) t
-answer_tidy g dirty job (InTrouble why) is SkipAll t = kept_tidy g dirty job (record job { course = Skips why }) refl refl refl (λ going. subst IsGoing (sym is) tt) (λ ending e. no_end (Skips why) ending tt e) t
-answer_tidy g dirty job (InTrouble why) is Abort t = kept_tidy g dirty job (record job { course = Ends Aborted }) refl refl refl (λ going. absurd going) (λ ending e. some_end Aborted ending e) t
-answer_tidy g dirty job (OwedSyncFailed why) is Retry t =
-    let a = anew_dirty job.work in kept_tidy g dirty job (record job { work = taken_anew job.work; course = GoesOn }) refl a.0 a.1 (λ going. subst IsGoing (sym is) tt) (λ ending e. no_end GoesOn ending tt e) t
-answer_tidy g dirty job (OwedSyncFailed why) is Skip t = t
-answer_tidy g dirty job (OwedSyncFailed why) is SkipAll t = t
-answer_tidy g dirty job (OwedSyncFailed why) is Abort t = kept_tidy g dirty job (record job { course = Ends Aborted }) refl refl refl (λ going. absurd going) (λ ending e. some_end Aborted ending e) t
-answer_tidy g dirty job GoesOn is answer t = t
-answer_tidy g dirty job (Skips why) is answer t = t
-answer_tidy g dirty job (Ends ending) is answer t = t
+answer_tidy : (opening : CallLog) (g : List Entry) (dirty : List Route) (job : Running) (course : Course) → job.course ≡ course → (answer : Answer) → IsTidyJob opening g dirty job → IsTidyJob opening g dirty (answered_on course answer job)
+answer_tidy opening g dirty job (InTrouble why) is Retry t =
+    let a = anew_dirty job.work in kept_tidy opening g dirty job (record job { work = taken_anew job.work; course = GoesOn }) refl a.0 a.1 (λ going. subst IsGoing (sym is) tt) (λ ending e. no_end GoesOn ending tt e) t
+answer_tidy opening g dirty job (InTrouble why) is Skip t = kept_tidy opening g dirty job (record job { course = Skips why }) refl refl refl (λ going. subst IsGoing (sym is) tt) (λ ending e. no_end (Skips why) ending tt e) t
+answer_tidy opening g dirty job (InTrouble why) is SkipAll t = kept_tidy opening g dirty job (record job { course = Skips why }) refl refl refl (λ going. subst IsGoing (sym is) tt) (λ ending e. no_end (Skips why) ending tt e) t
+answer_tidy opening g dirty job (InTrouble why) is Abort t = kept_tidy opening g dirty job (record job { course = Ends Aborted }) refl refl refl (λ going. absurd going) (λ ending e. some_end Aborted ending e) t
+answer_tidy opening g dirty job (OwedSyncFailed why) is Retry t =
+    let a = anew_dirty job.work in kept_tidy opening g dirty job (record job { work = taken_anew job.work; course = GoesOn }) refl a.0 a.1 (λ going. subst IsGoing (sym is) tt) (λ ending e. no_end GoesOn ending tt e) t
+answer_tidy opening g dirty job (OwedSyncFailed why) is Skip t = t
+answer_tidy opening g dirty job (OwedSyncFailed why) is SkipAll t = t
+answer_tidy opening g dirty job (OwedSyncFailed why) is Abort t = kept_tidy opening g dirty job (record job { course = Ends Aborted }) refl refl refl (λ going. absurd going) (λ ending e. some_end Aborted ending e) t
+answer_tidy opening g dirty job GoesOn is answer t = t
+answer_tidy opening g dirty job (Skips why) is answer t = t
+answer_tidy opening g dirty job (Ends ending) is answer t = t
 
-close_tidy : (g : List Entry) (dirty : List Route) (job : Running) (course : Course) → job.course ≡ course → IsTidyJob g dirty job → IsTidyJob g dirty (record job { course = closed_course course })
-close_tidy g dirty job GoesOn is t = kept_tidy g dirty job (record job { course = GoesOn }) refl refl refl (λ going. subst IsGoing (sym is) tt) (λ ending e. no_end GoesOn ending tt e) t
-close_tidy g dirty job (InTrouble why) is t = kept_tidy g dirty job (record job { course = Ends Aborted }) refl refl refl (λ going. absurd going) (λ ending e. some_end Aborted ending e) t
-close_tidy g dirty job (OwedSyncFailed why) is t = kept_tidy g dirty job (record job { course = Ends Aborted }) refl refl refl (λ going. absurd going) (λ ending e. some_end Aborted ending e) t
-close_tidy g dirty job (Skips why) is t = kept_tidy g dirty job (record job { course = Skips why }) refl refl refl (λ going. subst IsGoing (sym is) tt) (λ ending e. no_end (Skips why) ending tt e) t
-close_tidy g dirty job (Ends first) is t = kept_tidy g dirty job (record job { course = Ends first }) refl refl refl (λ going. absurd going) (λ ending e. t.aborted ending (is ∙ e)) t
+close_tidy : (opening : CallLog) (g : List Entry) (dirty : List Route) (job : Running) (course : Course) → job.course ≡ course → IsTidyJob opening g dirty job → IsTidyJob opening g dirty (record job { course = closed_course course })
+close_tidy opening g dirty job GoesOn is t = kept_tidy opening g dirty job (record job { course = GoesOn }) refl refl refl (λ going. subst IsGoing (sym is) tt) (λ ending e. no_end GoesOn ending tt e) t
+close_tidy opening g dirty job (InTrouble why) is t = kept_tidy opening g dirty job (record job { course = Ends Aborted }) refl refl refl (λ going. absurd going) (λ ending e. some_end Aborted ending e) t
+close_tidy opening g dirty job (OwedSyncFailed why) is t = kept_tidy opening g dirty job (record job { course = Ends Aborted }) refl refl refl (λ going. absurd going) (λ ending e. some_end Aborted ending e) t
+close_tidy opening g dirty job (Skips why) is t = kept_tidy opening g dirty job (record job { course = Skips why }) refl refl refl (λ going. subst IsGoing (sym is) tt) (λ ending e. no_end (Skips why) ending tt e) t
+close_tidy opening g dirty job (Ends first) is t = kept_tidy opening g dirty job (record job { course = Ends first }) refl refl refl (λ going. absurd going) (λ ending e. t.aborted ending (is ∙ e)) t
 
 module _ (opening : CallLog) (tree : IsTree (current opening)) (settled : all_settled opening.changes ≡ true) where
-  order_tidy : (g : List Entry) (dirty : List Route) (id : ℕ) (order : JobOrder) (jobs : List Running) → AreTidy g dirty jobs → AreTidy g dirty (map (ordered id order) jobs)
+  order_tidy : (g : List Entry) (dirty : List Route) (id : ℕ) (order : JobOrder) (jobs : List Running) → AreTidy opening g dirty jobs → AreTidy opening g dirty (map (ordered id order) jobs)
   order_tidy g dirty id order [] t = tt
   order_tidy g dirty id (Answered answer) (job ∷ jobs) t = by (job.id == id)
     where
-      by : (b : Bool) → IsTidyJob g dirty (if◌then◌else◌ b (answered_on job.course answer job) job)
-      by true = answer_tidy g dirty job job.course refl answer t
+      by : (b : Bool) → IsTidyJob opening g dirty (if◌then◌else◌ b (answered_on job.course answer job) job)
+      by true = answer_tidy opening g dirty job job.course refl answer t
       by false = t
 
-  closing_tidy : (g : List Entry) (b : Bool) (stand : Stand) → AreTidy g stand.dirty stand.jobs → (let s : Stand = if_closed b stand in AreTidy g s.dirty s.jobs)
+  closing_tidy : (g : List Entry) (b : Bool) (stand : Stand) → AreTidy opening g stand.dirty stand.jobs → (let s : Stand = if_closed b stand in AreTidy opening g s.dirty s.jobs)
   closing_tidy g false stand t = t
   closing_tidy g true stand t = by stand.jobs t
     where
-      by : (jobs : List Running) → AreTidy g stand.dirty jobs → AreTidy g stand.dirty (map closed_job jobs)
+      by : (jobs : List Running) → AreTidy opening g stand.dirty jobs → AreTidy opening g stand.dirty (map closed_job jobs)
       by [] t = tt
-      by (job ∷ jobs) t = close_tidy g stand.dirty job job.course refl t
+      by (job ∷ jobs) t = close_tidy opening g stand.dirty job job.course refl t
 
   -- an event that says nothing of steps
-  same_tidy : (e : Entry) (older : List Entry) (dirty : List Route) (jobs : List Running) → ((id : ℕ) → has_changed id (e ∷ older) ≡ has_changed id older) → AreTidy older dirty jobs → AreTidy (e ∷ older) dirty jobs
+  same_tidy : (e : Entry) (older : List Entry) (dirty : List Route) (jobs : List Running) → ((id : ℕ) → has_changed id (e ∷ older) ≡ has_changed id older) → AreTidy opening older dirty jobs → AreTidy opening (e ∷ older) dirty jobs
   same_tidy e older dirty [] same t = tt
   same_tidy e older dirty (job ∷ jobs) same t = record {
     tidy = λ changed going clean among. t.tidy (sym (same job.id) ∙ changed) going clean among;
     aborted = t.aborted;
     clean = λ unchanged. t.clean (sym (same job.id) ∙ unchanged);
+    stands = λ changed. t.stands (sym (same job.id) ∙ changed);
   }
 
-  begun_tidy : (g : List Entry) (dirty : List Route) (id : ℕ) (o : Option Work) → ((w : Work) → o ≡ Some w → is_dirty w ≡ false) → has_changed id g ≡ false → AreTidy g dirty (option_map_or (λ w. running id w ∷ []) o [])
+  begun_tidy : (g : List Entry) (dirty : List Route) (id : ℕ) (o : Option Work) → ((w : Work) → o ≡ Some w → is_dirty w ≡ false) → has_changed id g ≡ false → AreTidy opening g dirty (option_map_or (λ w. running id w ∷ []) o [])
   begun_tidy g dirty id None clean unchanged = tt
   begun_tidy g dirty id (Some w) clean unchanged = record {
     tidy = λ changed going not_dirty among. both_ways _ unchanged changed;
     aborted = λ ending e. no_end GoesOn ending tt e;
     clean = λ none. clean w refl;
+    stands = λ changed. absurd (both_ways _ unchanged changed);
   }
 
   changed_same : (number id : ℕ) (before begins : Bool) → number ≡ id → (before || ((number == id) && begins)) ≡ (before || begins)
   changed_same number id before begins same = ap (λ b. before || (b && begins)) (eq-eqb number id same)
 
   -- after a step of a job
-  step_tidy : (e : Entry) (older : List Entry) (id : ℕ) (did : Did) (job new : Running) (dirty dirty_after : List Route) (before now : CallLog) → e.what ≡ Step id did → job.id ≡ id → ends did ≡ false → IsTidyJob older dirty job
-      → WorkLeads job did new dirty dirty_after before now ⊎ SyncLeads job did new dirty dirty_after before now → IsTidyJob (e ∷ older) dirty_after new
-  step_tidy e older id did job new dirty dirty_after before now what_is id_is on t (inl works) =
+  step_tidy : (e : Entry) (older : List Entry) (id : ℕ) (did : Did) (job new : Running) (dirty dirty_after : List Route) (before now : CallLog) → IsTree (current before) → ((p : Route) → folder_at (current before) p ≡ folder_at (current opening) p)
+      → e.what ≡ Step id did → job.id ≡ id → ends did ≡ false → IsTidyJob opening older dirty job → WorkLeads job did new dirty dirty_after before now ⊎ SyncLeads job did new dirty dirty_after before now → IsTidyJob opening (e ∷ older) dirty_after new
+  step_tidy e older id did job new dirty dirty_after before now shape folders what_is id_is on t (inl works) =
       let same = tells_same job new did works.tells in
       let changed_is : (has_changed job.id older || begins_change did) ≡ has_changed new.id (e ∷ older) =
       sym (changed_same id new.id (has_changed job.id older) (begins_change did) (sym id_is ∙ sym same.0))
@@ -261,8 +267,12 @@ module _ (opening : CallLog) (tree : IsTree (current opening)) (settled : all_se
             tidy_works job new did dirty dirty_after before now (has_changed job.id older) works t.tidy (changed_is ∙ changed) going clean among;
         aborted = tells_aborted job new did job.course refl works.tells t.aborted;
         clean = λ unchanged. let n = neither _ _ (changed_is ∙ unchanged) in step_clean job new did works.tells on n.1 (t.clean n.0);
+        stands = λ changed. ap (folder_at (current opening)) (folder_same new.work job.work same.1) ∙ elim (changed_by (has_changed job.id older) (begins_change did) (changed_is ∙ changed)) [
+          | inl b ↦ t.stands b
+          | inr h ↦ sym (folders (changed_folder job.work)) ∙ begins_in job new did dirty dirty_after before now shape works h
+        ];
       }
-  step_tidy e older id did job new dirty dirty_after before now what_is id_is on t (inr syncs) = by syncs.synced
+  step_tidy e older id did job new dirty dirty_after before now shape folders what_is id_is on t (inr syncs) = by syncs.synced
     where
       unchanged : (n : ℕ) → begins_change did ≡ false → has_changed n (e ∷ older) ≡ true → has_changed n older ≡ true
       unchanged n none changed = elim (changed_by (has_changed n older) ((id == n) && begins_change did) (sym (ap (λ w. changed_after n w (has_changed n older)) what_is) ∙ changed)) [
@@ -273,52 +283,54 @@ module _ (opening : CallLog) (tree : IsTree (current opening)) (settled : all_se
       clean : has_changed job.id (e ∷ older) ≡ false → is_dirty job.work ≡ false
       clean none = t.clean (neither (has_changed job.id older) _ (sym (ap (λ w. changed_after job.id w (has_changed job.id older)) what_is) ∙ none)).0
 
-      by : SyncsFolder job syncs.folder did new dirty dirty_after (Some before) (Some now) → IsTidyJob (e ∷ older) dirty_after new
-      by (inl (did_is, new_is, routes, called)) = subst (λ (x : Running). IsTidyJob (e ∷ older) dirty_after x) (sym new_is) (record {
+      by : SyncsFolder job syncs.folder did new dirty dirty_after (Some before) (Some now) → IsTidyJob opening (e ∷ older) dirty_after new
+      by (inl (did_is, new_is, routes, called)) = subst (λ (x : Running). IsTidyJob opening (e ∷ older) dirty_after x) (sym new_is) (record {
         tidy = λ changed going clean among. t.tidy (unchanged job.id (ap begins_change did_is) changed) going clean
             (in_filter (λ kept. not (same_path kept syncs.folder)) (changed_folder job.work) dirty (subst (λ xs. Among xs (changed_folder job.work)) routes among));
         aborted = t.aborted;
         clean = clean;
+        stands = λ changed. t.stands (unchanged job.id (ap begins_change did_is) changed);
       })
-      by (inr (error, did_is, new_is, routes, called)) = subst (λ (x : Running). IsTidyJob (e ∷ older) dirty_after x) (sym new_is) (record {
+      by (inr (error, did_is, new_is, routes, called)) = subst (λ (x : Running). IsTidyJob opening (e ∷ older) dirty_after x) (sym new_is) (record {
         tidy = λ changed going clean among. t.tidy (unchanged job.id (ap begins_change did_is) changed) (subst IsGoing (sym syncs.goes) tt) clean (subst (λ xs. Among xs (changed_folder job.work)) routes among);
         aborted = λ ending x. no_end (OwedSyncFailed (cause_of error)) ending tt x;
         clean = clean;
+        stands = λ changed. t.stands (unchanged job.id (ap begins_change did_is) changed);
       })
 
-  after_tidy : (g : List Entry) (dirty : List Route) (new : Running) (b : Bool) → (b ≡ false → IsTidyJob g dirty new) → AreTidy g dirty (before_others (if◌then◌else◌ b None (Some new)) [])
+  after_tidy : (g : List Entry) (dirty : List Route) (new : Running) (b : Bool) → (b ≡ false → IsTidyJob opening g dirty new) → AreTidy opening g dirty (before_others (if◌then◌else◌ b None (Some new)) [])
   after_tidy g dirty new true t = tt
   after_tidy g dirty new false t = t refl
 
-  pub traced_tidy : (newest : List Entry) (stand : Stand) (now : CallLog) → IsTraced opening newest stand now → AreTidy newest stand.dirty stand.jobs
-  traced_tidy [] stand now (stand_is, now_is) = subst (λ (x : Stand). AreTidy [] x.dirty x.jobs) (sym stand_is) tt
+  pub traced_tidy : (newest : List Entry) (stand : Stand) (now : CallLog) → IsTraced opening newest stand now → AreTidy opening newest stand.dirty stand.jobs
+  traced_tidy [] stand now (stand_is, now_is) = subst (λ (x : Stand). AreTidy opening [] x.dirty x.jobs) (sym stand_is) tt
   traced_tidy (e ∷ older) stand now (was, before, traced, f) =
-      subst (λ (x : Stand). AreTidy (e ∷ older) x.dirty x.jobs) (sym f.stand_is)
+      subst (λ (x : Stand). AreTidy opening (e ∷ older) x.dirty x.jobs) (sym f.stand_is)
       (closing_tidy (e ∷ older) (is_closed (e ∷ older)) f.after (by e.what refl f.leads (traced_tidy older was before traced) (traced_reached opening tree settled older was before traced)))
     where
-      by : (what : Event) → e.what ≡ what → EventLeads was what f.after before now → AreTidy older was.dirty was.jobs → IsReached opening older was before → AreTidy (e ∷ older) (let a : Stand = f.after in a.dirty) (let a : Stand = f.after in a.jobs)
+      by : (what : Event) → e.what ≡ what → EventLeads was what f.after before now → AreTidy opening older was.dirty was.jobs → IsReached opening older was before → AreTidy opening (e ∷ older) (let a : Stand = f.after in a.dirty) (let a : Stand = f.after in a.jobs)
       by (Step id did) is (job, is_job, (new, leads, jobs_is)) t r =
           let one = only_job id was.jobs job _ was.dirty r.marks (current before) is_job r.knows in
-          let tidy : IsTidyJob older was.dirty job = subst (λ js. AreTidy older was.dirty js) one.0 t in
+          let tidy : IsTidyJob opening older was.dirty job = subst (λ js. AreTidy opening older was.dirty js) one.0 t in
           let a : Stand = f.after in
           let jobs_then : a.jobs ≡ before_others new [] = jobs_is ∙ (ap (with_job id new) one.0 ∙ (ap (λ n. with_job n new (job ∷ [])) (sym one.1) ∙ with_one job new)) in
-          subst (λ js. AreTidy (e ∷ older) a.dirty js) (sym jobs_then) (elim leads [
-            | inl stepped ↦ subst (λ o. AreTidy (e ∷ older) a.dirty (before_others o [])) (sym stepped.2)
-                (after_tidy (e ∷ older) a.dirty stepped.0 (ends did) (λ on. step_tidy e older id did job stepped.0 was.dirty a.dirty before now is one.1 on tidy stepped.1))
-            | inr gives ↦ subst (λ o. AreTidy (e ∷ older) a.dirty (before_others o [])) (sym gives.1) tt
+          subst (λ js. AreTidy opening (e ∷ older) a.dirty js) (sym jobs_then) (elim leads [
+            | inl stepped ↦ subst (λ o. AreTidy opening (e ∷ older) a.dirty (before_others o [])) (sym stepped.2)
+                (after_tidy (e ∷ older) a.dirty stepped.0 (ends did) (λ on. step_tidy e older id did job stepped.0 was.dirty a.dirty before now r.kept.known.guarded.tree r.kept.known.stand is one.1 on tidy stepped.1))
+            | inr gives ↦ subst (λ o. AreTidy opening (e ∷ older) a.dirty (before_others o [])) (sym gives.1) tt
           ])
       by (event.Began id plan background) is (none, after_is, now_is) t r =
-          subst (λ (x : Stand). AreTidy (e ∷ older) x.dirty x.jobs) (sym after_is)
+          subst (λ (x : Stand). AreTidy opening (e ∷ older) x.dirty x.jobs) (sym after_is)
           (begun_tidy (e ∷ older) was.dirty id (first_work id plan) (first_clean id plan) (ap (λ w. changed_after id w (has_changed id older)) is ∙ ap (λ b. if◌then◌else◌ b false (has_changed id older)) (eq-eqb id id refl)))
       by (Order id order) is (after_is, now_is) t r =
-          subst (λ (x : Stand). AreTidy (e ∷ older) x.dirty x.jobs) (sym after_is)
+          subst (λ (x : Stand). AreTidy opening (e ∷ older) x.dirty x.jobs) (sym after_is)
           (order_tidy (e ∷ older) was.dirty id order was.jobs (same_tidy e older was.dirty was.jobs (λ n. ap (λ w. changed_after n w (has_changed n older)) is) t))
       by (Key key time refusals lost) is (after_is, now_is) t r =
-          subst (λ (x : Stand). AreTidy (e ∷ older) x.dirty x.jobs) (sym after_is) (same_tidy e older was.dirty was.jobs (λ n. ap (λ w. changed_after n w (has_changed n older)) is) t)
+          subst (λ (x : Stand). AreTidy opening (e ∷ older) x.dirty x.jobs) (sym after_is) (same_tidy e older was.dirty was.jobs (λ n. ap (λ w. changed_after n w (has_changed n older)) is) t)
       by (Look refusals) is (after_is, now_is) t r =
-          subst (λ (x : Stand). AreTidy (e ∷ older) x.dirty x.jobs) (sym after_is) (same_tidy e older was.dirty was.jobs (λ n. ap (λ w. changed_after n w (has_changed n older)) is) t)
+          subst (λ (x : Stand). AreTidy opening (e ∷ older) x.dirty x.jobs) (sym after_is) (same_tidy e older was.dirty was.jobs (λ n. ap (λ w. changed_after n w (has_changed n older)) is) t)
       by Closed is (after_is, now_is) t r =
-          subst (λ (x : Stand). AreTidy (e ∷ older) x.dirty x.jobs) (sym after_is) (same_tidy e older was.dirty was.jobs (λ n. ap (λ w. changed_after n w (has_changed n older)) is) t)
+          subst (λ (x : Stand). AreTidy opening (e ∷ older) x.dirty x.jobs) (sym after_is) (same_tidy e older was.dirty was.jobs (λ n. ap (λ w. changed_after n w (has_changed n older)) is) t)
 
 -- a job that may report that it is finished owes no sync
 done_deletion : (stage : Stage) → deletions.is_done stage ≡ true → deletions.is_dirty stage ≡ false
@@ -339,18 +351,28 @@ wound_up ending (Delete d) (Delete new) part (off, how_is, part_is, new_is) = ho
 wound_up ending (Copy c) (Delete new) part t = absurd t
 wound_up ending (Delete d) (Copy new) part t = absurd t
 
-finished_tidy : (g : List Entry) (dirty : List Route) (job new : Running) (part : Option Route) (course : Course) → job.course ≡ course → TellsOn course job (Ended Finished part) new → IsTidyJob g dirty job
+finished_tidy : (opening : CallLog) (g : List Entry) (dirty : List Route) (job new : Running) (part : Option Route) (course : Course) → job.course ≡ course → TellsOn course job (Ended Finished part) new → IsTidyJob opening g dirty job
     → has_changed job.id g ≡ true → Among dirty (changed_folder job.work) → ⊥
-finished_tidy g dirty job new part GoesOn is (work, tells, new_is) t changed among = t.tidy changed (subst IsGoing (sym is) tt) (done_work job.work work part tells) among
-finished_tidy g dirty job new part (InTrouble why) is tells t changed among = tells
-finished_tidy g dirty job new part (OwedSyncFailed why) is tells t changed among = tells
-finished_tidy g dirty job new part (Skips why) is (inl (did_is, new_is)) t changed among = let f : ⊥ = cc in f
-finished_tidy g dirty job new part (Skips why) is (inr (did_is, new_is)) t changed among = let f : ⊥ = cc in f
-finished_tidy g dirty job new part (Ends ending) is (work, winds, new_is) t changed among =
+finished_tidy opening g dirty job new part GoesOn is (work, tells, new_is) t changed among = t.tidy changed (subst IsGoing (sym is) tt) (done_work job.work work part tells) among
+finished_tidy opening g dirty job new part (InTrouble why) is tells t changed among = tells
+finished_tidy opening g dirty job new part (OwedSyncFailed why) is tells t changed among = tells
+finished_tidy opening g dirty job new part (Skips why) is (inl (did_is, new_is)) t changed among = let f : ⊥ = cc in f
+finished_tidy opening g dirty job new part (Skips why) is (inr (did_is, new_is)) t changed among = let f : ⊥ = cc in f
+finished_tidy opening g dirty job new part (Ends ending) is (work, winds, new_is) t changed among =
     let e : Finished ≡ Aborted = wound_up ending job.work work part winds ∙ t.aborted ending is in let f : ⊥ = cc in f
+
+-- so its folder stood at the opening, and no folder has gone since
+pub finished_folder : (opening : CallLog) → IsTree (current opening) → all_settled opening.changes ≡ true → (newest : List Entry) (stand : Stand) (now : CallLog) (job : Running) → IsTraced opening newest stand now
+    → stand.jobs ≡ job ∷ [] → has_changed job.id newest ≡ true → folder_at (current opening) (changed_folder job.work) ≡ true
+finished_folder opening tree settled newest stand now job traced jobs_is changed =
+    let tidy : IsTidyJob opening newest stand.dirty job = subst (λ js. AreTidy opening newest stand.dirty js) jobs_is (traced_tidy opening tree settled newest stand now traced) in
+    tidy.stands changed
 
 pub finished_law : FinishedLaw
 finished_law opening now newest stand job new part path tree settled traced jobs_is tells changed folder =
-    false_from_ne_true (is_unsettled now path) (λ waits.
-    finished_tidy newest stand.dirty job new part job.course refl tells (subst (λ js. AreTidy newest stand.dirty js) jobs_is (traced_tidy opening tree settled newest stand now traced)) changed
-    (subst (λ q. Among stand.dirty q) folder (owed_law opening now newest stand path tree settled traced waits)))
+    let r = traced_reached opening tree settled newest stand now traced in
+    let stands : folder_at (current now) (folder_of path) ≡ true =
+    r.kept.known.stand (folder_of path) ∙ (ap (folder_at (current opening)) folder ∙ finished_folder opening tree settled newest stand now job traced jobs_is changed) in
+    sure_path now r.kept.known.guarded.tree r.kept.known.files path stands (false_from_ne_true (name_waits now path) (λ waits.
+    finished_tidy opening newest stand.dirty job new part job.course refl tells (subst (λ js. AreTidy opening newest stand.dirty js) jobs_is (traced_tidy opening tree settled newest stand now traced)) changed
+    (subst (λ q. Among stand.dirty q) folder (owed_law opening now newest stand path tree settled traced waits))))

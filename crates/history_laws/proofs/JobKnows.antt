@@ -29,7 +29,7 @@ use Rattle.copy_move.specs.declared.run.Course.TheVariants.{GoesOn}
 use Rattle.copy_move.specs.declared.work.Work.{Work}
 use Rattle.copy_move.specs.declared.work.Work.TheVariants.{Copy, Delete}
 use Rattle.copy_move.specs.Settling.{NoneOwed}
-use Rattle.history_laws.specs.Doubt.{is_pending, is_unsettled}
+use Rattle.history_laws.specs.Doubt.{is_pending, is_unsettled, name_waits}
 use Rattle.history_laws.proofs.Knowing.{Said, IsKnown, IsKept, settled_marks}
 
 -- nothing was done at the target yet, and nothing stands there
@@ -94,20 +94,22 @@ untouched_free told dirty marks log p kept sure free =
     ]
 
 -- Where no dirty folder lies on the mount of this one, nothing waits in it.
-pub none_waits : (told : Said) (dirty : List Route) (marks : Marks) (log : CallLog) (up : Route) → IsKnown told dirty marks log → NoneOwed (current log) up dirty → (m : List ℕ) → is_unsettled log (m ∷ up) ≡ false
+pub none_waits : (told : Said) (dirty : List Route) (marks : Marks) (log : CallLog) (up : Route) → IsKnown told dirty marks log → NoneOwed (current log) up dirty → (m : List ℕ) → name_waits log (m ∷ up) ≡ false
 none_waits told dirty marks log up known none m = by (find (current log) up) refl
   where
-    no_more : (f : ℕ) → find (current log) up ≡ Some f → (b : Bool) → is_pending f m log.changes ≡ b → b ≡ false
-    no_more f at false is = refl
-    no_more f at true is =
-        let t = known.tracked f m is in
+    listed : (f : ℕ) → find (current log) up ≡ Some f → (q : Route) × Among dirty q × (find (current log) q ≡ Some f) → true ≡ false
+    listed f at t =
         let same = find-once (current log) known.guarded.tree t.0 up f t.2 at in
         elim (none t.0 t.1) [
           | inl gone ↦ absurd (let e : (let o : Option ℕ = None in o) ≡ Some f = sym (stat_missing (current log) t.0 gone) ∙ t.2 in cc)
           | inr elsewhere ↦ absurd (elsewhere.2 (subst (λ q. elsewhere.0 ≡ mount_number (current log).mounts (mount_of (current log) q)) (sym same) elsewhere.1))
         ]
 
-    by : (o : Option ℕ) → find (current log) up ≡ o → is_unsettled log (m ∷ up) ≡ false
+    no_more : (f : ℕ) → find (current log) up ≡ Some f → (b : Bool) → is_pending f m log.changes ≡ b → b ≡ false
+    no_more f at false is = refl
+    no_more f at true is = elim (known.tracked f m is) [ inl t ↦ listed f at t | inr unreached ↦ absurd (unreached up at) ]
+
+    by : (o : Option ℕ) → find (current log) up ≡ o → name_waits log (m ∷ up) ≡ false
     by None is = ap (λ x. option_map_or (λ f. is_pending f m log.changes) x false) is
     by (Some f) is = ap (λ x. option_map_or (λ f. is_pending f m log.changes) x false) is ∙ no_more f is (is_pending f m log.changes) refl
 

@@ -76,6 +76,7 @@ module _ (told : Said) (dirty dirty_after : List Route) (marks : Marks) (log now
           part = λ p e. absurd (let f : ⊥ = cc in f);
           tracked = kept.known.tracked;
           doubts = kept.known.doubts;
+          stand = kept.known.stand;
         };
         aside = kept.aside;
         was = kept.was;

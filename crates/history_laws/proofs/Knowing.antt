@@ -13,17 +13,18 @@ use Rattle.crash_law.specs.Possible.{MayFind, IsImage}
 use Rattle.crash_law.specs.Guarded.{Marks, IsGuarded, Holds}
 use Rattle.crash_law.proofs.Guarding.{settle_law, guard_law, found_at}
 use Rattle.crash_law.proofs.Leading.{find_law}
-use Rattle.history_laws.specs.Doubt.{is_pending, is_unsettled}
-use Rattle.history_laws.proofs.Resting.{IsOfFiles, settled_unless}
+use Rattle.history_laws.specs.Doubt.{is_pending, is_unsettled, name_waits}
+use Rattle.history_laws.proofs.Resting.{IsOfFiles, folder_at, settled_unless}
 
 -- what a history says: what each path shows, what it showed before its last change, the paths that were named as parts, the
--- part that stands, and of which paths a change may wait for a sync
+-- part that stands, of which names a change may wait for a sync, and where folders stand
 pub record Said : Type 0 where
   pub tree : View
   pub earlier : View
   pub named : List Route
   pub part : Option Route
   pub doubt : Route → Bool
+  pub folders : Route → Bool
 
 -- of any path
 abbrev pub anywhere : Route → Bool
@@ -36,6 +37,10 @@ held s o = option_map (λ i. value (node s i)) o
 abbrev pub nowhere : Spot
 nowhere = record { value = None; is_mount = false }
 
+-- no path leads to this node
+abbrev pub IsUnreached : CallLog → ℕ → Type 0
+IsUnreached log f = (p : Route) → find (current log) p ≡ Some f → ⊥
+
 -- What is known, and kept by each call. The marks say what stood at each path before the work under way there.
 pub record IsKnown (said : Said) (dirty : List Route) (marks : Marks) (log : CallLog) : Type 0 where
   pub guarded : IsGuarded marks log
@@ -47,9 +52,10 @@ pub record IsKnown (said : Said) (dirty : List Route) (marks : Marks) (log : Cal
   pub was_shown : (p : Route) → marks.aside p ≡ false → (marks.was p ≡ find (current log) p) ⊎ (held (current log) (marks.was p) ≡ (said.earlier p).value)
   pub shows : (p : Route) → (said.part ≡ Some p → ⊥) → visible_tree (current log) p ≡ said.tree p
   pub part : (p : Route) → said.part ≡ Some p → (marks.aside p ≡ true) × (said.tree p ≡ nowhere) × (is_some (find (current log) p) ≡ true)
-  -- what waits lies in a dirty folder
-  pub tracked : (f : ℕ) (m : List ℕ) → is_pending f m log.changes ≡ true → (up : Route) × Among dirty up × (find (current log) up ≡ Some f)
-  pub doubts : (p : Route) → is_unsettled log p ≡ true → said.doubt p ≡ true
+  -- what waits lies in a dirty folder, or in one to which no path leads any more
+  pub tracked : (f : ℕ) (m : List ℕ) → is_pending f m log.changes ≡ true → ((up : Route) × Among dirty up × (find (current log) up ≡ Some f)) ⊎ IsUnreached log f
+  pub doubts : (p : Route) → name_waits log p ≡ true → said.doubt p ≡ true
+  pub stand : (p : Route) → folder_at (current log) p ≡ said.folders p
 
 -- and where nothing waits nothing is left open
 pub record IsKept (said : Said) (dirty : List Route) (marks : Marks) (log : CallLog) : Type 0 where
@@ -97,7 +103,7 @@ module _ (said : Said) (dirty : List Route) (marks : Marks) (log : CallLog) (kno
   was_if p false u_is = (λ h. absurd (false≢true h), λ _. ap (λ b. cond b (marks.was p) (find (current log) p)) u_is)
 
   paths : (p : Route) → after.aside p ≡ false → (u : Bool) → is_unsettled log p ≡ u → ((marks.aside p ≡ false) × (after.was p ≡ marks.was p)) ⊎ ((x : Option ℕ) → MayFind log p x → x ≡ find (current log) p)
-  paths p h false u_is = inr (settled_unless log known.guarded.tree known.files p u_is)
+  paths p h false u_is = inr (settled_unless log p u_is)
   paths p h true u_is = elim (out p h) [
     | inl is ↦ inl (is, (was_if p true u_is).0 refl)
     | inr gone ↦ absurd (both_ways _ gone.0 u_is)
@@ -106,7 +112,7 @@ module _ (said : Said) (dirty : List Route) (marks : Marks) (log : CallLog) (kno
   solid : (p : Route) (i : ℕ) → after.aside p ≡ false → MayFind log p (Some i) → (marks.loose i ≡ false) ⊎ (is_folder (node (current log) i) ≡ true)
   solid p i h found = elim (out p h) [
     | inl is ↦ known.guarded.firm p i is found
-    | inr gone ↦ some_none i (settled_unless log known.guarded.tree known.files p gone.0 (Some i) found ∙ gone.1)
+    | inr gone ↦ some_none i (settled_unless log p gone.0 (Some i) found ∙ gone.1)
   ]
 
   firm_of : (i : ℕ) → (marks.loose i ≡ false) ⊎ (is_folder (node (current log) i) ≡ true) → marks.loose i ≡ false
@@ -164,6 +170,7 @@ module _ (said : Said) (dirty : List Route) (marks : Marks) (log : CallLog) (kno
       part = λ p is. let k = known.part p is in (still_aside p k.0 k.2, k.1, k.2);
       tracked = known.tracked;
       doubts = known.doubts;
+      stand = known.stand;
     };
     aside = λ p h. (aside_of p (marks.aside p) refl h).1;
     was = λ p h sure. (was_if p false sure).1 refl;
@@ -207,7 +214,7 @@ module _ (said : Said) (dirty : List Route) (marks : Marks) (log : CallLog) (kep
   pub safe_gone : (p : Route) → is_unsettled log p ≡ false → is_some (find (current log) p) ≡ false → value_at image p ≡ (said.tree p).value
   safe_gone p sure none =
       let gone : find (current log) p ≡ None = none_of _ none in
-      let at : find image p ≡ None = settled_unless log kept.known.guarded.tree kept.known.files p sure (find image p) (find_law log image p left) ∙ gone in
+      let at : find image p ≡ None = settled_unless log p sure (find image p) (find_law log image p left) ∙ gone in
       as_told p (λ is. both_ways _ none (kept.known.part p is).2) (ap (held image) at ∙ sym (ap (held (current log)) gone))
 
   pub safe_path : (p : Route) → (Among said.named p → (is_some (find (current log) p) ≡ true) ⊎ (is_unsettled log p ≡ true) → ⊥)

@@ -23,11 +23,12 @@ use Rattle.history_laws.specs.Safe.{IsSafe}
 use Rattle.session_history.specs.Entries.{calls_in}
 use Rattle.history_laws.specs.Staying.{FinishedStaysLaw}
 use Rattle.history_laws.proofs.Deleted.{put_off}
-use Rattle.history_laws.proofs.Finished.{finished_law}
+use Rattle.history_laws.proofs.Finished.{finished_folder, finished_law}
 use Rattle.history_laws.proofs.Histories.{traced_reached}
-use Rattle.history_laws.proofs.Moments.{session_law}
+use Rattle.history_laws.proofs.Moments.{session_law, sure_moment}
 use Rattle.history_laws.proofs.Owing.{in_filter}
 use Rattle.history_laws.proofs.Reports.{HasLive}
+use Rattle.history_laws.proofs.Resting.{folder_at, name_sure}
 use Rattle.history_laws.proofs.Staying.{stays_law}
 use Rattle.history_laws.proofs.Sources.{item_in}
 
@@ -111,8 +112,10 @@ finished_stays_law opening now newest older standing coming was stand job new pa
         unnamed (r.kept.known.aside path (r.kept.known.part path (part_known was.jobs r.part (live_jobs older) path r.live found)).0)
 
     sure : is_unsettled (log_prefix opening calls now) path ≡ false
-    sure = stays_law opening now newest older standing coming stand calls path tree settled traced moment since later
-        (finished_law opening (log_prefix opening (calls_in older) now) older was job new part path tree settled before jobs_is tells changed folder) no_part
+    sure = sure_moment opening now newest standing coming stand calls path tree settled traced moment
+        (ap (folder_at (current opening)) folder ∙ finished_folder opening tree settled older was (log_prefix opening (calls_in older) now) job before jobs_is changed)
+        (stays_law opening now newest older standing coming stand calls path tree settled traced moment since later
+        (name_sure (log_prefix opening (calls_in older) now) path (finished_law opening (log_prefix opening (calls_in older) now) older was job new part path tree settled before jobs_is tells changed folder)) no_part)
 
     by : (g : List Entry) → IsUnnamedSince older path g → IsSafe opening now g (log_prefix opening calls now) image → value_at image path ≡ (replayed_tree opening now older path).value
     by g unnamed_since safe = elim (safe path (λ is. unnamed (named_since older g path unnamed_since is.named))) [

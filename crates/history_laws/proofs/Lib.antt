@@ -1,3 +1,4 @@
+pub mod Beginnings
 pub mod Calmed
 pub mod Calming
 pub mod Changing

@@ -19,7 +19,6 @@ use Rattle.crash_law.proofs.Guarding.{settle_law, find_same, said}
 use Rattle.crash_law.proofs.Leading.{current_more}
 use Rattle.crash_law.proofs.Making.{making_law}
 use Rattle.crash_law.proofs.Tops.{under_made, none_below}
-use Rattle.history_laws.proofs.Pending.{settles_none_made}
 use Rattle.history_laws.proofs.Knowing.{Said, IsKnown, nowhere}
 use Rattle.history_laws.proofs.Renaming.{naming_known}
 use Rattle.history_laws.proofs.Changing.{seen_nowhere, none_below_file, folder_anchored, off_itself, said_one, some_none, some_is}
@@ -84,6 +83,7 @@ module _ (told : Said) (dirty : List Route) (marks : Marks) (log : CallLog) (kno
     part = λ p is. let k = known.part p is in (or_right _ _ k.0, k.1, k.2);
     tracked = known.tracked;
     doubts = known.doubts;
+    stand = known.stand;
   }
 
 -- A part is made where nothing stands.
@@ -175,7 +175,6 @@ module _ (told : Said) (dirty dirty_after : List Route) (marks : Marks) (log : C
   made_known listed more = naming_known (naming_part told part) (with_part told part) dirty dirty_after (marks_new marks part (new_node log)) log makes up part part f marked (record {
     naming = naming;
     within = refl;
-    settles = settles_none_made f name made;
     stands = stands;
     folder = m.folder;
     here = λ g k h. sym (same_name-true f g name k (said_one (same_name f name g k) (Some 0) h)).0;
@@ -186,6 +185,7 @@ module _ (told : Said) (dirty dirty_after : List Route) (marks : Marks) (log : C
     more = more;
     at = λ k h. inl (ap (λ q. (let r : Route = q ∷ up in r)) (sym (name_is k h)));
     doubts = λ p h. or_left _ _ h;
+    folders = λ p. refl;
     touched = λ p at. or_right _ _ (subst (λ q. same_path q part ≡ true) (sym (either_is p at)) (same_path-self part));
     named = marked.aside;
     off = λ p first second. (off_part p first, refl, refl, λ is. some_none_route p (sym m.none ∙ is));

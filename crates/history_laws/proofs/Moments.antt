@@ -1,5 +1,5 @@
 -- Each moment of a session is safe.
-use Rattle.std.proofs.Common.{◌≡◌, ◌⊎◌, ℕ, ◌+◌, ◌≤◌, true, List, [], ◌∷◌, ◌++◌, length, take, refl, sym, ◌∙◌, ap, subst, inl, inr, Option, Some, None, arith, append_assoc}
+use Rattle.std.proofs.Common.{◌≡◌, ◌⊎◌, ℕ, ◌+◌, ◌≤◌, true, false, List, [], ◌∷◌, ◌++◌, length, take, refl, sym, ◌∙◌, ap, subst, inl, inr, Option, Some, None, arith, append_assoc}
 use Rattle.std.proofs.Math.Seq.{take-append_seam}
 use Rattle.std.proofs.lemmas.List.{take-append-le}
 use Rattle.mc_text.specs.Routes.{Route}
@@ -11,7 +11,9 @@ use Rattle.tree_trait.specs.CrashImages.{all_settled}
 use Rattle.crash_law.specs.Guarded.{Marks}
 use Rattle.crash_law.specs.Possible.{IsImage}
 use Rattle.session_history.specs.declared.history.Entry.{Entry}
+use Rattle.job_reports.specs.Paths.{folder_of}
 use Rattle.copy_move.specs.Jobs.{Running}
+use Rattle.history_laws.specs.Doubt.{is_unsettled, name_waits}
 use Rattle.session_history.specs.LiveJobs.{LiveJob, IsLivePart, live_jobs}
 use Rattle.history_laws.specs.Replayed.{log_prefix, replayed_tree}
 use Rattle.session_history.specs.Entries.{IsMoment, calls_in}
@@ -21,6 +23,7 @@ use Rattle.history_laws.proofs.Prefixes.{told_more, told_of, within_more}
 use Rattle.history_laws.proofs.Histories.{IsEntered, IsReached, enters, traced_reached}
 use Rattle.history_laws.proofs.Knowing.{IsKept, Said, safe_path}
 use Rattle.history_laws.proofs.Reports.{HasLive, JobsKnow}
+use Rattle.history_laws.proofs.Resting.{folder_at, sure_path}
 use Rattle.history_laws.proofs.Stepped.{cut, mid_at, more}
 use Rattle.history_laws.proofs.Sources.{item_in}
 
@@ -149,6 +152,13 @@ shown_moment opening now newest standing coming stand calls tree settled traced 
     known_moment opening tree settled now calls (IsShown opening now (log_prefix opening calls now))
     (λ g part dirty marks live kept path other. kept.known.shows path (λ is. other (live path is)))
     standing coming newest stand now [] traced (ap (log_of now) (sym (Rattle.std.proofs.Common.append-nil now.changes))) moment
+
+-- at each moment a folder stands where one stood at the opening, so in it a path is in doubt only where its own name waits
+pub sure_moment : (opening now : CallLog) (newest standing coming : List Entry) (stand : Stand) (calls : ℕ) (path : Route) → IsTree (current opening) → all_settled opening.changes ≡ true → IsTraced opening newest stand now
+    → IsMoment newest standing coming calls → folder_at (current opening) (folder_of path) ≡ true → name_waits (log_prefix opening calls now) path ≡ false → is_unsettled (log_prefix opening calls now) path ≡ false
+sure_moment opening now newest standing coming stand calls path tree settled traced moment stands none = elim (known_moment opening tree settled now calls (λ g. is_unsettled (log_prefix opening calls now) path ≡ false)
+    (λ g part dirty marks live kept. sure_path (log_prefix opening calls now) kept.known.guarded.tree kept.known.files path (kept.known.stand (folder_of path) ∙ stands) none)
+    standing coming newest stand now [] traced (ap (log_of now) (sym (Rattle.std.proofs.Common.append-nil now.changes))) moment) [ inl sure ↦ sure | inr sure ↦ sure ]
 
 -- a session adds calls to the log
 pub same_base : (opening : CallLog) (tree : IsTree (current opening)) (settled : all_settled opening.changes ≡ true) (newest : List Entry) (stand : Stand) (now : CallLog) → IsTraced opening newest stand now

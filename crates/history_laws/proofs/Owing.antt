@@ -13,21 +13,23 @@ use Rattle.job_reports.specs.Paths.{folder_of}
 use Rattle.copy_move.specs.declared.run.Course.{Course}
 use Rattle.copy_move.specs.Settling.{changed_folder, is_dirty, with_change}
 use Rattle.copy_move.specs.Steps.{LeavesDirty}
-use Rattle.history_laws.specs.Doubt.{is_pending, is_unsettled}
+use Rattle.history_laws.specs.Doubt.{is_pending, name_waits}
 use Rattle.history_laws.specs.Owed.{FirstChangeLaw, OwedLaw, StepLaw}
 use Rattle.history_laws.proofs.Histories.{traced_reached}
 use Rattle.history_laws.proofs.Knowing.{IsKnown, Said}
 
 -- a path of which a change waits lies in a dirty folder
-listed : (told : Said) (dirty : List Route) (marks : Marks) (log : CallLog) (path : Route) → IsKnown told dirty marks log → is_unsettled log path ≡ true → Among dirty (folder_of path)
+listed : (told : Said) (dirty : List Route) (marks : Marks) (log : CallLog) (path : Route) → IsKnown told dirty marks log → name_waits log path ≡ true → Among dirty (folder_of path)
 listed told dirty marks log [] known waits = absurd (false≢true waits)
 listed told dirty marks log (name ∷ up) known waits = by (find (current log) up) refl waits
   where
     by : (o : Option ℕ) → find (current log) up ≡ o → option_map_or (λ f. is_pending f name log.changes) (find (current log) up) false ≡ true → Among dirty up
     by None is h = absurd (false≢true (sym (ap (λ x. option_map_or (λ f. is_pending f name log.changes) x false) is) ∙ h))
     by (Some f) is h =
-        let t = known.tracked f name (sym (ap (λ x. option_map_or (λ g. is_pending g name log.changes) x false) is) ∙ h) in
-        subst (λ q. Among dirty q) (find-once (current log) known.guarded.tree t.0 up f t.2 is) t.1
+        elim (known.tracked f name (sym (ap (λ x. option_map_or (λ g. is_pending g name log.changes) x false) is) ∙ h)) [
+          | inl t ↦ subst (λ q. Among dirty q) (find-once (current log) known.guarded.tree t.0 up f t.2 is) t.1
+          | inr none ↦ absurd (none up is)
+        ]
 
 pub owed_law : OwedLaw
 owed_law opening now newest stand path tree settled traced waits =

@@ -18,7 +18,6 @@ use Rattle.crash_law.proofs.Leading.{current_more}
 use Rattle.crash_law.proofs.Placing.{placing_law}
 use Rattle.crash_law.proofs.Syncing.{unaltered_law}
 use Rattle.crash_law.proofs.Tops.{under_moved, none_below}
-use Rattle.history_laws.proofs.Pending.{settles_none_moved}
 use Rattle.history_laws.proofs.Resting.{bare_may}
 use Rattle.history_laws.proofs.Knowing.{Said, IsKnown, held}
 use Rattle.history_laws.proofs.Renaming.{naming_known}
@@ -57,6 +56,7 @@ firm_known told dirty marks log i clean known = record {
   part = known.part;
   tracked = known.tracked;
   doubts = known.doubts;
+  stand = known.stand;
 }
 
 -- A part that is to be placed, and what the history says once it is.
@@ -79,6 +79,7 @@ pub record PlacesPart (told after : Said) (marks : Marks) (log : CallLog) (part 
   pub earlier : (after.earlier (target ∷ up)).value ≡ None
   pub none : after.part ≡ None
   pub doubts : (p : Route) → told.doubt p ≡ true → after.doubt p ≡ true
+  pub folders : (p : Route) → after.folders p ≡ told.folders p
   pub doubted : (after.doubt (target ∷ up) ≡ true) × (after.doubt (part ∷ up) ≡ true)
 
 module _ (told after : Said) (dirty dirty_after : List Route) (marks : Marks) (log : CallLog) (known : IsKnown told dirty marks log) (part target : List ℕ) (up : Route) (f i : ℕ) (r : Option ℕ)
@@ -191,7 +192,6 @@ module _ (told after : Said) (dirty dirty_after : List Route) (marks : Marks) (l
   placed_known listed more = naming_known told after dirty dirty_after marks log moves up (target ∷ up) (part ∷ up) f known (record {
     naming = naming;
     within = ap_same;
-    settles = settles_none_moved f part f target i r;
     stands = stands;
     folder = h.folder;
     here = λ g m s. elim (said_two (same_name f target g m) (same_name f part g m) (Some i) None s) [
@@ -214,6 +214,7 @@ module _ (told after : Said) (dirty dirty_after : List Route) (marks : Marks) (l
       | inr e ↦ inr (ap (λ q. (let l : Route = q ∷ up in l)) (sym e))
     ];
     doubts = h.doubts;
+    folders = h.folders;
     touched = λ p at. elim at [
       | inl e ↦ subst (λ q. after.doubt q ≡ true) (sym e) h.doubted.0
       | inr e ↦ subst (λ q. after.doubt q ≡ true) (sym e) h.doubted.1

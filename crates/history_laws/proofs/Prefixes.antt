@@ -1,20 +1,21 @@
 -- What a history says of its first calls doesn't hang on those that come later.
-use Rattle.std.proofs.Common.{◌≡◌, ℕ, ◌+◌, ◌≤◌, List, [], ◌∷◌, length, length-append, refl, ◌∙◌, ap, Option, arith}
+use Rattle.std.proofs.Common.{◌≡◌, ℕ, ◌+◌, ◌≤◌, Bool, List, [], ◌∷◌, length, length-append, refl, ◌∙◌, ap, Option, arith}
 use Rattle.std.proofs.lemmas.List.{take-append-le}
 use Rattle.mc_text.specs.Routes.{Route}
 use Rattle.tree_trait.specs.FileSystem.{View}
-use Rattle.tree_trait.specs.Change.{Change, CallLog}
+use Rattle.tree_trait.specs.Change.{Change, CallLog, current}
 use Rattle.session_history.specs.declared.history.Event.{Event}
 use Rattle.session_history.specs.declared.history.Entry.{Entry}
 use Rattle.session_history.specs.LiveJobs.{live_jobs}
 use Rattle.history_laws.specs.Replayed.{earlier_event, earlier_tree, log_prefix, replayed_event, replayed_tree}
 use Rattle.session_history.specs.Named.{named_after, named_parts}
 use Rattle.history_laws.proofs.Knowing.{Said, anywhere}
+use Rattle.history_laws.proofs.Resting.{folder_at}
 use Rattle.history_laws.proofs.Stepped.{more}
 
 -- what a history says, over a tree that has come to this log
 abbrev pub told_of : CallLog → CallLog → List Entry → Option Route → Said
-told_of opening end g part = record { tree = replayed_tree opening end g; earlier = earlier_tree opening end g; named = named_parts g; part = part; doubt = anywhere }
+told_of opening end g part = record { tree = replayed_tree opening end g; earlier = earlier_tree opening end g; named = named_parts g; part = part; doubt = anywhere; folders = folder_at (current opening) }
 
 -- the same after one event more, by which so many calls were made
 abbrev pub told_with : CallLog → CallLog → List Entry → ℕ → Event → Option Route → Said
@@ -24,6 +25,7 @@ told_with opening end older calls what part = record {
   named = named_after what (named_parts older);
   part = part;
   doubt = anywhere;
+  folders = folder_at (current opening);
 }
 
 -- the calls of these entries were made
@@ -50,10 +52,10 @@ earlier_more opening now cs (e ∷ older) (few, w) =
     ap (λ v. earlier_event e.what v (earlier_tree opening (more now cs) older)) (replayed_more opening now cs older w)
     ∙ ap (earlier_event e.what (replayed_tree opening now older)) (earlier_more opening now cs older w)
 
-abbrev pub said_by : View → View → List Route → Option Route → Said
-said_by tree earlier named part = record { tree = tree; earlier = earlier; named = named; part = part; doubt = anywhere }
+abbrev pub said_by : (Route → Bool) → View → View → List Route → Option Route → Said
+said_by folders tree earlier named part = record { tree = tree; earlier = earlier; named = named; part = part; doubt = anywhere; folders = folders }
 
 pub told_more : (opening now : CallLog) (cs : List Change) (g : List Entry) (part : Option Route) → AreWithin opening g now → told_of opening (more now cs) g part ≡ told_of opening now g part
 told_more opening now cs g part w =
-    ap (λ v. said_by v (earlier_tree opening (more now cs) g) (named_parts g) part) (replayed_more opening now cs g w)
-    ∙ ap (λ v. said_by (replayed_tree opening now g) v (named_parts g) part) (earlier_more opening now cs g w)
+    ap (λ v. said_by (folder_at (current opening)) v (earlier_tree opening (more now cs) g) (named_parts g) part) (replayed_more opening now cs g w)
+    ∙ ap (λ v. said_by (folder_at (current opening)) (replayed_tree opening now g) v (named_parts g) part) (earlier_more opening now cs g w)

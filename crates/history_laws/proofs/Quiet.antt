@@ -13,12 +13,13 @@ use Rattle.tree_trait.specs.Change.{Change, Nothing, Makes, Moves, Removes, Sets
 use Rattle.tree_trait.specs.CrashImages.{says, alters}
 use Rattle.tree_trait.proofs.Kept.{folder_there}
 use Rattle.crash_law.specs.Guarded.{Marks, IsQuiet}
-use Rattle.crash_law.proofs.Guarding.{quiet_law, same_quiet, leads_as_before, folder_kept, found_at}
+use Rattle.crash_law.proofs.Guarding.{quiet_law, same_quiet, unsaid, folder_kept, found_at}
 use Rattle.crash_law.proofs.Leading.{current_more}
 use Rattle.crash_law.proofs.Syncing.{unaltered_law}
-use Rattle.history_laws.specs.Doubt.{is_pending, is_unsettled}
+use Rattle.history_laws.specs.Doubt.{is_pending, name_waits}
 use Rattle.history_laws.proofs.Pending.{is_within, within_more, pending_less, says_at}
 use Rattle.history_laws.proofs.Knowing.{Said, IsKnown, held}
+use Rattle.history_laws.proofs.Resting.{folder_at}
 
 mounts_after : (s : FileSystem) (c : Change) → (after_change s c).mounts ≡ s.mounts
 mounts_after s Nothing = refl
@@ -45,6 +46,16 @@ module _ (log : CallLog) (c : Change) where
       by : (b : Bool) → is_folder (node (current log) i) ≡ b → is_folder (node (current log) i) ≡ false
       by false is = is
       by true is = absurd (both_ways _ bare (kind_same i (folder_there (current log).nodes i is) ∙ is))
+
+  folder_by : (o : Option ℕ) → ((i : ℕ) → o ≡ Some i → i < length (current log).nodes)
+      → option_map_or (λ i. is_folder (node (current (with_change log c)) i)) o false ≡ option_map_or (λ i. is_folder (node (current log) i)) o false
+  folder_by None there = refl
+  folder_by (Some i) there = kind_same i (there i refl)
+
+  -- at a path that leads where it led a folder stands where one stood
+  pub folder_same : (p : Route) → find (current (with_change log c)) p ≡ find (current log) p → ((i : ℕ) → find (current log) p ≡ Some i → i < length (current log).nodes)
+      → folder_at (current (with_change log c)) p ≡ folder_at (current log) p
+  folder_same p same there = ap (λ o. option_map_or (λ i. is_folder (node (current (with_change log c)) i)) o false) same ∙ folder_by (find (current log) p) there
 
   spot_by : (o : Option ℕ) → ((i : ℕ) → o ≡ Some i → node (current (with_change log c)) i ≡ node (current log) i)
       → (option_map (λ i. value (node (current (with_change log c)) i)) o ≡ option_map (λ i. value (node (current log) i)) o)
@@ -98,14 +109,14 @@ module _ (said : Said) (dirty : List Route) (marks : Marks) (log : CallLog) (c :
   unaltered i same there = unaltered_law log c i same there
 
   -- a path of which a change waits was one before
-  unsettled_before : (p : Route) → is_unsettled now p ≡ true → is_unsettled log p ≡ true
-  unsettled_before [] waits = absurd (false≢true waits)
-  unsettled_before (name ∷ up) waits = by (find (current log) up) refl
+  waits_before : (p : Route) → name_waits now p ≡ true → name_waits log p ≡ true
+  waits_before [] waits = absurd (false≢true waits)
+  waits_before (name ∷ up) waits = by (find (current log) up) refl
     where
       in_now : (o : Option ℕ) → find (current log) up ≡ o → option_map_or (λ f. is_pending f name now.changes) o false ≡ true
       in_now o is = sym (ap (λ x. option_map_or (λ f. is_pending f name now.changes) x false) (same_quiet log c quiet_of.names up ∙ is)) ∙ waits
 
-      by : (o : Option ℕ) → find (current log) up ≡ o → is_unsettled log (name ∷ up) ≡ true
+      by : (o : Option ℕ) → find (current log) up ≡ o → name_waits log (name ∷ up) ≡ true
       by None is = absurd (false≢true (in_now None is))
       by (Some f) is = ap (λ x. option_map_or (λ g. is_pending g name log.changes) x false) is ∙ waited f name (in_now (Some f) is)
 
@@ -115,7 +126,7 @@ module _ (said : Said) (dirty : List Route) (marks : Marks) (log : CallLog) (c :
     files = record {
       within = within_more log.changes c calm.within known.files.within;
       bare = λ i m h. waits_not i m (known.files.bare i m (was_bare log c i h));
-      firm = λ f m j lead folder. waits_not f m (known.files.firm f m j (leads_as_before log c f m (Some j) (quiet_of.names f m) lead) (was_folder j folder));
+      firm = λ f m j lead folder. waits_not f m (known.files.firm f m j (sym (unsaid log c f m (quiet_of.names f m)) ∙ lead) (was_folder j folder));
     };
     folders = λ i folder. known.folders i (was_folder i folder);
     aside = known.aside;
@@ -126,6 +137,10 @@ module _ (said : Said) (dirty : List Route) (marks : Marks) (log : CallLog) (c :
     ];
     shows = λ p other. shows_same log c p (same_quiet log c quiet_of.names p) (λ i is. unaltered i (calm.still p i other is) (known.guarded.there p i (found_at log p (Some i) is))) ∙ known.shows p other;
     part = λ p is. let k = known.part p is in (k.0, k.1, ap is_some (same_quiet log c quiet_of.names p) ∙ k.2);
-    tracked = λ f m waits. let t = known.tracked f m (waited f m waits) in (t.0, t.1, same_quiet log c quiet_of.names t.0 ∙ t.2);
-    doubts = λ p waits. known.doubts p (unsettled_before p waits);
+    tracked = λ f m waits. elim (known.tracked f m (waited f m waits)) [
+      | inl t ↦ inl (t.0, t.1, same_quiet log c quiet_of.names t.0 ∙ t.2)
+      | inr none ↦ inr (λ p leads. none p (sym (same_quiet log c quiet_of.names p) ∙ leads))
+    ];
+    doubts = λ p waits. known.doubts p (waits_before p waits);
+    stand = λ p. folder_same log c p (same_quiet log c quiet_of.names p) (λ i is. known.guarded.there p i (found_at log p (Some i) is)) ∙ known.stand p;
   }

@@ -8,24 +8,22 @@ use Rattle.tree_trait.specs.FileSystem.{lookup, find, node, visible_tree}
 use Rattle.tree_trait.specs.Refusals.{is_folder}
 use Rattle.tree_trait.specs.Change.{Change, CallLog, current, with_change}
 use Rattle.tree_trait.specs.CrashImages.{says, Among}
-use Rattle.tree_trait.proofs.Finding.{find-once}
+use Rattle.tree_trait.proofs.Finding.{and_then-some, find-once}
 use Rattle.tree_trait.proofs.Kept.{folder_there}
 use Rattle.tree_trait.proofs.Visible.{same_path-true}
-use Rattle.crash_law.specs.Possible.{MayLead}
 use Rattle.crash_law.specs.Guarded.{Marks, IsNaming, IsUnder, Touches}
-use Rattle.crash_law.proofs.Guarding.{naming_law, leads_as_before, find_same, found_at}
-use Rattle.crash_law.proofs.Leading.{leads_more}
+use Rattle.crash_law.proofs.Guarding.{naming_law, unsaid, find_same, found_at}
 use Rattle.crash_law.proofs.Syncing.{unaltered_law}
-use Rattle.history_laws.specs.Doubt.{is_pending, is_unsettled}
-use Rattle.history_laws.proofs.Pending.{SettlesNone, is_within, within_more, pending_less, pending_still, says_at, leads_only}
-use Rattle.history_laws.proofs.Knowing.{Said, IsKnown, held, nowhere}
-use Rattle.history_laws.proofs.Quiet.{kind_same, was_bare, shows_same, held_same}
+use Rattle.history_laws.specs.Doubt.{is_pending, name_waits}
+use Rattle.history_laws.proofs.Pending.{is_within, within_more, pending_less, says_at}
+use Rattle.history_laws.proofs.Knowing.{Said, IsKnown, IsUnreached, held, nowhere}
+use Rattle.history_laws.proofs.Quiet.{folder_same, kind_same, was_bare, shows_same, held_same}
+use Rattle.history_laws.proofs.Resting.{folder_at, no_folder_at}
 
 -- A call that changes the names of files in one folder, at these two paths alone, and what the history says then.
 pub record IsFileNaming (said after : Said) (dirty dirty_after : List Route) (marks : Marks) (log : CallLog) (c : Change) (up first second : Route) (f : ℕ) : Type 0 where
   pub naming : IsNaming marks log c
   pub within : is_within c ≡ true
-  pub settles : SettlesNone c
   pub stands : find (current (with_change log c)) up ≡ Some f
   pub folder : is_folder (node (current log) f) ≡ true
   pub here : (g : ℕ) (m : List ℕ) → is_some (says c 0 g m) ≡ true → g ≡ f
@@ -39,6 +37,7 @@ pub record IsFileNaming (said after : Said) (dirty dirty_after : List Route) (ma
   -- of these two a change may wait then
   pub at : (m : List ℕ) → is_some (says c 0 f m) ≡ true → ((m ∷ up) ≡ first) ⊎ ((m ∷ up) ≡ second)
   pub doubts : (p : Route) → said.doubt p ≡ true → after.doubt p ≡ true
+  pub folders : (p : Route) → after.folders p ≡ said.folders p
   pub touched : (p : Route) → (p ≡ first) ⊎ (p ≡ second) → after.doubt p ≡ true
   pub named : (p : Route) → marks.aside p ≡ true → Among after.named p
   -- elsewhere all is as it was
@@ -93,6 +92,37 @@ module _ (said after : Said) (dirty dirty_after : List Route) (marks : Marks) (l
   folder_stays : (p : Route) (j : ℕ) → find (current log) p ≡ Some j → is_folder (node (current log) j) ≡ true → find (current now) p ≡ Some j
   folder_stays p j at folder = elim (find_same log c p) [ inl same ↦ same ∙ at | inr under ↦ absurd (no_folder_under p j under at folder) ]
 
+  -- nor does one that leads to a folder then
+  no_folder_then : (p : Route) (j : ℕ) → IsUnder log c p → find (current now) p ≡ Some j → is_folder (node (current now) j) ≡ true → ⊥
+  no_folder_then [] j under at folder = under
+  no_folder_then (name ∷ q) j (inl under) at folder =
+      let h = and_then-some (find (current now) q) (λ g. lookup (current now).names g name) j at in
+      no_folder_then q h.0 under h.1 (naming_of.tree.in_folders h.0 name j h.2)
+  no_folder_then (name ∷ q) j (inr touches) at folder = by (find (current log) q) refl touches
+    where
+      by : (o : Option ℕ) → find (current log) q ≡ o → Touches log c o name → ⊥
+      by None is h = h
+      by (Some g) is h =
+          let s = said_so g name h in
+          let g_is : g ≡ f = n.here g name s in
+          let stands : find (current now) q ≡ Some f = folder_stays q f (is ∙ ap (λ k. Some k) g_is) n.folder in
+          let leads : lookup (current now).names f name ≡ Some j = sym (ap (option_and_then (λ k. lookup (current now).names k name)) stands) ∙ at in
+          both_ways _ (n.files_now name j (subst (λ k. is_some (says c 0 k name) ≡ true) g_is s) leads) folder
+
+  -- so folders stand where they stood
+  folders_same : (p : Route) → folder_at (current now) p ≡ folder_at (current log) p
+  folders_same p = elim (find_same log c p) [
+    | inl same ↦ folder_same log c p same (λ i is. known.guarded.there p i (found_at log p (Some i) is))
+    | inr under ↦ no_folder_at (current now) p (λ j. no_folder_then p j under) ∙ sym (no_folder_at (current log) p (λ j. no_folder_under p j under))
+  ]
+
+  -- a folder to which no path leads stays so
+  unreached_stays : (g : ℕ) → is_folder (node (current log) g) ≡ true → IsUnreached log g → IsUnreached now g
+  unreached_stays g folder none q leads = elim (find_same log c q) [
+    | inl same ↦ none q (sym same ∙ leads)
+    | inr under ↦ no_folder_then q g under leads (kind_same log c g (folder_there (current log).nodes g folder) ∙ folder)
+  ]
+
   waits_in_folder : (g : ℕ) (m : List ℕ) → is_pending g m log.changes ≡ true → is_folder (node (current log) g) ≡ true
   waits_in_folder g m waits = by (is_folder (node (current log) g)) refl
     where
@@ -109,27 +139,21 @@ module _ (said after : Said) (dirty dirty_after : List Route) (marks : Marks) (l
         both_ways _ (subst (λ k. is_folder (node (current now) k) ≡ false) i_is bare) (kind_same log c f there ∙ n.folder)
   ]
 
-  firm_now : (g : ℕ) (m : List ℕ) (j : ℕ) → MayLead now g m (Some j) → is_folder (node (current now) j) ≡ true → is_pending g m now.changes ≡ true → ⊥
+  firm_now : (g : ℕ) (m : List ℕ) (j : ℕ) → lookup (current now).names g m ≡ Some j → is_folder (node (current now) j) ≡ true → is_pending g m now.changes ≡ true → ⊥
   firm_now g m j lead folder waits = by (is_some (says c 0 g m)) refl
     where
-      before : MayLead log g m (Some j) → is_pending g m log.changes ≡ false
-      before old = known.files.firm g m j old (was_folder j folder)
-
       none_of : (o : Option (Option ℕ)) → is_some o ≡ false → o ≡ None
       none_of None h = refl
       none_of (Some x) h = absurd (true≢false h)
 
       by : (b : Bool) → is_some (says c 0 g m) ≡ b → ⊥
       by false not_said =
-          let old = leads_as_before log c g m (Some j) (none_of _ (sym (says_at c (length (current log).nodes) g m) ∙ not_said)) lead in
-          elim (pending_less g m log.changes c waits) [ inl waited ↦ both_ways _ (before old) waited | inr new ↦ both_ways _ not_said new ]
+          let old : lookup (current log).names g m ≡ Some j = sym (unsaid log c g m (none_of _ (sym (says_at c (length (current log).nodes) g m) ∙ not_said))) ∙ lead in
+          elim (pending_less g m log.changes c waits) [ inl waited ↦ both_ways _ (known.files.firm g m j old (was_folder j folder)) waited | inr new ↦ both_ways _ not_said new ]
       by true is_said =
           let g_is : g ≡ f = n.here g m is_said in
           let at_f = subst (λ k. is_some (says c 0 k m) ≡ true) g_is is_said in
-          elim (leads_more log c g m (Some j) lead) [
-            | inl here ↦ both_ways _ (n.files_now m j at_f (subst (λ k. lookup (current now).names k m ≡ Some j) g_is (sym here))) folder
-            | inr old ↦ both_ways _ (n.files m j at_f (subst (λ k. lookup (current log).names k m ≡ Some j) g_is (sym (leads_only log g m (Some j) (before old) old)))) (was_folder j folder)
-          ]
+          both_ways _ (n.files_now m j at_f (subst (λ k. lookup (current now).names k m ≡ Some j) g_is lead)) folder
 
   -- one of the two paths, or another
   abbrev Where : Route → Type 0
@@ -165,28 +189,31 @@ module _ (said after : Said) (dirty dirty_after : List Route) (marks : Marks) (l
         shows_same log c p o.0 (λ i is. unaltered i (known.guarded.there p i (found_at log p (Some i) is))) ∙ (known.shows p o.3 ∙ sym o.1)
   ]
 
-  tracked : (g : ℕ) (m : List ℕ) → is_pending g m now.changes ≡ true → (q : Route) × Among dirty_after q × (find (current now) q ≡ Some g)
+  tracked : (g : ℕ) (m : List ℕ) → is_pending g m now.changes ≡ true → ((q : Route) × Among dirty_after q × (find (current now) q ≡ Some g)) ⊎ IsUnreached now g
   tracked g m waits = elim (pending_less g m log.changes c waits) [
-    | inl old ↦
-        let t = known.tracked g m old in
-        (t.0, n.more t.0 t.1, folder_stays t.0 g t.2 (waits_in_folder g m old))
-    | inr new ↦ (up, n.listed, n.stands ∙ ap (λ k. Some k) (sym (n.here g m new)))
+    | inl old ↦ elim (known.tracked g m old) [
+      | inl t ↦ inl (t.0, n.more t.0 t.1, folder_stays t.0 g t.2 (waits_in_folder g m old))
+      | inr none ↦ inr (unreached_stays g (waits_in_folder g m old) none)
+    ]
+    | inr new ↦ inl (up, n.listed, n.stands ∙ ap (λ k. Some k) (sym (n.here g m new)))
   ]
 
   -- a path of which a change waits was one before, or it is one of the two
-  doubts : (p : Route) → is_unsettled now p ≡ true → after.doubt p ≡ true
+  doubts : (p : Route) → name_waits now p ≡ true → after.doubt p ≡ true
   doubts [] waits = absurd (false≢true waits)
   doubts (name ∷ q) waits = by (find (current now) q) refl
     where
       in_now : (o : Option ℕ) → find (current now) q ≡ o → option_map_or (λ g. is_pending g name now.changes) o false ≡ true
       in_now o is = sym (ap (λ x. option_map_or (λ g. is_pending g name now.changes) x false) is) ∙ waits
 
-      waited : (g : ℕ) → find (current now) q ≡ Some g → is_pending g name log.changes ≡ true → after.doubt (name ∷ q) ≡ true
-      waited g is old =
-          let t = known.tracked g name old in
+      reached : (g : ℕ) → find (current now) q ≡ Some g → is_pending g name log.changes ≡ true → (r : Route) × Among dirty r × (find (current log) r ≡ Some g) → after.doubt (name ∷ q) ≡ true
+      reached g is old t =
           let same : t.0 ≡ q = find-once (current now) naming_of.tree t.0 q g (folder_stays t.0 g t.2 (waits_in_folder g name old)) is in
           let at : find (current log) q ≡ Some g = subst (λ r. find (current log) r ≡ Some g) same t.2 in
           n.doubts (name ∷ q) (known.doubts (name ∷ q) (ap (λ x. option_map_or (λ k. is_pending k name log.changes) x false) at ∙ old))
+
+      waited : (g : ℕ) → find (current now) q ≡ Some g → is_pending g name log.changes ≡ true → after.doubt (name ∷ q) ≡ true
+      waited g is old = elim (known.tracked g name old) [ inl t ↦ reached g is old t | inr none ↦ absurd (unreached_stays g (waits_in_folder g name old) none q is) ]
 
       new : (g : ℕ) → find (current now) q ≡ Some g → is_some (says c 0 g name) ≡ true → after.doubt (name ∷ q) ≡ true
       new g is s =
@@ -214,7 +241,5 @@ module _ (said after : Said) (dirty dirty_after : List Route) (marks : Marks) (l
     part = n.part;
     tracked = tracked;
     doubts = doubts;
+    stand = λ p. folders_same p ∙ (known.stand p ∙ sym (n.folders p));
   }
-
-  pub name_waits : (g : ℕ) (m : List ℕ) → is_pending g m log.changes ≡ true → is_pending g m now.changes ≡ true
-  name_waits g m waits = pending_still g m log.changes c n.settles waits

@@ -1,30 +1,52 @@
--- Logs in which only files change their names: where a crash may leave a folder, there alone it stands, and a path of whose
--- name nothing waits leads only where it leads.
-use Rattle.std.proofs.Common.{◌≡◌, ℕ, Bool, true, false, List, [], ◌∷◌, refl, sym, ◌∙◌, ap, subst, Option, Some, None}
+-- Logs in which no folder changes its name: a path leads only where it leads, of which no name waits; and a folder that stands
+-- is such a path.
+use Rattle.std.proofs.Common.{◌≡◌, ℕ, Bool, true, false, ◌||◌, List, [], ◌∷◌, refl, sym, ◌∙◌, ap, subst, Option, Some, None}
 use Rattle.std.specs.Prelude.{option_and_then}
 use Rattle.std.specs.Option.{option_map_or}
-use Rattle.std.proofs.lemmas.Bool.{both_ways}
+use Rattle.std.proofs.lemmas.Bool.{true≢false, false≢true, both_ways, false_from_ne_true}
 use Rattle.mc_text.specs.Routes.{Route}
+use Rattle.tree_trait.specs.declared.file_system.FileSystem.{FileSystem}
 use Rattle.tree_trait.specs.FileSystem.{lookup, find, node}
 use Rattle.tree_trait.specs.Shape.{IsTree}
 use Rattle.tree_trait.specs.Refusals.{is_folder}
 use Rattle.tree_trait.specs.Change.{CallLog, current}
-use Rattle.crash_law.specs.Possible.{MayLead, MayFind, Leads}
+use Rattle.tree_trait.proofs.Finding.{and_then-some}
+use Rattle.crash_law.specs.Possible.{MayLead, Leads}
 use Rattle.crash_law.specs.Guarded.{IsSettledAt}
-use Rattle.crash_law.proofs.Guarding.{found_now}
-use Rattle.history_laws.specs.Doubt.{is_pending, is_unsettled}
+use Rattle.job_reports.specs.Paths.{folder_of}
+use Rattle.history_laws.specs.Doubt.{is_pending, is_unsettled, name_waits}
 use Rattle.history_laws.proofs.Pending.{all_within, leads_only}
 
--- only names of files change, each within its folder
+-- a folder stands at this path
+abbrev pub folder_at : FileSystem → Route → Bool
+folder_at s p = option_map_or (λ i. is_folder (node s i)) (find s p) false
+
+pub folder_at_of : (s : FileSystem) (p : Route) (i : ℕ) → find s p ≡ Some i → is_folder (node s i) ≡ true → folder_at s p ≡ true
+folder_at_of s p i at folder = ap (λ o. option_map_or (λ j. is_folder (node s j)) o false) at ∙ folder
+
+-- the node of a folder that stands
+pub record IsFolderAt (s : FileSystem) (p : Route) : Type 0 where
+  pub i : ℕ
+  pub at : find s p ≡ Some i
+  pub folder : is_folder (node s i) ≡ true
+
+pub stands_at : (s : FileSystem) (p : Route) → folder_at s p ≡ true → IsFolderAt s p
+stands_at s p h = by (find s p) refl h
+  where
+    by : (o : Option ℕ) → find s p ≡ o → option_map_or (λ i. is_folder (node s i)) o false ≡ true → IsFolderAt s p
+    by None is h = absurd (false≢true h)
+    by (Some i) is h = record { i = i; at = is; folder = h }
+
+pub no_folder_at : (s : FileSystem) (p : Route) → ((i : ℕ) → find s p ≡ Some i → is_folder (node s i) ≡ true → ⊥) → folder_at s p ≡ false
+no_folder_at s p none = false_from_ne_true _ (λ h. let stands = stands_at s p h in none stands.i stands.at stands.folder)
+
+-- Names change within their folder, and only folders hold names.
 pub record IsOfFiles (log : CallLog) : Type 0 where
   pub within : all_within log.changes ≡ true
   -- only folders hold names, and none did otherwise
   pub bare : (i : ℕ) (m : List ℕ) → is_folder (node (current log) i) ≡ false → is_pending i m log.changes ≡ false
-  -- and nothing waits of the name of a folder
-  pub firm : (f : ℕ) (m : List ℕ) (j : ℕ) → MayLead log f m (Some j) → is_folder (node (current log) j) ≡ true → is_pending f m log.changes ≡ false
-
-none_some : {A : Type 0} (x : ℕ) → (let o : Option ℕ = Some x in o) ≡ None → A
-none_some x h = absurd (let e : ⊥ = cc in e)
+  -- a name that leads to a folder waits for nothing: folders are neither made nor moved
+  pub firm : (f : ℕ) (m : List ℕ) (j : ℕ) → lookup (current log).names f m ≡ Some j → is_folder (node (current log) j) ≡ true → is_pending f m log.changes ≡ false
 
 module _ (log : CallLog) (tree : IsTree (current log)) (files : IsOfFiles log) where
   -- what is no folder holds no names
@@ -39,51 +61,40 @@ module _ (log : CallLog) (tree : IsTree (current log)) (files : IsOfFiles log) w
   pub bare_may : (i : ℕ) (m : List ℕ) (x : Option ℕ) → is_folder (node (current log) i) ≡ false → MayLead log i m x → x ≡ None
   bare_may i m x bare lead = leads_only log i m x (files.bare i m bare) lead ∙ bare_leads i m bare
 
-  holder : (g : ℕ) (m : List ℕ) (j : ℕ) → MayLead log g m (Some j) → (b : Bool) → is_folder (node (current log) g) ≡ b → is_folder (node (current log) g) ≡ true
-  holder g m j lead true is = is
-  holder g m j lead false is = none_some j (bare_may g m (Some j) is lead)
+  -- a folder that stands isn't in doubt
+  stands_sure : (p : Route) (i : ℕ) → find (current log) p ≡ Some i → is_folder (node (current log) i) ≡ true → is_unsettled log p ≡ false
+  stands_sure [] i at folder = refl
+  stands_sure (name ∷ up) i at folder =
+      let h = and_then-some (find (current log) up) (λ f. lookup (current log).names f name) i at in
+      ap (λ b. b || is_unsettled log up) (ap (λ o. option_map_or (λ f. is_pending f name log.changes) o false) h.1 ∙ files.firm h.0 name i h.2 folder)
+      ∙ stands_sure up h.0 h.1 (tree.in_folders h.0 name i h.2)
 
-  -- where a crash may leave a folder, there alone it leads
-  pub folder_settled : (p : Route) (j : ℕ) → MayFind log p (Some j) → is_folder (node (current log) j) ≡ true → IsSettledAt log p
-  folder_settled [] j found folder x h = h
-  folder_settled (m ∷ up) j (None, found, leads) folder x h = none_some j leads
-  folder_settled (m ∷ up) j (Some g, found, leads) folder x (y, h, l) =
-      let above = folder_settled up g found (holder g m j leads _ refl) in
-      let at : find (current log) up ≡ Some g = sym (above (Some g) found) in
-      let y_is : y ≡ Some g = above y h ∙ at in
-      leads_only log g m x (files.firm g m j leads folder) (subst (λ o. Leads log o m x) y_is l)
-      ∙ sym (ap (option_and_then (λ f. lookup (current log).names f m)) at)
+  pub folder_sure : (p : Route) → folder_at (current log) p ≡ true → is_unsettled log p ≡ false
+  folder_sure p h = let stands = stands_at (current log) p h in stands_sure p stands.i stands.at stands.folder
 
-  -- a folder that stands is settled
-  pub stands_settled : (p : Route) (j : ℕ) → find (current log) p ≡ Some j → is_folder (node (current log) j) ≡ true → IsSettledAt log p
-  stands_settled p j at folder = folder_settled p j (subst (λ o. MayFind log p o) at (found_now log p)) folder
+  -- so in such a folder a path is in doubt only where its own name waits
+  pub sure_path : (p : Route) → folder_at (current log) (folder_of p) ≡ true → name_waits log p ≡ false → is_unsettled log p ≡ false
+  sure_path [] stands none = refl
+  sure_path (name ∷ up) stands none = ap (λ b. b || is_unsettled log up) none ∙ folder_sure up stands
 
-  -- no folder stands there, so nothing is below, after a crash either
-  none_here : (m : List ℕ) (up : Route) → ((g : ℕ) → MayFind log up (Some g) → is_folder (node (current log) g) ≡ false) → (x : Option ℕ) → MayFind log (m ∷ up) x → x ≡ None
-  none_here m up bare x (None, found, leads) = leads
-  none_here m up bare x (Some g, found, leads) = bare_may g m x (bare g found) leads
+neither : (a b : Bool) → (a || b) ≡ false → (a ≡ false) × (b ≡ false)
+neither true b h = absurd (true≢false h)
+neither false b h = (refl, h)
 
-  pub settled_unless : (p : Route) → is_unsettled log p ≡ false → IsSettledAt log p
-  settled_unless [] sure x h = h
-  settled_unless (m ∷ up) sure x found = at (find (current log) up) refl (found_now log up) x found
-    where
-      not_folder : (o : Option ℕ) → find (current log) up ≡ o → ((j : ℕ) → o ≡ Some j → is_folder (node (current log) j) ≡ false) → (g : ℕ) → MayFind log up (Some g) → (b : Bool)
-          → is_folder (node (current log) g) ≡ b → is_folder (node (current log) g) ≡ false
-      not_folder o is bare g may false folder = folder
-      not_folder o is bare g may true folder = bare g (sym is ∙ sym (folder_settled up g may folder (Some g) may))
+-- of a path that isn't in doubt the name waits for nothing
+pub name_sure : (log : CallLog) (p : Route) → is_unsettled log p ≡ false → name_waits log p ≡ false
+name_sure log [] sure = refl
+name_sure log (m ∷ up) sure = (neither (name_waits log (m ∷ up)) (is_unsettled log up) sure).0
 
-      nowhere : (o : Option ℕ) → find (current log) up ≡ o → ((j : ℕ) → o ≡ Some j → is_folder (node (current log) j) ≡ false) → (x : Option ℕ) → MayFind log (m ∷ up) x → x ≡ find (current log) (m ∷ up)
-      nowhere o is bare x found =
-          let none = none_here m up (λ g may. not_folder o is bare g may _ refl) in
-          none x found ∙ sym (none (find (current log) (m ∷ up)) (found_now log (m ∷ up)))
-
-      in_folder : (g : ℕ) → find (current log) up ≡ Some g → (b : Bool) → is_folder (node (current log) g) ≡ b → (x : Option ℕ) → MayFind log (m ∷ up) x → x ≡ find (current log) (m ∷ up)
-      in_folder g is true folder x (y, h, l) =
-          let y_is : y ≡ Some g = stands_settled up g is folder y h ∙ is in
-          let calm : is_pending g m log.changes ≡ false = subst (λ o. option_map_or (λ f. is_pending f m log.changes) o false ≡ false) is sure in
-          leads_only log g m x calm (subst (λ o. Leads log o m x) y_is l) ∙ sym (ap (option_and_then (λ f. lookup (current log).names f m)) is)
-      in_folder g is false bare x found = nowhere (Some g) is (λ j e. subst (λ k. is_folder (node (current log) k) ≡ false) (let s : g ≡ j = cc in s) bare) x found
-
-      at : (o : Option ℕ) → find (current log) up ≡ o → MayFind log up (find (current log) up) → (x : Option ℕ) → MayFind log (m ∷ up) x → x ≡ find (current log) (m ∷ up)
-      at None is may x found = nowhere None is (λ j e. none_some j (sym e)) x found
-      at (Some g) is may x found = in_folder g is _ refl x found
+-- a path that isn't in doubt leads only where it leads
+pub settled_unless : (log : CallLog) (p : Route) → is_unsettled log p ≡ false → IsSettledAt log p
+settled_unless log [] sure x h = h
+settled_unless log (m ∷ up) sure x (y, found, leads) =
+    let both = neither (name_waits log (m ∷ up)) (is_unsettled log up) sure in
+    at (find (current log) up) refl (subst (λ o. Leads log o m x) (settled_unless log up both.1 y found) leads) both.0
+  where
+    at : (o : Option ℕ) → find (current log) up ≡ o → Leads log (find (current log) up) m x → name_waits log (m ∷ up) ≡ false → x ≡ find (current log) (m ∷ up)
+    at None is lead calm = subst (λ o. Leads log o m x) is lead ∙ sym (ap (option_and_then (λ f. lookup (current log).names f m)) is)
+    at (Some f) is lead calm =
+        leads_only log f m x (sym (ap (λ o. option_map_or (λ g. is_pending g m log.changes) o false) is) ∙ calm) (subst (λ o. Leads log o m x) is lead)
+        ∙ sym (ap (option_and_then (λ g. lookup (current log).names g m)) is)

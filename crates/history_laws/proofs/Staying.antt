@@ -24,7 +24,7 @@ use Rattle.copy_move.specs.declared.run.Course.{Course}
 use Rattle.copy_move.specs.declared.work.Work.{Work}
 use Rattle.copy_move.specs.declared.work.Work.TheVariants.{Copy, Delete}
 use Rattle.copy_move.specs.Jobs.{Running}
-use Rattle.history_laws.specs.Doubt.{is_unsettled}
+use Rattle.history_laws.specs.Doubt.{name_waits}
 use Rattle.session_history.specs.LiveJobs.{IsLivePart, LiveJob, after_event, after_report, live, live_jobs, part_after}
 use Rattle.history_laws.specs.Replayed.{log_prefix}
 use Rattle.session_history.specs.Entries.{IsMoment, calls_in}
@@ -43,7 +43,7 @@ use Rattle.history_laws.proofs.Stepped.{AreMids, Comes, cut, doubt_by, mid_at, m
 
 -- what a history says, where a change may wait only of the paths of which one waits now
 abbrev doubting : Said → CallLog → Said
-doubting told log = record told { doubt = is_unsettled log }
+doubting told log = record told { doubt = name_waits log }
 
 module _ (told : Said) (log : CallLog) where
   part_doubting : (marks : Marks) (s : FileSystem) (target part : Route) (i : ℕ) → HasPart told marks s target part i → HasPart (doubting told log) marks s target part i
@@ -84,6 +84,7 @@ module _ (told : Said) (log : CallLog) where
       part = kept.known.part;
       tracked = kept.known.tracked;
       doubts = λ p waits. waits;
+      stand = kept.known.stand;
     };
     aside = kept.aside;
     was = kept.was;
@@ -121,9 +122,9 @@ pub record IsStill (path : Route) (before now : CallLog) : Type 0 where
   pub said : Said
   pub sure : said.doubt path ≡ false
   pub mids : AreMids said before made
-  pub after : is_unsettled now path ≡ false
+  pub after : name_waits now path ≡ false
 
-still_by : (told : Said) (dirty_after : List Route) (before now : CallLog) (did : Did) (work : Work) (knows : Marks → Type 0) (path : Route) → is_unsettled before path ≡ false → names did path ≡ false
+still_by : (told : Said) (dirty_after : List Route) (before now : CallLog) (did : Did) (work : Work) (knows : Marks → Type 0) (path : Route) → name_waits before path ≡ false → names did path ≡ false
     → (told.part ≡ Some path → ⊥) → Comes (doubting told before) (said_after now did work (doubting told before)) dirty_after before now knows → IsStill path before now
 still_by told dirty_after before now did work knows path sure unnamed other come = record {
   made = come.made;
@@ -131,10 +132,10 @@ still_by told dirty_after before now did work knows path sure unnamed other come
   said = doubting told before;
   sure = sure;
   mids = come.mids;
-  after = false_from_ne_true _ (λ waits. both_ways _ (unnamed_sure did told.part (is_unsettled before) path sure unnamed other) (come.kept.known.doubts path waits));
+  after = false_from_ne_true _ (λ waits. both_ways _ (unnamed_sure did told.part (name_waits before) path sure unnamed other) (come.kept.known.doubts path waits));
 }
 
-module _ (opening : CallLog) (older : List Entry) (was : Stand) (before : CallLog) (r : IsReached opening older was before) (path : Route) (sure : is_unsettled before path ≡ false) (other : r.part ≡ Some path → ⊥) where
+module _ (opening : CallLog) (older : List Entry) (was : Stand) (before : CallLog) (r : IsReached opening older was before) (path : Route) (sure : name_waits before path ≡ false) (other : r.part ≡ Some path → ⊥) where
   abbrev told : Said
   told = told_of opening before older r.part
 
@@ -164,7 +165,7 @@ module _ (opening : CallLog) (older : List Entry) (was : Stand) (before : CallLo
     said = doubting told before;
     sure = sure;
     mids = tt;
-    after = subst (λ (l : CallLog). is_unsettled l path ≡ false) (sym same) sure;
+    after = subst (λ (l : CallLog). name_waits l path ≡ false) (sym same) sure;
   }
 
   pub event_still : (what : Event) (after : Stand) (now : CallLog) → EventLeads was what after before now → names_path what path ≡ false → IsStill path before now
@@ -236,16 +237,16 @@ since_longer older (e ∷ g) path (inl same) = let n = ap (λ (xs : List Entry).
 since_longer older (e ∷ g) path (inr (unnamed, since)) = let n = since_longer older g path since in omega (arith, n)
 
 module _ (opening : CallLog) (tree : IsTree (current opening)) (settled : all_settled opening.changes ≡ true) (end : CallLog) (older : List Entry) (path : Route)
-    (sure : is_unsettled (log_prefix opening (calls_in older) end) path ≡ false) (no_part : IsLivePart (live_jobs older) path → ⊥) where
+    (sure : name_waits (log_prefix opening (calls_in older) end) path ≡ false) (no_part : IsLivePart (live_jobs older) path → ⊥) where
   -- after these entries no change of the path waits, and it is no live job's part
   abbrev IsSure : List Entry → CallLog → Type 0
-  IsSure g now = (is_unsettled now path ≡ false) × (IsLivePart (live_jobs g) path → ⊥)
+  IsSure g now = (name_waits now path ≡ false) × (IsLivePart (live_jobs g) path → ⊥)
 
   at_older : (g : List Entry) (stand : Stand) (now : CallLog) (rest : List Change) → older ≡ g → IsTraced opening g stand now → end ≡ more now rest → IsSure g now
   at_older g stand now rest same traced end_is =
       let n = traced_count opening now g stand traced in
       let calls : calls_in older ≡ calls_in g = ap calls_in same in (
-        subst (λ (l : CallLog). is_unsettled l path ≡ false) (prefix_is opening end (calls_in older) now rest end_is (omega (arith, n, calls))) sure,
+        subst (λ (l : CallLog). name_waits l path ≡ false) (prefix_is opening end (calls_in older) now rest end_is (omega (arith, n, calls))) sure,
         subst (λ x. IsLivePart (live_jobs x) path → ⊥) same no_part,
       )
 
@@ -271,29 +272,29 @@ module _ (opening : CallLog) (tree : IsTree (current opening)) (settled : all_se
 
   -- within an entry
   sure_within : (calls : ℕ) (before now : CallLog) (rest : List Change) → IsStill path before now → end ≡ more now rest → length before.changes ≤ length opening.changes + calls → length opening.changes + calls ≤ length now.changes
-      → is_unsettled (log_prefix opening calls end) path ≡ false
+      → name_waits (log_prefix opening calls end) path ≡ false
   sure_within calls before now rest still end_is least most =
       let count : ℕ = length opening.changes + calls in
       let at : log_prefix opening calls end ≡ cut (more before still.made) count = prefix_cut opening end calls now rest end_is most ∙ ap (λ (l : CallLog). cut l count) still.now_is in
       elim (mid_at still.said still.made before count still.mids least (subst (λ (l : CallLog). count ≤ length l.changes) still.now_is most)) [
-        | inl whole ↦ subst (λ (l : CallLog). is_unsettled l path ≡ false) (sym (at ∙ (whole ∙ sym still.now_is))) still.after
-        | inr mid ↦ subst (λ (l : CallLog). is_unsettled l path ≡ false) (sym at) (false_from_ne_true _ (λ waits. both_ways _ still.sure (mid.2.known.doubts path waits)))
+        | inl whole ↦ subst (λ (l : CallLog). name_waits l path ≡ false) (sym (at ∙ (whole ∙ sym still.now_is))) still.after
+        | inr mid ↦ subst (λ (l : CallLog). name_waits l path ≡ false) (sym at) (false_from_ne_true _ (λ waits. both_ways _ still.sure (mid.2.known.doubts path waits)))
       ]
 
   sure_moment : (newest standing coming : List Entry) (stand : Stand) (calls : ℕ) (now : CallLog) (rest : List Change) → IsTraced opening newest stand now → end ≡ more now rest → IsMoment newest standing coming calls
-      → IsUnnamedSince older path standing → IsUnnamedSince older path coming → is_unsettled (log_prefix opening calls end) path ≡ false
+      → IsUnnamedSince older path standing → IsUnnamedSince older path coming → name_waits (log_prefix opening calls end) path ≡ false
   sure_moment [] standing coming stand calls now rest traced end_is (standing_is, coming_is, calls_is) since later =
       let n = traced_count opening now [] stand traced in
-      subst (λ (l : CallLog). is_unsettled l path ≡ false) (sym (prefix_is opening end calls now rest end_is (omega (arith, n, calls_is))))
+      subst (λ (l : CallLog). name_waits l path ≡ false) (sym (prefix_is opening end calls now rest end_is (omega (arith, n, calls_is))))
       (sure_after [] stand now rest traced end_is (subst (IsUnnamedSince older path) standing_is since)).0
   sure_moment (e ∷ g) standing coming stand calls now rest traced end_is (inl (standing_is, coming_is, calls_is)) since later =
       let n = traced_count opening now (e ∷ g) stand traced in
-      subst (λ (l : CallLog). is_unsettled l path ≡ false) (sym (prefix_is opening end calls now rest end_is (omega (arith, n, calls_is))))
+      subst (λ (l : CallLog). name_waits l path ≡ false) (sym (prefix_is opening end calls now rest end_is (omega (arith, n, calls_is))))
       (sure_after (e ∷ g) stand now rest traced end_is (subst (IsUnnamedSince older path) standing_is since)).0
   sure_moment (e ∷ g) standing coming stand calls now rest (was, before, traced, f) end_is (inr (inl (standing_is, coming_is, least, most))) since later =
       by (subst (IsUnnamedSince older path) coming_is later)
     where
-      by : IsUnnamedSince older path (e ∷ g) → is_unsettled (log_prefix opening calls end) path ≡ false
+      by : IsUnnamedSince older path (e ∷ g) → name_waits (log_prefix opening calls end) path ≡ false
       by (inl same) =
           let longer = since_longer older g path (subst (IsUnnamedSince older path) standing_is since) in
           let n = ap (λ (xs : List Entry). length xs) same in

@@ -89,6 +89,7 @@ said_after now did work told = record {
   named = named_by did told.named;
   part = part_after did told.part;
   doubt = doubt_by did told.part told.doubt;
+  folders = told.folders;
 }
 
 -- What a step comes to.

@@ -10,7 +10,7 @@ use Rattle.job_reports.specs.Paths.{folder_of}
 use Rattle.session_history.specs.declared.history.Event.TheVariants.{Step}
 use Rattle.session_history.specs.declared.history.Entry.{Entry}
 use Rattle.job_reports.specs.Jobs.{Item, folder_changed}
-use Rattle.history_laws.specs.Doubt.{is_unsettled}
+use Rattle.history_laws.specs.Doubt.{name_waits}
 use Rattle.session_history.specs.LiveJobs.{live_jobs, live_item}
 use Rattle.history_laws.specs.Owed.{IsApart}
 use Rattle.session_history.specs.Named.{begins_change, has_changed, names_path}
@@ -29,12 +29,12 @@ pub record HasBegun (e : Entry) (older : List Entry) (folder : Route) : Type 0 w
   pub its : live_item id (live_jobs older) ≡ Some item
   pub within : folder ≡ folder_changed item
 
--- When such an entry has come to stand, a path of which a change isn't on the disk yet is one that this entry names, or its
+-- When such an entry has come to stand, a path of whose name a change isn't on the disk yet is one that this entry names, or its
 -- folder lies on another mount, or was removed.
 abbrev pub CalmsOthers : CallLog → CallLog → List Entry → Type 0
 CalmsOthers opening now newest =
     (e : Entry) (older : List Entry) (folder path : Route)
-    → HasBegun e older folder → IsMoment newest (e ∷ older) (e ∷ older) e.calls → is_unsettled (log_prefix opening e.calls now) path ≡ true
+    → HasBegun e older folder → IsMoment newest (e ∷ older) (e ∷ older) e.calls → name_waits (log_prefix opening e.calls now) path ≡ true
     → (names_path e.what path ≡ true) ⊎ IsApart (log_prefix opening (calls_in older) now) folder (folder_of path)
 
 abbrev pub CalmLaw : Type 0

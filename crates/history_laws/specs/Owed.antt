@@ -18,12 +18,12 @@ use Rattle.copy_move.specs.Jobs.{JobTells, Running, is_fresh}
 use Rattle.copy_move.specs.Settling.{IsMountOf, changed_folder}
 use Rattle.copy_move.specs.Steps.{RunStep, step_made}
 use Rattle.history_laws.specs.Traces.{IsUnclaimed, IsTraced, Stand, StepLeads, WorkLeads, unless_ended}
-use Rattle.history_laws.specs.Doubt.{is_unsettled}
+use Rattle.history_laws.specs.Doubt.{is_unsettled, name_waits}
 
--- Where each entry ends, a path of which a change isn't on the disk yet lies in a dirty folder.
+-- Where each entry ends, a path of whose name a change isn't on the disk yet lies in a dirty folder.
 abbrev pub OwedLaw : Type 0
 OwedLaw = (opening now : CallLog) (newest : List Entry) (stand : Stand) (path : Route)
-    → IsTree (current opening) → all_settled opening.changes ≡ true → IsTraced opening newest stand now → is_unsettled now path ≡ true → Among stand.dirty (folder_of path)
+    → IsTree (current opening) → all_settled opening.changes ≡ true → IsTraced opening newest stand now → name_waits now path ≡ true → Among stand.dirty (folder_of path)
 
 -- a folder lies on another mount than this one, or it was removed
 abbrev pub IsApart : CallLog → Route → Route → Type 0
@@ -34,10 +34,10 @@ IsApart log folder other =
 abbrev pub FirstChangeLaw : Type 0
 FirstChangeLaw = (opening log now : CallLog) (older newest : List Entry) (was stand : Stand) (job new : Running) (did : Did) (path : Route)
     → IsTree (current opening) → all_settled opening.changes ≡ true → IsTraced opening older was log → IsTraced opening newest stand now
-    → WorkLeads job did new was.dirty stand.dirty log now → job.course ≡ GoesOn → is_fresh job.work ≡ true → is_unsettled now path ≡ true
+    → WorkLeads job did new was.dirty stand.dirty log now → job.course ≡ GoesOn → is_fresh job.work ≡ true → name_waits now path ≡ true
     → (folder_of path ≡ changed_folder job.work) ⊎ IsApart log (changed_folder job.work) (folder_of path)
 
--- A job that may report that it is finished, and has changed something, has left nothing in its folder that isn't on the disk.
+-- A job that may report that it is finished, and has changed something, has left nothing in its folder that is in doubt.
 abbrev pub FinishedLaw : Type 0
 FinishedLaw = (opening now : CallLog) (newest : List Entry) (stand : Stand) (job new : Running) (part : Option Route) (path : Route)
     → IsTree (current opening) → all_settled opening.changes ≡ true → IsTraced opening newest stand now → stand.jobs ≡ job ∷ [] → JobTells job (Ended Finished part) new

@@ -1,6 +1,6 @@
 -- What is on the disk stays on the disk until an entry names it again; so what a finished job did stays done. Histories stand
 -- newest first here.
-use Rattle.std.specs.Prelude.{◌≡◌, ◌⊎◌, ℕ, ◌+◌, true, false, List, [], ◌∷◌, length, Option, Some}
+use Rattle.std.specs.Prelude.{◌≡◌, ℕ, ◌+◌, true, false, List, [], ◌∷◌, length, Option, Some}
 use Rattle.mc_text.specs.Routes.{Route}
 use Rattle.tree_trait.specs.declared.file_system.FileSystem.{FileSystem}
 use Rattle.tree_trait.specs.FileSystem.{value_at}
@@ -15,7 +15,7 @@ use Rattle.session_history.specs.declared.history.Entry.{Entry}
 use Rattle.job_reports.specs.Jobs.{Item, folder_changed}
 use Rattle.copy_move.specs.Jobs.{JobTells, Running}
 use Rattle.copy_move.specs.Settling.{changed_folder}
-use Rattle.history_laws.specs.Doubt.{is_unsettled}
+use Rattle.history_laws.specs.Doubt.{name_waits}
 use Rattle.session_history.specs.LiveJobs.{IsLivePart, live_jobs, live_item}
 use Rattle.session_history.specs.Named.{has_changed, named_parts, names_path, IsUnnamedSince}
 use Rattle.history_laws.specs.Replayed.{log_prefix, replayed_tree}
@@ -23,14 +23,14 @@ use Rattle.session_history.specs.Entries.{IsMoment, calls_in}
 use Rattle.history_laws.specs.Safe.{IsPart}
 use Rattle.history_laws.specs.Traces.{IsTraced, Stand}
 
--- A path of which no change waited for a sync where the older entries ended, and that was no live job's part, waits for none
+-- A path of whose name no change waited for a sync where the older entries ended, and that was no live job's part, waits for none
 -- at any later moment, inside a call too, until an entry names it.
 abbrev pub StaysLaw : Type 0
 StaysLaw = (opening now : CallLog) (newest older standing coming : List Entry) (stand : Stand) (calls : ℕ) (path : Route)
     → IsTree (current opening) → all_settled opening.changes ≡ true → IsTraced opening newest stand now → IsMoment newest standing coming calls
     → IsUnnamedSince older path standing → IsUnnamedSince older path coming
-    → is_unsettled (log_prefix opening (calls_in older) now) path ≡ false → (IsLivePart (live_jobs older) path → ⊥)
-    → is_unsettled (log_prefix opening calls now) path ≡ false
+    → name_waits (log_prefix opening (calls_in older) now) path ≡ false → (IsLivePart (live_jobs older) path → ⊥)
+    → name_waits (log_prefix opening calls now) path ≡ false
 
 -- Where the older entries ended a job may report that it is finished, and it has changed something. From then on, at each
 -- moment, inside a call too, each path of its folder holds after any crash what the history said then, until an entry names

@@ -1,5 +1,5 @@
 -- The live job as a history tells it (`told`). Histories stand newest first here.
-use Rattle.std.specs.Prelude.{ℕ, List, [], ◌∷◌, Option, None, option_and_then}
+use Rattle.std.specs.Prelude.{List, [], ◌∷◌, Option, None, option_and_then}
 use Rattle.std.specs.Option.{option_map}
 use Rattle.session_history.specs.declared.history.Event.{Event}
 use Rattle.session_history.specs.declared.history.Event.TheVariants.{Key, Look, Order, Step, Closed}
