@@ -1,6 +1,6 @@
 -- Steps at a task: what a look, a read or a listing brings, and what is told where it was refused.
-use Rattle.std.proofs.Common.{◌≡◌, ◌≢◌, ℕ, suc, ◌+◌, ◌*◌, ◌^◌, ◌<◌, ◌≤◌, Bool, true, false, not, cond, List, [], ◌∷◌, ◌++◌, length, map, flat_map, refl, sym, ap, subst, ◌∙◌, arith}
-use Rattle.std.specs.Prelude.{◌&&◌, Option, Some, None, Result, Ok, Err, IfOk, IfErr, IsErrOf}
+use Rattle.std.proofs.Common.{◌≡◌, ◌≢◌, ℕ, ◌+◌, ◌^◌, ◌<◌, ◌≤◌, Bool, true, false, not, cond, List, [], ◌∷◌, ◌++◌, length, map, flat_map, refl, sym, ap, subst, ◌∙◌, arith}
+use Rattle.std.specs.Prelude.{◌&&◌, Option, Some, None, Result, Ok, Err, IfOk, IfErr}
 use Rattle.std.proofs.lemmas.List.Folds.{flat_map-map}
 use Rattle.mc_text.specs.declared.error.NoMemory.{NoMemory}
 use Rattle.mc_text.specs.declared.kind.Kind.{Kind}
@@ -15,17 +15,17 @@ use Rattle.tree_trait.specs.Calls.{Call, Stat, ListFolder, ReadAt}
 use Rattle.tree_trait.specs.FileSystem.{node}
 use Rattle.tree_trait.specs.Change.{CallLog, current, found}
 use Rattle.tree_trait.specs.Refusals.{refusal_of}
-use Rattle.tree_trait.specs.Answers.{Reads, HasCause, HasRisen, IsListing, IsAscending}
+use Rattle.tree_trait.specs.Answers.{Reads, HasCause, IsListing, IsAscending}
 use Rattle.find_file.specs.declared.found.Found.{Found}
-use Rattle.find_file.specs.declared.found.Found.TheVariants.{Path, Skipped, End}
+use Rattle.find_file.specs.declared.found.Found.TheVariants.{Skipped}
 use Rattle.find_file.specs.declared.search.Search.{Search}
 use Rattle.find_file.specs.declared.walk.Walk.{Walk}
 use Rattle.find_file.specs.declared.walk.Task.{Task}
 use Rattle.find_file.specs.declared.walk.Task.TheVariants.{Look, List as ListTask}
-use Rattle.find_file.specs.FoundList.{is_by_name, holds, brings, path_if, read, by_kind, looked, child, names_in, listed, found_list}
+use Rattle.find_file.specs.FoundList.{is_by_name, holds, brings, path_if, read, by_kind, looked, child, names_in, found_list}
 use Rattle.find_file.specs.Folders.{OpenFolder, child_of}
-use Rattle.find_file.specs.Walks.{bytes_left, weight, of_child, of_children, of_folder, of_folders, of_task, left_of, left_in, rank_of_folder, rank_of_folders, rank_of, rank}
-use Rattle.find_file.specs.Telling.{place_of, call_of, Advances, Steps, StandsAt, HasReason, Works, with_task, cause_at}
+use Rattle.find_file.specs.Walks.{of_child, of_children, of_folder, of_folders, of_task, left_in, rank_of_folder, rank_of_folders, rank_of, rank}
+use Rattle.find_file.specs.Telling.{place_of, call_of, Advances, Steps, StandsAt, Works, with_task}
 use Rattle.find_file.proofs.InOrder.{listed_names}
 use Rattle.find_file.proofs.Levels.{found_list_is}
 use Rattle.find_file.proofs.Ranking.{rank-in}

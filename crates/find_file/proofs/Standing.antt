@@ -1,5 +1,5 @@
 -- What is to be found, and how many steps are left, by where a walk stands; and the steps that make no call of the tree.
-use Rattle.std.proofs.Common.{◌≡◌, ◌≢◌, ℕ, suc, ◌+◌, ◌<◌, ◌≤◌, Bool, true, false, cond, List, [], ◌∷◌, ◌++◌, length, drop, refl, sym, ap, subst, ◌∙◌, arith, append_assoc}
+use Rattle.std.proofs.Common.{◌≡◌, ◌<◌, ◌≤◌, Bool, true, false, cond, List, [], ◌∷◌, ◌++◌, length, drop, refl, sym, ap, subst, ◌∙◌, arith, append_assoc}
 use Rattle.std.specs.Prelude.{◌&&◌, ◌||◌, nat_lt, Option, Some, None, Result, Ok, Err, IfOk, IfErr}
 use Rattle.std.proofs.lemmas.Bool.{lt-ltb, le-ltb}
 use Rattle.mc_text.specs.declared.error.NoMemory.{NoMemory}
@@ -7,15 +7,15 @@ use Rattle.mc_text.specs.Routes.{Route, spelled}
 use Rattle.tree_trait.specs.declared.file_system.FileSystem.{FileSystem}
 use Rattle.find_file.specs.declared.opened.Child.{Child}
 use Rattle.find_file.specs.declared.found.Found.{Found}
-use Rattle.find_file.specs.declared.found.Found.TheVariants.{Path, Skipped, End}
+use Rattle.find_file.specs.declared.found.Found.TheVariants.{Path, End}
 use Rattle.find_file.specs.declared.search.Search.{Search}
 use Rattle.find_file.specs.declared.walk.Walk.{Walk}
 use Rattle.find_file.specs.declared.walk.Task.{Task}
-use Rattle.find_file.specs.declared.walk.Task.TheVariants.{Look, List as ListTask}
-use Rattle.find_file.specs.FoundList.{is_by_name, leaves_out, is_passed_over, path_if, looked, child, found_list}
+use Rattle.find_file.specs.declared.walk.Task.TheVariants.{Look}
+use Rattle.find_file.specs.FoundList.{is_by_name, leaves_out, is_passed_over, path_if, looked, found_list}
 use Rattle.find_file.specs.Folders.{OpenFolder}
-use Rattle.find_file.specs.Walks.{of_child, of_children, of_folder, of_folders, of_task, left_of, left_in, rank_of_folders, rank_of, rank}
-use Rattle.find_file.specs.Telling.{Advances, Steps, StandsAt, IsOver, Goes, cause_at}
+use Rattle.find_file.specs.Walks.{of_children, of_folders, left_of, left_in, rank_of_folders, rank_of, rank}
+use Rattle.find_file.specs.Telling.{StandsAt, IsOver, Goes}
 use Rattle.find_file.proofs.Levels.{is_short}
 use Rattle.find_file.proofs.Ranking.{rank-taken, rank-past}
 

@@ -12,8 +12,3 @@ child_of pattern name = record { name = name; is_named = is_found pattern name }
 pub record OpenFolder : Type 0 where
   pub path : Route
   pub children : List Child
-
--- the folders around the one that is worked, the nearest first, and for how many more there is room
-pub record FoldersAround : Type 0 where
-  pub nearest : List OpenFolder
-  pub spare : ℕ

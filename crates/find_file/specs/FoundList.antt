@@ -1,15 +1,14 @@
 -- What a search finds below a folder, as one list: each thing before what lies below it, a folder's children in byte order
 -- of their names. The order and what is skipped are own (find(1) leaves the order open; links aren't followed, as by its -P).
-use Rattle.std.specs.Prelude.{ℕ, zero, suc, ◌==◌, Bool, true, false, not, ◌&&◌, ◌||◌, nat_lt, if◌then◌else◌, List, [], ◌∷◌, ◌++◌, length, take, flat_map, Option, Some, None}
+use Rattle.std.specs.Prelude.{ℕ, zero, suc, ◌==◌, Bool, false, not, ◌&&◌, ◌||◌, nat_lt, if◌then◌else◌, List, [], ◌∷◌, ◌++◌, length, take, flat_map, Option, Some, None}
 use Rattle.std.specs.Str.{bytes_eq}
 use Rattle.mc_text.specs.declared.kind.Kind.{Kind}
 use Rattle.mc_text.specs.declared.kind.Kind.TheVariants as kinds
 use Rattle.mc_text.specs.Routes.{Route, spelled}
 use Rattle.tagging.specs.Patterns.{is_found}
 use Rattle.tree_trait.specs.declared.file_system.FileSystem.{FileSystem}
-use Rattle.tree_trait.specs.declared.file_system.Node.{Node}
 use Rattle.tree_trait.specs.declared.calls.TreeError.{TreeError}
-use Rattle.tree_trait.specs.Calls.{Call, Stat, ListFolder, ReadAt}
+use Rattle.tree_trait.specs.Calls.{Stat, ListFolder, ReadAt}
 use Rattle.tree_trait.specs.FileSystem.{node}
 use Rattle.tree_trait.specs.Change.{found}
 use Rattle.tree_trait.specs.Refusals.{refusal_of}

@@ -15,7 +15,7 @@ use Rattle.find_file.specs.declared.walk.Task.{Task}
 use Rattle.find_file.specs.declared.walk.Task.TheVariants.{Look, List as ListTask}
 use Rattle.find_file.specs.declared.walk.Walk.{Walk}
 use Rattle.find_file.specs.Folders.{OpenFolder}
-use Rattle.find_file.specs.Walks.{of_task, left_of, left_in, rank, rank_of}
+use Rattle.find_file.specs.Walks.{of_task, left_in, rank}
 
 -- the path that a task is about, and the first call that it makes there
 abbrev pub place_of : Task → Route

@@ -1,5 +1,5 @@
 -- What is still to be found where a walk stands, and how many steps it has left at most.
-use Rattle.std.specs.Prelude.{ℕ, zero, suc, ◌+◌, ◌-◌, ◌*◌, ◌^◌, Bool, List, [], ◌∷◌, ◌++◌, length, flat_map, Option, Some, None}
+use Rattle.std.specs.Prelude.{ℕ, zero, suc, ◌+◌, ◌-◌, ◌*◌, ◌^◌, List, [], ◌∷◌, ◌++◌, length, flat_map, Option, Some, None}
 use Rattle.mc_text.specs.Routes.{Route, spelled}
 use Rattle.tree_trait.specs.declared.file_system.FileSystem.{FileSystem}
 use Rattle.find_file.specs.declared.opened.Child.{Child}

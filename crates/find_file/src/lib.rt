@@ -1,7 +1,6 @@
 //! Finding: what lies below a folder and has a name and a content, one thing after the other.
 #![tactic(auto)]
 
-mod around;
 mod content;
 mod finder;
 mod found;

@@ -12,7 +12,6 @@ ghost use Rattle.find_file.specs.Folders.{child_of};
 ghost use Rattle.find_file.specs.Walks.{rank};
 ghost use Rattle.find_file.specs.Telling.{Goes, HasReason, IsOver, StandsAt, Steps, Works, cause_at, place_of, with_task};
 
-use crate::around::Around;
 use crate::content::file_holds;
 use crate::found::Found;
 use crate::marking::marked;
@@ -21,6 +20,7 @@ use crate::search::Search;
 use mc_text::{Kind, Names, NoMemory, Path, PathError};
 use std::alloc::Global;
 use std::mem;
+use subtree_walk::Around;
 use tree_trait::{Tree, TreeError};
 
 /// What a walk does next, before it goes on with the children of the folder that is worked.
@@ -38,7 +38,7 @@ pub enum Task {
 pub struct Walk {
     pub task: Option<Task>,
     pub inner: Opened,
-    pub around: Around,
+    pub around: Around<Opened>,
 }
 
 impl Walk {

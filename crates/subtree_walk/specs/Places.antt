@@ -1,5 +1,6 @@
 -- Where a walk stands, and where it stands once it goes on.
-use Rattle.std.specs.Prelude.{◌≡◌, ℕ, ◌+◌, ◌-◌, Bool, true, false, ◌||◌, List, [], ◌∷◌, drop}
+use Rattle.std.specs.Prelude.{◌≡◌, ℕ, ◌+◌, ◌-◌, Bool, true, false, ◌||◌, List, [], ◌∷◌, drop, refl}
+use Rattle.std.specs.Coded.{Coded, code_by, coded×, coded_list, coded_ℕ}
 use Rattle.mc_text.specs.Routes.{Route}
 
 -- a folder that is open, the names in it that are yet to be met, and whether one of those that were met was left
@@ -9,9 +10,13 @@ pub record OpenFolder : Type 0 where
   pub spared : Bool
 
 -- the folders around the one that is worked, the nearest first, and for how many more there is room
-pub record FoldersAround : Type 0 where
-  pub nearest : List OpenFolder
+pub record FoldersAround (Folder : Type 0) : Type 0 where
+  pub nearest : List Folder
   pub spare : ℕ
+
+-- they are stored as the pair of both
+abbrev pub around_code : {Folder : Type 0} → Coded Folder → Coded (FoldersAround Folder)
+around_code code = code_by (List _ × ℕ) (coded× (coded_list code) coded_ℕ) (λ a. (a.nearest, a.spare)) (λ p. record { nearest = p.0; spare = p.1 }) (λ _. refl)
 
 -- the place of a walk: the folder that is worked, those around it, the nearest first, and how many levels it may go down
 pub record Place : Type 0 where
@@ -24,7 +29,7 @@ pub record Walking : Type 0 where
   pub place : Place
   pub spare : ℕ
 
-abbrev pub is_empty : List OpenFolder → Bool
+abbrev pub is_empty : {Folder : Type 0} → List Folder → Bool
 is_empty [] = true
 is_empty (folder ∷ folders) = false
 

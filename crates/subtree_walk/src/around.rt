@@ -2,30 +2,32 @@
 ghost use Rattle.std.specs.Prelude.{◌≡◌, ◌≤◌, ◌<◌, ◌∷◌, [], drop, IfSome, IfNone, OnOk};
 ghost use Rattle.subtree_walk.specs.Places.{is_empty};
 
-use crate::opened::Opened;
 use mc_text::NoMemory;
 use std::alloc::Global;
 use std::marker::Model;
 
-/// Open folders, of which contracts see the nearest first, and how many more find room.
+/// Open folders, of which contracts see the nearest first, and how many more find room. What is kept of a folder is the
+/// caller's.
 #[derive(Debug, Drop)]
-pub struct Around {
-    folders: Vec<Opened>,
+pub struct Around<F> {
+    folders: Vec<F>,
 }
 
-impl Model for Around {
+impl<F> Model for Around<F> {
     ghost use Rattle.std.specs.Prelude.{◌-◌, reverse, vec_len};
     ghost use Rattle.std.specs.Vec.{vec_capacity};
-    ghost use Rattle.subtree_walk.specs.Places.{FoldersAround};
+    ghost use Rattle.subtree_walk.specs.Places.{FoldersAround, around_code};
 
-    ghost Value = { FoldersAround };
+    ghost Value = { FoldersAround F };
+
+    ghost coded = { around_code F.code };
 
     ghost view = { λ a. record { nearest = reverse a.folders.items; spare = vec_capacity a.folders - vec_len a.folders } };
 }
 
-impl Around {
+impl<F: Drop> Around<F> {
     /// None yet. It takes no memory.
-    pub fn new(alloc: Global) -> Around
+    pub fn new(alloc: Global) -> Around<F>
         ensures { result.nearest ≡ [] }
     {
         Around {
@@ -44,7 +46,7 @@ impl Around {
     }
 
     /// The nearest.
-    fn nearest(&self) -> Option<&Opened>
+    fn nearest(&self) -> Option<&F>
         ensures some { IfSome result (λ folder. self.now.nearest ≡ folder.now ∷ drop 1 self.now.nearest) }
         ensures none { IfNone result (self.now.nearest ≡ []) }
     {
@@ -61,7 +63,7 @@ impl Around {
     }
 
     /// One more, in room that there is.
-    pub fn add(&mut self, folder: Opened)
+    pub fn add(&mut self, folder: F)
         requires room { 0 < self.old.spare }
         ensures added { self.new.nearest ≡ folder ∷ self.old.nearest }
     {
@@ -69,7 +71,7 @@ impl Around {
     }
 
     /// The nearest is taken.
-    pub fn take(&mut self) -> Option<Opened>
+    pub fn take(&mut self) -> Option<F>
         ensures some { IfSome result (λ folder. self.old.nearest ≡ folder ∷ self.new.nearest) }
         ensures none { IfNone result ((self.old.nearest ≡ []) × (self.new.nearest ≡ [])) }
     {

@@ -17,7 +17,7 @@ pub const LEVELS: u32 = 256;
 #[derive(Debug, Drop)]
 pub struct Walk {
     inner: Opened,
-    around: Around,
+    around: Around<Opened>,
     left: u32,
 }
 

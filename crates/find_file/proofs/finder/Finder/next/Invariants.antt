@@ -1,6 +1,6 @@
 -- Steps that tell nothing leave all that is to be found, and fewer steps.
 use Rattle.std.proofs.Common.{◌≡◌, ◌≤◌}
-use Rattle.std.specs.Prelude.{Some, ⊤}
+use Rattle.std.specs.Prelude.{Some}
 use Rattle.tree_trait.specs.Change.{CallLog, current}
 use Rattle.find_file.specs.Walks.{left_in, rank}
 use Rattle.find_file.specs.Telling.{IsOver}

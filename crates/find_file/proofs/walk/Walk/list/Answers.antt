@@ -1,5 +1,4 @@
 -- A folder is gone into, or skipped.
-use Rattle.std.proofs.Common.{◌∙◌}
 use Rattle.tree_trait.specs.declared.calls.Children.{Children}
 use Rattle.tree_trait.specs.Change.{current, found}
 use Rattle.tree_trait.specs.Answers.{IsListing}

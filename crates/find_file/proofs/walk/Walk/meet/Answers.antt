@@ -1,5 +1,5 @@
 -- A child is passed over, or taken up.
-use Rattle.std.proofs.Common.{◌≡◌, ◌∷◌, ◌∙◌, ◌≤◌, ◌<◌, length, subst, sym, ap}
+use Rattle.std.proofs.Common.{◌∷◌, ◌∙◌, ◌≤◌, ◌<◌, length, subst, sym, ap}
 use Rattle.mc_text.specs.Routes.{Route, spelled}
 use Rattle.find_file.proofs.Standing.{passes-name, passes-path, takes}
 use Rattle.find_file.proofs.walk.Walk.meet.Goals as goal
