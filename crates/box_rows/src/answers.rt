@@ -1,83 +1,80 @@
 //! What boxes answer to keys.
+use crate::fields::{mode_of, rows_of};
 use crate::keys::keys_of;
-use anyhow::{Result, bail};
+use key_screen::Key;
 use mc_dialogs::{InputLine, ListBox, ModeBox, QuestionBox, Reply, Shut};
-use mc_text::{Rows, Text};
-use std::alloc::Global;
+use mc_text::{NoMemory, Rows};
+use row_page::Page;
 use std::convert::AsStr;
 
 /// The answer of a box of a kind. Behind the last bar of the fields stand the keys.
-pub fn answered(alloc: Global, kind: &str, fields: &str) -> Result<String> {
-    let Some((about, words)) = fields.rsplit_once('|') else {
-        bail!("no keys");
-    };
+pub fn tell_answer(page: &mut Page, kind: &str, fields: &str) {
+    let (about, words) = fields.rsplit_once('|').unwrap_or((fields, ""));
+    let keys = keys_of(page, words);
     match kind {
-        "mode" => mode(alloc, about, words),
-        "question" => question(alloc, about, words),
-        "list" => list(alloc, about, words, false),
-        "list by letters" => list(alloc, about, words, true),
-        "line" => line(alloc, about, words),
-        _ => bail!("no such box"),
+        "mode" => ask_mode(page, about, &keys),
+        "question" => ask_question(page, about, &keys),
+        "list" => ask_list(page, about, &keys, false),
+        "list by letters" => ask_list(page, about, &keys, true),
+        "line" => ask_line(page, about, &keys),
+        _ => page.fail(),
     }
 }
 
-fn mode(alloc: Global, mode: &str, words: &str) -> Result<String> {
-    let mode = u16::from_str_radix(mode, 8)?;
-    let mut asked = ModeBox::new(alloc, "Mode", mode)?;
-    let keys = keys_of(alloc, words)?;
-    told(alloc, &asked.answer(&keys)?)
-}
-
-fn question(alloc: Global, letters: &str, words: &str) -> Result<String> {
-    let mut asked = QuestionBox::new(alloc, Rows::new(alloc), letters.as_bytes())?;
-    let keys = keys_of(alloc, words)?;
-    told(alloc, &asked.answer(&keys)?)
-}
-
-fn list(alloc: Global, rows: &str, words: &str, by_letter: bool) -> Result<String> {
-    let rows = rows_of(alloc, rows)?;
-    let mut asked = ListBox::new(alloc, "Menu", rows, 10, by_letter)?;
-    let keys = keys_of(alloc, words)?;
-    told(alloc, &asked.answer(&keys)?)
-}
-
-fn line(alloc: Global, text: &str, words: &str) -> Result<String> {
-    let mut asked = InputLine::new(alloc, "Make folder", text)?;
-    let keys = keys_of(alloc, words)?;
-    told(alloc, &asked.answer(alloc, &keys)?)
-}
-
-/// Texts with `;` between them, as rows. An empty field has none.
-pub fn rows_of(alloc: Global, field: &str) -> Result<Rows> {
-    let mut rows = Rows::new(alloc);
-    if field.is_empty() {
-        return Ok(rows);
-    }
-    for text in field.split(';') {
-        rows.push(Text::from_str(alloc, text)?)?;
-    }
-    Ok(rows)
-}
-
-/// An answer in words. Behind a text stands a bar, so that its last blanks are seen.
-fn told(alloc: Global, shut: &Shut) -> Result<String> {
-    match shut {
-        Shut::Stay => Ok(String::from_str(alloc, "stay")?),
-        Shut::Closed(reply) => reply_told(alloc, reply),
+fn ask_mode(page: &mut Page, mode: &str, keys: &[Key]) {
+    match ModeBox::new(page.alloc(), "Mode", mode_of(mode)) {
+        Ok(mut asked) => tell(page, asked.answer(keys)),
+        Err(_error) => page.fail(),
     }
 }
 
-fn reply_told(alloc: Global, reply: &Reply) -> Result<String> {
+fn ask_question(page: &mut Page, letters: &str, keys: &[Key]) {
+    match QuestionBox::new(page.alloc(), Rows::new(page.alloc()), letters.as_bytes()) {
+        Ok(mut asked) => tell(page, asked.answer(keys)),
+        Err(_error) => page.fail(),
+    }
+}
+
+fn ask_list(page: &mut Page, rows: &str, keys: &[Key], by_letter: bool) {
+    let rows = rows_of(page, rows);
+    match ListBox::new(page.alloc(), "Menu", rows, 10, by_letter) {
+        Ok(mut asked) => tell(page, asked.answer(keys)),
+        Err(_error) => page.fail(),
+    }
+}
+
+fn ask_line(page: &mut Page, text: &str, keys: &[Key]) {
+    match InputLine::new(page.alloc(), "Make folder", text) {
+        Ok(mut asked) => tell(page, asked.answer(page.alloc(), keys)),
+        Err(_error) => page.fail(),
+    }
+}
+
+/// An answer in words.
+fn tell(page: &mut Page, answer: Result<Shut, NoMemory>) {
+    match answer {
+        Ok(Shut::Stay) => page.put("stay"),
+        Ok(Shut::Closed(reply)) => tell_reply(page, &reply),
+        Err(_error) => page.fail(),
+    }
+}
+
+/// A reply in words. Behind a text stands a bar, so that its last blanks are seen.
+fn tell_reply(page: &mut Page, reply: &Reply) {
     match reply {
-        Reply::Cancel => Ok(String::from_str(alloc, "cancel")?),
-        Reply::Line { text, background } => line_told(alloc, text, *background),
-        Reply::Chosen(row) => Ok(format!(in alloc; "row {row}")?),
-        Reply::Letter(letter) => Ok(format!(in alloc; "letter {}", char::from(*letter))?),
-        Reply::Mode(mode) => Ok(format!(in alloc; "mode {mode:o}")?),
+        Reply::Cancel => page.put("cancel"),
+        Reply::Line { text, background } => {
+            page.put("text ");
+            page.put(if *background {
+                "in the background "
+            } else {
+                ""
+            });
+            page.put(text.as_str());
+            page.put("|");
+        }
+        Reply::Chosen(row) => page.tell(format_args!("row {row}")),
+        Reply::Letter(letter) => page.tell(format_args!("letter {}", char::from(*letter))),
+        Reply::Mode(mode) => page.tell(format_args!("mode {mode:o}")),
     }
-}
-
-fn line_told(alloc: Global, text: &Text, background: bool) -> Result<String> {
-    let ground = if background { "in the background " } else { "" };
-    Ok(format!(in alloc; "text {ground}{}|", text.as_str())?)
 }

@@ -1,78 +1,88 @@
 //! Frames of panels and of a page.
-ghost use Rattle.std.specs.Prelude.{◌<◌, ◌^◌, IfOk};
+ghost use Rattle.std.specs.Prelude.{◌<◌, ◌^◌};
 ghost use Rattle.mc_frame.specs.JobsLine.{live_jobs};
 
-use crate::screens::shown;
-use anyhow::{Result, bail};
-use key_screen::Attr;
+use crate::fields::text_of;
+use crate::screens::tell_screen;
+use key_screen::{Attr, Grid};
 use mc_frame::{
-    Item, Items, JobCounts, KeyBar, Page, PageRow, PageRows, Pane, Panes, Run, Shape, paint_page,
+    Item, Items, JobCounts, KeyBar, PageRow, PageRows, Pane, Panes, Run, Shape, paint_page,
     paint_panels,
 };
-use mc_text::Text;
-use std::alloc::Global;
+use mc_text::NoMemory;
+use row_page::{Page, two_fields};
 
 /// Two panels: a size, the panels, and how many jobs are in each state.
-pub fn both(alloc: Global, fields: &str) -> Result<String> {
+pub fn tell_both(page: &mut Page, fields: &str) {
     let (size, fields) = two_fields(fields, '|');
     let (left, fields) = two_fields(fields, '|');
     let (right, counts) = two_fields(fields, '|');
-    let panes = Panes::Both(pane_of(alloc, left)?, pane_of(alloc, right)?);
-    painted(alloc, size, &panes, counts)
+    let left = pane_of(page, left);
+    let right = pane_of(page, right);
+    tell_panes(page, size, &Panes::Both(left, right), counts);
 }
 
 /// One panel over all columns.
-pub fn whole(alloc: Global, fields: &str) -> Result<String> {
+pub fn tell_whole(page: &mut Page, fields: &str) {
     let (size, fields) = two_fields(fields, '|');
     let (pane, counts) = two_fields(fields, '|');
-    let panes = Panes::Whole(pane_of(alloc, pane)?);
-    painted(alloc, size, &panes, counts)
+    let pane = pane_of(page, pane);
+    tell_panes(page, size, &Panes::Whole(pane), counts);
 }
 
 /// A page: a size, which keys, its title, and its runs, each behind its row.
-pub fn page(alloc: Global, fields: &str) -> Result<String> {
+pub fn tell_page(page: &mut Page, fields: &str) {
     let (size, fields) = two_fields(fields, '|');
     let (keys, fields) = two_fields(fields, '|');
     let (title, rows) = two_fields(fields, '|');
-    let page = Page {
-        title: Text::from_str(alloc, title)?,
-        rows: rows_of(alloc, rows)?,
-        bar: bar_of(keys)?,
+    let (lines, columns) = size_of(size);
+    let shown = mc_frame::Page {
+        title: text_of(page, title),
+        rows: rows_of(page, rows),
+        bar: bar_of(keys),
     };
-    let (lines, columns) = two_fields(size, ' ');
-    let grid = paint_page(alloc, lines.parse()?, columns.parse()?, &page)?;
-    shown(alloc, &grid)
+    tell_frame(page, paint_page(page.alloc(), lines, columns, &shown));
 }
 
-fn painted(alloc: Global, size: &str, panes: &Panes, counts: &str) -> Result<String> {
-    let (lines, columns) = two_fields(size, ' ');
-    let jobs = counts_of(counts)?;
-    let grid = paint_panels(alloc, lines.parse()?, columns.parse()?, panes, &jobs)?;
-    shown(alloc, &grid)
+fn tell_panes(page: &mut Page, size: &str, panes: &Panes, counts: &str) {
+    let (lines, columns) = size_of(size);
+    let jobs = counts_of(counts);
+    tell_frame(
+        page,
+        paint_panels(page.alloc(), lines, columns, panes, &jobs),
+    );
 }
 
-/// Two fields with a mark between them; without it the second is empty.
-fn two_fields(fields: &str, mark: char) -> (&str, &str) {
-    fields.split_once(mark).unwrap_or((fields, ""))
+fn tell_frame(page: &mut Page, frame: Result<Grid, NoMemory>) {
+    match frame {
+        Ok(frame) => tell_screen(page, &frame),
+        Err(_error) => page.fail(),
+    }
+}
+
+/// Lines and columns.
+fn size_of(size: &str) -> (u16, u16) {
+    let (lines, columns) = two_fields(size, ' ');
+    (lines.parse().unwrap_or(0), columns.parse().unwrap_or(0))
 }
 
 /// What a pane shows: whether it is current and its shape, the title, the heading, the current name, how many names can't
 /// be shown, and its items.
-fn pane_of(alloc: Global, text: &str) -> Result<Pane> {
+fn pane_of(page: &mut Page, text: &str) -> Pane {
     let (kind, text) = two_fields(text, ';');
     let (title, text) = two_fields(text, ';');
     let (heading, text) = two_fields(text, ';');
     let (name, text) = two_fields(text, ';');
     let (unnamed, items) = two_fields(text, ';');
-    Ok(Pane {
-        title: Text::from_str(alloc, title)?,
-        heading: Text::from_str(alloc, heading)?,
+    Pane {
+        title: text_of(page, title),
+        heading: text_of(page, heading),
         shape: shape_of(kind),
-        items: items_of(alloc, items)?,
-        name: Text::from_str(alloc, name)?,
-        unnamed: unnamed.parse()?,
+        items: items_of(page, items),
+        name: text_of(page, name),
+        unnamed: unnamed.parse().unwrap_or(0),
         is_current: kind.starts_with("current"),
-    })
+    }
 }
 
 fn shape_of(kind: &str) -> Shape {
@@ -83,14 +93,14 @@ fn shape_of(kind: &str) -> Shape {
     }
 }
 
-fn items_of(alloc: Global, texts: &str) -> Result<Items> {
-    let mut items = Items::new(alloc);
+fn items_of(page: &mut Page, texts: &str) -> Items {
+    let mut items = Items::new(page.alloc());
     for text in texts.split(';') {
         let (text, look) = looked(text);
-        let text = Text::from_str(alloc, text)?;
-        items.push(Item { text, look })?;
+        let text = text_of(page, text);
+        page.need(items.push(Item { text, look }).is_ok());
     }
-    Ok(items)
+    items
 }
 
 /// A text without its mark, and how it looks.
@@ -104,53 +114,55 @@ fn looked(text: &str) -> (&str, Attr) {
     }
 }
 
-fn counts_of(words: &str) -> Result<JobCounts>
-    ensures { IfOk result (λ jobs. live_jobs jobs < 2 ^ 64) }
+/// How many jobs are ready, asking, in trouble, and stopped.
+fn counts_of(words: &str) -> JobCounts
+    ensures { live_jobs result < 2 ^ 64 }
 {
     let (ready, words) = two_fields(words, ' ');
     let (asking, words) = two_fields(words, ' ');
     let (troubled, stopped) = two_fields(words, ' ');
-    Ok(JobCounts {
-        ready: count_of(ready)?,
-        asking: count_of(asking)?,
-        troubled: count_of(troubled)?,
-        stopped: count_of(stopped)?,
-    })
+    JobCounts {
+        ready: count_of(ready),
+        asking: count_of(asking),
+        troubled: count_of(troubled),
+        stopped: count_of(stopped),
+    }
 }
 
-fn count_of(word: &str) -> Result<usize>
-    ensures { IfOk result (λ count. count < 2 ^ 8) }
+fn count_of(word: &str) -> usize
+    ensures { result < 2 ^ 8 }
 {
-    let count: u8 = word.parse()?;
-    Ok(usize::from(count))
+    let count: u8 = word.parse().unwrap_or(0);
+    usize::from(count)
 }
 
-fn bar_of(word: &str) -> Result<KeyBar> {
+/// The keys of a page: the viewer's, or else the editor's.
+fn bar_of(word: &str) -> KeyBar {
     match word {
-        "viewer" => Ok(KeyBar::Viewer),
-        "editor" => Ok(KeyBar::Editor),
-        _ => bail!("no such page"),
+        "viewer" => KeyBar::Viewer,
+        _ => KeyBar::Editor,
     }
 }
 
 /// Rows with `;` between them.
-fn rows_of(alloc: Global, text: &str) -> Result<PageRows> {
-    let mut rows = Vec::new(alloc);
+fn rows_of(page: &mut Page, text: &str) -> PageRows {
+    let mut rows = Vec::new(page.alloc());
     for row in text.split(';') {
-        rows.push(row_of(alloc, row)?)?;
+        let row = row_of(page, row);
+        page.need(rows.push(row).is_ok());
     }
-    Ok(PageRows(rows))
+    PageRows(rows)
 }
 
 /// Runs with `,` between them, each its column, a colon and its text.
-fn row_of(alloc: Global, text: &str) -> Result<PageRow> {
-    let mut runs = Vec::new(alloc);
+fn row_of(page: &mut Page, text: &str) -> PageRow {
+    let mut runs = Vec::new(page.alloc());
     for run in text.split(',') {
         let (column, text) = two_fields(run, ':');
         let (text, look) = looked(text);
-        let text = Text::from_str(alloc, text)?;
-        let column = column.parse()?;
-        runs.push(Run { column, text, look })?;
+        let column = column.parse().unwrap_or(0);
+        let text = text_of(page, text);
+        page.need(runs.push(Run { column, text, look }).is_ok());
     }
-    Ok(PageRow(runs))
+    PageRow(runs)
 }

@@ -1,15 +1,14 @@
 //! Keys by their names.
-use anyhow::Result;
 use key_screen::{Base, Key};
-use std::alloc::Global;
+use row_page::Page;
 
 /// The keys of these words.
-pub fn keys_of(alloc: Global, words: &str) -> Result<Vec<Key>> {
-    let mut keys = Vec::new(alloc);
+pub fn keys_of(page: &mut Page, words: &str) -> Vec<Key> {
+    let mut keys = Vec::new(page.alloc());
     for word in words.split(' ') {
-        keys.push(key_of(word))?;
+        page.need(keys.push(key_of(word)).is_ok());
     }
-    Ok(keys)
+    keys
 }
 
 fn key_of(word: &str) -> Key {

@@ -35,9 +35,10 @@ abbrev pub ShowsResolved : CallLog → Result Route ResolveError → Result Pane
 ShowsResolved log (Ok folder) result = ShowsFolder log folder result
 ShowsResolved log (Err e) result = Answers (Err e) result
 
--- what Enter reads of the tree, and what that refuses
+-- what Enter reads of the tree, and what that refuses; where it leads nowhere nothing is read, and nothing refused
 abbrev pub Reads : Way → CallLog → PanelState → Result PanelState ResolveError → Type 0
-Reads Nowhere log p result = ⊤
+Reads Nowhere log p (Ok new) = ⊤
+Reads Nowhere log p (Err e) = ⊥
 Reads Up log p result = ShowsFolder log (holder p.folder) result
 Reads Into log p result = ShowsResolved log (resolved (current log) FolderAlone p.folder (current_text p)) result
 
@@ -52,7 +53,8 @@ GoesBack page p new = GoesTo p.visits.behind (λ folder. went_back page folder n
 abbrev pub GoesForward : ℕ → PanelState → PanelState → Going → Type 0
 GoesForward page p new = GoesTo p.visits.ahead (λ folder. went_forward page folder new.listing p) p new
 
--- the first of some folders is shown, if there is one
+-- the first of some folders is shown; where there is none nothing is read, and nothing refused
 abbrev pub ShowsNext : CallLog → List Route → Result PanelState ResolveError → Type 0
-ShowsNext log [] result = ⊤
+ShowsNext log [] (Ok p) = ⊤
+ShowsNext log [] (Err e) = ⊥
 ShowsNext log (folder ∷ folders) result = ShowsFolder log folder result

@@ -3,6 +3,8 @@ pub mod Formats
 pub mod Panels
 pub mod Wanted
 pub mod Readings
+pub mod FreshReads
+pub mod Rereadings
 pub mod Goings
 pub mod Selections
 pub mod Arrangements

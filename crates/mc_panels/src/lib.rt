@@ -4,10 +4,12 @@
 mod arranging;
 mod comparing;
 mod format;
+mod fresh;
 mod going;
 mod kept;
 mod panel;
 mod reading;
+mod rereading;
 mod scrolling;
 mod searching;
 mod selecting;
@@ -20,4 +22,5 @@ pub use comparing::compare_panels;
 pub use format::{Layout, PanelFormat};
 pub use going::Going;
 pub use panel::Panel;
+pub use rereading::{Unread, read_both_again};
 pub use window::{Mark, View};

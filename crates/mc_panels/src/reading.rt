@@ -7,10 +7,8 @@ ghost use Rattle.panel_listing.specs.Listings.{rows_in};
 ghost use Rattle.mc_panels.specs.Readings.{ListsFolder, ShowsFolder, outcome, first_wish, opened_panel, read_again};
 
 use crate::format::PanelFormat;
-use crate::kept::kept_tags;
 use crate::panel::Panel;
-use crate::scrolling::{rows_shown, scrolled};
-use crate::searching::{count_rows, row_from};
+use crate::searching::count_rows;
 use crate::visits::Visits;
 use mc_text::{NoMemory, Path};
 use panel_listing::{Listing, Order, Wish, read_listing};
@@ -45,7 +43,6 @@ impl Panel {
     }
 
     /// Reads its folder again. The cursor stays on its name, or else on its row; tags stay on names that are still there.
-    #[tactic(auto, using(crate::proofs::TagLemmas::read_back))]
     pub fn read_again<T: Tree>(
         &mut self,
         alloc: Global,
@@ -60,14 +57,8 @@ impl Panel {
         ensures cause { HasCause ResolveError.Fault (T.fault_count tree.old) (T.fault_count tree.new) result }
         ensures carried { IfErr result CarriesCause }
     {
-        let name = self.name_copy(alloc)?;
-        let listing = read_folder(alloc, tree, &self.folder, &self.wish)?;
-        let tags = kept_tags(alloc, &self.tags, listing.items())?;
-        let row = row_from(&listing, &name, self.cursor);
-        self.first = scrolled(rows_shown(self.format.layout(), page), self.first, row);
-        self.cursor = row;
-        self.listing = listing;
-        self.tags = tags;
+        let fresh = self.read_fresh(alloc, tree)?;
+        self.take(page, fresh);
         Ok(())
     }
 }

@@ -29,6 +29,8 @@ fn tell_section(page: &mut Page, name: &str, rows: &str) {
         "resolving" => resolving_rows::tell_rows(page, rows),
         "listings" => listing_rows::tell_rows(page, rows),
         "answers" => answer_rows::tell_rows(page, rows),
+        "boxes" => box_rows::tell_rows(page, rows),
+        "texts" => text_rows::tell_rows(page, rows),
         _ => page.fail(),
     }
 }

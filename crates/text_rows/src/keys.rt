@@ -1,43 +1,35 @@
 //! Rows of keys as terminals spell them.
-use crate::fields::bytes_of;
-use anyhow::Result;
 use key_screen::{Base, Key, KeyReader};
-use std::alloc::Global;
+use row_page::{Page, bytes_of};
 
 /// The keys that these bytes complete, fed one by one, and how many bytes are left.
-pub fn keys(alloc: Global, field: &str) -> Result<String> {
-    let bytes = bytes_of(alloc, field)?;
+pub fn tell_keys(page: &mut Page, field: &str) {
+    let bytes = bytes_of(page, field);
     let mut reader = KeyReader::new();
-    let mut line = String::new(alloc);
     for byte in &bytes {
         let fed = reader.feed(*byte);
-        tell(alloc, &mut line, fed.first)?;
-        tell(alloc, &mut line, fed.second)?;
+        tell(page, fed.first);
+        tell(page, fed.second);
     }
-    Ok(format!(in alloc; "{line}({} left)", reader.pending())?)
+    page.tell(format_args!("({} left)", reader.pending()));
 }
 
-/// Writes a key behind the others, and a blank behind it.
-fn tell(alloc: Global, line: &mut String, key: Option<Key>) -> Result<()> {
+/// Writes a key, and a blank behind it.
+fn tell(page: &mut Page, key: Option<Key>) {
     if let Some(key) = key {
-        let meta = if key.meta { "M-" } else { "" };
-        let base = base_name(alloc, key.base)?;
-        line.push_str(meta)?;
-        line.push_str(base.as_str())?;
-        line.push(' ')?;
+        page.put(if key.meta { "M-" } else { "" });
+        tell_base(page, key.base);
+        page.put(" ");
     }
-    Ok(())
 }
 
 /// A key's name: a character of ASCII that is seen is itself, another has its number.
-fn base_name(alloc: Global, base: Base) -> Result<String> {
+fn tell_base(page: &mut Page, base: Base) {
     match base {
-        Base::Char(character) if character.is_ascii_graphic() => {
-            Ok(format!(in alloc; "{character}")?)
-        }
-        Base::Char(character) => Ok(format!(in alloc; "U+{:04X}", character as u32)?),
-        Base::Ctrl(code) => Ok(format!(in alloc; "C-{}", code as char)?),
-        Base::F(number) => Ok(format!(in alloc; "F{number}")?),
-        named => Ok(format!(in alloc; "{named:?}")?),
+        Base::Char(character) if character.is_ascii_graphic() => page.tell(character),
+        Base::Char(character) => page.tell(format_args!("U+{:04X}", character as u32)),
+        Base::Ctrl(code) => page.tell(format_args!("C-{}", code as char)),
+        Base::F(number) => page.tell(format_args!("F{number}")),
+        named => page.tell(format_args!("{named:?}")),
     }
 }
