@@ -1,10 +1,12 @@
 -- What a deletion takes up, and how it goes into a folder.
-use Rattle.std.proofs.Common.{◌≡◌, ℕ, ◌+◌, ◌<◌, suc, Bool, inl, inr, IfSome, IfNone, List, [], refl, sym, ◌∙◌, ap, subst, Option, Some, None, Ok, Err, true}
-use Rattle.mc_text.specs.Routes.{Route}
+use Rattle.std.proofs.Common.{◌≡◌, ℕ, ◌+◌, ◌<◌, ◌≤◌, zero, suc, Bool, false, length, arith, inl, inr, IfSome, IfNone, List, [], refl, sym, ◌∙◌, ap, subst, Option, Some, None, Ok, Err, true}
+use Rattle.std.specs.Prelude.{◌==◌}
+use Rattle.std.proofs.lemmas.Bool.{eqb-true, true≢false}
+use Rattle.mc_text.specs.Routes.{Route, spelled}
 use Rattle.tree_trait.specs.declared.file_system.FileSystem.{FileSystem}
 use Rattle.tree_trait.specs.Change.{CallLog, current}
 use Rattle.job_reports.specs.declared.report.Cause.{Cause}
-use Rattle.job_reports.specs.declared.report.Cause.TheVariants.{TooDeep, TooLong, Memory}
+use Rattle.job_reports.specs.declared.report.Cause.TheVariants.{Tree, TargetKind, SpecialSource, TooDeep, PartTaken, TooLong, Unnamed, Changed, Memory}
 use Rattle.job_reports.specs.declared.report.Trouble.{Trouble}
 use Rattle.job_reports.specs.Stops.{IsTroubleWithPath}
 use Rattle.job_reports.specs.Paths.{folder_of}
@@ -12,14 +14,15 @@ use Rattle.job_reports.proofs.Reading.{told}
 use Rattle.tree_trait.specs.declared.calls.Children.{Children}
 use Rattle.subtree_walk.specs.Places.{IsLeft, Place, entered, opened, passed}
 use Rattle.subtree_walk.specs.Ranks.{rank, rank_around, weight}
+use Rattle.tree_deletion.specs.declared.deletion.Depth.{Depth}
 use Rattle.tree_deletion.specs.declared.deletion.Depth.TheVariants.{Top, Inside}
 use Rattle.tree_deletion.specs.declared.deletion.Deletion.{Deletion}
 use Rattle.tree_deletion.specs.declared.looking.Found.TheVariants as found
 use Rattle.tree_deletion.specs.declared.meeting.Met.TheVariants as met
 use Rattle.tree_deletion.specs.declared.deletion.Stage.{Stage}
 use Rattle.tree_deletion.specs.Standing.{Decides, IsDone, Item, Thing, End, Leaves, after_item, item, item_at, item_of, rank_at, worked}
-use Rattle.tree_deletion.specs.Steps.{IsThing, KeepsRest, Passes, TakesOff, path_of}
-use Rattle.tree_deletion.specs.Descending.{GoesInto, IsAt, IsNext, Meets, StandsSo, StopsAt, ThingStops, opened_at}
+use Rattle.tree_deletion.specs.Steps.{IsThing, KeepsRest, LeavesFolder, Passes, TakesOff, path_of}
+use Rattle.tree_deletion.specs.Descending.{GoesInto, IsAt, IsNext, IsTooDeep, IsTooLongAt, ItemStops, LookStops, MayLook, Meets, StandsSo, StopsAt, ThingStops, opened_at}
 
 pub at_itself : (d : Deletion) → IsAt d d
 at_itself d = record { place = refl; depth_is = refl; stage_is = refl; path_is = refl; folder_is = refl }
@@ -35,36 +38,66 @@ pub end_item : (d : Deletion) → d.depth ≡ Inside → d.walk.place.inner.name
 end_item d depth none = ap (λ x. item_at x d.path d.walk.place) depth ∙ ap (λ ns. item_of ns d.walk.place.inner.path (worked d.path d.walk.place)) none
 
 -- out of memory anything stops
-pub memory_stops : (s : FileSystem) (i : Item) → StopsAt s i Memory None
-memory_stops s (Thing path) = refl
-memory_stops s (End folder) = (refl, refl)
+memory_item : (s : FileSystem) (depth : Depth) (place : Place) (i : Item) → ItemStops s depth place i Memory None
+memory_item s depth place (Thing path) = refl
+memory_item s depth place (End folder) = (refl, refl)
 
-pub at_thing : (s : FileSystem) (i : Item) (path : Route) (cause : Cause) (named : Option Route) → i ≡ Thing path → ThingStops s path cause named → StopsAt s i cause named
-at_thing s i path cause named is stops = subst (λ x. StopsAt s x cause named) (sym is) stops
+pub memory_stops : (s : FileSystem) (d : Deletion) → StopsAt s d Memory None
+memory_stops s d = memory_item s d.depth d.walk.place (item d)
 
-pub deep_stops : (s : FileSystem) (i : Item) (path : Route) (t : Trouble) → i ≡ Thing path → IsTroubleWithPath TooDeep path t → StopsAt s i t.cause t.path
-deep_stops s i path t is with_path = at_thing s i path t.cause t.path is (told (λ (u : Trouble). ThingStops s path u.cause u.path) TooDeep path t with_path refl refl)
+pub at_thing : (s : FileSystem) (d : Deletion) (path : Route) (cause : Cause) (named : Option Route) → item d ≡ Thing path → ThingStops s d.depth d.walk.place path cause named → StopsAt s d cause named
+at_thing s d path cause named is stops = subst (λ x. ItemStops s d.depth d.walk.place x cause named) (sym is) stops
 
-pub long_stops : (s : FileSystem) (i : Item) (path folder : Route) (t : Trouble) → i ≡ Thing path → folder ≡ folder_of path → IsTroubleWithPath TooLong folder t → StopsAt s i t.cause t.path
-long_stops s i path folder t is of with_path =
-    at_thing s i path t.cause t.path is (told (λ (u : Trouble). ThingStops s path u.cause u.path) TooLong folder t with_path (ap (λ p. Some p) of) refl)
+pub deep_stops : (s : FileSystem) (d : Deletion) (path : Route) (t : Trouble) → d.depth ≡ Inside → item d ≡ Thing path → (d.walk.place.left == 0) ≡ true → length (spelled path) ≤ 4096 → IsTroubleWithPath TooDeep path t
+    → StopsAt s d t.cause t.path
+deep_stops s d path t depth is deepest short with_path =
+    at_thing s d path t.cause t.path is (told (λ (u : Trouble). ThingStops s d.depth d.walk.place path u.cause u.path) TooDeep path t with_path
+    (refl, subst (λ x. IsTooDeep x d.walk.place path) (sym depth) (eqb-true d.walk.place.left 0 deepest, short)) refl)
+
+pub long_stops : (s : FileSystem) (d : Deletion) (path folder : Route) (t : Trouble) → d.depth ≡ Inside → item d ≡ Thing path → folder ≡ folder_of path → 4096 < length (spelled path) → IsTroubleWithPath TooLong folder t
+    → StopsAt s d t.cause t.path
+long_stops s d path folder t depth is of long with_path =
+    at_thing s d path t.cause t.path is (told (λ (u : Trouble). ThingStops s d.depth d.walk.place path u.cause u.path) TooLong folder t with_path
+    (ap (λ p. Some p) of, subst (λ x. IsTooLongAt x path) (sym depth) long) refl)
+
+-- a thing in a folder may be looked at
+some_left : (left : ℕ) → (left == 0) ≡ false → 1 ≤ left
+some_left zero more = absurd (true≢false more)
+some_left (suc left) more = omega arith
+
+pub may_below : (d : Deletion) (path : Route) → d.depth ≡ Inside → (d.walk.place.left == 0) ≡ false → length (spelled path) ≤ 4096 → MayLook d.depth d.walk.place path
+may_below d path depth more short = subst (λ x. MayLook x d.walk.place path) (sym depth) (some_left d.walk.place.left more, short)
+
+pub may_top : (d : Deletion) (path : Route) → d.depth ≡ Top → MayLook d.depth d.walk.place path
+may_top d path depth = subst (λ x. MayLook x d.walk.place path) (sym depth) tt
+
+look_stopped : (s : FileSystem) (depth : Depth) (place : Place) (path : Route) (cause : Cause) (named : Option Route) → MayLook depth place path → LookStops s path cause named → ThingStops s depth place path cause named
+look_stopped s depth place path (Tree e) named may h = (may, h)
+look_stopped s depth place path Memory named may h = h
+look_stopped s depth place path (Unnamed count) named may h = (may, h)
+look_stopped s depth place path TooDeep named may h = absurd h
+look_stopped s depth place path TooLong named may h = absurd h
+look_stopped s depth place path (TargetKind kind) named may h = absurd h
+look_stopped s depth place path SpecialSource named may h = absurd h
+look_stopped s depth place path PartTaken named may h = absurd h
+look_stopped s depth place path (Changed said got) named may h = absurd h
 
 -- what a look came to at the item that is taken up
-module _ (contents : Option CallLog) (old : Deletion) (path : Route) (is : item old ≡ Thing path) where
-  pub meets_thing : Meets contents old (Ok (met.Thing path)) old
-  meets_thing = (at_itself old, is)
+module _ (contents : Option CallLog) (old : Deletion) (path : Route) (is : item old ≡ Thing path) (may : MayLook old.depth old.walk.place path) where
+  pub meets_thing : StandsSo contents path (Ok found.Thing) → Meets contents old (Ok (met.Thing path)) old
+  meets_thing plain = (at_itself old, is, may, plain)
 
   pub meets_stopped : (t : Trouble) → StandsSo contents path (Err t) → Meets contents old (Err t) old
-  meets_stopped t stops = (at_itself old, λ log known. at_thing (current log) (item old) path t.cause t.path is (stops log known))
+  meets_stopped t stops = (at_itself old, λ log known. at_thing (current log) old path t.cause t.path is (look_stopped (current log) old.depth old.walk.place path t.cause t.path may (stops log known)))
 
   pub meets_folder : (new : Deletion) (children : Children) → StandsSo contents path (Ok (found.Folder children)) → GoesInto old path children.names (Ok met.Entered) new
       → Meets contents old (Ok met.Entered) new
   meets_folder new children stands goes =
-      ((path, record { children = children; takes = is; lists = stands.1; all = stands.0; opened_is = goes.0 }), goes.1)
+      ((path, record { children = children; takes = is; may = may; lists = stands.2; all = stands.0; in_order = stands.1; opened_is = goes.0 }), goes.1)
 
   pub meets_no_room : (new : Deletion) (children : Children) (t : Trouble) → GoesInto old path children.names (Err t) new → Meets contents old (Err t) new
   meets_no_room new children t goes =
-      (goes.0, λ log known. subst (λ (u : Trouble). StopsAt (current log) (item old) u.cause u.path) (sym goes.1) (memory_stops (current log) (item old)))
+      (goes.0, λ log known. subst (λ (u : Trouble). StopsAt (current log) old u.cause u.path) (sym goes.1) (memory_stops (current log) old))
 
 -- the folder that is deleted is opened
 pub opens : (old new : Deletion) (folder : Route) (names : List (List ℕ)) → old.depth ≡ Top → new.walk.place ≡ record old.walk.place { inner = opened folder names } → new.depth ≡ Inside
@@ -138,6 +171,17 @@ folder_decides old mid left path stage to depth next leaves keeps is =
 -- the thing that is deleted is left
 pub top_taken : (d : Deletion) (path : Route) → d.depth ≡ Top → path ≡ d.path → TakesOff path d d
 top_taken d path depth is = inl (is ∙ sym (ap path_of (top_item d depth)), top_passes d true depth)
+
+-- the folder that ends is left
+pub end_taken : (old new : Deletion) (path : Route) → old.depth ≡ Inside → item old ≡ End (worked old.path old.walk.place) → LeavesFolder path old new → TakesOff path old new
+end_taken old new path depth is l = inl (
+  l.path_is ∙ sym (ap path_of is),
+  (subst (λ x. IsDone x (item old) true old.walk.place new.walk.place) (sym depth) (subst (λ i. IsDone Inside i true old.walk.place new.walk.place) (sym is) l.place), l.rest),
+)
+
+-- the folder is left in which a path would be too long
+pub long_taken : (old new : Deletion) (path long : Route) → item old ≡ Thing long → 4096 < length (spelled long) → LeavesFolder path old new → TakesOff path old new
+long_taken old new path long is bytes l = inr (record { path = long; takes = is; bytes = bytes }, l)
 
 -- the next thing is left
 pub next_taken : (old new : Deletion) (path : Route) → old.depth ≡ Inside → IsNext path old.walk.place → Passes true old new → TakesOff path old new

@@ -48,8 +48,10 @@ enters_at : (contents : Option CallLog) (old mid new : Deletion) (folder : Route
 enters_at contents old mid new folder e a = record {
   children = e.children;
   takes = e.takes;
+  may = e.may;
   lists = e.lists;
   all = e.all;
+  in_order = e.in_order;
   opened_is = let o = e.opened_is in record {
     place = a.place ∙ o.place;
     depth_is = a.depth_is ∙ o.depth_is;

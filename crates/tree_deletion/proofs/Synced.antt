@@ -15,7 +15,7 @@ use Rattle.job_reports.specs.Paths.{without}
 use Rattle.job_reports.specs.Stops.{calls_made_for, trouble_at}
 use Rattle.job_reports.proofs.Tried.{counts_try, tries_few}
 use Rattle.tree_deletion.specs.declared.deletion.Deletion.{Deletion}
-use Rattle.tree_deletion.specs.Folders.{IsOwnAt, is_of}
+use Rattle.tree_deletion.specs.Folders.{IsOwn, IsOwnAt}
 use Rattle.tree_deletion.specs.Steps.{LastSteps, SyncSteps}
 use Rattle.tree_deletion.proofs.Worked.{fault-cause}
 
@@ -26,7 +26,7 @@ module _ (d : Deletion) (folders folders_after : List Route) (before after : Opt
   counted : (folder : Route) (answer : Result (Unit {0}) TreeError) (calls : ℕ) → calls ≡ calls_made_for answer → Synced folder answer → IfKnown before (λ log. IfKnown after (HasMore log calls))
   counted folder answer calls count called log known now is = subst (λ n. HasMore log n now) (sym count) (counts_try (SyncFolder folder) answer log now after (called log known) is)
 
-  pub syncs_done : (did : Did) (calls : ℕ) (folder : Route) → did ≡ Barrier → calls ≡ 1 → is_of d.folder d.path folder ≡ true → folders_after ≡ without folder folders → Synced folder (Ok tt)
+  pub syncs_done : (did : Did) (calls : ℕ) (folder : Route) → did ≡ Barrier → calls ≡ 1 → IsOwn d.folder d.path folders folder → folders_after ≡ without folder folders → Synced folder (Ok tt)
       → (before ≡ None → after ≡ None) → faults ≤ faults_after → SyncSteps d did calls folders folders_after before after faults faults_after
   syncs_done did calls folder is count own left called unknown later =
       subst (λ x. SyncSteps d x calls folders folders_after before after faults faults_after) (sym is) record {
@@ -38,11 +38,11 @@ module _ (d : Deletion) (folders folders_after : List Route) (before after : Opt
         fault = λ h. absurd h;
       }
 
-  pub syncs_refused : (did : Did) (calls : ℕ) (e : TreeError) (folder : Route) → did ≡ Troubled (trouble_at e folder true) → calls ≡ calls_made_for (Err e) → folders_after ≡ folders → Synced folder (Err e)
+  pub syncs_refused : (did : Did) (calls : ℕ) (e : TreeError) (folder : Route) → IsOwn d.folder d.path folders folder → did ≡ Troubled (trouble_at e folder true) → calls ≡ calls_made_for (Err e) → folders_after ≡ folders → Synced folder (Err e)
       → (before ≡ None → after ≡ None) → faults ≤ faults_after → (e ≡ refused.Fault → HasRisen faults faults_after) → SyncSteps d did calls folders folders_after before after faults faults_after
-  syncs_refused did calls e folder is count left called unknown later fault =
+  syncs_refused did calls e folder own is count left called unknown later fault =
       subst (λ x. SyncSteps d x calls folders folders_after before after faults faults_after) (sym is) record {
-        syncs = (e, folder, refl, left, called);
+        syncs = (e, folder, own, refl, left, called);
         counted = counted folder (Err e) calls count called;
         few = let most = tries_few (Err e) in omega (arith, count, most);
         unknown = unknown;
@@ -50,23 +50,17 @@ module _ (d : Deletion) (folders folders_after : List Route) (before after : Opt
         fault = λ h. fault (fault-cause e h);
       }
 
-same_kept : (x : Option Route) (a b : Route) → x ≡ Some a → x ≡ Some b → a ≡ b
-same_kept x a b p q = let e : (let o : Option Route = Some a in o) ≡ Some b = sym p ∙ q in cc
-
 module _ (d : Deletion) (ending : Ending) (from next at : ℕ) (folder : Route) (folders folders_after : List Route) (before after : Option CallLog) (faults faults_after : ℕ)
     (own : IsOwnAt d.folder d.path folders from at) (stands : slice_get folders at ≡ Some folder) where
   abbrev Last : Did → ℕ → Option TreeError → Type 0
   Last did calls left = LastSteps ending d from next did calls left folders folders_after before after faults faults_after
-
-  is_own : is_of d.folder d.path folder ≡ true
-  is_own = subst (λ q. is_of d.folder d.path q ≡ true) (same_kept (slice_get folders at) own.kept folder own.stands stands) own.is
 
   -- a try that was done
   pub tries_done : (did : Did) (calls : ℕ) (left : Option TreeError) → did ≡ Barrier → calls ≡ 1 → left ≡ None → folders_after ≡ remove folders at → next ≡ at → Synced d folders folders_after before after faults faults_after folder (Ok tt)
       → (before ≡ None → after ≡ None) → faults ≤ faults_after → Last did calls left
   tries_done did calls left is count none gone next_is called unknown later =
       subst (λ x. Last x calls left) (sym is) (subst (λ x. Last Barrier calls x) (sym none) record {
-        tries = (at, folder, own.least, stands, is_own, gone, next_is, called);
+        tries = (at, folder, own, stands, gone, next_is, called);
         counted = counted d folders folders_after before after faults faults_after folder (Ok tt) calls count called;
         few = omega (arith, count);
         unknown = unknown;
@@ -79,7 +73,7 @@ module _ (d : Deletion) (ending : Ending) (from next at : ℕ) (folder : Route) 
       → Synced d folders folders_after before after faults faults_after folder (Err e) → (before ≡ None → after ≡ None) → faults ≤ faults_after → (e ≡ refused.Fault → HasRisen faults faults_after) → Last did calls left
   tries_vainly did calls left e is count some same next_is called unknown later fault =
       subst (λ x. Last x calls left) (sym is) (subst (λ x. Last Barrier calls x) (sym some) record {
-        tries = (at, folder, own.least, stands, is_own, same, next_is, called);
+        tries = (at, folder, own, stands, same, next_is, called);
         counted = counted d folders folders_after before after faults faults_after folder (Err e) calls count called;
         few = let most = tries_few (Err e) in omega (arith, count, most);
         unknown = unknown;

@@ -18,7 +18,7 @@ use Rattle.tree_deletion.specs.declared.deletion.Deletion.{Deletion}
 use Rattle.tree_deletion.specs.declared.deletion.Stage.TheVariants.{Going}
 use Rattle.tree_deletion.specs.Standing.{Decides, item}
 use Rattle.tree_deletion.specs.Descending.{IsAt, StopsAt}
-use Rattle.tree_deletion.specs.Steps.{IsBare, IsSpared, RemovalLeaves, Working, path_of, removal_of}
+use Rattle.tree_deletion.specs.Steps.{IsBare, IsSeen, IsSpared, RemovalLeaves, Working, path_of, removal_of}
 
 -- only a fault is called one
 pub fault-cause : (e : TreeError) → cause_of e ≡ Tree refused.Fault → e ≡ refused.Fault
@@ -32,6 +32,9 @@ module _ (old new : Deletion) (folders folders_after : List Route) (before after
   abbrev Called : Call → Result (Unit {0}) TreeError → Type 0
   Called call answer = IfKnown before (λ log. Performs {A = Unit {0}} log call answer after)
 
+  abbrev Seen : Type 0
+  Seen = IfKnown before (λ log. IsSeen (current log) old.depth old.walk.place (item old))
+
   counted : (call : Call) (answer : Result (Unit {0}) TreeError) (calls : ℕ) → calls ≡ calls_made_for answer → Called call answer → IfKnown before (λ log. IfKnown after (HasMore log calls))
   counted call answer calls count called log known now is = subst (λ n. HasMore log n now) (sym count) (counts_try call answer log now after (called log known) is)
 
@@ -40,12 +43,12 @@ module _ (old new : Deletion) (folders folders_after : List Route) (before after
 
   -- it is gone
   pub works_removed : (did : Did) (calls : ℕ) (path : Route) → did ≡ Removed path → calls ≡ 1 → path ≡ path_of (item old) → IsBare (item old) old.walk.place.inner.spared → Decides old false path Going new
-      → Called (removal_of (item old)) (Ok tt) → RemovalLeaves (item old) path folders folders_after → (before ≡ None → after ≡ None) → faults ≤ faults_after
+      → Seen → Called (removal_of (item old)) (Ok tt) → RemovalLeaves (item old) path folders folders_after → (before ≡ None → after ≡ None) → faults ≤ faults_after
       → Working old new did calls folders folders_after before after faults faults_after
-  works_removed did calls path is count path_is bare decides called leaves unknown later =
+  works_removed did calls path is count path_is bare decides seen called leaves unknown later =
       subst (λ d. Working old new d calls folders folders_after before after faults faults_after) (sym is) record {
         works = (path_is, bare, decides);
-        called = called;
+        called = λ log known. (seen log known, called log known);
         leaves = leaves;
         counted = counted (removal_of (item old)) (Ok tt) calls count called;
         few = omega (arith, count);
@@ -72,12 +75,12 @@ module _ (old new : Deletion) (folders folders_after : List Route) (before after
 
   -- its removal was refused
   pub works_refused : (did : Did) (calls : ℕ) (e : TreeError) (path : Route) → did ≡ Troubled (trouble_at e path false) → calls ≡ calls_made_for (Err e) → path ≡ path_of (item old) → IsAt old new
-      → Called (removal_of (item old)) (Err e) → folders_after ≡ folders → (before ≡ None → after ≡ None) → faults ≤ faults_after → (e ≡ refused.Fault → HasRisen faults faults_after)
+      → Seen → Called (removal_of (item old)) (Err e) → folders_after ≡ folders → (before ≡ None → after ≡ None) → faults ≤ faults_after → (e ≡ refused.Fault → HasRisen faults faults_after)
       → Working old new did calls folders folders_after before after faults faults_after
-  works_refused did calls e path is count path_is stays called leaves unknown later fault =
+  works_refused did calls e path is count path_is stays seen called leaves unknown later fault =
       subst (λ d. Working old new d calls folders folders_after before after faults faults_after) (sym is) record {
         works = (refl, stays);
-        called = λ log known. inr (e, ap (λ p. trouble_at e p false) path_is, called log known);
+        called = λ log known. inr (e, ap (λ p. trouble_at e p false) path_is, seen log known, called log known);
         leaves = leaves;
         counted = counted (removal_of (item old)) (Err e) calls count called;
         few = let most = tries_few (Err e) in omega (arith, count, most);
@@ -87,7 +90,7 @@ module _ (old new : Deletion) (folders folders_after : List Route) (before after
       }
 
   -- it can't be gone on with, and no call was made
-  pub works_stopped : (did : Did) (calls : ℕ) (t : Trouble) → did ≡ Troubled t → calls ≡ 0 → t.barrier ≡ false → IsAt old new → IfKnown before (λ log. StopsAt (current log) (item old) t.cause t.path)
+  pub works_stopped : (did : Did) (calls : ℕ) (t : Trouble) → did ≡ Troubled t → calls ≡ 0 → t.barrier ≡ false → IsAt old new → IfKnown before (λ log. StopsAt (current log) old t.cause t.path)
       → after ≡ before → folders_after ≡ folders → faults ≤ faults_after → (t.cause ≡ Tree refused.Fault → HasRisen faults faults_after)
       → Working old new did calls folders folders_after before after faults faults_after
   works_stopped did calls t is count apart stays stops same leaves later fault =

@@ -1,13 +1,14 @@
 -- How a deletion goes down into folders, and what stops it there.
-use Rattle.std.specs.Prelude.{◌≡◌, ◌⊎◌, ◌<◌, ℕ, ⊤, false, List, [], ◌∷◌, Option, Some, None, Result, Ok, Err}
-use Rattle.mc_text.specs.Routes.{Route}
+use Rattle.std.specs.Prelude.{◌≡◌, ◌⊎◌, ◌<◌, ◌≤◌, ℕ, ⊤, true, false, List, [], ◌∷◌, length, Option, Some, None, Result, Ok, Err}
+use Rattle.mc_text.specs.Routes.{Route, spelled}
 use Rattle.tree_trait.specs.declared.file_system.FileSystem.{FileSystem}
 use Rattle.tree_trait.specs.declared.calls.Children.{Children}
 use Rattle.tree_trait.specs.Calls.{Call, Stat, ListFolder}
 use Rattle.tree_trait.specs.FileSystem.{node}
 use Rattle.tree_trait.specs.Change.{CallLog, current, found}
-use Rattle.tree_trait.specs.Refusals.{refusal_of}
-use Rattle.tree_trait.specs.Answers.{IfKnown, IsListing}
+use Rattle.tree_trait.specs.declared.calls.TreeError.{TreeError}
+use Rattle.tree_trait.specs.Refusals.{is_folder, refusal_of}
+use Rattle.tree_trait.specs.Answers.{IfKnown, IsAscending, IsListing}
 use Rattle.job_reports.specs.declared.report.Cause.{Cause}
 use Rattle.job_reports.specs.declared.report.Cause.TheVariants.{Tree, TargetKind, SpecialSource, TooDeep, PartTaken, TooLong, Unnamed, Changed, Memory}
 use Rattle.job_reports.specs.declared.report.Trouble.{Trouble}
@@ -42,12 +43,29 @@ pub record IsOpened (old : Deletion) (folder : Route) (names : List (List ℕ)) 
   pub path_is : new.path ≡ old.path
   pub folder_is : new.folder ≡ old.folder
 
--- The folder that is taken up is gone into, with all the names in it, none of which is unnamed.
+-- What lies in the thing may be looked at where the walk may go down a level more, and its path isn't too long to be told.
+abbrev pub MayLook : Depth → Place → Route → Type 0
+MayLook Top place path = ⊤
+MayLook Inside place path = (1 ≤ place.left) × (length (spelled path) ≤ 4096)
+
+-- it lies too deep
+abbrev pub IsTooDeep : Depth → Place → Route → Type 0
+IsTooDeep Top place path = ⊥
+IsTooDeep Inside place path = (place.left ≡ 0) × (length (spelled path) ≤ 4096)
+
+-- its path is too long
+abbrev pub IsTooLongAt : Depth → Route → Type 0
+IsTooLongAt Top path = ⊥
+IsTooLongAt Inside path = 4096 < length (spelled path)
+
+-- The folder that is taken up is gone into, with all the names in it, in byte order, none of which is unnamed.
 pub record Enters (contents : Option CallLog) (old : Deletion) (folder : Route) (new : Deletion) : Type 0 where
   pub children : Children
   pub takes : item old ≡ Thing folder
+  pub may : MayLook old.depth old.walk.place folder
   pub lists : Lists contents folder children
   pub all : children.unnamed ≡ 0
+  pub in_order : IsAscending children.names
   pub opened_is : IsOpened old folder children.names new
 
 -- all but the room of the walk
@@ -75,28 +93,46 @@ CallStops s call look TooLong named = ⊥
 CallStops s call look (Unnamed count) named = ⊥
 CallStops s call look (Changed said got) named = ⊥
 
--- why a thing can't be gone on with: the path that is named, and the tree's refusal of a look or a listing
-abbrev pub ThingStops : FileSystem → Route → Cause → Option Route → Type 0
-ThingStops s path (Tree e) named = (named ≡ Some path) × (IsRefusedWith s (Stat path) e ⊎ IsRefusedWith s (ListFolder path) e)
-ThingStops s path Memory named = named ≡ None
-ThingStops s path TooDeep named = named ≡ Some path
-ThingStops s path TooLong named = named ≡ Some (folder_of path)
-ThingStops s path (Unnamed count) named = (named ≡ Some path) × (0 < count) × ((node s (found s path)).unnamed ≡ count)
-ThingStops s path (TargetKind kind) named = ⊥
-ThingStops s path SpecialSource named = ⊥
-ThingStops s path PartTaken named = ⊥
-ThingStops s path (Changed said got) named = ⊥
+-- the listing of a folder is refused with this error
+abbrev pub IsUnlisted : FileSystem → Route → TreeError → Type 0
+IsUnlisted s path e = (is_folder (node s (found s path)) ≡ true) × IsRefusedWith s (ListFolder path) e
+
+-- what looking at a thing is stopped by: the look, or the listing of a folder, is refused, or not all its names can be shown
+abbrev pub LookStops : FileSystem → Route → Cause → Option Route → Type 0
+LookStops s path (Tree e) named = (named ≡ Some path) × (IsRefusedWith s (Stat path) e ⊎ IsUnlisted s path e)
+LookStops s path Memory named = named ≡ None
+LookStops s path (Unnamed count) named = (named ≡ Some path) × (0 < count) × ((node s (found s path)).unnamed ≡ count)
+LookStops s path TooDeep named = ⊥
+LookStops s path TooLong named = ⊥
+LookStops s path (TargetKind kind) named = ⊥
+LookStops s path SpecialSource named = ⊥
+LookStops s path PartTaken named = ⊥
+LookStops s path (Changed said got) named = ⊥
+
+-- Why a thing can't be gone on with, and the path that is named: it lies too deep, its path is too long, or a look is stopped.
+abbrev pub ThingStops : FileSystem → Depth → Place → Route → Cause → Option Route → Type 0
+ThingStops s depth place path TooDeep named = (named ≡ Some path) × IsTooDeep depth place path
+ThingStops s depth place path TooLong named = (named ≡ Some (folder_of path)) × IsTooLongAt depth path
+ThingStops s depth place path Memory named = named ≡ None
+ThingStops s depth place path cause named = MayLook depth place path × LookStops s path cause named
 
 -- the end of a folder is stopped by want of memory alone, before its removal
-abbrev pub StopsAt : FileSystem → Item → Cause → Option Route → Type 0
-StopsAt s (Thing path) cause named = ThingStops s path cause named
-StopsAt s (End folder) cause named = (cause ≡ Memory) × (named ≡ None)
+abbrev pub ItemStops : FileSystem → Depth → Place → Item → Cause → Option Route → Type 0
+ItemStops s depth place (Thing path) cause named = ThingStops s depth place path cause named
+ItemStops s depth place (End folder) cause named = (cause ≡ Memory) × (named ≡ None)
+
+abbrev pub StopsAt : FileSystem → Deletion → Cause → Option Route → Type 0
+StopsAt s d cause named = ItemStops s d.depth d.walk.place (item d) cause named
+
+-- what a tree that tells has there is no folder
+abbrev pub IsPlain : Option CallLog → Route → Type 0
+IsPlain contents path = IfKnown contents (λ log. is_folder (node (current log) (found (current log) path)) ≡ false)
 
 -- what stands at a path: a folder with these names, or a thing that is none
 abbrev pub StandsSo : Option CallLog → Route → Result Found Trouble → Type 0
-StandsSo contents path (Ok found.Thing) = ⊤
-StandsSo contents path (Ok (found.Folder children)) = (children.unnamed ≡ 0) × Lists contents path children
-StandsSo contents path (Err trouble) = IfKnown contents (λ log. ThingStops (current log) path trouble.cause trouble.path)
+StandsSo contents path (Ok found.Thing) = IsPlain contents path
+StandsSo contents path (Ok (found.Folder children)) = (children.unnamed ≡ 0) × IsAscending children.names × Lists contents path children
+StandsSo contents path (Err trouble) = IfKnown contents (λ log. LookStops (current log) path trouble.cause trouble.path)
 
 -- a listing, unless it has names that can't be shown
 abbrev pub IsFound : Route → Children → Result Found Trouble → Type 0
@@ -123,6 +159,6 @@ GoesInto old folder names (Err trouble) new = IsAt old new × (trouble ≡ out_o
 abbrev pub Meets : Option CallLog → Deletion → Result Met Trouble → Deletion → Type 0
 Meets contents old (Ok met.Entered) new =
     ((folder : Route) × Enters contents old folder new) × (rank_at new.depth new.walk.place < rank_at old.depth old.walk.place)
-Meets contents old (Ok (met.Thing path)) new = IsAt old new × (item old ≡ Thing path)
+Meets contents old (Ok (met.Thing path)) new = IsAt old new × (item old ≡ Thing path) × MayLook old.depth old.walk.place path × IsPlain contents path
 Meets contents old (Ok met.End) new = IsAt old new × (old.depth ≡ Inside) × (item old ≡ End (worked old.path old.walk.place))
-Meets contents old (Err trouble) new = IsAt old new × IfKnown contents (λ log. StopsAt (current log) (item old) trouble.cause trouble.path)
+Meets contents old (Err trouble) new = IsAt old new × IfKnown contents (λ log. StopsAt (current log) old trouble.cause trouble.path)

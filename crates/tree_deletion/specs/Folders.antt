@@ -20,6 +20,15 @@ is_of folder top kept = same_path kept folder || is_prefix top kept
 abbrev pub NoneOf : Route → Route → List Route → Type 0
 NoneOf folder top folders = (kept : Route) → Among folders kept → is_of folder top kept ≡ false
 
+-- one of these that is
+pub record IsOwn (folder top : Route) (folders : List Route) (kept : Route) : Type 0 where
+  pub dirty : Among folders kept
+  pub is : is_of folder top kept ≡ true
+
+-- none is from one place on, up to another
+abbrev pub NoneBetween : Route → Route → List Route → ℕ → ℕ → Type 0
+NoneBetween folder top folders from to = (at : ℕ) (kept : Route) → from ≤ at → at < to → slice_get folders at ≡ Some kept → is_of folder top kept ≡ false
+
 -- from this place on the first that is stands there
 pub record IsOwnAt (folder top : Route) (folders : List Route) (from at : ℕ) : Type 0 where
   pub least : from ≤ at
@@ -27,3 +36,4 @@ pub record IsOwnAt (folder top : Route) (folders : List Route) (from at : ℕ) :
   pub kept : Route
   pub stands : slice_get folders at ≡ Some kept
   pub is : is_of folder top kept ≡ true
+  pub first : NoneBetween folder top folders from at

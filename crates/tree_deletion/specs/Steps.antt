@@ -1,10 +1,13 @@
 -- What a step of a deletion reports, where the deletion stands then, and what it says of the tree's calls.
-use Rattle.std.specs.Prelude.{◌≡◌, ◌⊎◌, ℕ, ◌<◌, ◌≤◌, ⊤, Bool, true, false, List, Option, Some, None, Ok, Err, ◌+◌, remove, slice_get}
-use Rattle.mc_text.specs.Routes.{Route}
+use Rattle.std.specs.Prelude.{◌≡◌, ◌⊎◌, ℕ, ◌<◌, ◌≤◌, ⊤, Bool, true, false, List, length, Option, Some, None, Ok, Err, ◌+◌, remove, slice_get}
+use Rattle.mc_text.specs.Routes.{Route, spelled}
 use Rattle.tree_trait.specs.declared.calls.TreeError.{TreeError}
 use Rattle.tree_trait.specs.declared.calls.TreeError.TheVariants.{Fault}
 use Rattle.tree_trait.specs.Calls.{Call, RemoveFile, RemoveFolder, SyncFolder}
-use Rattle.tree_trait.specs.Change.{CallLog, current}
+use Rattle.tree_trait.specs.declared.file_system.FileSystem.{FileSystem}
+use Rattle.tree_trait.specs.FileSystem.{node}
+use Rattle.tree_trait.specs.Refusals.{is_folder}
+use Rattle.tree_trait.specs.Change.{CallLog, current, found}
 use Rattle.tree_trait.specs.Answers.{IfKnown, HasRisen, Performs}
 use Rattle.job_reports.specs.declared.report.Cause.{Cause}
 use Rattle.job_reports.specs.declared.report.Ending.{Ending}
@@ -19,8 +22,10 @@ use Rattle.job_reports.specs.Stops.{out_of_memory_at, sync_answer, trouble_at}
 use Rattle.tree_deletion.specs.declared.deletion.Deletion.{Deletion}
 use Rattle.tree_deletion.specs.declared.deletion.Stage.TheVariants.{Going}
 use Rattle.tree_deletion.specs.Standing.{Item, Thing, End, Decides, IsDone, Leaves, after_item, at_barrier, item, rank_at, things_left, worked}
-use Rattle.tree_deletion.specs.Descending.{Descends, Enters, IsAt, StopsAt}
-use Rattle.tree_deletion.specs.Folders.{NoneOf, is_of, joined}
+use Rattle.subtree_walk.specs.Places.{Place}
+use Rattle.tree_deletion.specs.declared.deletion.Depth.{Depth}
+use Rattle.tree_deletion.specs.Descending.{Descends, Enters, IsAt, MayLook, StopsAt}
+use Rattle.tree_deletion.specs.Folders.{IsOwn, IsOwnAt, NoneBetween, NoneOf, joined}
 
 -- the call that removes an item
 abbrev pub removal_of : Item → Call
@@ -49,13 +54,18 @@ Works d (Kept path) new = (path ≡ path_of (item d)) × IsSpared (item d) d.wal
 Works d (Troubled trouble) new = (trouble.barrier ≡ false) × IsAt d new
 Works d did new = ⊥
 
+-- a thing that is to be removed was looked at, and is no folder
+abbrev pub IsSeen : FileSystem → Depth → Place → Item → Type 0
+IsSeen s depth place (Thing path) = MayLook depth place path × (is_folder (node s (found s path)) ≡ false)
+IsSeen s depth place (End folder) = ⊤
+
 -- What it says of the tree's calls: a removal was done; a trouble is its refusal, or comes before it; what stays makes none.
 abbrev pub WorkCalls : Deletion → Did → CallLog → Option CallLog → Type 0
-WorkCalls d (Removed path) log after = Performs {A = Unit {0}} log (removal_of (item d)) (Ok tt) after
+WorkCalls d (Removed path) log after = IsSeen (current log) d.depth d.walk.place (item d) × Performs {A = Unit {0}} log (removal_of (item d)) (Ok tt) after
 WorkCalls d (Kept path) log after = after ≡ Some log
 WorkCalls d (Troubled trouble) log after =
-    ((after ≡ Some log) × StopsAt (current log) (item d) trouble.cause trouble.path)
-    ⊎ ((e : TreeError) × (trouble ≡ trouble_at e (path_of (item d)) false) × Performs {A = Unit {0}} log (removal_of (item d)) (Err e) after)
+    ((after ≡ Some log) × StopsAt (current log) d trouble.cause trouble.path)
+    ⊎ ((e : TreeError) × (trouble ≡ trouble_at e (path_of (item d)) false) × IsSeen (current log) d.depth d.walk.place (item d) × Performs {A = Unit {0}} log (removal_of (item d)) (Err e) after)
 WorkCalls d did log after = ⊥
 
 -- What it makes of the unsynced folders: that of a removed thing is one of them, and a folder that is gone is not.
@@ -123,9 +133,15 @@ pub record LeavesFolder (path : Route) (old new : Deletion) : Type 0 where
   pub place : Leaves true old.walk.place new.walk.place
   pub rest : KeepsRest old new
 
--- what is taken up is left, or the folder in which it lies
+-- the path of what is taken up is too long to be told
+pub record IsTooLong (d : Deletion) : Type 0 where
+  pub path : Route
+  pub takes : item d ≡ Thing path
+  pub bytes : 4096 < length (spelled path)
+
+-- what is taken up is left; where its path is too long, the folder in which it lies
 abbrev pub TakesOff : Route → Deletion → Deletion → Type 0
-TakesOff path old new = ((path ≡ path_of (item old)) × Passes true old new) ⊎ LeavesFolder path old new
+TakesOff path old new = ((path ≡ path_of (item old)) × Passes true old new) ⊎ (IsTooLong old × LeavesFolder path old new)
 
 -- the report of what was left, and where the deletion stands then; or that there was no memory for it
 abbrev pub Skips : Cause → Deletion → Did → Deletion → Type 0
@@ -136,9 +152,9 @@ Skips cause old did new =
 -- A step that syncs: a folder that this deletion changed is on the disk, or that was refused; where there is none it is finished.
 abbrev pub Syncs : Deletion → Did → List Route → List Route → Option CallLog → Option CallLog → Type 0
 Syncs d Barrier folders folders_after before after =
-    (folder : Route) × (is_of d.folder d.path folder ≡ true) × (folders_after ≡ without folder folders) × IfKnown before (λ log. Performs {A = Unit {0}} log (SyncFolder folder) (Ok tt) after)
+    (folder : Route) × IsOwn d.folder d.path folders folder × (folders_after ≡ without folder folders) × IfKnown before (λ log. Performs {A = Unit {0}} log (SyncFolder folder) (Ok tt) after)
 Syncs d (Troubled trouble) folders folders_after before after =
-    (e : TreeError) × (folder : Route) × (trouble ≡ trouble_at e folder true) × (folders_after ≡ folders) × IfKnown before (λ log. Performs {A = Unit {0}} log (SyncFolder folder) (Err e) after)
+    (e : TreeError) × (folder : Route) × IsOwn d.folder d.path folders folder × (trouble ≡ trouble_at e folder true) × (folders_after ≡ folders) × IfKnown before (λ log. Performs {A = Unit {0}} log (SyncFolder folder) (Err e) after)
 Syncs d (Ended ending part) folders folders_after before after =
     (ending ≡ Finished) × (part ≡ None) × NoneOf d.folder d.path folders × (folders_after ≡ folders) × (after ≡ before)
 Syncs d did folders folders_after before after = ⊥
@@ -161,14 +177,15 @@ abbrev pub next_try : Option TreeError → ℕ → ℕ
 next_try None at = at
 next_try (Some e) at = at + 1
 
--- A last step: the next folder that this deletion changed, from this one on, was tried once, or it ends as it was ordered. It tells
--- the refusal of a try in vain.
+-- A last step: the next folder that this deletion changed, from this one on, was tried once; where there is none, it ends as it was
+-- ordered. It tells the refusal of a try in vain.
 abbrev pub Tries : Ending → Deletion → ℕ → ℕ → Did → Option TreeError → List Route → List Route → Option CallLog → Option CallLog → Type 0
 Tries ending d from next Barrier left folders folders_after before after =
-    (at : ℕ) × (folder : Route) × (from ≤ at) × (slice_get folders at ≡ Some folder) × (is_of d.folder d.path folder ≡ true) × (folders_after ≡ after_try left at folders) × (next ≡ next_try left at)
+    (at : ℕ) × (folder : Route) × IsOwnAt d.folder d.path folders from at × (slice_get folders at ≡ Some folder) × (folders_after ≡ after_try left at folders) × (next ≡ next_try left at)
     × IfKnown before (λ log. Performs {A = Unit {0}} log (SyncFolder folder) (sync_answer left) after)
 Tries ending d from next (Ended how part) left folders folders_after before after =
-    (how ≡ ending) × (part ≡ None) × (left ≡ None) × (folders_after ≡ folders) × (next ≡ from) × (after ≡ before)
+    NoneBetween d.folder d.path folders from (length folders)
+    × (how ≡ ending) × (part ≡ None) × (left ≡ None) × (folders_after ≡ folders) × (next ≡ from) × (after ≡ before)
 Tries ending d from next did left folders folders_after before after = ⊥
 
 pub record LastSteps (ending : Ending) (d : Deletion) (from next : ℕ) (did : Did) (calls : ℕ) (left : Option TreeError) (folders folders_after : List Route) (before after : Option CallLog) (faults faults_after : ℕ) : Type 0 where

@@ -1,5 +1,6 @@
 //! A deletion as it stands.
-ghost use Rattle.std.specs.Prelude.{◌≡◌};
+ghost use Rattle.std.specs.Prelude.{◌≡◌, Some};
+ghost use Rattle.mc_text.specs.Routes.{parent_of};
 ghost use Rattle.tree_deletion.specs.Standing.{after_item, at_barrier, begun, is_fresh};
 
 use mc_text::Path;
@@ -39,6 +40,7 @@ pub struct Deletion {
 impl Deletion {
     /// A deletion of the thing at `path`, which lies in `folder`. It takes no memory.
     pub fn new(alloc: Global, path: Path, folder: Path) -> Deletion
+        requires holder { parent_of path ≡ Some folder }
         ensures path { result.path ≡ path }
         ensures folder { result.folder ≡ folder }
         ensures begun { result.walk.place ≡ begun }

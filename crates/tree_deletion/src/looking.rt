@@ -1,9 +1,10 @@
 //! What stands at a path: a folder with its names, or a thing that is none.
-ghost use Rattle.std.specs.Prelude.{◌≡◌, ◌≢◌, MatchResult};
+ghost use Rattle.std.specs.Prelude.{◌≡◌, ◌≢◌, true, IfOk, MatchResult};
 ghost use Rattle.tree_trait.specs.Calls.{ListFolder, Stat};
 ghost use Rattle.tree_trait.specs.Change.{current, found};
-ghost use Rattle.tree_trait.specs.Refusals.{refusal_of};
-ghost use Rattle.tree_trait.specs.Answers.{IfKnown, IsListing};
+ghost use Rattle.tree_trait.specs.FileSystem.{node};
+ghost use Rattle.tree_trait.specs.Refusals.{folder_kind, is_folder, refusal_of};
+ghost use Rattle.tree_trait.specs.Answers.{IfKnown, IsAscending, IsListing};
 ghost use Rattle.job_reports.specs.Reading.{Peeks};
 ghost use Rattle.tree_deletion.specs.Descending.{CallStops, IsFound, StandsSo};
 
@@ -30,28 +31,38 @@ pub(crate) fn what_stands<T: Tree>(
     ensures known { StandsSo (T.contents tree.old) path.now result }
     ensures peeks { Peeks result (T.contents tree.old) (T.contents tree.new) (T.fault_count tree.old) (T.fault_count tree.new) }
 {
-    match kind_at(alloc, tree, path) {
-        Ok(Kind::Folder) => names_in(alloc, tree, path),
-        Ok(Kind::File | Kind::Link | Kind::Other) => Ok(Found::Thing),
+    match is_folder_at(alloc, tree, path) {
+        Ok(true) => names_in(alloc, tree, path),
+        Ok(false) => Ok(Found::Thing),
         Err(trouble) => Err(trouble),
     }
 }
 
-/// The kind of what stands at a path.
-fn kind_at<T: Tree>(alloc: Global, tree: &mut T, path: &Path) -> Result<Kind, Trouble>
+/// Whether what stands at a path is a folder.
+fn is_folder_at<T: Tree>(alloc: Global, tree: &mut T, path: &Path) -> Result<bool, Trouble>
     ensures known { IfKnown (T.contents tree.old) (λ log. MatchResult result
-        (λ _kind. refusal_of (current log) (Stat path.now) ≡ None)
+        (λ answer. is_folder (node (current log) (found (current log) path.now)) ≡ answer)
         (λ trouble. CallStops (current log) (Stat path.now) path.now trouble.cause trouble.path)) }
     ensures peeks { Peeks result (T.contents tree.old) (T.contents tree.new) (T.fault_count tree.old) (T.fault_count tree.new) }
 {
     match tree.stat(alloc, path) {
-        Ok(meta) => Ok(meta.kind),
+        Ok(meta) => Ok(is_kind_of_folder(meta.kind)),
         Err(error) => Err(reading_trouble(alloc, error, path)),
+    }
+}
+
+fn is_kind_of_folder(kind: Kind) -> bool
+    ensures { result ≡ folder_kind kind }
+{
+    match kind {
+        Kind::Folder => true,
+        Kind::File | Kind::Link | Kind::Other => false,
     }
 }
 
 /// The names in a folder, all of which can be shown.
 fn names_in<T: Tree>(alloc: Global, tree: &mut T, path: &Path) -> Result<Found, Trouble>
+    requires folder { IfKnown (T.contents tree.old) (λ log. is_folder (node (current log) (found (current log) path.now)) ≡ true) }
     ensures known { StandsSo (T.contents tree.old) path.now result }
     ensures peeks { Peeks result (T.contents tree.old) (T.contents tree.new) (T.fault_count tree.old) (T.fault_count tree.new) }
 {
@@ -65,6 +76,7 @@ fn listing<T: Tree>(alloc: Global, tree: &mut T, path: &Path) -> Result<Children
     ensures known { IfKnown (T.contents tree.old) (λ log. MatchResult result
         (λ children. (refusal_of (current log) (ListFolder path.now) ≡ None) × IsListing (current log) (found (current log) path.now) children)
         (λ trouble. CallStops (current log) (ListFolder path.now) path.now trouble.cause trouble.path)) }
+    ensures in_order { IfOk result (λ children. IsAscending children.names) }
     ensures peeks { Peeks result (T.contents tree.old) (T.contents tree.new) (T.fault_count tree.old) (T.fault_count tree.new) }
 {
     match tree.list(alloc, path) {

@@ -1,6 +1,7 @@
 //! Removals, and folders that stay.
 ghost use Rattle.std.specs.Prelude.{◌≡◌, ◌-◌, false, true, length, take, IfOk, OnErr, OnOk, if◌then◌else◌};
 ghost use Rattle.job_reports.specs.Paths.{folder_of};
+ghost use Rattle.tree_deletion.specs.Descending.{IsPlain, MayLook};
 ghost use Rattle.tree_deletion.specs.Folders.{joined};
 ghost use Rattle.tree_deletion.specs.Standing.{Decides, End, Leaves, Thing, at_barrier, item as next_item, worked};
 ghost use Rattle.tree_deletion.specs.Steps.{IsThing, KeepsRest, Passes, Working};
@@ -23,6 +24,8 @@ impl Deletion {
         path: Path,
     ) -> StepResult
         requires next { next_item self.old ≡ Thing path }
+        requires may { MayLook self.old.depth self.old.walk.place path }
+        requires plain { IsPlain (T.contents tree.old) path }
         requires going { at_barrier self.old.stage ≡ false }
         ensures { Working self.old self.new result.did result.calls unsynced.old unsynced.new
             (T.contents tree.old) (T.contents tree.new) (T.fault_count tree.old) (T.fault_count tree.new) }

@@ -1,7 +1,7 @@
 //! Folders with a change of names that no sync has brought onto the disk.
 ghost use Rattle.std.specs.Prelude.{◌≡◌, ◌+◌, ◌<◌, ◌^◌, ◌-◌, ◌||◌, [], length, remove, slice_get, take, true, Some, IfNone, IfOk, IfSome, OnErr, OnOk, if◌then◌else◌};
 ghost use Rattle.job_reports.specs.Paths.{without};
-ghost use Rattle.tree_deletion.specs.Folders.{IsOwnAt, NoneOf, is_of, is_one_of, joined};
+ghost use Rattle.tree_deletion.specs.Folders.{IsOwn, IsOwnAt, NoneBetween, NoneOf, is_of, is_one_of, joined};
 
 use mc_text::{NoMemory, Path};
 use std::alloc::Global;
@@ -78,7 +78,7 @@ impl Unsynced {
 
     /// The first that is this folder, or the top or below that.
     pub(crate) fn first_of(&self, folder: &Path, top: &Path) -> Option<&Path>
-        ensures some { IfSome result (λ kept. is_of folder.now top.now kept.now ≡ true) }
+        ensures some { IfSome result (λ kept. IsOwn folder.now top.now self.now kept.now) }
         ensures none { IfNone result (NoneOf folder.now top.now self.now) }
     {
         let mut rest = self.folders.as_slice();
@@ -96,6 +96,7 @@ impl Unsynced {
     /// From this one on, where the first stands that is this folder, or the top or below that.
     pub(crate) fn first_from(&self, from: usize, folder: &Path, top: &Path) -> Option<usize>
         ensures own { IfSome result (IsOwnAt folder.now top.now self.now from) }
+        ensures none { IfNone result (NoneBetween folder.now top.now self.now from (length self.now)) }
         ensures fits { IfSome result (λ at. at + 1 < 2 ^ 64) }
     {
         let mut at = from;
