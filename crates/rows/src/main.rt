@@ -32,6 +32,8 @@ fn tell_section(page: &mut Page, name: &str, rows: &str) {
         "boxes" => box_rows::tell_rows(page, rows),
         "texts" => text_rows::tell_rows(page, rows),
         "menus" => menu_rows::tell_rows(page, rows),
+        "viewer" => viewer_rows::tell_rows(page, rows),
+        "finding" => finding_rows::tell_rows(page, rows),
         _ => page.fail(),
     }
 }
