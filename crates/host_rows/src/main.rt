@@ -3,42 +3,48 @@
 #![tactic(auto)]
 
 mod calls;
+mod changes;
 mod devices;
 mod rows;
 mod scenes;
 
-use crate::devices::{clock_line, command_line, fault_line, keyboard_line};
-use crate::rows::{COMMANDS, SCENES};
-use crate::scenes::scene_lines;
-use anyhow::Result;
+use crate::devices::{tell_clock, tell_command, tell_fault, tell_keyboard};
+use crate::rows::{commands, scenes};
+use crate::scenes::tell_scene;
 use host_tree::{HostClock, HostTree, ShSpawner, StdinSource, StdoutSink};
-use mc_text::Path;
+use row_page::{Fault, Page, print_page};
 use std::convert::AsStr;
 use tree_trait::Sink;
 
-fn main(rt: HostRuntime) -> Result<()> {
-    let alloc = rt.alloc();
+fn main(rt: HostRuntime) -> Result<(), Fault> {
     let here = std::env::current_dir(&rt)?;
-    let here = Path::parse(alloc, here.as_path().as_os_str())?;
-    let mut shell = ShSpawner::new(rt);
-    for scene in SCENES.split("\n\n") {
-        let lines = scene_lines(alloc, &mut HostTree::new(rt), &mut shell, &here, scene)?;
-        println!(rt; "{lines}")?;
-    }
-    for row in COMMANDS.lines() {
-        let line = command_line(alloc, &mut shell, row)?;
-        println!(rt; "{line}")?;
-    }
-    print_devices(rt)
+    let mut page = Page::new(rt.alloc());
+    tell_scenes(&mut page, rt, here.as_path().as_os_str());
+    tell_devices(&mut page, rt);
+    print_page(&rt, &page)?;
+    put_line(rt)
 }
 
-/// The lines of the other devices, of which the screen puts its own.
-fn print_devices(rt: HostRuntime) -> Result<()> {
-    let alloc = rt.alloc();
-    let fault = fault_line(alloc, &mut HostTree::new(rt))?;
-    let keys = keyboard_line(alloc, &mut StdinSource::new(rt))?;
-    let now = clock_line(&HostClock::new(rt));
-    println!(rt; "{fault}\n{keys}\n{now}")?;
-    StdoutSink::new(rt).put(alloc, b"the screen is given this line\n")?;
-    Ok(())
+fn tell_scenes(page: &mut Page, rt: HostRuntime, here: &str) {
+    let mut shell = ShSpawner::new(rt);
+    for scene in scenes().split("\n\n") {
+        tell_scene(page, &mut HostTree::new(rt), &mut shell, here, scene);
+    }
+    for row in commands().lines() {
+        tell_command(page, &mut shell, row);
+    }
+}
+
+fn tell_devices(page: &mut Page, rt: HostRuntime) {
+    tell_fault(page, &mut HostTree::new(rt));
+    tell_keyboard(page, &mut StdinSource::new(rt));
+    tell_clock(page, &HostClock::new(rt));
+}
+
+/// The line that the screen puts itself.
+fn put_line(rt: HostRuntime) -> Result<(), Fault> {
+    match StdoutSink::new(rt).put(rt.alloc(), b"the screen is given this line\n") {
+        Ok(()) => Ok(()),
+        Err(_error) => Err(Fault::Stream),
+    }
 }

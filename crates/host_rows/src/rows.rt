@@ -2,7 +2,11 @@
 
 /// Scenes with a blank line between them, each of which begins with its title and is played in a new folder. A row is a command
 /// for the shell, or a call, its path and a word more. A path is below the folder, or begins with a slash.
-pub const SCENES: &str = "# A made file has its mode
+pub fn scenes() -> &'static str {
+    SCENES
+}
+
+const SCENES: &str = "# A made file has its mode
 sh mkdir d; ln -s d l; : >a
 file n 6666
 stat n
@@ -183,7 +187,11 @@ sync_file mute
 sh chmod 755 fixed";
 
 /// Commands for the shell, each behind the folder in which it runs.
-pub const COMMANDS: &str = "/usr pwd; echo here >&2; cat; exit 3
+pub fn commands() -> &'static str {
+    COMMANDS
+}
+
+const COMMANDS: &str = "/usr pwd; echo here >&2; cat; exit 3
 /usr kill -9 $$
 /usr head -c 1048576 /dev/zero; head -c 2000000 /dev/zero | tr '\\0' 1
 /nowhere pwd";

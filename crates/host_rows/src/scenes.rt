@@ -1,84 +1,96 @@
 //! Plays the rows of a scene in a new folder.
-use crate::calls::answered;
-use anyhow::{Result, bail};
-use mc_text::{Name, Path};
-use std::alloc::Global;
+use crate::calls::{tell_answer, tell_done};
+use mc_text::Path;
+use row_page::{Page, two_fields};
 use tree_trait::{Spawner, Tree};
 
-/// The name of the folder in which a scene is played.
-const FOLDER: &str = "rows";
-
-/// The title of a scene, and each of its rows with its answer.
-pub fn scene_lines<T: Tree, P: Spawner>(
-    alloc: Global,
+/// The title of a scene, and each of its rows with its answer. They are played in the folder `rows` of the one that is here.
+pub fn tell_scene<T: Tree, P: Spawner>(
+    page: &mut Page,
     tree: &mut T,
     shell: &mut P,
-    here: &Path,
+    here: &str,
     scene: &str,
-) -> Result<String> {
-    run(alloc, shell, here, "rm -rf rows; mkdir rows")?;
-    let folder = below(alloc, here, FOLDER)?;
-    let mut lines = String::new(alloc);
+) {
+    let mut folder = Page::new(page.alloc());
+    folder.put(here);
+    folder.put("/rows");
+    run(page, shell, here, "rm -rf rows; mkdir rows");
     for row in scene.lines() {
-        add_row(alloc, tree, shell, &folder, row, &mut lines)?;
+        tell_row(page, tree, shell, folder.text(), row);
     }
-    run(alloc, shell, here, "rm -r rows")?;
-    Ok(lines)
+    page.put("\n");
+    run(page, shell, here, "rm -r rows");
 }
 
-/// Plays a row, and adds it with its answer.
-fn add_row<T: Tree, P: Spawner>(
-    alloc: Global,
+/// Plays a row, and writes it with its answer.
+fn tell_row<T: Tree, P: Spawner>(
+    page: &mut Page,
     tree: &mut T,
     shell: &mut P,
-    folder: &Path,
+    folder: &str,
     row: &str,
-    lines: &mut String,
-) -> Result<()> {
-    if let Some(command) = row.strip_prefix("sh ") {
-        return run(alloc, shell, folder, command);
+) {
+    let (first, words) = two_fields(row, ' ');
+    match first {
+        "#" => page.put(words),
+        "sh" => run(page, shell, folder, words),
+        call => {
+            page.tell(format_args!("\n  {row} = "));
+            let (place, word) = two_fields(words, ' ');
+            tell_call(page, tree, folder, call, place, word);
+        }
     }
-    if let Some(title) = row.strip_prefix("# ") {
-        lines.push_str(title)?;
-        return Ok(());
-    }
-    let answer = played(alloc, tree, folder, row)?;
-    lines.push_str(format!(in alloc; "\n  {row} = {answer}")?.as_str())?;
-    Ok(())
 }
 
 /// The answer of a call, its path and a word more.
-fn played<T: Tree>(alloc: Global, tree: &mut T, folder: &Path, row: &str) -> Result<String> {
-    let (call, words) = row.split_once(' ').unwrap_or((row, ""));
-    let (place, word) = words.split_once(' ').unwrap_or((words, ""));
-    let path = path_of(alloc, folder, place)?;
-    let other = path_of(alloc, folder, word)?;
-    answered(alloc, tree, call, &path, &other, word)
-}
-
-fn path_of(alloc: Global, folder: &Path, word: &str) -> Result<Path> {
-    if word.starts_with('/') {
-        Ok(Path::parse(alloc, word)?)
-    } else {
-        below(alloc, folder, word)
+fn tell_call<T: Tree>(
+    page: &mut Page,
+    tree: &mut T,
+    folder: &str,
+    call: &str,
+    place: &str,
+    word: &str,
+) {
+    let Some(path) = path_of(page, folder, place) else {
+        return;
+    };
+    match call {
+        "rename" => tell_renamed(page, tree, &path, folder, word),
+        _ => tell_answer(page, tree, call, &path, word),
     }
 }
 
-/// The path of what stands in a folder, by its names and the slashes between them.
-fn below(alloc: Global, folder: &Path, names: &str) -> Result<Path> {
-    let mut path = folder.copy(alloc)?;
-    for name in names.split('/') {
-        if !name.is_empty() {
-            path = path.join(alloc, &Name::new(alloc, name)?)?;
-        }
+fn tell_renamed<T: Tree>(page: &mut Page, tree: &mut T, path: &Path, folder: &str, word: &str) {
+    if let Some(target) = path_of(page, folder, word) {
+        tell_done(page, tree.rename(page.alloc(), path, &target));
     }
-    Ok(path)
+}
+
+/// The path of a place, which is below the folder or begins with a slash.
+fn path_of(page: &mut Page, folder: &str, place: &str) -> Option<Path> {
+    let mut text = Page::new(page.alloc());
+    if !place.starts_with('/') {
+        text.put(folder);
+        text.put("/");
+    }
+    text.put(place);
+    let path = Path::parse(page.alloc(), text.text()).ok();
+    page.need(path.is_some());
+    path
 }
 
 /// Runs a command that has to end well.
-fn run<P: Spawner>(alloc: Global, shell: &mut P, folder: &Path, command: &str) -> Result<()> {
-    if shell.run(alloc, folder, command)?.status != 0 {
-        bail!("a command did not end well");
+fn run<P: Spawner>(page: &mut Page, shell: &mut P, folder: &str, command: &str) {
+    match Path::parse(page.alloc(), folder) {
+        Ok(folder) => run_in(page, shell, &folder, command),
+        Err(_error) => page.fail(),
     }
-    Ok(())
+}
+
+fn run_in<P: Spawner>(page: &mut Page, shell: &mut P, folder: &Path, command: &str) {
+    match shell.run(page.alloc(), folder, command) {
+        Ok(outcome) => page.need(outcome.status == 0),
+        Err(_error) => page.fail(),
+    }
 }
