@@ -7,5 +7,6 @@ pub mod StartLemmas
 pub mod ReadingLemmas
 pub mod SightLemmas
 pub mod StepLemmas
+pub mod PassingLemmas
 pub mod PlaceLemmas
 pub mod SeekLemmas

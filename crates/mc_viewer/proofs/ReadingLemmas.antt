@@ -14,7 +14,7 @@ use Rattle.tree_trait.specs.Answers.{Reads, IsRead}
 use Rattle.mc_viewer.specs.declared.subject.Subject.{Subject}
 use Rattle.mc_viewer.specs.declared.subject.Subject.TheVariants.{File, Output}
 use Rattle.mc_viewer.specs.declared.error.ViewError.{ViewError}
-use Rattle.mc_viewer.specs.Viewing.{held, refused_with, IsRefused, AsTheTreeSays}
+use Rattle.mc_viewer.specs.Viewing.{held, refused_with, IsReadable, IsRefused, AsTheTreeSays}
 
 -- the log of a tree that is known, and what it holds at a path
 pub record Known (contents : Option CallLog) (path : Route) (bytes : List ℕ) : Type 0 where
@@ -58,6 +58,16 @@ refused-read log path at count tree.NoSpace P h = h
 refused-read log path at count tree.Special P h = h
 refused-read log path at count tree.Fault P h = tt
 refused-read log path at count tree.Memory P h = tt
+
+-- a file that was read can be read
+pub readable-file : (log : CallLog) (path : Route) → refusal_of (current log) (ReadAt path 0 0) ≡ None → IsReadable log (File path)
+unfolding IsReadable
+readable-file log path is = is
+
+-- an output can be read
+pub readable-output : (log : CallLog) (subject : Subject) (out : List ℕ) → subject ≡ Output out → IsReadable log subject
+unfolding IsReadable
+readable-output log subject out is = subst (IsReadable log) (sym is) tt
 
 -- a path that can't be looked at can't be read
 stat_then_read : (s : FileSystem) (path : Route) (e : TreeError) → refusal_of s (Stat path) ≡ Some e → refusal_of s (ReadAt path 0 0) ≡ Some e

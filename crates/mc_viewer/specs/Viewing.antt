@@ -32,6 +32,11 @@ IsRefused log (Output bytes) e = ⊥
 IsRefused log (File path) tree.Fault = ⊤
 IsRefused log (File path) e = refusal_of (current log) (ReadAt path 0 0) ≡ Some e
 
+-- a tree that is known lets the subject be read: an output always, a file where nothing refuses it
+unfoldable pub IsReadable : CallLog → Subject → Type 0
+IsReadable log (Output bytes) = ⊤
+IsReadable log (File path) = refusal_of (current log) (ReadAt path 0 0) ≡ None
+
 -- why a reading fails: a refusal of the tree, or want of memory, which the tree's refusals never carry
 abbrev pub IsReadError : ViewError → Type 0
 IsReadError (Tree e) = e ≢ tree.Memory

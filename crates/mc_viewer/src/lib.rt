@@ -7,6 +7,7 @@ mod layout;
 mod lines;
 mod moves;
 mod pages;
+mod passing;
 mod reading;
 mod rows;
 mod search;

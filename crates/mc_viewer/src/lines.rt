@@ -2,9 +2,10 @@
 ghost use Rattle.std.specs.Prelude.{◌≡◌, ◌+◌, ◌<◌, ◌≤◌, ◌^◌, length, drop, IfOk, IfErr};
 ghost use Rattle.tree_trait.specs.Answers.{IfKnown, HasCause};
 ghost use Rattle.mc_viewer.specs.Viewing.{held, IfHeld, IsReadError, AsTheTreeSays};
-ghost use Rattle.mc_viewer.specs.Rows.{line_length, IsLineStart};
+ghost use Rattle.mc_viewer.specs.Rows.{line_length, IsLineStart, line_behind};
 
 use crate::error::ViewError;
+use crate::passing::pass_lines;
 use crate::reading::piece;
 use crate::subject::Subject;
 use memchr::{memchr, memrchr};
@@ -13,6 +14,9 @@ use tree_trait::{Tree, TreeError};
 
 /// The bytes that a search for a line's start or end reads at once.
 const LINE_PIECE: u64 = 4096;
+
+/// The bytes in which lines are counted at once.
+const COUNTED_PIECE: usize = 65_536;
 
 /// Where the line of a byte begins. It reads back from there.
 pub fn line_begin<T: Tree>(
@@ -72,4 +76,37 @@ pub fn line_end<T: Tree>(
         end = size.min(end + piece.len() as u64);
     }
     Ok(end)
+}
+
+/// Where a line begins that so many others stand before, or where the file ends. Each byte before it is read once.
+pub fn line_behind<T: Tree>(
+    alloc: Global,
+    tree: &mut T,
+    subject: &Subject,
+    size: u64,
+    lines: u64,
+) -> Result<u64, ViewError>
+    requires small { size ≤ 2 ^ 63 }
+    ensures shown { IfHeld (T.contents tree.old) subject.now size (λ bytes.
+        IfOk result (λ start. start ≡ line_behind lines bytes 0)) }
+    ensures refused { IfKnown (T.contents tree.old) (λ log. IfErr result (AsTheTreeSays log subject.now)) }
+    ensures kinds { IfErr result IsReadError }
+    ensures same { T.contents tree.new ≡ T.contents tree.old }
+    ensures cause { HasCause (ViewError.Tree TreeError.Fault) (T.fault_count tree.old) (T.fault_count tree.new) result }
+{
+    let mut start = 0;
+    let mut left = lines;
+    while start < size {
+        if left == 0 {
+            return Ok(start);
+        }
+        let piece = piece(alloc, tree, subject, start, COUNTED_PIECE)?;
+        if piece.len() == 0 {
+            return Ok(size);
+        }
+        let passed = pass_lines(piece.as_slice(), left);
+        start = size.min(start + passed.bytes as u64);
+        left = passed.left;
+    }
+    Ok(start)
 }

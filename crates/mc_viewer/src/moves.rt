@@ -7,7 +7,7 @@ ghost use Rattle.mc_viewer.specs.Steps.{after_step, to_byte, down, up, to_end};
 
 use crate::error::ViewError;
 use crate::layout::Layout;
-use crate::lines::line_end;
+use crate::lines::line_behind;
 use crate::reading::size_of;
 use crate::state::{
     State, ViewStep, layout_of, page_lines, to_left, to_right, with_hex_turned, with_top,
@@ -222,32 +222,4 @@ fn rows_up<T: Tree>(
         row = row_holding(alloc, tree, subject, layout, size, row.saturating_sub(1))?;
     }
     Ok(row)
-}
-
-/// Where a line begins that so many others stand before, or where the file ends.
-fn line_behind<T: Tree>(
-    alloc: Global,
-    tree: &mut T,
-    subject: &Subject,
-    size: u64,
-    lines: u64,
-) -> Result<u64, ViewError>
-    requires small { size ≤ 2 ^ 63 }
-    ensures shown { IfHeld (T.contents tree.old) subject.now size (λ bytes.
-        IfOk result (λ start. start ≡ line_behind lines bytes 0)) }
-    ensures refused { IfKnown (T.contents tree.old) (λ log. IfErr result (AsTheTreeSays log subject.now)) }
-    ensures kinds { IfErr result IsReadError }
-    ensures same { T.contents tree.new ≡ T.contents tree.old }
-    ensures cause { HasCause (ViewError.Tree TreeError.Fault) (T.fault_count tree.old) (T.fault_count tree.new) result }
-{
-    let mut start = 0;
-    let mut left = lines;
-    while start < size {
-        if left == 0 {
-            return Ok(start);
-        }
-        start = line_end(alloc, tree, subject, size, start)?;
-        left -= 1;
-    }
-    Ok(start)
 }

@@ -1,7 +1,7 @@
 //! What a page shows, row by row.
 ghost use Rattle.std.specs.Prelude.{◌≡◌, ◌+◌, ◌<◌, ◌≤◌, ◌^◌, ◌-◌, length, map, take, drop, IfOk, IfErr};
 ghost use Rattle.tree_trait.specs.Answers.{IfKnown, HasCause};
-ghost use Rattle.mc_viewer.specs.Viewing.{held, IfHeld, IsReadError, AsTheTreeSays};
+ghost use Rattle.mc_viewer.specs.Viewing.{held, IfHeld, IsReadable, IsReadError, AsTheTreeSays};
 ghost use Rattle.mc_viewer.specs.Rows.{row_starts};
 ghost use Rattle.mc_viewer.specs.Pages.{shown_row, page_rows};
 
@@ -27,6 +27,7 @@ pub fn page_rows<T: Tree>(
     requires wide { 1 ≤ layout.columns }
     ensures shown { IfKnown (held (T.contents tree.old) subject.now) (λ bytes.
         IfOk result (λ rows. rows ≡ page_rows layout count bytes top)) }
+    ensures readable { IfKnown (T.contents tree.old) (λ log. IfOk result (λ _. IsReadable log subject.now)) }
     ensures refused { IfKnown (T.contents tree.old) (λ log. IfErr result (AsTheTreeSays log subject.now)) }
     ensures kinds { IfErr result IsReadError }
     ensures same { T.contents tree.new ≡ T.contents tree.old }

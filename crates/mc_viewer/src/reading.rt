@@ -1,7 +1,7 @@
 //! What is viewed, read piece by piece.
 ghost use Rattle.std.specs.Prelude.{◌≡◌, ◌≤◌, ◌^◌, length, take, drop, IfOk, IfErr};
 ghost use Rattle.tree_trait.specs.Answers.{IfKnown, HasCause};
-ghost use Rattle.mc_viewer.specs.Viewing.{held, IsReadError, AsTheTreeSays};
+ghost use Rattle.mc_viewer.specs.Viewing.{held, IsReadable, IsReadError, AsTheTreeSays};
 
 use crate::error::ViewError;
 use crate::subject::Subject;
@@ -21,6 +21,7 @@ pub fn piece<T: Tree>(
     ensures shown { IfKnown (held (T.contents tree.old) subject.now) (λ bytes.
         IfOk result (λ piece. piece.items ≡ take count (drop at bytes))) }
     ensures short { IfOk result (λ piece. length piece.items ≤ count) }
+    ensures readable { IfKnown (T.contents tree.old) (λ log. IfOk result (λ _. IsReadable log subject.now)) }
     ensures refused { IfKnown (T.contents tree.old) (λ log. IfErr result (AsTheTreeSays log subject.now)) }
     ensures kinds { IfErr result IsReadError }
     ensures same { T.contents tree.new ≡ T.contents tree.old }
@@ -42,6 +43,7 @@ fn file_piece<T: Tree>(
     ensures shown { IfKnown (held (T.contents tree.old) (Subject.File path.now)) (λ bytes.
         IfOk result (λ piece. piece.items ≡ take count (drop at bytes))) }
     ensures short { IfOk result (λ piece. length piece.items ≤ count) }
+    ensures readable { IfKnown (T.contents tree.old) (λ log. IfOk result (λ _. IsReadable log (Subject.File path.now))) }
     ensures refused { IfKnown (T.contents tree.old) (λ log. IfErr result (AsTheTreeSays log (Subject.File path.now))) }
     ensures kinds { IfErr result IsReadError }
     ensures same { T.contents tree.new ≡ T.contents tree.old }
@@ -67,6 +69,7 @@ pub fn size_of<T: Tree>(alloc: Global, tree: &mut T, subject: &Subject) -> Resul
     ensures shown { IfKnown (held (T.contents tree.old) subject.now) (λ bytes.
         IfOk result (λ size. size ≡ length bytes)) }
     ensures small { IfOk result (λ size. size ≤ 2 ^ 63) }
+    ensures readable { IfKnown (T.contents tree.old) (λ log. IfOk result (λ _. IsReadable log subject.now)) }
     ensures refused { IfKnown (T.contents tree.old) (λ log. IfErr result (AsTheTreeSays log subject.now)) }
     ensures kinds { IfErr result IsReadError }
     ensures same { T.contents tree.new ≡ T.contents tree.old }
@@ -82,6 +85,7 @@ fn file_size<T: Tree>(alloc: Global, tree: &mut T, path: &Path) -> Result<u64, V
     ensures shown { IfKnown (held (T.contents tree.old) (Subject.File path.now)) (λ bytes.
         IfOk result (λ size. size ≡ length bytes)) }
     ensures small { IfOk result (λ size. size ≤ 2 ^ 63) }
+    ensures readable { IfKnown (T.contents tree.old) (λ log. IfOk result (λ _. IsReadable log (Subject.File path.now))) }
     ensures refused { IfKnown (T.contents tree.old) (λ log. IfErr result (AsTheTreeSays log (Subject.File path.now))) }
     ensures kinds { IfErr result IsReadError }
     ensures same { T.contents tree.new ≡ T.contents tree.old }

@@ -1,7 +1,7 @@
 //! Where a search leads.
 ghost use Rattle.std.specs.Prelude.{◌≡◌, ◌≤◌, ◌^◌, Ok, IfOk, IfErr};
 ghost use Rattle.tree_trait.specs.Answers.{IfKnown, HasCause};
-ghost use Rattle.mc_viewer.specs.Viewing.{held, IfHeld, IsReadError, AsTheTreeSays};
+ghost use Rattle.mc_viewer.specs.Viewing.{held, IfHeld, IsReadable, IsReadError, AsTheTreeSays};
 ghost use Rattle.mc_viewer.specs.Steps.{to_byte};
 ghost use Rattle.mc_viewer.specs.Searches.{sought, start_from, first_from, next_from, landing, hit_landing, IsMissed, IsSearchError};
 
@@ -33,6 +33,7 @@ pub fn first_landing<T: Tree>(
     ensures missed { IfKnown (held (T.contents tree.old) subject.now) (λ bytes.
         IfErr result (IsMissed (landing what.now bytes state (first_from bytes state what.now)))) }
     ensures columns { IfOk result (λ l. l.state.columns ≡ state.columns) }
+    ensures readable { IfKnown (T.contents tree.old) (λ log. IfOk result (λ _. IsReadable log subject.now)) }
     ensures refused { IfKnown (T.contents tree.old) (λ log. IfErr result (AsTheTreeSays log subject.now)) }
     ensures kinds { IfErr result IsSearchError }
     ensures same { T.contents tree.new ≡ T.contents tree.old }
@@ -96,6 +97,7 @@ pub fn next_landing<T: Tree>(
     ensures missed { IfKnown (held (T.contents tree.old) subject.now) (λ bytes.
         IfErr result (IsMissed (hit_landing bytes state last.now))) }
     ensures columns { IfOk result (λ l. l.state.columns ≡ state.columns) }
+    ensures readable { IfKnown (T.contents tree.old) (λ log. IfOk result (λ _. IsReadable log subject.now)) }
     ensures refused { IfKnown (T.contents tree.old) (λ log. IfErr result (AsTheTreeSays log subject.now)) }
     ensures kinds { IfErr result IsSearchError }
     ensures same { T.contents tree.new ≡ T.contents tree.old }

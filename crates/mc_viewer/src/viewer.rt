@@ -1,7 +1,7 @@
 //! A viewer of a file or an output.
 ghost use Rattle.std.specs.Prelude.{◌≡◌, ◌≤◌, Ok, IfOk, IfErr, OnOk, OnErr};
 ghost use Rattle.tree_trait.specs.Answers.{IfKnown, HasCause};
-ghost use Rattle.mc_viewer.specs.Viewing.{held, IsReadError, AsTheTreeSays};
+ghost use Rattle.mc_viewer.specs.Viewing.{held, IsReadable, IsReadError, AsTheTreeSays};
 ghost use Rattle.mc_viewer.specs.Searches.{after_search, after_next, moved_on, IsMissed, IsSearchError};
 ghost use Rattle.mc_viewer.specs.Steps.{begun, page_of, after_step};
 
@@ -50,6 +50,7 @@ impl Viewer {
         requires lines { (10 ≤ lines) × (lines ≤ 200) }
         requires columns { (40 ≤ columns) × (columns ≤ 400) }
         ensures begun { IfOk result (λ viewer. viewer ≡ begun subject lines columns) }
+        ensures readable { IfKnown (T.contents tree.old) (λ log. IfOk result (λ _. IsReadable log subject)) }
         ensures refused { IfKnown (T.contents tree.old) (λ log. IfErr result (AsTheTreeSays log subject)) }
         ensures kinds { IfErr result IsReadError }
         ensures same { T.contents tree.new ≡ T.contents tree.old }
@@ -75,6 +76,7 @@ impl Viewer {
     pub fn page<T: Tree>(&self, alloc: Global, tree: &mut T) -> Result<Rows, ViewError>
         ensures shown { IfKnown (held (T.contents tree.old) self.now.subject) (λ bytes.
             IfOk result (λ rows. rows ≡ page_of bytes self.now.state)) }
+        ensures readable { IfKnown (T.contents tree.old) (λ log. IfOk result (λ _. IsReadable log self.now.subject)) }
         ensures refused { IfKnown (T.contents tree.old) (λ log. IfErr result (AsTheTreeSays log self.now.subject)) }
         ensures kinds { IfErr result IsReadError }
         ensures same { T.contents tree.new ≡ T.contents tree.old }
@@ -100,6 +102,7 @@ impl Viewer {
         ensures done { IfKnown (held (T.contents tree.old) self.old.subject) (λ bytes.
             OnOk result (self.new.state ≡ after_step bytes step self.old.state)) }
         ensures subject { self.new.subject ≡ self.old.subject }
+        ensures last { self.new.last ≡ self.old.last }
         ensures stays { OnErr result (self.new ≡ self.old) }
         ensures refused { IfKnown (T.contents tree.old) (λ log. IfErr result (AsTheTreeSays log self.old.subject)) }
         ensures kinds { IfErr result IsReadError }
@@ -125,6 +128,7 @@ impl Viewer {
             IfErr result (IsMissed (after_search bytes what self.old))) }
         ensures subject { self.new.subject ≡ self.old.subject }
         ensures stays { OnErr result (self.new ≡ self.old) }
+        ensures readable { IfKnown (T.contents tree.old) (λ log. IfOk result (λ _. IsReadable log self.old.subject)) }
         ensures refused { IfKnown (T.contents tree.old) (λ log. IfErr result (AsTheTreeSays log self.old.subject)) }
         ensures kinds { IfErr result IsSearchError }
         ensures same { T.contents tree.new ≡ T.contents tree.old }
@@ -147,6 +151,7 @@ impl Viewer {
             IfErr result (IsMissed (after_next bytes self.old))) }
         ensures subject { self.new.subject ≡ self.old.subject }
         ensures stays { OnErr result (self.new ≡ self.old) }
+        ensures readable { IfKnown (T.contents tree.old) (λ log. IfOk result (λ _. IsReadable log self.old.subject)) }
         ensures refused { IfKnown (T.contents tree.old) (λ log. IfErr result (AsTheTreeSays log self.old.subject)) }
         ensures kinds { IfErr result IsSearchError }
         ensures same { T.contents tree.new ≡ T.contents tree.old }

@@ -3,7 +3,7 @@ use Rattle.std.proofs.Common.{◌≡◌, length, take, drop, ap, sym, ◌∙◌,
 use Rattle.tree_trait.specs.FileSystem.{node}
 use Rattle.tree_trait.specs.Change.{current, found}
 use Rattle.tree_trait.specs.Answers.{IsRead}
-use Rattle.mc_viewer.proofs.ReadingLemmas.{known-file, read-is, written-over, refused-read, refused-said}
+use Rattle.mc_viewer.proofs.ReadingLemmas.{known-file, read-is, written-over, readable-file, refused-read, refused-said}
 use Rattle.mc_viewer.proofs.reading.file_piece.Goals as goal
 
 pub returns-in_err-read-clause-refused : goal.returns-in_err-read-clause-refused
@@ -29,3 +29,6 @@ returns-clause-shown g c = λ bytes known.
     ∙ read-is (node (current there.log) (found (current there.log) path)).bytes c.args.at c.args.count c.as_mut_slice.result.now c.read_at.new.into c.in_ok-read.read len
     (c.in_ok-read.ensures.answer there.log there.is).1
     ∙ ap (λ l. take c.args.count (drop c.args.at l)) (sym there.holds)
+
+pub returns-clause-readable : goal.returns-clause-readable
+returns-clause-readable g c = λ log known. readable-file log c.args.path.now (c.in_ok-read.ensures.answer log known).0

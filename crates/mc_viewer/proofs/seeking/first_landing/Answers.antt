@@ -1,5 +1,5 @@
 -- From the top on, or from the start of its line.
-use Rattle.std.proofs.Common.{◌≡◌, ℕ, Ok, IfOk, IfErr, ap, sym, subst, ◌∙◌}
+use Rattle.std.proofs.Common.{◌≡◌, Ok, IfOk, IfErr, ap, sym, subst, ◌∙◌}
 use Rattle.mc_viewer.specs.declared.layout.Layout.{Layout}
 use Rattle.mc_viewer.specs.Viewing.{held}
 use Rattle.mc_viewer.specs.Rows.{row_holding}

@@ -1,5 +1,5 @@
 -- A piece shows the first place, or that none begins at its places.
-use Rattle.std.proofs.Common.{◌≡◌, ◌+◌, ◌≤◌, length, ap, sym, ◌∙◌, arith}
+use Rattle.std.proofs.Common.{◌+◌, ◌≤◌, length, ap, sym, ◌∙◌, arith}
 use Rattle.mc_viewer.specs.Viewing.{held}
 use Rattle.mc_viewer.proofs.PlaceLemmas.{sought-found, sought-further, sought-end}
 use Rattle.mc_viewer.proofs.window.through_pieces.Goals as goal

@@ -4,6 +4,7 @@ use Rattle.tree_trait.specs.declared.file_system.FileSystem.{FileSystem}
 use Rattle.tree_trait.specs.Change.{Change}
 use Rattle.tree_trait.specs.CrashImages.{MayLeave, chosen}
 use Rattle.tree_trait.proofs.Choosing.{chosen_leaves}
+use Rattle.mem_tree.specs.declared.choice.Choice.{Choice}
 use Rattle.mem_tree.specs.declared.record.Record.{Record}
 use Rattle.mem_tree.specs.Records.{change_by, changes_by}
 use Rattle.mem_tree.specs.Live.{standing}
@@ -23,22 +24,22 @@ unused-requires c =
     let k = c.args.at_call in
     let cs = changes_by (take k c.deref.result.now) in
     let items = c.self.inside.records.items in
-    let fill = c.args.choice.now.fill in
     subst (λ (x : FileSystem). IsKept x [] c.in_ok-stands.stands) (sym c.in_ok-image.ensures)
-    (kept_image fill s c.in_ok-stands.stands cs c.bits.result.now c.self.invariant.sound
+    (kept_image _ s c.in_ok-stands.stands cs c.as_slice.result.now c.self.invariant.sound
     (subst (λ (ds : List Change). AllFit s ds) (sym (eq c.deref.result.now items k c.deref.ensures.value)) (fit_take k s (changes_by items) c.self.invariant.fits))
     (c.in_ok-stands.ensures ∙ ap (λ (x : FileSystem). standing x) c.in_ok-image.ensures))
 
+chosen_by : (h tree : Held) (read choice : Choice) (k : ℕ) (cs : List Change) (bits : List Bool) (image : FileSystem)
+    → image ≡ chosen (filled read.fill) h.log.opening cs bits → bits ≡ read.keep → cs ≡ take k h.log.changes
+    → h ≡ tree → read ≡ choice → image ≡ image_chosen tree.log k choice
+chosen_by h tree read choice k cs bits image is kept changes held chosen_is =
+    is ∙ (ap (chosen (filled read.fill) h.log.opening cs) kept
+    ∙ (ap (λ (cs : List Change). chosen (filled read.fill) h.log.opening cs read.keep) changes
+    ∙ (ap (λ (h : Held). image_chosen h.log k read) held ∙ ap (image_chosen tree.log k) chosen_is)))
+
 is_chosen : (c : After-unused) → c.in_ok-image.image ≡ image_chosen c.args.self.now.log c.args.at_call c.args.choice.now
-is_chosen c =
-    let s = c.self.inside.opening in
-    let k = c.args.at_call in
-    let fill = filled c.args.choice.now.fill in
-    let keep = c.args.choice.now.keep in
-    c.in_ok-image.ensures
-    ∙ (ap (λ (bits : List Bool). chosen fill s (changes_by (take k c.deref.result.now)) bits) c.bits.ensures
-    ∙ (ap (λ (cs : List Change). chosen fill s cs keep) (eq c.deref.result.now c.self.inside.records.items k c.deref.ensures.value)
-    ∙ ap (λ (h : Held). image_chosen h.log k c.args.choice.now) c.self.view_is))
+is_chosen c = chosen_by _ _ _ _ c.args.at_call _ _ _ c.in_ok-image.ensures c.as_slice.ensures.value
+    (eq c.deref.result.now c.self.inside.records.items c.args.at_call c.deref.ensures.value) c.self.view_is c.choice.view_is
 
 same_time : (c : After-unused) → to_z w64 (of_z w64 c.self.inside.time) ≡ c.args.self.now.time
 same_time c = search rules

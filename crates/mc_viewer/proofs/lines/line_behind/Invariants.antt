@@ -2,7 +2,7 @@
 use Rattle.std.proofs.Common.{◌≡◌, ◌≤◌, ◌-◌}
 use Rattle.mc_viewer.specs.Viewing.{IfHeld}
 use Rattle.mc_viewer.specs.Rows.{line_behind}
-use Rattle.mc_viewer.proofs.moves.line_behind.Given as goal
+use Rattle.mc_viewer.proofs.lines.line_behind.Given as goal
 
 abbrev pub invariant-loop-start : goal.invariant-loop-start
 invariant-loop-start g l = record {
