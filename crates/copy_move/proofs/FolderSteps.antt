@@ -311,7 +311,7 @@ module _ (unclaimed : Route → Type 0) (did : Did) (calls : ℕ) (dirty dirty_a
   wound_up ending job new ends w = record {
     own = run_ends unclaimed job new did calls before after f0 f1 ending job.work new.work w.left refl ends w.winds w.new_is;
     settled = λ goes fresh. absurd (ends_not ending (sym ends ∙ goes));
-    leaves = subst (λ c. LeavesDirty c job.work did new.work dirty dirty_after before after) (sym ends) (w.left, w.leaves, w.winds.synced);
+    leaves = subst (λ c. LeavesDirty c job.work did new.work dirty dirty_after before after) (sym ends) (record { refusal = w.left; dirty_is = w.leaves; tried = w.winds.synced });
     winds = λ how is. subst (λ e. WindingStep e (step_made job new did calls dirty dirty_after before after f0 f1)) (same_ending ending how (sym ends ∙ is)) w;
   }
 
@@ -403,7 +403,7 @@ module _ (folder : Route) (dirty dirty_after : List Route) (job : Running) (goes
     fresh = fresh;
     folder = folder;
     owed = owed;
-    synced = inl (is, refl, after_is, called);
+    synced = inl (record { did_is = is; new_is = refl; dirty_is = after_is; called = called });
     counted = counted (Ok tt) calls count called;
     few = omega (arith, count);
     unknown = unknown;
@@ -418,7 +418,7 @@ module _ (folder : Route) (dirty dirty_after : List Route) (job : Running) (goes
     fresh = fresh;
     folder = folder;
     owed = owed;
-    synced = inr (e, is, new_is, after_is, called);
+    synced = inr (record { error = e; did_is = is; new_is = new_is; dirty_is = after_is; called = called });
     counted = counted (Err e) calls count called;
     few = let most = tries_few (Err e) in omega (arith, count, most);
     unknown = unknown;

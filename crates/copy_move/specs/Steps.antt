@@ -35,11 +35,16 @@ pub record StepsOn (unclaimed : Route → Type 0) (old new : Running) (did : Did
   pub fault : IsFault did → HasRisen faults faults_after
   pub falls : ends did ≡ false → rank (Some new) < rank (Some old)
 
+-- a last step leaves the folder dirty where the one try of its sync was refused
+pub record LastLeaves (old : Work) (did : Did) (dirty dirty_after : List Route) (before after : Option CallLog) : Type 0 where
+  pub refusal : Option TreeError
+  pub dirty_is : dirty_after ≡ after_try did refusal (changed_folder old) dirty
+  pub tried : IfKnown before (λ log. TellsFolder old did refusal log after)
+
 -- What a step of a job's own makes of the dirty folders. Its folder joins them before the first change there and leaves them
 -- with its sync. In last steps it leaves them only where the one try of its sync wasn't refused.
 abbrev pub LeavesDirty : Course → Work → Did → Work → List Route → List Route → Option CallLog → Option CallLog → Type 0
-LeavesDirty (Ends ending) old did new dirty dirty_after before after =
-    (left : Option TreeError) × (dirty_after ≡ after_try did left (changed_folder old) dirty) × IfKnown before (λ log. TellsFolder old did left log after)
+LeavesDirty (Ends ending) old did new dirty dirty_after before after = LastLeaves old did dirty dirty_after before after
 LeavesDirty course old did new dirty dirty_after before after = dirty_after ≡ with_change (is_dirty old) (is_dirty new) (changed_folder old) dirty
 
 -- A step of a job as it was made: the job before and after it, its report, and how many changing calls it made; and how the
@@ -112,12 +117,24 @@ pub record OwnStep (unclaimed : Route → Type 0) (step : StepMade) : Type 0 whe
   pub leaves : LeavesDirty step.old.course step.old.work step.did step.new.work step.dirty step.dirty_after step.before step.after
   pub winds : (ending : Ending) → step.old.course ≡ Ends ending → WindingStep ending step
 
--- a dirty folder was synced, and the job stands where it stood; or that was refused, and the job waits for an answer
+-- a dirty folder was synced, and the job stands where it stood
+pub record FolderSynced (old : Running) (folder : Route) (did : Did) (new : Running) (dirty dirty_after : List Route) (before after : Option CallLog) : Type 0 where
+  pub did_is : did ≡ Barrier
+  pub new_is : new ≡ old
+  pub dirty_is : dirty_after ≡ without folder dirty
+  pub called : IfKnown before (λ log. Performs {A = Unit {0}} log (SyncFolder folder) (Ok tt) after)
+
+-- its sync was refused, and the job waits for an answer
+pub record FolderRefused (old : Running) (folder : Route) (did : Did) (new : Running) (dirty dirty_after : List Route) (before after : Option CallLog) : Type 0 where
+  pub error : TreeError
+  pub did_is : did ≡ Troubled (trouble_at error folder true)
+  pub new_is : new ≡ record old { course = OwedSyncFailed (cause_of error) }
+  pub dirty_is : dirty_after ≡ dirty
+  pub called : IfKnown before (λ log. Performs {A = Unit {0}} log (SyncFolder folder) (Err error) after)
+
 abbrev pub SyncsFolder : Running → Route → Did → Running → List Route → List Route → Option CallLog → Option CallLog → Type 0
 SyncsFolder old folder did new dirty dirty_after before after =
-    ((did ≡ Barrier) × (new ≡ old) × (dirty_after ≡ without folder dirty) × IfKnown before (λ log. Performs {A = Unit {0}} log (SyncFolder folder) (Ok tt) after))
-    ⊎ ((e : TreeError) × (did ≡ Troubled (trouble_at e folder true)) × (new ≡ record old { course = OwedSyncFailed (cause_of e) }) × (dirty_after ≡ dirty)
-    × IfKnown before (λ log. Performs {A = Unit {0}} log (SyncFolder folder) (Err e) after))
+    FolderSynced old folder did new dirty dirty_after before after ⊎ FolderRefused old folder did new dirty dirty_after before after
 
 -- A step of a job that has changed nothing yet, where an ended job left a dirty folder: that is synced first.
 pub record OwedSyncStep (step : StepMade) : Type 0 where

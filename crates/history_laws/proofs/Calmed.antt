@@ -28,7 +28,7 @@ use Rattle.history_laws.specs.Owed.{IsApart}
 use Rattle.session_history.specs.Named.{begins_change, has_changed, names_path}
 use Rattle.history_laws.specs.Replayed.{log_prefix}
 use Rattle.session_history.specs.Entries.{calls_in}
-use Rattle.history_laws.specs.Traces.{EventLeads, WorkLeads}
+use Rattle.history_laws.specs.Traces.{EventLeads, StepLeads, WorkLeads}
 use Rattle.history_laws.proofs.Beginnings.{goes_then}
 use Rattle.history_laws.proofs.Done.{IsFound, found_moment, same_item}
 use Rattle.history_laws.proofs.Finished.{AreTidy, IsTidyJob, traced_tidy}
@@ -111,18 +111,21 @@ module _ (opening : CallLog) (tree : IsTree (current opening)) (settled : all_se
   calm = by (subst (λ w. EventLeads f.was w f.after f.before f.now) h.reports f.leads)
     where
       no_sync : (job new : Running) (synced : Route) → SyncsFolder job synced h.did new f.was.dirty f.after.dirty (Some f.before) (Some f.now) → ⊥
-      no_sync job new synced (inl did) = false≢true (sym (ap begins_change did.0) ∙ h.begins)
-      no_sync job new synced (inr did) = false≢true (sym (ap begins_change did.1) ∙ h.begins)
+      no_sync job new synced (inl s) = false≢true (sym (ap begins_change s.did_is) ∙ h.begins)
+      no_sync job new synced (inr s) = false≢true (sym (ap begins_change s.did_is) ∙ h.begins)
 
       one_of : (job : Running) → Rattle.history_laws.specs.Traces.IsJob h.id f.was.jobs job → (f.was.jobs ≡ job ∷ []) × (job.id ≡ h.id)
       one_of job its =
           let r = traced_reached opening tree settled older f.was f.before f.traced in
           only_job h.id f.was.jobs job (told_of opening f.before older r.part) f.was.dirty r.marks (current f.before) its r.knows
 
+      of_step : (job : Running) (after : Option Running) → Rattle.history_laws.specs.Traces.IsJob h.id f.was.jobs job → StepLeads job h.did after f.was.dirty f.after.dirty f.before f.now → Calm
+      of_step job after its (inl (new, inl works, after_is)) = let one = one_of job its in of_works job new one.0 one.1 works
+      of_step job after its (inl (new, inr syncs, after_is)) = absurd (no_sync job new syncs.folder syncs.synced)
+      of_step job after its (inr (gives, after_is)) = absurd (false≢true (sym (ap begins_change gives.did_is) ∙ h.begins))
+
       by : EventLeads f.was (Step h.id h.did) f.after f.before f.now → Calm
-      by (job, its, (after, inl (new, inl works, after_is), jobs_is)) = let one = one_of job its in of_works job new one.0 one.1 works
-      by (job, its, (after, inl (new, inr syncs, after_is), jobs_is)) = absurd (no_sync job new syncs.folder syncs.synced)
-      by (job, its, (after, inr (gives, after_is), jobs_is)) = absurd (false≢true (sym (ap begins_change gives.did_is) ∙ h.begins))
+      by s = of_step s.job s.new s.its s.leads
 
 pub calm_law : CalmLaw
 calm_law opening now newest stand tree settled traced e older folder path h moment waits =

@@ -1,27 +1,30 @@
--- Each change of the names of files: a removal, the making of a part, and its renaming to the target.
-use Rattle.std.proofs.Common.{◌≡◌, ◌⊎◌, ℕ, Bool, true, false, List, [], ◌∷◌, ◌++◌, length, refl, sym, ◌∙◌, ap, subst, inl, inr, Option, Some, None, arith, cond, length-append}
+-- The removal of a thing that holds nothing, a file or an empty folder; and what changes of names have in common.
+use Rattle.std.proofs.Common.{◌≡◌, ◌⊎◌, ℕ, ◌<◌, Bool, true, false, List, [], ◌∷◌, ◌++◌, length, refl, sym, ◌∙◌, ap, subst, inl, inr, Option, Some, None, arith, cond, length-append}
 use Rattle.std.specs.Prelude.{is_some, option_and_then}
 use Rattle.std.specs.Option.{option_map, option_map_or}
-use Rattle.std.proofs.lemmas.Bool.{false≢true, both_ways, false_from_ne_true}
+use Rattle.std.proofs.lemmas.Bool.{false≢true, true≢false, both_ways, false_from_ne_true}
 use Rattle.mc_text.specs.Routes.{Route, same_path}
 use Rattle.tree_trait.specs.declared.file_system.FileSystem.{FileSystem}
 use Rattle.tree_trait.specs.FileSystem.{lookup, find, node, value, visible_tree, starts_mount}
 use Rattle.tree_trait.specs.Shape.{IsTree, IsRemovable}
 use Rattle.tree_trait.specs.Refusals.{is_folder}
 use Rattle.tree_trait.specs.Change.{Change, Removes, CallLog, current, with_change}
-use Rattle.tree_trait.specs.CrashImages.{says, same_name, Among}
+use Rattle.tree_trait.specs.CrashImages.{says as says_of, same_name, Among}
 use Rattle.tree_trait.proofs.Kept.{folder_there}
-use Rattle.tree_trait.proofs.Finding.{and_then-some, same_name-true, same_name-self}
-use Rattle.tree_trait.proofs.Visible.{same_path-self}
-use Rattle.tree_trait.proofs.Steady.{at}
+use Rattle.tree_trait.proofs.Finding.{and_then-some, find-once, same_name-true, same_name-self}
+use Rattle.tree_trait.proofs.Visible.{same_path-self, same_path-true}
 use Rattle.crash_law.specs.Guarded.{Marks, IsNaming}
 use Rattle.crash_law.specs.Steps.{IsAnchored}
-use Rattle.crash_law.proofs.Guarding.{find_same, said}
+use Rattle.crash_law.proofs.Guarding.{find_same, found_at, naming_law, unsaid}
 use Rattle.crash_law.proofs.Leading.{current_more}
 use Rattle.crash_law.proofs.Removing.{removal_law}
+use Rattle.crash_law.proofs.Syncing.{unaltered_law}
 use Rattle.crash_law.proofs.Tops.{under_removed, none_below}
-use Rattle.history_laws.proofs.Knowing.{Said, IsKnown, held, nowhere}
-use Rattle.history_laws.proofs.Renaming.{naming_known}
+use Rattle.history_laws.specs.Doubt.{is_pending, name_waits}
+use Rattle.history_laws.proofs.Pending.{pending_less, says_at, within_more}
+use Rattle.history_laws.proofs.Knowing.{Said, IsKnown, IsUnreached, held, nowhere}
+use Rattle.history_laws.proofs.Quiet.{folder_same, held_same, kind_same, shows_same, was_bare}
+use Rattle.history_laws.proofs.Resting.{folder_at, no_folder_at}
 
 pub some_none : {A : Type 0} (x : ℕ) → (let o : Option ℕ = Some x in o) ≡ None → A
 some_none x h = absurd (let e : ⊥ = cc in e)
@@ -32,15 +35,6 @@ some_is x y h = cc
 -- where nothing stands nothing is seen
 pub seen_nowhere : (s : FileSystem) (p : Route) → find s p ≡ None → visible_tree s p ≡ nowhere
 seen_nowhere s p none = ap (λ o. (let v : _ = record { value = option_map (λ i. value (node s i)) o; is_mount = option_map_or (starts_mount s) o false } in v)) none
-
--- below what is no folder nothing stands
-pub none_below_file : (s : FileSystem) → IsTree s → (top : Route) (i : ℕ) → find s top ≡ Some i → is_folder (node s i) ≡ false → (name : List ℕ) (rest : Route) → find s (name ∷ rest ++ top) ≡ None
-none_below_file s tree top i at bare name [] = ap (option_and_then (λ f. lookup s.names f name)) at ∙ by (lookup s.names i name) refl
-  where
-    by : (o : Option ℕ) → lookup s.names i name ≡ o → lookup s.names i name ≡ None
-    by None is = is
-    by (Some j) is = absurd (both_ways _ bare (tree.in_folders i name j is))
-none_below_file s tree top i at bare name (more ∷ rest) = ap (option_and_then (λ f. lookup s.names f name)) (none_below_file s tree top i at bare more rest)
 
 -- a folder that stands at a path is anchored there
 pub folder_anchored : (said : Said) (dirty : List Route) (marks : Marks) (log : CallLog) → IsKnown said dirty marks log → (p : Route) (j : ℕ) → find (current log) p ≡ Some j → is_folder (node (current log) j) ≡ true
@@ -63,6 +57,46 @@ pub said_two : (a b : Bool) (x y : Option ℕ) → is_some (let o : Option (Opti
 said_two true b x y h = inl refl
 said_two false b x y h = inr (said_one b y h)
 
+-- A thing that holds nothing stands under a name: a file, or an empty folder.
+pub record IsHollow (s : FileSystem) (path : Route) : Type 0 where
+  pub up : Route
+  pub name : List ℕ
+  pub f : ℕ
+  pub i : ℕ
+  pub path_is : path ≡ name ∷ up
+  pub folder : find s up ≡ Some f
+  pub leads : lookup s.names f name ≡ Some i
+  pub empty : (m : List ℕ) → lookup s.names i m ≡ None
+
+-- what is no folder holds no names
+pub holds_none : (s : FileSystem) → IsTree s → (i : ℕ) → is_folder (node s i) ≡ false → (m : List ℕ) → lookup s.names i m ≡ None
+holds_none s tree i bare m = by (lookup s.names i m) refl
+  where
+    by : (o : Option ℕ) → lookup s.names i m ≡ o → lookup s.names i m ≡ None
+    by None is = is
+    by (Some j) is = absurd (both_ways _ bare (tree.in_folders i m j is))
+
+abbrev pub hollow_file : (s : FileSystem) (path : Route) → IsTree s → IsRemovable s path → IsHollow s path
+hollow_file s path tree r = record {
+  up = r.up;
+  name = r.name;
+  f = r.f;
+  i = r.i;
+  path_is = r.path_is;
+  folder = r.folder;
+  leads = r.leads;
+  empty = holds_none s tree r.i r.no_folder;
+}
+
+-- below it nothing stands
+none_below_hollow : (s : FileSystem) (top : Route) (i : ℕ) → find s top ≡ Some i → ((m : List ℕ) → lookup s.names i m ≡ None) → (name : List ℕ) (rest : Route) → find s (name ∷ rest ++ top) ≡ None
+none_below_hollow s top i at empty name [] = ap (option_and_then (λ f. lookup s.names f name)) at ∙ empty name
+none_below_hollow s top i at empty name (more ∷ rest) = ap (option_and_then (λ f. lookup s.names f name)) (none_below_hollow s top i at empty more rest)
+
+-- below what is no folder nothing stands
+pub none_below_file : (s : FileSystem) → IsTree s → (top : Route) (i : ℕ) → find s top ≡ Some i → is_folder (node s i) ≡ false → (name : List ℕ) (rest : Route) → find s (name ∷ rest ++ top) ≡ None
+none_below_file s tree top i at bare name rest = none_below_hollow s top i at (holds_none s tree i bare) name rest
+
 -- What a history says once a path has nothing any more: elsewhere it says what it said.
 pub record SaysGone (said after : Said) (marks : Marks) (log : CallLog) (path : Route) : Type 0 where
   pub named : (p : Route) → marks.aside p ≡ true → Among after.named p
@@ -71,86 +105,216 @@ pub record SaysGone (said after : Said) (marks : Marks) (log : CallLog) (path : 
   pub was : marks.aside path ≡ false → held (current log) (marks.was path) ≡ (after.earlier path).value
   pub part : after.part ≡ None
   pub doubts : (p : Route) → said.doubt p ≡ true → after.doubt p ≡ true
-  pub folders : (p : Route) → after.folders p ≡ said.folders p
   pub doubted : after.doubt path ≡ true
+  pub folders : (p : Route) → same_path p path ≡ false → after.folders p ≡ said.folders p
+  pub no_folder : after.folders path ≡ false
 
-module _ (told after : Said) (dirty dirty_after : List Route) (marks : Marks) (log : CallLog) (known : IsKnown told dirty marks log) (path : Route) (r : IsRemovable (current log) path) (k : ℕ) where
+-- Its removal keeps what is known. The folder that holds it is dirty then, and it is no longer one itself.
+module _ (told after : Said) (dirty dirty_after : List Route) (marks : Marks) (log : CallLog) (known : IsKnown told dirty marks log) (path : Route) (r : IsHollow (current log) path) (k : ℕ)
+    (says : SaysGone told after marks log path) (was : marks.aside path ≡ false → marks.was path ≡ find (current log) path)
+    (listed : Among dirty_after r.up) (more : (q : Route) → Among dirty q → same_path q path ≡ false → Among dirty_after q) where
   abbrev removes : Change
   removes = Removes r.f r.name k
+
+  abbrev now : CallLog
+  now = with_change log removes
 
   removed_at : find (current log) (r.name ∷ r.up) ≡ Some r.i
   removed_at = ap (option_and_then (λ g. lookup (current log).names g r.name)) r.folder ∙ r.leads
 
+  path_at : find (current log) path ≡ Some r.i
+  path_at = ap (find (current log)) r.path_is ∙ removed_at
+
   removed_folder : is_folder (node (current log) r.f) ≡ true
   removed_folder = known.guarded.tree.in_folders r.f r.name r.i r.leads
 
-  pub removed_known : SaysGone told after marks log path → (marks.aside path ≡ false → marks.was path ≡ find (current log) path)
-      → Among dirty_after r.up → ((q : Route) → Among dirty q → Among dirty_after q) → IsKnown after dirty_after marks (with_change log removes)
-  removed_known says was listed more = naming_known told after dirty dirty_after marks log removes r.up path path r.f known (record {
-    naming = naming;
-    within = refl;
-    stands = stands;
-    folder = removed_folder;
-    here = λ g m h. sym (same_name-true r.f g r.name m (said_one (same_name r.f r.name g m) None h)).0;
-    files = λ m j h leads. let m_is = (same_name-true r.f r.f r.name m (said_one (same_name r.f r.name r.f m) None h)).1 in
-        let j_is : j ≡ r.i = some_is r.i j (sym r.leads ∙ subst (λ n. lookup (current log).names r.f n ≡ Some j) (sym m_is) leads) in
-        subst (λ i. is_folder (node (current log) i) ≡ false) (sym j_is) r.no_folder;
-    files_now = λ m j h leads. let m_is = (same_name-true r.f r.f r.name m (said_one (same_name r.f r.name r.f m) None h)).1 in
-        some_none j (sym (subst (λ n. lookup (current (with_change log removes)).names r.f n ≡ Some j) (sym m_is) leads) ∙ gone_name);
-    made = λ i past. false_from_ne_true _ (λ is. let t = folder_there (current (with_change log removes)).nodes i is in let n = ap (λ (s : FileSystem). length s.nodes) (current_more log removes) in absurd (omega (arith, past, t, n)));
-    listed = listed;
-    more = more;
-    at = λ m h. let m_is = (same_name-true r.f r.f r.name m (said_one (same_name r.f r.name r.f m) None h)).1 in inl (ap (λ q. (let l : Route = q ∷ r.up in l)) (sym m_is) ∙ sym r.path_is);
-    doubts = says.doubts;
-    folders = says.folders;
-    touched = λ p at. subst (λ q. after.doubt q ≡ true) (sym (either p at)) says.doubted;
-    named = says.named;
-    off = λ p first second. let o = says.off p first in (off_path p first, o.0, o.1, o.2);
-    shown = λ p at other. subst (λ q. visible_tree (current (with_change log removes)) q ≡ after.tree q) (sym (either p at)) (seen_nowhere (current (with_change log removes)) path gone_path ∙ sym says.gone);
-    was = λ p at out. inr (subst (λ q. held (current log) (marks.was q) ≡ (after.earlier q).value) (sym (either p at)) (says.was (subst (λ q. marks.aside q ≡ false) (either p at) out)));
-    part = λ p is. absurd (let e = says.part in let n : (let o : Option Route = None in o) ≡ Some p = sym e ∙ is in cc);
+  unworked : (rest : Route) → marks.aside (rest ++ r.name ∷ r.up) ≡ false → (find (current log) (rest ++ r.name ∷ r.up) ≡ marks.was (rest ++ r.name ∷ r.up)) ⊎ (find (current log) (rest ++ r.name ∷ r.up) ≡ None)
+  unworked [] out = inl (sym (subst (λ q. marks.was q ≡ find (current log) q) r.path_is (was (subst (λ q. marks.aside q ≡ false) (sym r.path_is) out))))
+  unworked (name ∷ rest) out = inr (none_below_hollow (current log) (r.name ∷ r.up) r.i removed_at r.empty name rest)
+
+  naming : IsNaming marks log removes
+  naming = removal_law marks log r.up r.name r.f k known.guarded (record {
+    stands = record { at = r.folder; anchored = folder_anchored told dirty marks log known r.up r.f r.folder removed_folder };
+    unworked = unworked;
   })
+
+  no_longer : (rest : Route) → r.up ≡ rest ++ r.name ∷ r.up → ⊥
+  no_longer rest e = let l = ap (λ (q : Route). length q) e in let n = length-append rest (r.name ∷ r.up) in absurd (omega (arith, l, n))
+
+  stands : find (current now) r.up ≡ Some r.f
+  stands = elim (find_same log removes r.up) [
+    | inl same ↦ same ∙ r.folder
+    | inr under ↦ let u = under_removed log known.guarded.tree r.up r.f r.folder r.name k r.up under in absurd (no_longer u.0 u.1)
+  ]
+
+  gone_name : lookup (current now).names r.f r.name ≡ None
+  gone_name = Rattle.crash_law.proofs.Guarding.said log removes r.f r.name None (ap (λ (b : Bool). let o : Option (Option ℕ) = cond b (Some None) None in o) (same_name-self r.f r.name))
+
+  gone_at : find (current now) (r.name ∷ r.up) ≡ None
+  gone_at = ap (option_and_then (λ g. lookup (current now).names g r.name)) stands ∙ gone_name
+
+  gone_path : find (current now) path ≡ None
+  gone_path = ap (find (current now)) r.path_is ∙ gone_at
+
+  -- a path leads where it led, or nowhere
+  found_then : (q : Route) → (find (current now) q ≡ find (current log) q) ⊎ (find (current now) q ≡ None)
+  found_then q = elim (find_same log removes q) [
+    | inl same ↦ inl same
+    | inr under ↦
+        let u = under_removed log known.guarded.tree r.up r.f r.folder r.name k q under in
+        inr (ap (find (current now)) u.1 ∙ none_below now u.0 (r.name ∷ r.up) gone_at)
+  ]
+
+  off_path : (p : Route) → same_path p path ≡ false → find (current now) p ≡ find (current log) p
+  off_path p off = elim (find_same log removes p) [
+    | inl same ↦ same
+    | inr under ↦ let u = under_removed log known.guarded.tree r.up r.f r.folder r.name k p under in below u.0 u.1
+  ]
     where
-      either : (p : Route) → (p ≡ path) ⊎ (p ≡ path) → p ≡ path
-      either p (inl e) = e
-      either p (inr e) = e
+      below : (rest : Route) → p ≡ rest ++ r.name ∷ r.up → find (current now) p ≡ find (current log) p
+      below [] e = absurd (off_itself p path (e ∙ sym r.path_is) off)
+      below (name ∷ rest) e =
+          ap (find (current now)) e ∙ none_below now (name ∷ rest) (r.name ∷ r.up) gone_at
+          ∙ sym (ap (find (current log)) e ∙ none_below_hollow (current log) (r.name ∷ r.up) r.i removed_at r.empty name rest)
 
-      unworked : (rest : Route) → marks.aside (rest ++ r.name ∷ r.up) ≡ false → (find (current log) (rest ++ r.name ∷ r.up) ≡ marks.was (rest ++ r.name ∷ r.up)) ⊎ (find (current log) (rest ++ r.name ∷ r.up) ≡ None)
-      unworked [] out = inl (sym (subst (λ q. marks.was q ≡ find (current log) q) r.path_is (was (subst (λ q. marks.aside q ≡ false) (sym r.path_is) out))))
-      unworked (name ∷ rest) out = inr (none_below_file (current log) known.guarded.tree (r.name ∷ r.up) r.i removed_at r.no_folder name rest)
+  same_count : length (current now).nodes ≡ length (current log).nodes
+  same_count = ap (λ (s : FileSystem). length s.nodes) (current_more log removes)
 
-      naming : IsNaming marks log removes
-      naming = removal_law marks log r.up r.name r.f k known.guarded (record {
-        stands = record { at = r.folder; anchored = folder_anchored told dirty marks log known r.up r.f r.folder removed_folder };
-        unworked = unworked;
-      })
+  there_before : (i : ℕ) → is_folder (node (current now) i) ≡ true → i < length (current log).nodes
+  there_before i is = subst (λ n. i < n) same_count (folder_there (current now).nodes i is)
 
-      no_longer : (rest : Route) → r.up ≡ rest ++ r.name ∷ r.up → ⊥
-      no_longer rest e = let l = ap (λ (q : Route). length q) e in let n = length-append rest (r.name ∷ r.up) in absurd (omega (arith, l, n))
+  was_folder : (i : ℕ) → is_folder (node (current now) i) ≡ true → is_folder (node (current log) i) ≡ true
+  was_folder i is = sym (kind_same log removes i (there_before i is)) ∙ is
 
-      stands : find (current (with_change log removes)) r.up ≡ Some r.f
-      stands = elim (find_same log removes r.up) [
-        | inl same ↦ same ∙ r.folder
-        | inr under ↦ let u = under_removed log known.guarded.tree r.up r.f r.folder r.name k r.up under in absurd (no_longer u.0 u.1)
+  unaltered : (i : ℕ) → i < length (current log).nodes → node (current now) i ≡ node (current log) i
+  unaltered i there = unaltered_law log removes i (naming.bytes i) there
+
+  -- the change is of this name
+  says_it : (g : ℕ) (m : List ℕ) → is_some (says_of removes 0 g m) ≡ true → (r.f ≡ g) × (r.name ≡ m)
+  says_it g m h = same_name-true r.f g r.name m (said_one (same_name r.f r.name g m) None h)
+
+  bare_now : (i : ℕ) (m : List ℕ) → is_folder (node (current now) i) ≡ false → is_pending i m now.changes ≡ true → ⊥
+  bare_now i m bare waits = elim (pending_less i m log.changes removes waits) [
+    | inl old ↦ both_ways _ (known.files.bare i m (was_bare log removes i bare)) old
+    | inr new ↦
+        both_ways _ (subst (λ j. is_folder (node (current now) j) ≡ false) (sym (says_it i m new).0) bare)
+        (kind_same log removes r.f (folder_there (current log).nodes r.f removed_folder) ∙ removed_folder)
+  ]
+
+  firm_now : (g : ℕ) (m : List ℕ) (j : ℕ) → lookup (current now).names g m ≡ Some j → is_folder (node (current now) j) ≡ true → is_pending g m now.changes ≡ true → ⊥
+  firm_now g m j lead folder waits = by (is_some (says_of removes 0 g m)) refl
+    where
+      none_of : (o : Option (Option ℕ)) → is_some o ≡ false → o ≡ None
+      none_of None h = refl
+      none_of (Some x) h = absurd (true≢false h)
+
+      by : (b : Bool) → is_some (says_of removes 0 g m) ≡ b → ⊥
+      by true is =
+          let same = says_it g m is in
+          some_none j (sym lead ∙ (ap (λ h. lookup (current now).names h m) (sym same.0) ∙ (ap (lookup (current now).names r.f) (sym same.1) ∙ gone_name)))
+      by false not_said =
+          let old : lookup (current log).names g m ≡ Some j = sym (unsaid log removes g m (none_of _ (sym (says_at removes (length (current log).nodes) g m) ∙ not_said))) ∙ lead in
+          elim (pending_less g m log.changes removes waits) [ inl waited ↦ both_ways _ (known.files.firm g m j old (was_folder j folder)) waited | inr new ↦ both_ways _ not_said new ]
+
+  no_path : (q : Route) (g : ℕ) → find (current now) q ≡ Some g → find (current now) q ≡ None → ⊥
+  no_path q g some none = some_none g (sym some ∙ none)
+
+  unreached_stays : (g : ℕ) → IsUnreached log g → IsUnreached now g
+  unreached_stays g none q leads = elim (found_then q) [ inl same ↦ none q (sym same ∙ leads) | inr gone ↦ no_path q g leads gone ]
+
+  -- no path leads to what was removed
+  removed_unreached : (g : ℕ) → find (current log) path ≡ Some g → IsUnreached now g
+  removed_unreached g at q leads = elim (found_then q) [
+    | inl same ↦ no_path q g leads (ap (find (current now)) (find-once (current log) known.guarded.tree q path g (sym same ∙ leads) at) ∙ gone_path)
+    | inr gone ↦ no_path q g leads gone
+  ]
+
+  tracked : (g : ℕ) (m : List ℕ) → is_pending g m now.changes ≡ true → ((q : Route) × Among dirty_after q × (find (current now) q ≡ Some g)) ⊎ IsUnreached now g
+  tracked g m waits = elim (pending_less g m log.changes removes waits) [
+    | inl old ↦ elim (known.tracked g m old) [ inl t ↦ of_listed g t.0 t.1 t.2 (same_path t.0 path) refl | inr none ↦ inr (unreached_stays g none) ]
+    | inr new ↦ inl (r.up, listed, stands ∙ ap (λ h. Some h) (says_it g m new).0)
+  ]
+    where
+      of_listed : (g : ℕ) (q : Route) → Among dirty q → find (current log) q ≡ Some g → (b : Bool) → same_path q path ≡ b → ((p : Route) × Among dirty_after p × (find (current now) p ≡ Some g)) ⊎ IsUnreached now g
+      of_listed g q among at true same = inr (removed_unreached g (subst (λ p. find (current log) p ≡ Some g) (same_path-true q path same) at))
+      of_listed g q among at false off = inl (q, more q among off, off_path q off ∙ at)
+
+  doubts : (p : Route) → name_waits now p ≡ true → after.doubt p ≡ true
+  doubts [] waits = absurd (false≢true waits)
+  doubts (name ∷ q) waits = by (find (current now) q) refl
+    where
+      in_now : (o : Option ℕ) → find (current now) q ≡ o → option_map_or (λ g. is_pending g name now.changes) o false ≡ true
+      in_now o is = sym (ap (λ x. option_map_or (λ g. is_pending g name now.changes) x false) is) ∙ waits
+
+      waited : (g : ℕ) → find (current now) q ≡ Some g → is_pending g name log.changes ≡ true → after.doubt (name ∷ q) ≡ true
+      waited g is old = elim (found_then q) [
+        | inl same ↦ says.doubts (name ∷ q) (known.doubts (name ∷ q) (ap (λ x. option_map_or (λ h. is_pending h name log.changes) x false) (sym same ∙ is) ∙ old))
+        | inr gone ↦ absurd (no_path q g is gone)
       ]
 
-      gone_name : lookup (current (with_change log removes)).names r.f r.name ≡ None
-      gone_name = Rattle.crash_law.proofs.Guarding.said log removes r.f r.name None (ap (λ (b : Bool). let o : Option (Option ℕ) = cond b (Some None) None in o) (same_name-self r.f r.name))
+      new : (g : ℕ) → find (current now) q ≡ Some g → is_some (says_of removes 0 g name) ≡ true → after.doubt (name ∷ q) ≡ true
+      new g is said =
+          let s = says_it g name said in
+          let q_is : r.up ≡ q = find-once (current now) naming.tree r.up q r.f stands (is ∙ ap (λ h. Some h) (sym s.0)) in
+          let same : path ≡ name ∷ q = r.path_is ∙ (ap (λ n. (let l : Route = n ∷ r.up in l)) s.1 ∙ ap (λ (p : Route). name ∷ p) q_is) in
+          subst (λ p. after.doubt p ≡ true) same says.doubted
 
-      gone_at : find (current (with_change log removes)) (r.name ∷ r.up) ≡ None
-      gone_at = ap (option_and_then (λ g. lookup (current (with_change log removes)).names g r.name)) stands ∙ gone_name
+      by : (o : Option ℕ) → find (current now) q ≡ o → after.doubt (name ∷ q) ≡ true
+      by None is = absurd (false≢true (in_now None is))
+      by (Some g) is = elim (pending_less g name log.changes removes (in_now (Some g) is)) [ inl old ↦ waited g is old | inr said ↦ new g is said ]
 
-      gone_path : find (current (with_change log removes)) path ≡ None
-      gone_path = ap (find (current (with_change log removes))) r.path_is ∙ gone_at
+  -- this path, or another
+  abbrev Where : Route → Type 0
+  Where p = (p ≡ path) ⊎ (same_path p path ≡ false)
 
-      off_path : (p : Route) → same_path p path ≡ false → find (current (with_change log removes)) p ≡ find (current log) p
-      off_path p off = elim (find_same log removes p) [
-        | inl same ↦ same
-        | inr under ↦ let u = under_removed log known.guarded.tree r.up r.f r.folder r.name k p under in below u.0 u.1
+  where_is : (p : Route) → Where p
+  where_is p = by (same_path p path) refl
+    where
+      by : (b : Bool) → same_path p path ≡ b → Where p
+      by true is = inl (same_path-true p path is)
+      by false is = inr is
+
+  held_still : (p : Route) → marks.aside p ≡ false → held (current now) (marks.was p) ≡ held (current log) (marks.was p)
+  held_still p out = held_same log removes (marks.was p) (λ i is. unaltered i (known.was_there p i out is).0)
+
+  was_shown : (p : Route) → marks.aside p ≡ false → (marks.was p ≡ find (current now) p) ⊎ (held (current now) (marks.was p) ≡ (after.earlier p).value)
+  was_shown p out = elim (where_is p) [
+    | inl at ↦ inr (held_still p out ∙ subst (λ q. held (current log) (marks.was q) ≡ (after.earlier q).value) (sym at) (says.was (subst (λ q. marks.aside q ≡ false) at out)))
+    | inr off ↦ elim (known.was_shown p out) [
+        | inl same ↦ inl (same ∙ sym (off_path p off))
+        | inr shown ↦ inr (held_still p out ∙ (shown ∙ sym (ap (λ (s : _). s.value) (says.off p off).1)))
       ]
-        where
-          below : (rest : Route) → p ≡ rest ++ r.name ∷ r.up → find (current (with_change log removes)) p ≡ find (current log) p
-          below [] e = absurd (off_itself p path (e ∙ sym r.path_is) off)
-          below (name ∷ rest) e =
-              ap (find (current (with_change log removes))) e ∙ none_below (with_change log removes) (name ∷ rest) (r.name ∷ r.up) gone_at
-              ∙ sym (ap (find (current log)) e ∙ none_below_file (current log) known.guarded.tree (r.name ∷ r.up) r.i removed_at r.no_folder name rest)
+  ]
+
+  shows : (p : Route) → (after.part ≡ Some p → ⊥) → visible_tree (current now) p ≡ after.tree p
+  shows p other = elim (where_is p) [
+    | inl at ↦ subst (λ q. visible_tree (current now) q ≡ after.tree q) (sym at) (seen_nowhere (current now) path gone_path ∙ sym says.gone)
+    | inr off ↦
+        let o = says.off p off in
+        shows_same log removes p (off_path p off) (λ i is. unaltered i (known.guarded.there p i (found_at log p (Some i) is))) ∙ (known.shows p o.2 ∙ sym o.0)
+  ]
+
+  stand : (p : Route) → folder_at (current now) p ≡ after.folders p
+  stand p = elim (where_is p) [
+    | inl at ↦ subst (λ q. folder_at (current now) q ≡ after.folders q) (sym at) (no_folder_at (current now) path (λ i is folder. no_path path i is gone_path) ∙ sym says.no_folder)
+    | inr off ↦ folder_same log removes p (off_path p off) (λ i is. known.guarded.there p i (found_at log p (Some i) is)) ∙ (known.stand p ∙ sym (says.folders p off))
+  ]
+
+  pub removed_known : IsKnown after dirty_after marks now
+  removed_known = record {
+    guarded = naming_law marks log removes known.guarded naming;
+    files = record {
+      within = within_more log.changes removes refl known.files.within;
+      bare = λ i m bare. false_from_ne_true _ (bare_now i m bare);
+      firm = λ g m j lead folder. false_from_ne_true _ (firm_now g m j lead folder);
+    };
+    folders = λ i folder. known.folders i (was_folder i folder);
+    aside = says.named;
+    was_there = λ p i out is. let t = known.was_there p i out is in (subst (λ n. i < n) (sym same_count) t.0, t.1);
+    was_shown = was_shown;
+    shows = shows;
+    part = λ p is. absurd (let e = says.part in let n : (let o : Option Route = None in o) ≡ Some p = sym e ∙ is in cc);
+    tracked = tracked;
+    doubts = doubts;
+    stand = stand;
+  }

@@ -1,7 +1,7 @@
 -- Each step of the copy of a file keeps what is known.
-use Rattle.std.proofs.Common.{◌≡◌, ◌⊎◌, ℕ, ◌≤◌, ◌+◌, zero, suc, true, List, [], ◌∷◌, length, refl, sym, ◌∙◌, ap, subst, inl, inr, Option, Some, None, Ok, Err, arith}
+use Rattle.std.proofs.Common.{◌≡◌, ◌⊎◌, ℕ, ◌≤◌, ◌+◌, zero, suc, true, false, List, [], ◌∷◌, length, refl, sym, ◌∙◌, ap, subst, inl, inr, Option, Some, None, Ok, Err, arith}
 use Rattle.std.specs.Prelude.{unwrap_or, pos}
-use Rattle.std.specs.Option.{option_map}
+use Rattle.std.specs.Option.{option_map, option_map_or}
 use Rattle.std.proofs.lemmas.Bool.{both_ways, or_left, or_right}
 use Rattle.mc_text.specs.Routes.{Route}
 use Rattle.tree_trait.specs.declared.file_system.Node.{Node}
@@ -9,6 +9,7 @@ use Rattle.tree_trait.specs.declared.file_system.FileSystem.{FileSystem}
 use Rattle.tree_trait.specs.declared.calls.TreeError.{TreeError}
 use Rattle.tree_trait.specs.declared.calls.TreeError.TheVariants.{Fault, Memory}
 use Rattle.tree_trait.specs.FileSystem.{Spot, Value, find, node, value}
+use Rattle.tree_trait.specs.Refusals.{folder_kind, is_folder}
 use Rattle.tree_trait.specs.Calls.{RemoveFile, SyncFolder, WriteAt}
 use Rattle.tree_trait.specs.Change.{Nothing, Removes, Writes, CallLog, current, with_change}
 use Rattle.tree_trait.specs.CrashImages.{Among}
@@ -40,7 +41,7 @@ use Rattle.copy_move.specs.Jobs.{course_after}
 use Rattle.copy_move.specs.Settling.{NoneOwed, with_change as moves_dirty}
 use Rattle.history_laws.specs.Traces.{IsUnclaimed}
 use Rattle.history_laws.proofs.Calming.{written_known}
-use Rattle.history_laws.proofs.Changing.{off_itself, removed_known}
+use Rattle.history_laws.proofs.Changing.{hollow_file, off_itself, removed_known}
 use Rattle.history_laws.proofs.Deleted.{IsRemoval, comes_refused, removal_done}
 use Rattle.history_laws.proofs.DeletionSteps.{Steps, ends, same_dirty, tried}
 use Rattle.history_laws.proofs.Filling.{begun, filled_more, listed_now, making_stands, target_free}
@@ -74,16 +75,17 @@ part_cleaned told dirty marks log now work target part i kept has listed done = 
 
     at : IsRemoval log now part → Comes told (said_after now (Cleaned part) work told) dirty log now (λ m. IsUntouched m (current now) target)
     at it =
-        let known = removed_known told (said_after now (Cleaned part) work told) dirty dirty marks log kept.known part it.r it.k (record {
+        let known = removed_known told (said_after now (Cleaned part) work told) dirty dirty marks log kept.known part (hollow_file (current log) part kept.known.guarded.tree it.r) it.k (record {
           named = kept.known.aside;
           off = λ p off. (refl, refl, λ is. off_itself p part (sym (some_route part p (sym has.part_is ∙ is))) off);
           gone = (kept.known.part part has.part_is).1;
           was = λ out. absurd (both_ways _ out aside);
           part = refl;
           doubts = λ p h. or_left _ _ h;
-          folders = λ p. refl;
+          folders = λ p off. refl;
+          no_folder = sym (kept.known.stand part) ∙ (ap (λ o. option_map_or (λ j. is_folder (node (current log) j)) o false) has.leads ∙ ap folder_kind has.file);
           doubted = or_right _ _ (same_path-self part);
-        }) (λ out. absurd (both_ways _ out aside)) (subst (λ q. Among dirty q) (sym folder_is ∙ ap folder_of it.r.path_is) listed) (λ q among. among) in
+        }) (λ out. absurd (both_ways _ out aside)) (subst (λ q. Among dirty q) (sym folder_is ∙ ap folder_of it.r.path_is) listed) (λ q among off. among) in
         let after = with_change log (Removes it.r.f it.r.name it.k) in
         let shown = known.shows target (λ is. let e : (let o : Option Route = None in o) ≡ Some target = is in absurd (let f : ⊥ = cc in f)) in
         let before = kept.known.shows target (λ is. has.apart (some_route part target (sym has.part_is ∙ is))) in

@@ -21,7 +21,7 @@ use Rattle.copy_move.specs.declared.work.Work.{Work}
 use Rattle.copy_move.specs.declared.run.Course.{Course}
 use Rattle.history_laws.specs.Doubt.{is_unsettled, name_waits}
 use Rattle.history_laws.proofs.Calming.{nothing_known}
-use Rattle.history_laws.proofs.Changing.{removed_known}
+use Rattle.history_laws.proofs.Changing.{hollow_file, removed_known}
 use Rattle.history_laws.proofs.Knowing.{Said, IsKnown, IsKept, held, settled_marks}
 use Rattle.history_laws.proofs.JobKnows.{WorkKnows, work_settled}
 use Rattle.history_laws.proofs.Resting.{folder_at, folder_at_of, sure_path}
@@ -92,16 +92,17 @@ removes_file told dirty dirty_after marks log now path work knows kept none calm
     at : IsRemoval log now path → Comes told (said_after now (Removed path) work told) dirty_after log now knows
     at it = comes_one told (said_after now (Removed path) work told) dirty dirty_after marks marks log now (Removes it.r.f it.r.name it.k) knows kept it.now_is
         (subst (λ (l : CallLog). IsKnown (said_after now (Removed path) work told) dirty_after marks l) (sym it.now_is)
-        (removed_known told (said_after now (Removed path) work told) dirty dirty_after marks log kept.known path it.r it.k (record {
+        (removed_known told (said_after now (Removed path) work told) dirty dirty_after marks log kept.known path (hollow_file (current log) path kept.known.guarded.tree it.r) it.k (record {
           named = kept.known.aside;
           off = λ p off. (put_off told.tree path None p off, put_off told.earlier path (told.tree path).value p off, no_part p);
           gone = put_at told.tree path None ∙ ap (λ b. (let s : Spot = record { value = None; is_mount = b } in s)) mountless;
           was = λ out. ap (held (current log)) (kept.was path out (sure_of it)) ∙ (sym (ap (λ (s : Spot). s.value) shown) ∙ sym (ap (λ (s : Spot). s.value) (put_at told.earlier path (told.tree path).value)));
           part = none;
           doubts = λ p h. or_left _ _ h;
-          folders = λ p. refl;
+          folders = λ p off. refl;
+          no_folder = sym (kept.known.stand path) ∙ (ap (λ o. Rattle.std.specs.Option.option_map_or (λ i. is_folder (node (current log) i)) o false) leads ∙ it.r.no_folder);
           doubted = or_right _ _ (same_path-self path);
-        }) (λ out. kept.was path out (sure_of it)) (subst (λ q. Among dirty_after (folder_of q)) it.r.path_is listed) more))
+        }) (λ out. kept.was path out (sure_of it)) (subst (λ q. Among dirty_after (folder_of q)) it.r.path_is listed) (λ q among off. more q among)))
         (known_of (settled_marks now marks))
       where
         leads : find (current log) path ≡ Some it.r.i

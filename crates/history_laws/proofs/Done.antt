@@ -25,7 +25,7 @@ use Rattle.history_laws.specs.Replayed.{log_prefix, replayed_tree}
 use Rattle.session_history.specs.Entries.{IsMoment, calls_in}
 use Rattle.history_laws.specs.Safe.{IsPart, IsSafe}
 use Rattle.history_laws.specs.Staying.{DoneLaw, HasFinished}
-use Rattle.history_laws.specs.Traces.{EventLeads, IsTraced, Stand}
+use Rattle.history_laws.specs.Traces.{EventLeads, IsTraced, Stand, StepLeads}
 use Rattle.history_laws.proofs.Prefixes.{replayed_more, told_of}
 use Rattle.history_laws.proofs.Finished.{finished_folder}
 use Rattle.history_laws.proofs.Histories.{enters, only_job, traced_reached}
@@ -140,14 +140,18 @@ module _ (opening : CallLog) (tree : IsTree (current opening)) (settled : all_se
             within = h.within ∙ same_item job (live_jobs older) r.part h.item (subst (λ js. HasLive (live_jobs older) js r.part) one.0 r.live) (subst (λ n. live_item n (live_jobs older) ≡ Some h.item) (sym one.1) h.its);
           }
 
+      none : (job new : Running) (synced : Route) → SyncsFolder job synced (Ended Finished h.part) new f.was.dirty f.after.dirty (Some f.before) (Some f.now) → IsEnder f.was h.part h.id folder
+      none job new synced (inl s) = absurd (let is = s.did_is in let no : ⊥ = cc in no)
+      none job new synced (inr s) = absurd (let is = s.did_is in let no : ⊥ = cc in no)
+
+      of_step : (job : Running) (after : Option Running) → Rattle.history_laws.specs.Traces.IsJob h.id f.was.jobs job → StepLeads job (Ended Finished h.part) after f.was.dirty f.after.dirty f.before f.now
+          → IsEnder f.was h.part h.id folder
+      of_step job after its (inl (new, inl works, after_is)) = of_job job new works.tells its
+      of_step job after its (inl (new, inr syncs, after_is)) = none job new syncs.folder syncs.synced
+      of_step job after its (inr (gives, after_is)) = absurd (let is = gives.did_is in let no : ⊥ = cc in no)
+
       by : EventLeads f.was (Step h.id (Ended Finished h.part)) f.after f.before f.now → IsEnder f.was h.part h.id folder
-      by (job, its, (after, inl (new, inl works, after_is), jobs_is)) = of_job job new works.tells its
-      by (job, its, (after, inl (new, inr syncs, after_is), jobs_is)) = none syncs.synced
-        where
-          none : SyncsFolder job syncs.folder (Ended Finished h.part) new f.was.dirty f.after.dirty (Some f.before) (Some f.now) → IsEnder f.was h.part h.id folder
-          none (inl synced) = absurd (let is = synced.0 in let no : ⊥ = cc in no)
-          none (inr refused) = absurd (let is = refused.1 in let no : ⊥ = cc in no)
-      by (job, its, (after, inr (gives, after_is), jobs_is)) = absurd (let is = gives.did_is in let no : ⊥ = cc in no)
+      by s = of_step s.job s.new s.its s.leads
 
   -- where the job has ended none is live
   none_live : (folder : Route) (h : HasFinished e older folder) (f : IsFound) → live_jobs (e ∷ older) ≡ []

@@ -92,13 +92,13 @@ own_step :
     → after.jobs ≡ with_job id (unless_ended did new) was.jobs → after ≡ if_closed (is_closed (entry calls (Step id did) ∷ older)) after
     → length now.changes ≡ length (log []).changes + calls → IsTraced (log []) (entry calls (Step id did) ∷ older) after now
 own_step id calls did older was after before now old new traced its leads jobs closed counts =
-    (was, before, traced, record { after = after; leads = (old, its, (unless_ended did new, inl (new, inl leads, refl), jobs)); stand_is = closed; counts = counts })
+    (was, before, traced, record { after = after; leads = record { job = old; its = its; new = unless_ended did new; leads = inl (new, inl leads, refl); jobs_is = jobs }; stand_is = closed; counts = counts })
 
 abbrev begun_entries : List Entry
 begun_entries = entry 0 (Began 1 (plan.Delete (the_file ∷ [])) false) ∷ []
 
 begun_traced : IsTraced (log []) begun_entries (stand (first Remove GoesOn ∷ []) []) (log [])
-begun_traced = (nothing_live, log [], (refl, refl), record { after = stand (first Remove GoesOn ∷ []) []; leads = (refl, refl, refl); stand_is = refl; counts = refl })
+begun_traced = (nothing_live, log [], (refl, refl), record { after = stand (first Remove GoesOn ∷ []) []; leads = record { none_live = refl; after_is = refl; now_is = refl }; stand_is = refl; counts = refl })
 
 -- the name is removed, and the folder is dirty
 abbrev removed_entries : List Entry
@@ -148,7 +148,7 @@ closed_traced = (
   stand (waiting ∷ []) ([] ∷ []),
   log (removal ∷ Nothing ∷ []),
   troubled_traced,
-  record { after = stand (waiting ∷ []) ([] ∷ []); leads = (refl, refl); stand_is = refl; counts = refl },
+  record { after = stand (waiting ∷ []) ([] ∷ []); leads = record { after_is = refl; now_is = refl }; stand_is = refl; counts = refl },
 )
 
 some_log : (x y : CallLog) → (let o : Option CallLog = Some x in o) ≡ Some y → x ≡ y
@@ -161,7 +161,7 @@ tried_traced =
       tells = (Delete (record { path = the_file; stage = Finish }), (refl, refl), refl);
       called = (Err refused.Fault, (refl, ([], refl)));
       settled = λ goes fresh. absurd (true≢false (sym fresh));
-      leaves = (Some refused.Fault, refl, λ known is. Rattle.std.proofs.Common.subst (λ (l : CallLog). Rattle.tree_trait.specs.Answers.Performs {A = Unit {0}} l (Rattle.tree_trait.specs.Calls.SyncFolder []) (Err refused.Fault) (Some aborted_log)) (some_log (log (removal ∷ Nothing ∷ [])) known is) (refl, ([], refl)));
+      leaves = record { refusal = Some refused.Fault; dirty_is = refl; tried = λ known is. Rattle.std.proofs.Common.subst (λ (l : CallLog). Rattle.tree_trait.specs.Answers.Performs {A = Unit {0}} l (Rattle.tree_trait.specs.Calls.SyncFolder []) (Err refused.Fault) (Some aborted_log)) (some_log (log (removal ∷ Nothing ∷ [])) known is) (refl, ([], refl)) };
     }) refl refl refl
 
 aborted_traced : IsTraced (log []) aborted_entries (stand [] ([] ∷ [])) aborted_log
@@ -171,7 +171,7 @@ aborted_traced =
       tells = (Delete (record { path = the_file; stage = Finish }), ((λ h. cc), refl, refl, refl), refl);
       called = refl;
       settled = λ goes fresh. absurd (true≢false (sym fresh));
-      leaves = (None, refl, λ known is. refl);
+      leaves = record { refusal = None; dirty_is = refl; tried = λ known is. refl };
     }) refl refl refl
 
 -- then the file is in doubt: the history tells that it is gone, and a crash may bring it back, as it was before
@@ -193,7 +193,7 @@ abbrev second : Running
 second = job 2 another Remove GoesOn
 
 second_traced : IsTraced (log []) second_entries (stand (second ∷ []) ([] ∷ [])) aborted_log
-second_traced = (stand [] ([] ∷ []), aborted_log, aborted_traced, record { after = stand (second ∷ []) ([] ∷ []); leads = (refl, refl, refl); stand_is = refl; counts = refl })
+second_traced = (stand [] ([] ∷ []), aborted_log, aborted_traced, record { after = stand (second ∷ []) ([] ∷ []); leads = record { none_live = refl; after_is = refl; now_is = refl }; stand_is = refl; counts = refl })
 
 settled_traced : IsTraced (log []) settled_entries (stand (second ∷ []) []) settled_log
 settled_traced = (
@@ -202,25 +202,28 @@ settled_traced = (
   second_traced,
   record {
     after = stand (second ∷ []) [];
-    leads = (
-      second,
-      inl (refl, refl),
-      (
-        Some second,
-        inl (
-          second,
-          inr (record {
-            goes = refl;
-            fresh = refl;
-            folder = [];
-            owed = inl refl;
-            synced = inl (refl, refl, refl, λ known is. Rattle.std.proofs.Common.subst (λ (l : CallLog). Rattle.tree_trait.specs.Answers.Performs {A = Unit {0}} l (Rattle.tree_trait.specs.Calls.SyncFolder []) (Ok tt) (Some settled_log)) (some_log aborted_log known is) (refl, (pos 0, refl)));
-          }),
-          refl,
-        ),
+    leads = record {
+      job = second;
+      its = inl (refl, refl);
+      new = Some second;
+      leads = inl (
+        second,
+        inr (record {
+          goes = refl;
+          fresh = refl;
+          folder = [];
+          owed = inl refl;
+          synced = inl (record {
+            did_is = refl;
+            new_is = refl;
+            dirty_is = refl;
+            called = λ known is. Rattle.std.proofs.Common.subst (λ (l : CallLog). Rattle.tree_trait.specs.Answers.Performs {A = Unit {0}} l (Rattle.tree_trait.specs.Calls.SyncFolder []) (Ok tt) (Some settled_log)) (some_log aborted_log known is) (refl, (pos 0, refl));
+          });
+        }),
         refl,
-      ),
-    );
+      );
+      jobs_is = refl;
+    };
     stand_is = refl;
     counts = refl;
   },
@@ -324,7 +327,7 @@ abbrev ended_entries : List Entry
 ended_entries = entry 6 Closed ∷ finished_entries
 
 ended_traced : IsTraced (log []) ended_entries (stand [] []) finished_log
-ended_traced = (stand [] [], finished_log, finished_traced, record { after = stand [] []; leads = (refl, refl); stand_is = refl; counts = refl })
+ended_traced = (stand [] [], finished_log, finished_traced, record { after = stand [] []; leads = record { after_is = refl; now_is = refl }; stand_is = refl; counts = refl })
 
 no_live_part : IsLivePart (live_jobs settled_entries) the_file → ⊥
 no_live_part (found, inl same, is) = let none : (let o : Option Route = None in o) ≡ Some the_file = ap (λ (l : LiveJob). l.part) (sym same) ∙ is in cc

@@ -284,18 +284,18 @@ module _ (opening : CallLog) (tree : IsTree (current opening)) (settled : all_se
       clean none = t.clean (neither (has_changed job.id older) _ (sym (ap (λ w. changed_after job.id w (has_changed job.id older)) what_is) ∙ none)).0
 
       by : SyncsFolder job syncs.folder did new dirty dirty_after (Some before) (Some now) → IsTidyJob opening (e ∷ older) dirty_after new
-      by (inl (did_is, new_is, routes, called)) = subst (λ (x : Running). IsTidyJob opening (e ∷ older) dirty_after x) (sym new_is) (record {
-        tidy = λ changed going clean among. t.tidy (unchanged job.id (ap begins_change did_is) changed) going clean
-            (in_filter (λ kept. not (same_path kept syncs.folder)) (changed_folder job.work) dirty (subst (λ xs. Among xs (changed_folder job.work)) routes among));
+      by (inl s) = subst (λ (x : Running). IsTidyJob opening (e ∷ older) dirty_after x) (sym s.new_is) (record {
+        tidy = λ changed going clean among. t.tidy (unchanged job.id (ap begins_change s.did_is) changed) going clean
+            (in_filter (λ kept. not (same_path kept syncs.folder)) (changed_folder job.work) dirty (subst (λ xs. Among xs (changed_folder job.work)) s.dirty_is among));
         aborted = t.aborted;
         clean = clean;
-        stands = λ changed. t.stands (unchanged job.id (ap begins_change did_is) changed);
+        stands = λ changed. t.stands (unchanged job.id (ap begins_change s.did_is) changed);
       })
-      by (inr (error, did_is, new_is, routes, called)) = subst (λ (x : Running). IsTidyJob opening (e ∷ older) dirty_after x) (sym new_is) (record {
-        tidy = λ changed going clean among. t.tidy (unchanged job.id (ap begins_change did_is) changed) (subst IsGoing (sym syncs.goes) tt) clean (subst (λ xs. Among xs (changed_folder job.work)) routes among);
-        aborted = λ ending x. no_end (OwedSyncFailed (cause_of error)) ending tt x;
+      by (inr s) = subst (λ (x : Running). IsTidyJob opening (e ∷ older) dirty_after x) (sym s.new_is) (record {
+        tidy = λ changed going clean among. t.tidy (unchanged job.id (ap begins_change s.did_is) changed) (subst IsGoing (sym syncs.goes) tt) clean (subst (λ xs. Among xs (changed_folder job.work)) s.dirty_is among);
+        aborted = λ ending x. no_end (OwedSyncFailed (cause_of s.error)) ending tt x;
         clean = clean;
-        stands = λ changed. t.stands (unchanged job.id (ap begins_change did_is) changed);
+        stands = λ changed. t.stands (unchanged job.id (ap begins_change s.did_is) changed);
       })
 
   after_tidy : (g : List Entry) (dirty : List Route) (new : Running) (b : Bool) → (b ≡ false → IsTidyJob opening g dirty new) → AreTidy opening g dirty (before_others (if◌then◌else◌ b None (Some new)) [])
@@ -309,28 +309,28 @@ module _ (opening : CallLog) (tree : IsTree (current opening)) (settled : all_se
       (closing_tidy (e ∷ older) (is_closed (e ∷ older)) f.after (by e.what refl f.leads (traced_tidy older was before traced) (traced_reached opening tree settled older was before traced)))
     where
       by : (what : Event) → e.what ≡ what → EventLeads was what f.after before now → AreTidy opening older was.dirty was.jobs → IsReached opening older was before → AreTidy opening (e ∷ older) (let a : Stand = f.after in a.dirty) (let a : Stand = f.after in a.jobs)
-      by (Step id did) is (job, is_job, (new, leads, jobs_is)) t r =
-          let one = only_job id was.jobs job _ was.dirty r.marks (current before) is_job r.knows in
-          let tidy : IsTidyJob opening older was.dirty job = subst (λ js. AreTidy opening older was.dirty js) one.0 t in
+      by (Step id did) is s t r =
+          let one = only_job id was.jobs s.job _ was.dirty r.marks (current before) s.its r.knows in
+          let tidy : IsTidyJob opening older was.dirty s.job = subst (λ js. AreTidy opening older was.dirty js) one.0 t in
           let a : Stand = f.after in
-          let jobs_then : a.jobs ≡ before_others new [] = jobs_is ∙ (ap (with_job id new) one.0 ∙ (ap (λ n. with_job n new (job ∷ [])) (sym one.1) ∙ with_one job new)) in
-          subst (λ js. AreTidy opening (e ∷ older) a.dirty js) (sym jobs_then) (elim leads [
+          let jobs_then : a.jobs ≡ before_others s.new [] = s.jobs_is ∙ (ap (with_job id s.new) one.0 ∙ (ap (λ n. with_job n s.new (s.job ∷ [])) (sym one.1) ∙ with_one s.job s.new)) in
+          subst (λ js. AreTidy opening (e ∷ older) a.dirty js) (sym jobs_then) (elim s.leads [
             | inl stepped ↦ subst (λ o. AreTidy opening (e ∷ older) a.dirty (before_others o [])) (sym stepped.2)
-                (after_tidy (e ∷ older) a.dirty stepped.0 (ends did) (λ on. step_tidy e older id did job stepped.0 was.dirty a.dirty before now r.kept.known.guarded.tree r.kept.known.stand is one.1 on tidy stepped.1))
+                (after_tidy (e ∷ older) a.dirty stepped.0 (ends did) (λ on. step_tidy e older id did s.job stepped.0 was.dirty a.dirty before now r.kept.known.guarded.tree r.kept.known.stand is one.1 on tidy stepped.1))
             | inr gives ↦ subst (λ o. AreTidy opening (e ∷ older) a.dirty (before_others o [])) (sym gives.1) tt
           ])
-      by (event.Began id plan background) is (none, after_is, now_is) t r =
-          subst (λ (x : Stand). AreTidy opening (e ∷ older) x.dirty x.jobs) (sym after_is)
+      by (event.Began id plan background) is s t r =
+          subst (λ (x : Stand). AreTidy opening (e ∷ older) x.dirty x.jobs) (sym s.after_is)
           (begun_tidy (e ∷ older) was.dirty id (first_work id plan) (first_clean id plan) (ap (λ w. changed_after id w (has_changed id older)) is ∙ ap (λ b. if◌then◌else◌ b false (has_changed id older)) (eq-eqb id id refl)))
-      by (Order id order) is (after_is, now_is) t r =
-          subst (λ (x : Stand). AreTidy opening (e ∷ older) x.dirty x.jobs) (sym after_is)
+      by (Order id order) is s t r =
+          subst (λ (x : Stand). AreTidy opening (e ∷ older) x.dirty x.jobs) (sym s.after_is)
           (order_tidy (e ∷ older) was.dirty id order was.jobs (same_tidy e older was.dirty was.jobs (λ n. ap (λ w. changed_after n w (has_changed n older)) is) t))
-      by (Key key time refusals lost) is (after_is, now_is) t r =
-          subst (λ (x : Stand). AreTidy opening (e ∷ older) x.dirty x.jobs) (sym after_is) (same_tidy e older was.dirty was.jobs (λ n. ap (λ w. changed_after n w (has_changed n older)) is) t)
-      by (Look refusals) is (after_is, now_is) t r =
-          subst (λ (x : Stand). AreTidy opening (e ∷ older) x.dirty x.jobs) (sym after_is) (same_tidy e older was.dirty was.jobs (λ n. ap (λ w. changed_after n w (has_changed n older)) is) t)
-      by Closed is (after_is, now_is) t r =
-          subst (λ (x : Stand). AreTidy opening (e ∷ older) x.dirty x.jobs) (sym after_is) (same_tidy e older was.dirty was.jobs (λ n. ap (λ w. changed_after n w (has_changed n older)) is) t)
+      by (Key key time refusals lost) is s t r =
+          subst (λ (x : Stand). AreTidy opening (e ∷ older) x.dirty x.jobs) (sym s.after_is) (same_tidy e older was.dirty was.jobs (λ n. ap (λ w. changed_after n w (has_changed n older)) is) t)
+      by (Look refusals) is s t r =
+          subst (λ (x : Stand). AreTidy opening (e ∷ older) x.dirty x.jobs) (sym s.after_is) (same_tidy e older was.dirty was.jobs (λ n. ap (λ w. changed_after n w (has_changed n older)) is) t)
+      by Closed is s t r =
+          subst (λ (x : Stand). AreTidy opening (e ∷ older) x.dirty x.jobs) (sym s.after_is) (same_tidy e older was.dirty was.jobs (λ n. ap (λ w. changed_after n w (has_changed n older)) is) t)
 
 -- a job that may report that it is finished owes no sync
 done_deletion : (stage : Stage) → deletions.is_done stage ≡ true → deletions.is_dirty stage ≡ false

@@ -257,8 +257,8 @@ module _ (opening : CallLog) (older : List Entry) (calls : ℕ) (was : Stand) (b
         (λ m k. knows_after (said_after now did job.work told) dirty_after m (current now) new did k) (live_then new (settled_same syncs.synced)))
       where
         settled_same : Rattle.copy_move.specs.Steps.SyncsFolder job syncs.folder did new was.dirty dirty_after (Some before) (Some now) → IsSame job new
-        settled_same (inl (did_is, new_is, routes, called)) = (ap (λ (x : Running). x.id) new_is, ap (λ (x : Running). item_in x.work) new_is)
-        settled_same (inr (e, did_is, new_is, routes, called)) = (ap (λ (x : Running). x.id) new_is, ap (λ (x : Running). item_in x.work) new_is)
+        settled_same (inl s) = (ap (λ (x : Running). x.id) s.new_is, ap (λ (x : Running). item_in x.work) s.new_is)
+        settled_same (inr s) = (ap (λ (x : Running). x.id) s.new_is, ap (λ (x : Running). item_in x.work) s.new_is)
     stepped dirty_after jobs after (inr (gives, after_is)) is =
         subst (λ js. Quiet (Step id did) (let st : Stand = record { jobs = js; dirty = dirty_after } in st) now) (sym (jobs_then after jobs is ∙ ap (λ o. Rattle.history_laws.specs.Traces.before_others o []) after_is))
         (entered dirty_after [] _ (gives_up told was.dirty dirty_after r.marks before now r.kept job.work job.course did job_knows gives.did_is gives.same gives.none) (λ m k. k)
@@ -298,24 +298,24 @@ module _ (opening : CallLog) (older : List Entry) (calls : ℕ) (was : Stand) (b
       live_of (Some w) = ap (λ l. live id (item_in w) ∷ l) no_live ∙ ap (λ p. (let l : LiveJob = record { id = id; item = item_in w; part = p } in l) ∷ []) (sym no_part)
 
   pub enters : (what : Event) (after : Stand) (now : CallLog) → EventLeads was what after before now → length now.changes ≡ length opening.changes + calls → Quiet what after now
-  enters (Step id did) after now (job, is_job, (new, leads, jobs_is)) counts =
-      let one = only_job id was.jobs job told was.dirty r.marks (current before) is_job r.knows in
-      stepped now id did counts job one.0 one.1 after.dirty after.jobs new leads jobs_is
-  enters (Began id plan background) after now (none, after_is, now_is) counts =
-      subst (λ (l : CallLog). Quiet (Began id plan background) after l) (sym now_is)
-      (subst (λ (x : Stand). Quiet (Began id plan background) x before) (sym after_is) (begins id plan background none (first_work id plan) refl))
-  enters (Order id order) after now (after_is, now_is) counts =
-      subst (λ (l : CallLog). Quiet (Order id order) after l) (sym now_is)
-      (subst (λ (x : Stand). Quiet (Order id order) x before) (sym after_is)
+  enters (Step id did) after now s counts =
+      let one = only_job id was.jobs s.job told was.dirty r.marks (current before) s.its r.knows in
+      stepped now id did counts s.job one.0 one.1 after.dirty after.jobs s.new s.leads s.jobs_is
+  enters (Began id plan background) after now s counts =
+      subst (λ (l : CallLog). Quiet (Began id plan background) after l) (sym s.now_is)
+      (subst (λ (x : Stand). Quiet (Began id plan background) x before) (sym s.after_is) (begins id plan background s.none_live (first_work id plan) refl))
+  enters (Order id order) after now s counts =
+      subst (λ (l : CallLog). Quiet (Order id order) after l) (sym s.now_is)
+      (subst (λ (x : Stand). Quiet (Order id order) x before) (sym s.after_is)
       (quiet (Order id order) (record was { jobs = map (ordered id order) was.jobs }) refl refl refl (orders_know told was.dirty r.marks (current before) id order was.jobs r.knows)
       (orders_live (live_jobs older) r.part id order was.jobs r.live)))
-  enters (Key key time refusals lost) after now (after_is, now_is) counts =
-      subst (λ (l : CallLog). Quiet (Key key time refusals lost) after l) (sym now_is)
-      (subst (λ (x : Stand). Quiet (Key key time refusals lost) x before) (sym after_is) (quiet (Key key time refusals lost) was refl refl refl r.knows r.live))
-  enters (Look refusals) after now (after_is, now_is) counts =
-      subst (λ (l : CallLog). Quiet (Look refusals) after l) (sym now_is) (subst (λ (x : Stand). Quiet (Look refusals) x before) (sym after_is) (quiet (Look refusals) was refl refl refl r.knows r.live))
-  enters Closed after now (after_is, now_is) counts =
-      subst (λ (l : CallLog). Quiet Closed after l) (sym now_is) (subst (λ (x : Stand). Quiet Closed x before) (sym after_is) (quiet Closed was refl refl refl r.knows r.live))
+  enters (Key key time refusals lost) after now s counts =
+      subst (λ (l : CallLog). Quiet (Key key time refusals lost) after l) (sym s.now_is)
+      (subst (λ (x : Stand). Quiet (Key key time refusals lost) x before) (sym s.after_is) (quiet (Key key time refusals lost) was refl refl refl r.knows r.live))
+  enters (Look refusals) after now s counts =
+      subst (λ (l : CallLog). Quiet (Look refusals) after l) (sym s.now_is) (subst (λ (x : Stand). Quiet (Look refusals) x before) (sym s.after_is) (quiet (Look refusals) was refl refl refl r.knows r.live))
+  enters Closed after now s counts =
+      subst (λ (l : CallLog). Quiet Closed after l) (sym s.now_is) (subst (λ (x : Stand). Quiet Closed x before) (sym s.after_is) (quiet Closed was refl refl refl r.knows r.live))
 
 -- a session that is closed
 close_reached : (opening : CallLog) (g : List Entry) (b : Bool) (after : Stand) (now : CallLog) → IsReached opening g after now → IsReached opening g (if_closed b after) now

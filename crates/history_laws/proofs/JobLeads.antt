@@ -68,8 +68,8 @@ module _ (told : Said) (dirty dirty_after : List Route) (marks : Marks) (log now
 
   work_winds : (ending : Ending) (old new : Work) (did : Did) → WorkKnows told dirty marks (current log) (Ends ending) old → WorkWinds ending old did new → WorkLastCalls old did log (Some now)
       → LeavesDirty (Ends ending) old did new dirty dirty_after (Some log) (Some now) → Steps told dirty dirty_after marks log now kept did (Ends ending) old new
-  work_winds ending (Copy c) (Copy new) did knows winds calls (left, routes, tells) = copy_winds told dirty dirty_after marks log now kept c new ending did left knows winds (tells log refl) calls routes
-  work_winds ending (Delete d) (Delete new) did knows winds calls (left, routes, tells) = deletion_winds told dirty dirty_after marks log now kept d new ending did left knows winds (tells log refl) calls routes
+  work_winds ending (Copy c) (Copy new) did knows winds calls leaves = copy_winds told dirty dirty_after marks log now kept c new ending did leaves.refusal knows winds (leaves.tried log refl) calls leaves.dirty_is
+  work_winds ending (Delete d) (Delete new) did knows winds calls leaves = deletion_winds told dirty dirty_after marks log now kept d new ending did leaves.refusal knows winds (leaves.tried log refl) calls leaves.dirty_is
   work_winds ending (Copy c) (Delete new) did knows winds calls leaves = absurd winds
   work_winds ending (Delete d) (Copy new) did knows winds calls leaves = absurd winds
 
@@ -108,14 +108,14 @@ module _ (told : Said) (dirty dirty_after : List Route) (marks : Marks) (log now
   sync_leads job new did knows s = by s.synced
     where
       by : Rattle.copy_move.specs.Steps.SyncsFolder job s.folder did new dirty dirty_after (Some log) (Some now) → Leads job did new
-      by (inl (did_is, new_is, routes, called)) =
-          subst (λ x. Leads job x new) (sym did_is) (subst (λ (x : Running). Leads job Barrier x) (sym new_is)
-          (subst (λ xs. Comes told told xs log now (λ m. WorkKnows told xs m (current now) job.course job.work)) (sym routes)
+      by (inl f) =
+          subst (λ x. Leads job x new) (sym f.did_is) (subst (λ (x : Running). Leads job Barrier x) (sym f.new_is)
+          (subst (λ xs. Comes told told xs log now (λ m. WorkKnows told xs m (current now) job.course job.work)) (sym f.dirty_is)
           (comes_synced told dirty marks log now s.folder job.course job.work kept
-          (fresh_knows told dirty (Rattle.job_reports.specs.Paths.without s.folder dirty) marks (current log) job.course job.work s.fresh knows) (called log refl))))
-      by (inr (e, did_is, new_is, routes, called)) =
-          subst (λ x. Leads job x new) (sym did_is) (subst (λ (x : Running). Leads job (Troubled (trouble_at e s.folder true)) x) (sym new_is)
-          (subst (λ xs. Comes told told xs log now (λ m. WorkKnows told xs m (current now) (OwedSyncFailed (cause_of e)) job.work)) (sym routes)
-          (comes_refused told dirty marks log now (OwedSyncFailed (cause_of e)) job.work kept
-          (work_course told dirty marks (current log) job.course (OwedSyncFailed (cause_of e)) job.work (λ x. absurd (let f : ⊥ = cc in f)) knows)
-          (refused_is log now (SyncFolder s.folder) e (λ x bytes. refl) (called log refl)))))
+          (fresh_knows told dirty (Rattle.job_reports.specs.Paths.without s.folder dirty) marks (current log) job.course job.work s.fresh knows) (f.called log refl))))
+      by (inr f) =
+          subst (λ x. Leads job x new) (sym f.did_is) (subst (λ (x : Running). Leads job (Troubled (trouble_at f.error s.folder true)) x) (sym f.new_is)
+          (subst (λ xs. Comes told told xs log now (λ m. WorkKnows told xs m (current now) (OwedSyncFailed (cause_of f.error)) job.work)) (sym f.dirty_is)
+          (comes_refused told dirty marks log now (OwedSyncFailed (cause_of f.error)) job.work kept
+          (work_course told dirty marks (current log) job.course (OwedSyncFailed (cause_of f.error)) job.work (λ x. absurd (let f : ⊥ = cc in f)) knows)
+          (refused_is log now (SyncFolder s.folder) f.error (λ x bytes. refl) (f.called log refl)))))

@@ -6,6 +6,7 @@ pub mod CopySteps
 pub mod Deleted
 pub mod DeletionSteps
 pub mod Done
+pub mod Emptied
 pub mod Example
 pub mod Filling
 pub mod Finished

@@ -169,13 +169,12 @@ module _ (opening : CallLog) (older : List Entry) (was : Stand) (before : CallLo
   }
 
   pub event_still : (what : Event) (after : Stand) (now : CallLog) → EventLeads was what after before now → names_path what path ≡ false → IsStill path before now
-  event_still (Step id did) after now (job, is_job, (new, leads, jobs_is)) unnamed =
-      step_still after.dirty now did job new (only_job id was.jobs job told was.dirty r.marks (current before) is_job r.knows).0 unnamed leads
-  event_still (event.Began id plan background) after now (none, after_is, now_is) unnamed = none_still now now_is
-  event_still (Order id order) after now (after_is, now_is) unnamed = none_still now now_is
-  event_still (Key key time refusals lost) after now (after_is, now_is) unnamed = none_still now now_is
-  event_still (Look refusals) after now (after_is, now_is) unnamed = none_still now now_is
-  event_still Closed after now (after_is, now_is) unnamed = none_still now now_is
+  event_still (Step id did) after now s unnamed = step_still after.dirty now did s.job s.new (only_job id was.jobs s.job told was.dirty r.marks (current before) s.its r.knows).0 unnamed s.leads
+  event_still (event.Began id plan background) after now s unnamed = none_still now s.now_is
+  event_still (Order id order) after now s unnamed = none_still now s.now_is
+  event_still (Key key time refusals lost) after now s unnamed = none_still now s.now_is
+  event_still (Look refusals) after now s unnamed = none_still now s.now_is
+  event_still Closed after now s unnamed = none_still now s.now_is
 
 -- a path that an entry doesn't name is a part only if it was one
 part_before : (did : Did) (part : Option Route) (path : Route) → names did path ≡ false → part_after did part ≡ Some path → part ≡ Some path

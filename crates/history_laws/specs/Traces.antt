@@ -85,15 +85,33 @@ begun id plan = option_map_or (λ work. running id work ∷ []) (first_work id p
 abbrev pub ordered : ℕ → JobOrder → Running → Running
 ordered id (Answered answer) job = if job.id == id then answered answer job else job
 
+-- the live job with this number makes a step, and stands so then, or has ended
+pub record JobSteps (was : Stand) (id : ℕ) (did : Did) (after : Stand) (log now : CallLog) : Type 0 where
+  pub job : Running
+  pub its : IsJob id was.jobs job
+  pub new : Option Running
+  pub leads : StepLeads job did new was.dirty after.dirty log now
+  pub jobs_is : after.jobs ≡ with_job id new was.jobs
+
+-- a plan begins a job, where none is live
+pub record JobBegins (was : Stand) (id : ℕ) (plan : Job) (after : Stand) (log now : CallLog) : Type 0 where
+  pub none_live : was.jobs ≡ []
+  pub after_is : after ≡ record was { jobs = begun id plan }
+  pub now_is : now ≡ log
+
+-- the session stands so then, and the tree's log stays
+pub record StandsAt (stand after : Stand) (log now : CallLog) : Type 0 where
+  pub after_is : after ≡ stand
+  pub now_is : now ≡ log
+
 -- What an event says of where the session stands and of the tree's calls. Today one job is live at a time.
 abbrev pub EventLeads : Stand → Event → Stand → CallLog → CallLog → Type 0
-EventLeads was (Step id did) after log now =
-    (job : Running) × IsJob id was.jobs job × ((new : Option Running) × StepLeads job did new was.dirty after.dirty log now × (after.jobs ≡ with_job id new was.jobs))
-EventLeads was (Began id plan background) after log now = (was.jobs ≡ []) × (after ≡ record was { jobs = begun id plan }) × (now ≡ log)
-EventLeads was (Order id order) after log now = (after ≡ record was { jobs = map (ordered id order) was.jobs }) × (now ≡ log)
-EventLeads was (Key key time refusals lost) after log now = (after ≡ was) × (now ≡ log)
-EventLeads was (Look refusals) after log now = (after ≡ was) × (now ≡ log)
-EventLeads was Closed after log now = (after ≡ was) × (now ≡ log)
+EventLeads was (Step id did) after log now = JobSteps was id did after log now
+EventLeads was (Began id plan background) after log now = JobBegins was id plan after log now
+EventLeads was (Order id order) after log now = StandsAt (record was { jobs = map (ordered id order) was.jobs }) after log now
+EventLeads was (Key key time refusals lost) after log now = StandsAt was after log now
+EventLeads was (Look refusals) after log now = StandsAt was after log now
+EventLeads was Closed after log now = StandsAt was after log now
 
 -- on a closed session each job that waits for an answer is aborted
 abbrev pub if_closed : Bool → Stand → Stand

@@ -125,11 +125,13 @@ answers answer live old new is dirty =
 -- the live job is the one that made the step
 steps : (old new : Seen) (live : Running) (did : Did) (after : Option Running) (log now : CallLog) → old.job ≡ Some live → StepLeads live did after old.dirty new.dirty log now
     → EventLeads (stand_of old) (Step live.id did) (stand_with after new.dirty) log now
-steps old new live did after log now is leads = (
-  live,
-  subst (λ j. IsJob live.id (before_others j []) live) (sym is) (inl (refl, refl)),
-  (after, leads, sym (with_one live after) ∙ ap (λ j. with_job live.id after (before_others j [])) (sym is)),
-)
+steps old new live did after log now is leads = record {
+  job = live;
+  its = subst (λ j. IsJob live.id (before_others j []) live) (sym is) (inl (refl, refl));
+  new = after;
+  leads = leads;
+  jobs_is = sym (with_one live after) ∙ ap (λ j. with_job live.id after (before_others j [])) (sym is);
+}
 
 module _ (contents contents_after : Option CallLog) (faults : ℕ) (old new : Seen) (seat count shown : ℕ) (main : seat ≡ 0) where
   -- a key that was worked
@@ -148,7 +150,7 @@ module _ (contents contents_after : Option CallLog) (faults : ℕ) (old new : Se
     counts = record { seat = main; later = later; fault = fault; calls = omega arith; most = omega arith };
     leads = (record { unclosed = unclosed; looked = looked; unlost = unlost }, leads);
     caused = refused;
-    traced = leads_still contents contents_after same old new (entry seat old.tally.calls count shown (Key key now refusals false)) refl dirty (λ log stays. (stays, refl)) (job ∙ open_job old.tally.closed old.job unclosed);
+    traced = leads_still contents contents_after same old new (entry seat old.tally.calls count shown (Key key now refusals false)) refl dirty (λ log stays. record { after_is = stays; now_is = refl }) (job ∙ open_job old.tally.closed old.job unclosed);
     unknown = still_unknown contents contents_after same;
   }
 
@@ -167,7 +169,7 @@ module _ (contents contents_after : Option CallLog) (faults : ℕ) (old new : Se
     counts = record { seat = main; later = later; fault = λ h. absurd cc; calls = omega arith; most = omega arith };
     leads = (record { unclosed = unclosed; looked = looked; unlost = unlost }, same_noted old new screen quit);
     caused = λ log known. tt;
-    traced = leads_still contents contents_after same old new (entry seat old.tally.calls count shown (Key key now [] true)) refl dirty (λ log stays. (stays, refl)) (job ∙ open_job old.tally.closed old.job unclosed);
+    traced = leads_still contents contents_after same old new (entry seat old.tally.calls count shown (Key key now [] true)) refl dirty (λ log stays. record { after_is = stays; now_is = refl }) (job ∙ open_job old.tally.closed old.job unclosed);
     unknown = still_unknown contents contents_after same;
   }
 
@@ -194,7 +196,7 @@ module _ (contents contents_after : Option CallLog) (faults : ℕ) (old new : Se
           (subst (λ s. LookLeads (sight contents) (rows_told old.newest) old.tally.has_unseen_end (news_left old.newest) refusals old.screen s) (sym (unasked_screen new (quit ∙ unasked))) leads),
     );
     caused = refused;
-    traced = leads_still contents contents_after same old new (entry seat old.tally.calls count shown (Look refusals)) refl dirty (λ log stays. (stays, refl)) (job ∙ open_job old.tally.closed old.job unclosed);
+    traced = leads_still contents contents_after same old new (entry seat old.tally.calls count shown (Look refusals)) refl dirty (λ log stays. record { after_is = stays; now_is = refl }) (job ∙ open_job old.tally.closed old.job unclosed);
     unknown = still_unknown contents contents_after same;
   }
 
@@ -222,7 +224,7 @@ module _ (contents contents_after : Option CallLog) (faults : ℕ) (old new : Se
     };
     caused = λ log known. tt;
     traced = leads_on contents contents_after same old new (entry seat old.tally.calls count shown (Began id plan background)) (Some run) refl
-        (λ log known. (ap (λ j. before_others j []) none, begins id plan run old new started dirty, refl)) (job ∙ open_job old.tally.closed (Some run) unclosed);
+        (λ log known. record { none_live = ap (λ j. before_others j []) none; after_is = begins id plan run old new started dirty; now_is = refl }) (job ∙ open_job old.tally.closed (Some run) unclosed);
     unknown = still_unknown contents contents_after same;
   }
     where
@@ -257,7 +259,7 @@ module _ (contents contents_after : Option CallLog) (faults : ℕ) (old new : Se
     };
     caused = λ log known. tt;
     traced = leads_on contents contents_after same old new (entry seat old.tally.calls count shown (Order live.id (Answered answer))) (Some (answered answer live)) refl
-        (λ log known. (answers answer live old new is dirty, refl)) (job ∙ open_job old.tally.closed (Some (answered answer live)) unclosed);
+        (λ log known. record { after_is = answers answer live old new is dirty; now_is = refl }) (job ∙ open_job old.tally.closed (Some (answered answer live)) unclosed);
     unknown = still_unknown contents contents_after same;
   }
     where
@@ -278,7 +280,7 @@ module _ (contents contents_after : Option CallLog) (faults : ℕ) (old new : Se
     counts = record { seat = main; later = later; fault = λ h. absurd h; calls = omega arith; most = omega arith };
     leads = same_noted old new screen quit;
     caused = λ log known. tt;
-    traced = leads_still contents contents_after same old new (entry seat old.tally.calls count shown Closed) refl dirty (λ log stays. (stays, refl)) job;
+    traced = leads_still contents contents_after same old new (entry seat old.tally.calls count shown Closed) refl dirty (λ log stays. record { after_is = stays; now_is = refl }) job;
     unknown = still_unknown contents contents_after same;
   }
 
@@ -387,26 +389,26 @@ module _ (contents contents_after : Option CallLog) (faults : ℕ) (old new : Se
       Syncs = SyncsFolder live s.folder did stepped old.dirty new.dirty contents contents_after
 
       not_ended : Syncs → ends did ≡ false
-      not_ended (inl h) = ap ends h.0
-      not_ended (inr h) = ap ends h.1
+      not_ended (inl h) = ap ends h.did_is
+      not_ended (inr h) = ap ends h.did_is
 
       goes_on : (if ends did then None else Some stepped) ≡ Some stepped
       goes_on = ap (λ b. if b then None else Some stepped) (not_ended s.synced)
 
       report : Syncs → ((did ≡ Barrier) × (Some stepped ≡ Some live)) ⊎ ((e : TreeError) × (did ≡ Troubled (trouble_at e s.folder true)) × (Some stepped ≡ Some (record live { course = OwedSyncFailed (cause_of e) })))
-      report (inl h) = inl (h.0, ap Some h.1)
-      report (inr h) = inr (h.0, h.1, ap Some h.2)
+      report (inl h) = inl (h.did_is, ap Some h.new_is)
+      report (inr h) = inr (h.error, h.did_is, ap Some h.new_is)
 
       reported : ((did ≡ Barrier) × (Some stepped ≡ Some live)) ⊎ ((e : TreeError) × (did ≡ Troubled (trouble_at e s.folder true)) × (Some stepped ≡ Some (record live { course = OwedSyncFailed (cause_of e) })))
       reported = report s.synced
 
       reports : Syncs → (did ≡ Barrier) ⊎ ((trouble : Trouble) × (did ≡ Troubled trouble) × (trouble.barrier ≡ true))
-      reports (inl h) = inl h.0
-      reports (inr h) = inr (trouble_at h.0 s.folder true, h.1, refl)
+      reports (inl h) = inl h.did_is
+      reports (inr h) = inr (trouble_at h.error s.folder true, h.did_is, refl)
 
       tells_on : (log : CallLog) → contents ≡ Some log → Syncs → StillTells contents_after
-      tells_on log known (inl h) = performs_tells log (SyncFolder s.folder) (Ok tt) contents_after (h.3 log known)
-      tells_on log known (inr h) = performs_tells log (SyncFolder s.folder) (Err h.0) contents_after (h.4 log known)
+      tells_on log known (inl h) = performs_tells log (SyncFolder s.folder) (Ok tt) contents_after (h.called log known)
+      tells_on log known (inr h) = performs_tells log (SyncFolder s.folder) (Err h.error) contents_after (h.called log known)
 
   -- the end of a job that ran out of memory
   pub adds_given_up : (live : Running) (part : Option Route) → old.job ≡ Some live → old.tally.job ≡ option_map told old.job → waits_on live.course ≡ false → part ≡ part_of live.work

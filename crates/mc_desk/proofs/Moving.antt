@@ -110,7 +110,7 @@ module _ (job : Option Running) (newest older : List Entry) (dirty dirty_after :
 
   pub run_moves : (unclaimed : Route → Type 0) (live stepped : Running) (made : ℕ) (before after : Option CallLog) (f0 f1 : ℕ) → job ≡ Some live
       → RunStep unclaimed (step_made live stepped did made dirty dirty_after before after f0 f1) → Moves
-  run_moves unclaimed live stepped made before after f0 f1 is (inr s) = elim s.synced [ inl h ↦ synced s.folder h.0 h.2 | inr h ↦ inl h.3 ]
+  run_moves unclaimed live stepped made before after f0 f1 is (inr s) = elim s.synced [ inl h ↦ synced s.folder h.did_is h.dirty_is | inr h ↦ inl h.dirty_is ]
   run_moves unclaimed live stepped made before after f0 f1 is (inl o) = by live.course o.own.tells o.leaves
     where
       by : (course : Course) → TellsOn course live did stepped → LeavesDirty course live.work did stepped.work dirty dirty_after before after → Moves
@@ -122,4 +122,4 @@ module _ (job : Option Running) (newest older : List Entry) (dirty dirty_after :
       by (Skips cause) (inl (did_is, new_is)) leaves =
           inl (still (changed_folder live.work) (is_dirty live.work) (is_dirty stepped.work) (ap (λ (s : Running). is_dirty s.work) new_is ∙ skipped_dirty live.work) leaves)
       by (Skips cause) (inr (did_is, new_is)) leaves = inl (still (changed_folder live.work) (is_dirty live.work) (is_dirty stepped.work) (ap (λ (s : Running). is_dirty s.work) new_is) leaves)
-      by (Ends ending) tells (refusal, leaves, told) = tries (changed_folder live.work) refusal did refl leaves
+      by (Ends ending) tells leaves = tries (changed_folder live.work) leaves.refusal did refl leaves.dirty_is

@@ -145,7 +145,7 @@ leaves_more GoesOn old new did dirty dirty_after before after h = subst (λ d. l
 leaves_more (InTrouble cause) old new did dirty dirty_after before after h = subst (λ d. length d ≤ length dirty + 1) (sym h) (one_more (is_dirty old) (is_dirty new) (changed_folder old) dirty)
 leaves_more (OwedSyncFailed cause) old new did dirty dirty_after before after h = subst (λ d. length d ≤ length dirty + 1) (sym h) (one_more (is_dirty old) (is_dirty new) (changed_folder old) dirty)
 leaves_more (Skips cause) old new did dirty dirty_after before after h = subst (λ d. length d ≤ length dirty + 1) (sym h) (one_more (is_dirty old) (is_dirty new) (changed_folder old) dirty)
-leaves_more (Ends ending) old new did dirty dirty_after before after h = subst (λ d. length d ≤ length dirty + 1) (sym h.1) (tried_more did h.0 (changed_folder old) dirty)
+leaves_more (Ends ending) old new did dirty dirty_after before after h = subst (λ d. length d ≤ length dirty + 1) (sym h.dirty_is) (tried_more did h.refusal (changed_folder old) dirty)
 
 -- the sync of a folder that an ended job left leaves the job where it stood, or waiting
 settled_falls : (closed : Bool) (job stepped : Running) (did : Did) (made : ℕ) (dirty dirty_after : List Route) (before after : Option CallLog) (f0 f1 : ℕ) → OwedSyncStep (step_made job stepped did made dirty dirty_after before after f0 f1)
@@ -158,19 +158,19 @@ settled_falls closed job stepped did made dirty dirty_after before after f0 f1 s
 
     go : SyncsFolder job s.folder did stepped dirty dirty_after before after → rank_with dirty_after (if_closed closed (if ends did then None else Some stepped)) < rank_with dirty (Some job)
     go (inl h) =
-        let same : rank (Some stepped) ≡ rank (Some job) = ap (λ (j : Running). rank (Some j)) h.1 in
-        let going : rank (if_closed closed (if ends did then None else Some stepped)) ≡ rank (if_closed closed (Some stepped)) = ap (λ d. rank (if_closed closed (if ends d then None else Some stepped))) h.0 in
+        let same : rank (Some stepped) ≡ rank (Some job) = ap (λ (j : Running). rank (Some j)) h.new_is in
+        let going : rank (if_closed closed (if ends did then None else Some stepped)) ≡ rank (if_closed closed (Some stepped)) = ap (λ d. rank (if_closed closed (if ends d then None else Some stepped))) h.did_is in
         let still = left closed in
         let less = one_fewer s.folder dirty s.owed in
-        let count : length dirty_after ≡ length (without s.folder dirty) = ap length h.2 in
+        let count : length dirty_after ≡ length (without s.folder dirty) = ap length h.dirty_is in
         omega (arith, same, going, still, less, count)
     go (inr h) =
-        let waits : rank (Some stepped) ≡ last_rank job.work = ap (λ (j : Running). rank (Some j)) h.2 in
+        let waits : rank (Some stepped) ≡ last_rank job.work = ap (λ (j : Running). rank (Some j)) h.new_is in
         let goes : rank (Some job) ≡ work_rank job.work = ap (λ c. rank_on c job.work) s.goes in
         let low = trouble_falls job.work in
-        let going : rank (if_closed closed (if ends did then None else Some stepped)) ≡ rank (if_closed closed (Some stepped)) = ap (λ d. rank (if_closed closed (if ends d then None else Some stepped))) h.1 in
+        let going : rank (if_closed closed (if ends did then None else Some stepped)) ≡ rank (if_closed closed (Some stepped)) = ap (λ d. rank (if_closed closed (if ends d then None else Some stepped))) h.did_is in
         let still = left closed in
-        let count : length dirty_after ≡ length dirty = ap length h.3 in
+        let count : length dirty_after ≡ length dirty = ap length h.dirty_is in
         omega (arith, waits, goes, low, going, still, count)
 
 pub run_falls : (unclaimed : Route → Type 0) (closed : Bool) (job stepped : Running) (did : Did) (made : ℕ) (dirty dirty_after : List Route) (before after : Option CallLog) (f0 f1 : ℕ)
