@@ -5,7 +5,7 @@ ghost use Rattle.std.specs.Str.{bytes_eq};
 ghost use Rattle.mc_text.specs.Routes.{path_text};
 
 use crate::kinds::{Wanted, require};
-use mc_text::{Path, Text};
+use mc_text::{NoMemory, Path, Text};
 use std::alloc::Global;
 use std::convert::AsStr;
 use std::marker::Model;
@@ -64,7 +64,7 @@ pub fn real_text<R: Files>(
     ensures text { IfOk result (λ text. text ≡ path_text path.now) }
     ensures refused { OnErr result (walked.new ≡ walked.old) }
 {
-    let Ok(text) = path.text(alloc) else {
+    let Ok(text) = text_at_once(alloc, path) else {
         return Err(TreeError::Memory);
     };
     if let Some((folder, _)) = text.as_str().rsplit_once('/') {
@@ -75,6 +75,26 @@ pub fn real_text<R: Files>(
         }
     }
     Ok(text)
+}
+
+/// The bytes for which a path's text has room from the start.
+const ROOM_BYTES: usize = 256;
+
+/// The text of a path. It has room from the start: a text that grows is moved from place to place, and what these moves leave
+/// behind makes every later allocation dearer.
+fn text_at_once(alloc: Global, path: &Path) -> Result<Text, NoMemory>
+    ensures { IfOk result (λ text. text ≡ path_text path.now) }
+{
+    let names = path.names();
+    if names.is_empty() {
+        return Ok(Text::from_str(alloc, "/")?);
+    }
+    let mut text = String::with_capacity(alloc, ROOM_BYTES)?;
+    for name in names {
+        text.push('/')?;
+        text.push_str(name.text())?;
+    }
+    Ok(Text(text))
 }
 
 /// Looks at a folder and at those above it, the uppermost first.

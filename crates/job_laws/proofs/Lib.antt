@@ -12,3 +12,4 @@ pub mod CommutingLemmas
 pub mod PlannedLemmas
 pub mod KeepingLemmas
 pub mod RecursionLemmas
+pub mod WorkedValues

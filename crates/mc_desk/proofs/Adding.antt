@@ -201,13 +201,13 @@ module _ (contents contents_after : Option CallLog) (faults : ℕ) (old new : Se
   }
 
   -- a job that was begun
-  pub adds_began : (id : ℕ) (plan : Job) (background : Bool) (run : Running) → new.newest ≡ entry seat old.tally.calls count shown (Began id plan background) ∷ old.newest
+  pub adds_began : (id : ℕ) (plan : Job) (background : Bool) (run : Running) → new.newest ≡ entry seat old.tally.calls count 0 (Began id plan background) ∷ old.newest
       → option_map (running id) (first_work id plan) ≡ Some run → new.job ≡ Some run → new.tally ≡ record old.tally { job = Some (told run); last = id; due = Some id }
       → old.tally.closed ≡ false → rows_told old.newest ≡ [] → is_workable plan ≡ true → old.screen.planned ≡ Some (Begins plan background) → contents_after ≡ contents → faults_in faults old.newest ≤ count
       → next_id old.tally.last ≡ Some id → new.screen ≡ record old.screen { planned = None } → new.quit ≡ old.quit → old.quit ≡ false → old.job ≡ None → new.dirty ≡ old.dirty → new.out.put ≡ old.out.put
-      → Adds contents contents_after faults old new (entry seat old.tally.calls count shown (Began id plan background))
+      → Adds contents contents_after faults old new (entry seat old.tally.calls count 0 (Began id plan background))
   adds_began id plan background run more started job tally unclosed idle workable planned same later id_is screen quit unasked none dirty put = record {
-    draws = put;
+    draws = record { same = put; none = refl };
     more = more;
     tally = tally
         ∙ (ap (λ j. let r : Tally = record old.tally { job = j; last = id; due = Some id } in r) told_then
@@ -223,7 +223,7 @@ module _ (contents contents_after : Option CallLog) (faults : ℕ) (old new : Se
       carried_out = carried_out old new screen quit unasked;
     };
     caused = λ log known. tt;
-    traced = leads_on contents contents_after same old new (entry seat old.tally.calls count shown (Began id plan background)) (Some run) refl
+    traced = leads_on contents contents_after same old new (entry seat old.tally.calls count 0 (Began id plan background)) (Some run) refl
         (λ log known. record { none_live = ap (λ j. before_others j []) none; after_is = begins id plan run old new started dirty; now_is = refl }) (job ∙ open_job old.tally.closed (Some run) unclosed);
     unknown = still_unknown contents contents_after same;
   }
@@ -232,15 +232,15 @@ module _ (contents contents_after : Option CallLog) (faults : ℕ) (old new : Se
       told_then = sym (ap (option_map told) started) ∙ began_told id plan
 
   -- a trouble that was answered
-  pub adds_order : (answer : Answer) (live : Running) → new.newest ≡ entry seat old.tally.calls count shown (Order live.id (Answered answer)) ∷ old.newest
+  pub adds_order : (answer : Answer) (live : Running) → new.newest ≡ entry seat old.tally.calls count 0 (Order live.id (Answered answer)) ∷ old.newest
       → old.job ≡ Some live → rows_told old.newest ≡ row_of live (trouble_told old.newest) ∷ [] → takes_answer (row_of live (trouble_told old.newest)) answer ≡ true → old.tally.job ≡ option_map told old.job
       → new.job ≡ Some (answered answer live)
       → new.tally ≡ record old.tally { job = Some (told (answered answer live)); due = Some live.id }
       → old.tally.closed ≡ false → old.screen.planned ≡ Some (Answers answer) → contents_after ≡ contents → faults_in faults old.newest ≤ count
       → new.screen ≡ record old.screen { planned = None } → new.quit ≡ old.quit → old.quit ≡ false → new.dirty ≡ old.dirty → new.out.put ≡ old.out.put
-      → Adds contents contents_after faults old new (entry seat old.tally.calls count shown (Order live.id (Answered answer)))
+      → Adds contents contents_after faults old new (entry seat old.tally.calls count 0 (Order live.id (Answered answer)))
   adds_order answer live more is rows takes tells job tally unclosed planned same later screen quit unasked dirty put = record {
-    draws = put;
+    draws = record { same = put; none = refl };
     more = more;
     tally = tally
         ∙ (ap (λ j. let r : Tally = record old.tally { job = j; due = Some live.id } in r) (ap Some (answered_told answer live) ∙ sym (ap (option_map (answered answer)) told_is))
@@ -258,7 +258,7 @@ module _ (contents contents_after : Option CallLog) (faults : ℕ) (old new : Se
       carried_out = carried_out old new screen quit unasked;
     };
     caused = λ log known. tt;
-    traced = leads_on contents contents_after same old new (entry seat old.tally.calls count shown (Order live.id (Answered answer))) (Some (answered answer live)) refl
+    traced = leads_on contents contents_after same old new (entry seat old.tally.calls count 0 (Order live.id (Answered answer))) (Some (answered answer live)) refl
         (λ log known. record { after_is = answers answer live old new is dirty; now_is = refl }) (job ∙ open_job old.tally.closed (Some (answered answer live)) unclosed);
     unknown = still_unknown contents contents_after same;
   }
@@ -267,12 +267,12 @@ module _ (contents contents_after : Option CallLog) (faults : ℕ) (old new : Se
       told_is = tells ∙ ap (option_map told) is
 
   -- the end of keys
-  pub adds_closed : new.newest ≡ entry seat old.tally.calls count shown Closed ∷ old.newest
+  pub adds_closed : new.newest ≡ entry seat old.tally.calls count 0 Closed ∷ old.newest
       → new.tally ≡ record old.tally { job = option_map closed_job old.tally.job; closed = true; due = None } → new.job ≡ option_map closed_job old.job → new.tally.job ≡ option_map told new.job
       → old.screen.planned ≡ None → contents_after ≡ contents → faults_in faults old.newest ≤ count → new.screen ≡ old.screen → new.quit ≡ old.quit → new.dirty ≡ old.dirty → new.out.put ≡ old.out.put
-      → Adds contents contents_after faults old new (entry seat old.tally.calls count shown Closed)
+      → Adds contents contents_after faults old new (entry seat old.tally.calls count 0 Closed)
   adds_closed more tally job tells settled same later screen quit dirty put = record {
-    draws = put;
+    draws = record { same = put; none = refl };
     more = more;
     tally = tally;
     told = tells;
@@ -304,7 +304,7 @@ module _ (contents contents_after : Option CallLog) (faults : ℕ) (old new : Se
   -- what a step says of the tree, once that goes on telling
   step_traced : (live stepped : Running) (did : Did) (made calls before after : ℕ) → old.job ≡ Some live → RunStep IsUnclaimed (step_made live stepped did made old.dirty new.dirty contents contents_after before after)
       → calls ≡ old.tally.calls + made → new.job ≡ if_closed old.tally.closed (if ends did then None else Some stepped) → (counted : IfKnown contents (λ log. IfKnown contents_after (HasMore log made)))
-      → ((log : CallLog) → contents ≡ Some log → StillTells contents_after) → Leads contents contents_after old new (entry seat calls count shown (Step live.id did))
+      → ((log : CallLog) → contents ≡ Some log → StillTells contents_after) → Leads contents contents_after old new (entry seat calls count 0 (Step live.id did))
   step_traced live stepped did made calls before after is run calls_is job counted tells log known =
       let here = tells log known in
       let more = counted log known here.0 here.1 in (
@@ -322,15 +322,15 @@ module _ (contents contents_after : Option CallLog) (faults : ℕ) (old new : Se
   -- a step of the job's own
   pub adds_step : (live stepped : Running) (did : Did) (made calls before after : ℕ) → old.job ≡ Some live → old.tally.job ≡ option_map told old.job
       → OwnStep IsUnclaimed (step_made live stepped did made old.dirty new.dirty contents contents_after before after) → calls ≡ old.tally.calls + made
-      → new.newest ≡ entry seat calls count shown (Step live.id did) ∷ old.newest
+      → new.newest ≡ entry seat calls count 0 (Step live.id did) ∷ old.newest
       → new.job ≡ if_closed old.tally.closed (if ends did then None else Some stepped)
       → new.tally ≡ record old.tally { job = option_map told new.job; has_unseen_end = ends did || old.tally.has_unseen_end; calls = calls }
       → old.screen.planned ≡ None → faults_in faults old.newest ≤ before → after ≡ count → new.screen ≡ old.screen → new.quit ≡ old.quit → new.out.put ≡ old.out.put
-      → Adds contents contents_after faults old new (entry seat calls count shown (Step live.id did))
+      → Adds contents contents_after faults old new (entry seat calls count 0 (Step live.id did))
   adds_step live stepped did made calls before after is tells o calls_is more job tally settled had now screen quit put =
       let s = o.own in
       record {
-        draws = put;
+        draws = record { same = put; none = refl };
         more = more;
         tally = tally ∙ stepped_tally old.tally _ _ _ _ calls
             (ap (option_map told) job ∙ (closed_told old.tally.closed (if ends did then None else Some stepped)
@@ -356,13 +356,13 @@ module _ (contents contents_after : Option CallLog) (faults : ℕ) (old new : Se
   -- the sync of a folder that an ended job left
   pub adds_settled : (live stepped : Running) (did : Did) (made calls before after : ℕ) → old.job ≡ Some live → old.tally.job ≡ option_map told old.job
       → OwedSyncStep (step_made live stepped did made old.dirty new.dirty contents contents_after before after) → calls ≡ old.tally.calls + made
-      → new.newest ≡ entry seat calls count shown (Step live.id did) ∷ old.newest
+      → new.newest ≡ entry seat calls count 0 (Step live.id did) ∷ old.newest
       → new.job ≡ if_closed old.tally.closed (if ends did then None else Some stepped)
       → new.tally ≡ record old.tally { job = option_map told new.job; has_unseen_end = ends did || old.tally.has_unseen_end; calls = calls }
       → old.screen.planned ≡ None → faults_in faults old.newest ≤ before → after ≡ count → new.screen ≡ old.screen → new.quit ≡ old.quit → new.out.put ≡ old.out.put
-      → Adds contents contents_after faults old new (entry seat calls count shown (Step live.id did))
+      → Adds contents contents_after faults old new (entry seat calls count 0 (Step live.id did))
   adds_settled live stepped did made calls before after is tells s calls_is more job tally settled had now screen quit put = record {
-    draws = put;
+    draws = record { same = put; none = refl };
     more = more;
     tally = tally ∙ stepped_tally old.tally _ _ _ _ calls
         (ap (option_map told) (job ∙ ap (if_closed old.tally.closed) goes_on) ∙ (closed_told old.tally.closed (Some stepped)
@@ -412,12 +412,12 @@ module _ (contents contents_after : Option CallLog) (faults : ℕ) (old new : Se
 
   -- the end of a job that ran out of memory
   pub adds_given_up : (live : Running) (part : Option Route) → old.job ≡ Some live → old.tally.job ≡ option_map told old.job → waits_on live.course ≡ false → part ≡ part_of live.work
-      → new.newest ≡ entry seat old.tally.calls count shown (Step live.id (Ended NoMemory part)) ∷ old.newest
+      → new.newest ≡ entry seat old.tally.calls count 0 (Step live.id (Ended NoMemory part)) ∷ old.newest
       → new.job ≡ None → new.tally ≡ record old.tally { job = None; has_unseen_end = true }
       → old.screen.planned ≡ None → contents_after ≡ contents → faults_in faults old.newest ≤ count → new.screen ≡ old.screen → new.quit ≡ old.quit → new.dirty ≡ old.dirty → new.out.put ≡ old.out.put
-      → Adds contents contents_after faults old new (entry seat old.tally.calls count shown (Step live.id (Ended NoMemory part)))
+      → Adds contents contents_after faults old new (entry seat old.tally.calls count 0 (Step live.id (Ended NoMemory part)))
   adds_given_up live part is tells ready part_is more job tally settled same later screen quit dirty put = record {
-    draws = put;
+    draws = record { same = put; none = refl };
     more = more;
     tally = tally ∙ stepped_tally old.tally _ _ _ _ old.tally.calls (none_left old.tally.closed ∙ ap (if_closed old.tally.closed) (sym (ap (λ j. option_and_then (after_step (Ended NoMemory part)) j) told_is))) refl;
     told = ap (λ (t : Tally). t.job) tally ∙ sym (ap (option_map told) job);
@@ -425,7 +425,7 @@ module _ (contents contents_after : Option CallLog) (faults : ℕ) (old new : Se
     counts = record { seat = main; later = later; fault = λ h. absurd h; calls = omega arith; most = omega arith };
     leads = (same_noted old new screen quit, (told live, told_is, refl, inr (inl (waits_told live ∙ ready, ap (Ended NoMemory) (part_is ∙ sym (part_told live))))));
     caused = λ log known. tt;
-    traced = leads_on contents contents_after same old new (entry seat old.tally.calls count shown (Step live.id (Ended NoMemory part))) None refl
+    traced = leads_on contents contents_after same old new (entry seat old.tally.calls count 0 (Step live.id (Ended NoMemory part))) None refl
         (λ log known. steps old new live (Ended NoMemory part) None log log is (inr (record { did_is = ap (Ended NoMemory) part_is; same = dirty; none = refl }, refl))) (job ∙ none_left old.tally.closed);
     unknown = still_unknown contents contents_after same;
   }

@@ -10,7 +10,7 @@ use Rattle.session_history.specs.declared.history.Event.TheVariants.{Key, Look, 
 use Rattle.copy_move.specs.Jobs.{Running}
 use Rattle.copy_move.specs.Told.{told, if_closed}
 use Rattle.session_history.specs.Entries.{closes, is_closed, calls_in}
-use Rattle.history_laws.specs.Traces.{IsTraced, IsTracedTo, Stand, at_rest}
+use Rattle.history_laws.specs.Traces.{IsTraced, IsTracedTo, at_rest}
 use Rattle.history_laws.specs.Traces as traces
 use Rattle.history_laws.proofs.Moments.{traced_count}
 use Rattle.mc_ui.specs.Screens.{Screen, sight}
@@ -18,13 +18,13 @@ use Rattle.mc_desk.specs.declared.starts.Start.{Start}
 use Rattle.mc_desk.specs.Logs.{Logged}
 use Rattle.mc_desk.specs.Tallies.{Tally, tally, after_entry, most_calls, faults_in, next_id, news_left}
 use Rattle.mc_desk.specs.LiveRows.{rows_told}
-use Rattle.mc_desk.specs.Sessions.{Before, IsSession, Traces, BeginsIn, EventLeads, HasCauses, IsTimely, Counts, folders_of}
+use Rattle.mc_desk.specs.Sessions.{Before, IsSession, SessionState, Traces, BeginsIn, EventLeads, HasCauses, IsTimely, Counts, folders_of}
 use Rattle.mc_desk.specs.Starts.{IsOpened}
 use Rattle.mc_desk.specs.declared.standing.Standing.{Standing}
 use Rattle.mc_desk.specs.Outputs.{FitsScreen, Output}
 use Rattle.mc_desk.specs.Shown.{EventDraws, HasPutNothing, Put, frame_due, none_before}
 use Rattle.mc_desk.specs.Standings.{fresh_standing}
-use Rattle.mc_desk.specs.Desks.{Seen, IsWritten, IsDesk, noted, seen_of, stand_of, stand_with}
+use Rattle.mc_desk.specs.Desks.{Seen, IsWritten, IsDesk, noted, seen_of, stand_of, stand_with, state_of}
 
 -- a desk on which nothing happened yet
 pub kept_opening : (start : Option Start) (opening contents : Option CallLog) (faults : ℕ) (folders : Start) (screen : Screen) (log : Logged) (standing : Standing) (dirty : List Route) (out : Output) (taken : ℕ) (pending : List ℕ)
@@ -33,8 +33,8 @@ pub kept_opening : (start : Option Start) (opening contents : Option CallLog) (f
 kept_opening start opening contents faults folders screen log standing dirty out taken pending named same opened fresh none nothing fits =
     subst (λ s. IsDesk start opening contents faults (seen_of log screen s dirty out taken pending)) (sym fresh) (record {
       written = record {
-        session = subst (λ es. IsSession start opening faults es screen (stand_with None dirty) contents out.put) (sym opened.empty)
-            (subst (λ o. IsSession start o faults [] screen (stand_with None dirty) contents out.put) same (opened.opening, opened_in, ap (stand_with None) none, refl, nothing));
+        session = subst (λ es. IsSession start opening faults es now) (sym opened.empty)
+            (subst (λ o. IsSession start o faults [] now) same (record { opened = opened.opening; folders = opened_in; idle = ap (stand_with None) none; same = refl; blank = nothing }));
         tally = ap tally (sym opened.empty);
         told = refl;
         calls = omega arith;
@@ -52,6 +52,9 @@ kept_opening start opening contents faults folders screen log standing dirty out
       };
     })
   where
+    now : SessionState
+    now = record { screen = screen; stand = stand_with None dirty; contents = contents; put = out.put }
+
     opened_in : BeginsIn start (folders_of screen)
     opened_in known is = named known is ∙ sym opened.folders
 
@@ -79,26 +82,25 @@ pub record Adds (contents contents_after : Option CallLog) (faults : ℕ) (old n
   pub draws : EventDraws e.what (none_before old.newest) (frame_due (noted new) (next_id old.tally.last) (rows_told old.newest)) e.shown old.out.put new.out.put
 
 -- a tree that told nothing at the opening never does
-still_none : (start : Option Start) (faults : ℕ) (newest : List Entry) (screen : Screen) (stand : Stand) (contents : Option CallLog) (put : Put) → IsSession start None faults newest screen stand contents put
-    → contents ≡ None
-still_none start faults [] screen stand contents put (opens, named, none, same, nothing) = same
-still_none start faults (e ∷ older) screen stand contents put (before, was, stood, put_before, session, enters) = enters.traced
+still_none : (start : Option Start) (faults : ℕ) (newest : List Entry) (now : SessionState) → IsSession start None faults newest now → now.contents ≡ None
+still_none start faults [] now begins = begins.same
+still_none start faults (e ∷ older) now (was, session, enters) = enters.traced
 
 -- a session is a trace of its tree's calls
-pub session_traced : (start : Option Start) (opening : CallLog) (faults : ℕ) (newest : List Entry) (screen : Screen) (stand : Stand) (contents : Option CallLog) (put : Put) → IsSession start (Some opening) faults newest screen stand contents put
-    → (now : CallLog) × (contents ≡ Some now) × IsTraced opening newest stand now
-session_traced start opening faults [] screen stand contents put (opens, named, none, same, nothing) = (opening, same, (none, refl))
-session_traced start opening faults (e ∷ older) screen stand contents put (before, was, stood, put_before, session, enters) =
-    let had = session_traced start opening faults older before was stood put_before session in
+pub session_traced : (start : Option Start) (opening : CallLog) (faults : ℕ) (newest : List Entry) (now : SessionState) → IsSession start (Some opening) faults newest now
+    → (log : CallLog) × (now.contents ≡ Some log) × IsTraced opening newest now.stand log
+session_traced start opening faults [] now begins = (opening, begins.same, (begins.idle, refl))
+session_traced start opening faults (e ∷ older) now (was, session, enters) =
+    let had = session_traced start opening faults older was session in
     let t = enters.traced in
     let log_is : had.0 ≡ t.0 = let both : Some had.0 ≡ Some t.0 = sym had.1 ∙ t.2 in cc in
-    (t.1, t.3, (was, t.0, subst (λ l. IsTraced opening older was l) log_is had.2, t.4))
+    (t.1, t.3, (was.stand, t.0, subst (λ l. IsTraced opening older was.stand l) log_is had.2, t.4))
 
 pub session_traced_to : (start : Option Start) (opening : Option CallLog) (faults : ℕ) (newest : List Entry) (screen : Screen) (dirty : List Route) (contents : Option CallLog) (put : Put)
-    → IsSession start opening faults newest screen (at_rest dirty) contents put → IsTracedTo opening contents newest
-session_traced_to start None faults newest screen dirty contents put h = still_none start faults newest screen (at_rest dirty) contents put h
+    → IsSession start opening faults newest (record { screen = screen; stand = at_rest dirty; contents = contents; put = put }) → IsTracedTo opening contents newest
+session_traced_to start None faults newest screen dirty contents put h = still_none start faults newest (record { screen = screen; stand = at_rest dirty; contents = contents; put = put }) h
 session_traced_to start (Some opening) faults newest screen dirty contents put h =
-    let t = session_traced start opening faults newest screen (at_rest dirty) contents put h in (t.0, dirty, t.1, t.2)
+    let t = session_traced start opening faults newest (record { screen = screen; stand = at_rest dirty; contents = contents; put = put }) h in (t.0, dirty, t.1, t.2)
 
 -- the close of a session sends its job another way, and leaves the dirty folders as they are
 closed_stand : (closed : Bool) (job : Option Running) (dirty : List Route) → stand_with (if_closed closed job) dirty ≡ traces.if_closed closed (stand_with job dirty)
@@ -109,9 +111,9 @@ closed_stand false job dirty = refl
 module _ (faults : ℕ) (old new : Seen) (e : Entry) where
   traced_more : (start : Option Start) (opening contents contents_after : Option CallLog) → IsWritten start opening contents faults old → Adds contents contents_after faults old new e
       → Traces opening e old.newest (stand_of old) contents (stand_of new) contents_after
-  traced_more start None contents contents_after written adds = adds.unknown (still_none start faults old.newest (noted old) (stand_of old) contents old.out.put written.session)
+  traced_more start None contents contents_after written adds = adds.unknown (still_none start faults old.newest (state_of contents old) written.session)
   traced_more start (Some opening) contents contents_after written adds =
-      let had = session_traced start opening faults old.newest (noted old) (stand_of old) contents old.out.put written.session in
+      let had = session_traced start opening faults old.newest (state_of contents old) written.session in
       let t = adds.traced had.0 had.1 in
       let closed : old.tally.closed ≡ is_closed old.newest = ap (λ (t : Tally). t.closed) written.tally in
       let calls : old.tally.calls ≡ calls_in old.newest = ap (λ (t : Tally). t.calls) written.tally in
@@ -139,11 +141,8 @@ module _ (faults : ℕ) (old new : Seen) (e : Entry) where
 
   pub written_more : (start : Option Start) (opening contents contents_after : Option CallLog) → IsWritten start opening contents faults old → Adds contents contents_after faults old new e → IsWritten start opening contents_after faults new
   written_more start opening contents contents_after written adds = record {
-    session = subst (λ es. IsSession start opening faults es (noted new) (stand_of new) contents_after new.out.put) (sym adds.more) (
-      noted old,
-      stand_of old,
-      contents,
-      old.out.put,
+    session = subst (λ es. IsSession start opening faults es (state_of contents_after new)) (sym adds.more) (
+      state_of contents old,
       written.session,
       record {
         timely = adds.timely;

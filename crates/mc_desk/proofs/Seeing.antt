@@ -9,10 +9,9 @@ use Rattle.key_screen.specs.Grids.{CellGrid}
 use Rattle.session_history.specs.declared.history.Event.{Event}
 use Rattle.session_history.specs.declared.history.Event.TheVariants.{Key, Look, Began, Order, Step, Closed}
 use Rattle.session_history.specs.declared.history.Entry.{Entry}
-use Rattle.history_laws.specs.Traces.{Stand}
 use Rattle.mc_ui.specs.Screens.{Screen}
 use Rattle.mc_desk.specs.declared.starts.Start.{Start}
-use Rattle.mc_desk.specs.Sessions.{IsSession}
+use Rattle.mc_desk.specs.Sessions.{IsSession, SessionState}
 use Rattle.mc_desk.specs.Shown.{CutsFrame, DrawsFrame, EventDraws, Put, PutsFrame, ShowsOverAny, frame_due, none_before}
 use Rattle.mc_desk.specs.ShownEntries.{CameTo, CutsEntry, NoneDraws, ShowsEach, ShowsEntry, draws}
 
@@ -26,10 +25,10 @@ drawn_or_still : (what : Event) (is_first : Bool) (frame : CellGrid) (shown : �
 drawn_or_still (Key key now refusals false) is_first frame shown before after d = inl (refl, d)
 drawn_or_still (Key key now refusals true) is_first frame shown before after d = inr (refl, d.same)
 drawn_or_still (Look refusals) is_first frame shown before after d = inl (refl, d)
-drawn_or_still (Began id plan background) is_first frame shown before after d = inr (refl, d)
-drawn_or_still (Order id order) is_first frame shown before after d = inr (refl, d)
-drawn_or_still (Step id did) is_first frame shown before after d = inr (refl, d)
-drawn_or_still Closed is_first frame shown before after d = inr (refl, d)
+drawn_or_still (Began id plan background) is_first frame shown before after d = inr (refl, d.same)
+drawn_or_still (Order id order) is_first frame shown before after d = inr (refl, d.same)
+drawn_or_still (Step id did) is_first frame shown before after d = inr (refl, d.same)
+drawn_or_still Closed is_first frame shown before after d = inr (refl, d.same)
 
 -- what was put before a drawing is a prefix of what was put by then
 prefix_of : (is_first : Bool) (frame : CellGrid) (shown : ℕ) (before after : Put) (all : List ℕ) → DrawsFrame is_first frame shown before after → after.bytes ≡ Some all
@@ -67,10 +66,9 @@ module _ (start : Option Start) (opening : Option CallLog) (faults : ℕ) where
   }
 
   -- the newest entry, where it draws
-  shows_newest : (e : Entry) (older : List Entry) (screen : Screen) (stand : Stand) (contents : Option CallLog) (put_before put : Put) (all : List ℕ) (frame : CellGrid) → IsSession start opening faults (e ∷ older) screen stand contents put
-      → CameTo start opening faults e older frame → DrawsFrame (none_before older) frame e.shown put_before put → put.bytes ≡ Some all
-      → ShowsEntry start opening faults e older all ⊎ ((put.is_cut ≡ true) × CutsEntry start opening faults [] e older all)
-  shows_newest e older screen stand contents put_before put all frame session came d known = go put_before.bytes refl
+  shows_newest : (e : Entry) (older : List Entry) (put_before put : Put) (all : List ℕ) (frame : CellGrid) → CameTo start opening faults e older frame
+      → DrawsFrame (none_before older) frame e.shown put_before put → put.bytes ≡ Some all → ShowsEntry start opening faults e older all ⊎ ((put.is_cut ≡ true) × CutsEntry start opening faults [] e older all)
+  shows_newest e older put_before put all frame came d known = go put_before.bytes refl
     where
       same : (bytes : List ℕ) → put.bytes ≡ Some bytes → bytes ≡ all
       same bytes is = let both : Some bytes ≡ Some all = sym is ∙ known in cc
@@ -104,34 +102,34 @@ module _ (start : Option Start) (opening : Option CallLog) (faults : ℕ) where
                 )
           ]
 
-  pub session_shows : (newest : List Entry) (screen : Screen) (stand : Stand) (contents : Option CallLog) (put : Put) (all : List ℕ) → IsSession start opening faults newest screen stand contents put → put.bytes ≡ Some all
-      → ShowsEach start opening faults newest put.is_cut all
-  session_shows [] screen stand contents put all session known [] e older is drawn = absurd cc
-  session_shows [] screen stand contents put all session known (l ∷ later) e older is drawn = absurd cc
-  session_shows (first ∷ rest) screen stand contents put all (before, was, stood, put_before, session, enters) known [] e older is drawn =
+  pub session_shows : (newest : List Entry) (now : SessionState) (all : List ℕ) → IsSession start opening faults newest now → now.put.bytes ≡ Some all
+      → ShowsEach start opening faults newest now.put.is_cut all
+  session_shows [] now all session known [] e older is drawn = absurd cc
+  session_shows [] now all session known (l ∷ later) e older is drawn = absurd cc
+  session_shows (first ∷ rest) now all (was, session, enters) known [] e older is drawn =
       let here : first ≡ e = cc in
       let there : rest ≡ older = cc in
-      let whole : IsSession start opening faults (first ∷ rest) screen stand contents put = (before, was, stood, put_before, session, enters) in
-      let came : CameTo start opening faults first rest _ = record { screen = screen; stand = stand; contents = contents; put = put; session = whole; frame_is = refl } in
-      elim (drawn_or_still first.what _ _ first.shown put_before put enters.draws) [
+      let whole : IsSession start opening faults (first ∷ rest) now = (was, session, enters) in
+      let came : CameTo start opening faults first rest _ = record { now = now; session = whole; frame_is = refl } in
+      elim (drawn_or_still first.what _ _ first.shown was.put now.put enters.draws) [
         | inl d ↦
-            subst (λ o. ShowsEntry start opening faults e o all ⊎ ((put.is_cut ≡ true) × CutsEntry start opening faults [] e o all)) there
-            (subst (λ x. ShowsEntry start opening faults x rest all ⊎ ((put.is_cut ≡ true) × CutsEntry start opening faults [] x rest all)) here
-            (shows_newest first rest screen stand contents put_before put all _ whole came d.1 known))
+            subst (λ o. ShowsEntry start opening faults e o all ⊎ ((now.put.is_cut ≡ true) × CutsEntry start opening faults [] e o all)) there
+            (subst (λ x. ShowsEntry start opening faults x rest all ⊎ ((now.put.is_cut ≡ true) × CutsEntry start opening faults [] x rest all)) here
+            (shows_newest first rest was.put now.put all _ came d.1 known))
         | inr still ↦ absurd (false≢true (sym still.0 ∙ (ap (λ (x : Entry). draws x.what) here ∙ drawn)))
       ]
-  session_shows (first ∷ rest) screen stand contents put all (before, was, stood, put_before, session, enters) known (l ∷ later) e older is drawn =
+  session_shows (first ∷ rest) now all (was, session, enters) known (l ∷ later) e older is drawn =
       let here : first ≡ l = cc in
       let there : rest ≡ later ++ e ∷ older = cc in
-      elim (drawn_or_still first.what _ _ first.shown put_before put enters.draws) [
+      elim (drawn_or_still first.what _ _ first.shown was.put now.put enters.draws) [
         | inl d ↦
-            let p = prefix_of _ _ first.shown put_before put all d.1 known in
-            elim (session_shows rest before was stood put_before p.0 session p.2 later e older there drawn) [
+            let p = prefix_of _ _ first.shown was.put now.put all d.1 known in
+            elim (session_shows rest was p.0 session p.2 later e older there drawn) [
               | inl s ↦ inl (subst (λ b. ShowsEntry start opening faults e older b) (sym p.3) (shows_more e older p.0 p.1 s))
               | inr c ↦ absurd (true≢false (sym c.0 ∙ d.1.uncut))
             ]
         | inr still ↦
-            elim (session_shows rest before was stood put_before all session (ap (λ (q : Put). q.bytes) (sym still.1) ∙ known) later e older there drawn) [
+            elim (session_shows rest was all session (ap (λ (q : Put). q.bytes) (sym still.1) ∙ known) later e older there drawn) [
               | inl s ↦ inl s
               | inr c ↦
                   inr (

@@ -31,13 +31,12 @@ use Rattle.copy_move.specs.Deletions as deletions
 use Rattle.copy_move.specs.Jobs.{Running, MayAnswer, TellsOn, WorkTells, WorkWinds, answered, answered_on, at_barrier, closed_course, closed_job, first_work, is_barred, is_fresh, waits_on}
 use Rattle.copy_move.specs.Told.{IsAllowedStep, after_step, course_told, if_closed, running, told}
 use Rattle.history_laws.specs.ToldJob.{after_event, live_job}
-use Rattle.history_laws.specs.Traces.{Stand}
 use Rattle.mc_ui.specs.LiveJobs.{fits, is_troubled, takes_answer}
 use Rattle.mc_ui.specs.Screens.{Screen, sight}
 use Rattle.mc_desk.specs.declared.starts.Start.{Start}
 use Rattle.mc_desk.specs.LiveRows.{is_report, reported_trouble, row_of, trouble_told}
 use Rattle.mc_desk.specs.Shown.{Put}
-use Rattle.mc_desk.specs.Sessions.{Before, EventLeads, IsSession, before_entry}
+use Rattle.mc_desk.specs.Sessions.{Before, EventLeads, IsSession, SessionState, before_entry}
 use Rattle.mc_desk.proofs.Answering.{barred_told, barrier_told}
 
 -- a job that waits has this trouble, and can't be passed over exactly where that is at a barrier
@@ -171,13 +170,12 @@ closed_waits true None t h = tt
 closed_waits true (Some job) t h = never (closed_job job) t (closed_goes job.course)
 
 -- so it is in any session
-pub session_waits : (start : Option Start) (opening : Option CallLog) (faults : ℕ) (newest : List Entry) (screen : Screen) (stand : Stand) (contents : Option CallLog) (put : Put)
-    → IsSession start opening faults newest screen stand contents put → WaitsIn (live_job newest) (trouble_told newest)
-session_waits start opening faults [] screen stand contents put h = tt
-session_waits start opening faults (e ∷ older) screen stand contents put (before, was, stood, put_before, session, enters) =
+pub session_waits : (start : Option Start) (opening : Option CallLog) (faults : ℕ) (newest : List Entry) (now : SessionState) → IsSession start opening faults newest now → WaitsIn (live_job newest) (trouble_told newest)
+session_waits start opening faults [] now begins = tt
+session_waits start opening faults (e ∷ older) now (was, session, enters) =
     closed_waits (is_closed (e ∷ older)) (after_event e.what (live_job older)) (trouble_told (e ∷ older))
-    (event_waits (before_entry (sight stood) older before) e.what screen (live_job older) (trouble_told older) refl enters.leads
-    (session_waits start opening faults older before was stood put_before session))
+    (event_waits (before_entry (sight was.contents) older was.screen) e.what now.screen (live_job older) (trouble_told older) refl enters.leads
+    (session_waits start opening faults older was session))
 
 not_true : (b : Bool) → not b ≡ true → b ≡ false
 not_true false h = refl

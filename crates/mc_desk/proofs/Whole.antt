@@ -40,7 +40,7 @@ use Rattle.mc_desk.specs.LiveRows.{row_of, rows_of, rows_told, trouble_told}
 use Rattle.mc_desk.specs.Granting.{KeyWorks}
 use Rattle.mc_desk.specs.Outputs.{FitsScreen, Output}
 use Rattle.mc_desk.specs.Shown.{DrawsFrame, PutsNothing, frame_due, none_before}
-use Rattle.mc_desk.specs.Desks.{Seen, kept_room, IsShown, IsWritten, IsDesk, noted, stand_of}
+use Rattle.mc_desk.specs.Desks.{Seen, kept_room, IsShown, IsWritten, IsDesk, noted, stand_of, state_of}
 use Rattle.mc_desk.proofs.Showing.{shown_closed, shown_stepping}
 use Rattle.mc_desk.proofs.Adding.{adds_began, adds_closed, adds_given_up, adds_key, adds_look, adds_lost, adds_order, adds_settled, adds_step, entry, unasked_screen}
 use Rattle.mc_desk.proofs.Answering.{rows_untold}
@@ -107,7 +107,7 @@ pub answers_live : (start : Option Start) (opening contents : Option CallLog) (f
 answers_live start opening contents faults desk live answer written is takes =
     may_answer live (trouble_told desk.newest) answer
     (subst (λ j. WaitsIn j (trouble_told desk.newest)) (sym (ap (λ (t : Tally). t.job) written.tally) ∙ (written.told ∙ ap (option_map told) is))
-    (session_waits start opening faults desk.newest (noted desk) (stand_of desk) contents desk.out.put written.session)) takes
+    (session_waits start opening faults desk.newest (state_of contents desk) written.session)) takes
 
 same_fits : (old new : Seen) → new.screen ≡ old.screen → new.out ≡ old.out → FitsScreen old.out.display.grid old.screen → FitsScreen new.out.display.grid new.screen
 same_fits old new screen out fits = subst (λ s. FitsScreen new.out.display.grid s) (sym screen) (subst (λ (o : Output). FitsScreen o.display.grid old.screen) (sym out) fits)

@@ -24,7 +24,7 @@ use Rattle.mc_desk.specs.declared.replies.DeskError.TheVariants as error
 use Rattle.mc_desk.specs.declared.replies.StepReply.{StepReply}
 use Rattle.mc_desk.specs.declared.replies.StepReply.TheVariants.{Ended, Idle}
 use Rattle.mc_desk.specs.Tallies.{Tally, can_step, tally, faults_in, keys_in}
-use Rattle.mc_desk.specs.Sessions.{IsSession}
+use Rattle.mc_desk.specs.Sessions.{IsSession, SessionState}
 use Rattle.mc_desk.specs.Logs.{Logged}
 use Rattle.mc_desk.specs.Outputs.{FitsScreen, Output}
 use Rattle.mc_desk.specs.LiveRows.{rows_of, trouble_told}
@@ -82,11 +82,15 @@ stand_with job dirty = record { jobs = before_others job []; dirty = dirty }
 abbrev pub stand_of : Seen → Stand
 stand_of desk = stand_with desk.job desk.dirty
 
+-- what the session of a desk has come to, over a tree that holds this
+abbrev pub state_of : Option CallLog → Seen → SessionState
+state_of contents desk = record { screen = noted desk; stand = stand_of desk; contents = contents; put = desk.out.put }
+
 -- What is written down is a session in the folders in which it began, over the tree, which was opened with the one contents, and
 -- so many faults, and has the other now; it has come to the live job and the dirty folders; and the rest of the desk is what the
 -- history says.
 pub record IsWritten (start : Option Start) (opening contents : Option CallLog) (faults : ℕ) (desk : Seen) : Type 0 where
-  pub session : IsSession start opening faults desk.newest (noted desk) (stand_of desk) contents desk.out.put
+  pub session : IsSession start opening faults desk.newest (state_of contents desk)
   pub tally : desk.tally ≡ tally desk.newest
   pub told : desk.tally.job ≡ option_map told desk.job
   pub calls : desk.tally.calls ≤ 3 * length desk.newest

@@ -129,16 +129,22 @@ Traces (Some opening) e older was before stand contents =
 abbrev pub before_entry : Option View → List Entry → Screen → Before
 before_entry tree older screen = record { tree = tree; tally = tally older; rows = rows_told older; news = news_left older; screen = screen }
 
--- An entry after older ones: from the screen, the live jobs with the dirty folders, the tree, and what was put to the terminal,
--- that these came to, to others.
-pub record Enters (opening : Option CallLog) (faults : ℕ) (e : Entry) (older : List Entry) (before : Screen) (was : Stand) (stood : Option CallLog) (put_before : Put)
-    (screen : Screen) (stand : Stand) (contents : Option CallLog) (put : Put) : Type 0 where
-  pub timely : IsTimely e.what before
+-- what a session has come to: the screen, the live jobs with the dirty folders, what the tree holds, where it tells that, and what
+-- was put to the terminal
+pub record SessionState : Type 0 where
+  pub screen : Screen
+  pub stand : Stand
+  pub contents : Option CallLog
+  pub put : Put
+
+-- an entry after older ones leads from what these came to
+pub record Enters (opening : Option CallLog) (faults : ℕ) (e : Entry) (older : List Entry) (was now : SessionState) : Type 0 where
+  pub timely : IsTimely e.what was.screen
   pub counts : Counts (faults_in faults older) (calls_in older) e
-  pub leads : EventLeads (before_entry (sight stood) older before) e.what screen
-  pub caused : IfKnown stood (HasCauses e.what)
-  pub traced : Traces opening e older was stood stand contents
-  pub draws : EventDraws e.what (none_before older) (frame_due screen (next_id (last_id older)) (rows_told older)) e.shown put_before put
+  pub leads : EventLeads (before_entry (sight was.contents) older was.screen) e.what now.screen
+  pub caused : IfKnown was.contents (HasCauses e.what)
+  pub traced : Traces opening e older was.stand was.contents now.stand now.contents
+  pub draws : EventDraws e.what (none_before older) (frame_due now.screen (next_id (last_id older)) (rows_told older)) e.shown was.put now.put
 
 -- the folders of the two panels, and the size of the screen
 abbrev pub folders_of : Screen → Start
@@ -148,17 +154,23 @@ folders_of screen = record { left = screen.left.folder; right = screen.right.fol
 abbrev pub BeginsIn : Option Start → Start → Type 0
 BeginsIn start folders = IfKnown start (λ named. named ≡ folders)
 
+-- a session that has just begun in these folders, over a tree with these contents
+pub record IsBeginning (start : Option Start) (opening : Option CallLog) (now : SessionState) : Type 0 where
+  pub opened : IsOpening (sight opening) now.screen
+  pub folders : BeginsIn start (folders_of now.screen)
+  pub idle : now.stand ≡ nothing_live
+  pub same : now.contents ≡ opening
+  pub blank : HasPutNothing now.put
+
 -- These entries are a session that began in these folders, over a tree that had these contents then, and had failed so often;
--- it has come to this screen, these live jobs and dirty folders, and these contents, and has put these bytes.
-abbrev pub IsSession : Option Start → Option CallLog → ℕ → List Entry → Screen → Stand → Option CallLog → Put → Type 0
-IsSession start opening faults [] screen stand contents put =
-    IsOpening (sight opening) screen × BeginsIn start (folders_of screen) × (stand ≡ nothing_live) × (contents ≡ opening) × HasPutNothing put
-IsSession start opening faults (e ∷ older) screen stand contents put =
-    (before : Screen) × (was : Stand) × (stood : Option CallLog) × (put_before : Put) × IsSession start opening faults older before was stood put_before
-    × Enters opening faults e older before was stood put_before screen stand contents put
+-- and it has come to this.
+abbrev pub IsSession : Option Start → Option CallLog → ℕ → List Entry → SessionState → Type 0
+IsSession start opening faults [] now = IsBeginning start opening now
+IsSession start opening faults (e ∷ older) now = (was : SessionState) × IsSession start opening faults older was × Enters opening faults e older was now
 
 -- These entries are a session in these folders, no job is live at its end, and nothing that was asked for was left undone.
 -- Whether the end was asked for, its screen has noted.
 abbrev pub EndsSession : Option Start → Option CallLog → ℕ → List Entry → Option CallLog → Put → Bool → Type 0
 EndsSession start opening faults newest contents put asked =
-    (screen : Screen) × (dirty : List Route) × (screen.planned ≡ (if asked then Some Ends else None)) × IsSession start opening faults newest screen (at_rest dirty) contents put
+    (screen : Screen) × (dirty : List Route) × (screen.planned ≡ (if asked then Some Ends else None))
+    × IsSession start opening faults newest (record { screen = screen; stand = at_rest dirty; contents = contents; put = put })

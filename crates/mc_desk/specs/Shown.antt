@@ -61,15 +61,20 @@ pub record PutsNothing (shown : ℕ) (before after : Put) : Type 0 where
   pub uncut : before.is_cut ≡ false
   pub counted : IfKnown before.bytes (λ bytes. shown ≡ length bytes)
 
+-- what draws nothing puts nothing, and shows no bytes
+pub record DrawsNothing (shown : ℕ) (before after : Put) : Type 0 where
+  pub same : after ≡ before
+  pub none : shown ≡ 0
+
 -- A key that was worked and a look draw their frame; nothing else puts anything.
 abbrev pub EventDraws : Event → Bool → CellGrid → ℕ → Put → Put → Type 0
 EventDraws (Key key now refusals false) is_first frame shown before after = DrawsFrame is_first frame shown before after
 EventDraws (Key key now refusals true) is_first frame shown before after = PutsNothing shown before after
 EventDraws (Look refusals) is_first frame shown before after = DrawsFrame is_first frame shown before after
-EventDraws (Began id plan background) is_first frame shown before after = after ≡ before
-EventDraws (Order id order) is_first frame shown before after = after ≡ before
-EventDraws (Step id did) is_first frame shown before after = after ≡ before
-EventDraws Closed is_first frame shown before after = after ≡ before
+EventDraws (Began id plan background) is_first frame shown before after = DrawsNothing shown before after
+EventDraws (Order id order) is_first frame shown before after = DrawsNothing shown before after
+EventDraws (Step id did) is_first frame shown before after = DrawsNothing shown before after
+EventDraws Closed is_first frame shown before after = DrawsNothing shown before after
 
 -- a job that can be stepped
 abbrev pub ready_row : ℕ → JobRow

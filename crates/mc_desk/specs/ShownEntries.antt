@@ -5,13 +5,11 @@ use Rattle.session_history.specs.declared.history.Event.{Event}
 use Rattle.session_history.specs.declared.history.Event.TheVariants.{Key, Look, Began, Order, Step, Closed}
 use Rattle.session_history.specs.declared.history.Entry.{Entry}
 use Rattle.session_history.specs.Entries.{last_id}
-use Rattle.history_laws.specs.Traces.{Stand}
-use Rattle.mc_ui.specs.Screens.{Screen}
 use Rattle.key_screen.specs.Grids.{CellGrid}
 use Rattle.mc_desk.specs.declared.starts.Start.{Start}
 use Rattle.mc_desk.specs.LiveRows.{rows_told}
-use Rattle.mc_desk.specs.Sessions.{IsSession}
-use Rattle.mc_desk.specs.Shown.{DrawsBehind, Put, ShowsOverAny, frame_due, none_before}
+use Rattle.mc_desk.specs.Sessions.{IsSession, SessionState}
+use Rattle.mc_desk.specs.Shown.{DrawsBehind, ShowsOverAny, frame_due, none_before}
 use Rattle.mc_desk.specs.Tallies.{next_id}
 
 -- a key that was worked, and a look, draw
@@ -30,12 +28,9 @@ NoneDraws (e ∷ older) = (draws e.what ≡ false) × NoneDraws older
 
 -- what a session came to with an entry, and the frame of that
 pub record CameTo (start : Option Start) (opening : Option CallLog) (faults : ℕ) (e : Entry) (older : List Entry) (frame : CellGrid) : Type 0 where
-  pub screen : Screen
-  pub stand : Stand
-  pub contents : Option CallLog
-  pub put : Put
-  pub session : IsSession start opening faults (e ∷ older) screen stand contents put
-  pub frame_is : frame ≡ frame_due screen (next_id (last_id older)) (rows_told older)
+  pub now : SessionState
+  pub session : IsSession start opening faults (e ∷ older) now
+  pub frame_is : frame ≡ frame_due now.screen (next_id (last_id older)) (rows_told older)
 
 -- Each terminal shows of the bytes that were put, as many as the entry says, the frame of what the session came to with it,
 -- whatever it showed before the session.

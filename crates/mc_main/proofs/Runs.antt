@@ -121,7 +121,7 @@ pub run_shows : (folders : Option Start) (opening : Option CallLog) (faults stat
 run_shows folders opening faults status newest contents all_taken given given_after ran all known later e older is drawn =
     let ends = ran.session in
     let bytes : ran.put.bytes ≡ Some all = put_is given given_after ran.put.bytes ran.puts ∙ known in
-    elim (session_shows folders opening faults newest ends.0 (at_rest ends.1) contents ran.put all ends.3 bytes later e older is drawn) [
+    elim (session_shows folders opening faults newest (record { screen = ends.0; stand = at_rest ends.1; contents = contents; put = ran.put }) all ends.3 bytes later e older is drawn) [
       | inl shows ↦ inl shows
       | inr cut ↦ inr (ran.uncut cut.0, cut.1)
     ]

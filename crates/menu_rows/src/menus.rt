@@ -1,61 +1,82 @@
 //! What a menu's file holds.
-use crate::fields::{are_shell_patterns, bytes_of, cut};
-use anyhow::Result;
-use std::alloc::Global;
+ghost use Rattle.std.specs.Prelude.{◌<◌, length};
+
+use row_page::{Page, bytes_of, number, two_fields};
+use std::convert::AsStr;
 use user_menu::{Menu, parse_menu};
 
+/// Whether patterns are shell patterns, or else regular expressions, at a menu's begin.
+pub fn are_shell_patterns(word: &str) -> bool {
+    word == "shell"
+}
+
 /// All entries of a menu, or why the file holds none.
-pub fn read(alloc: Global, field: &str) -> Result<String> {
-    let (kind, file) = cut(field, '|')?;
-    let bytes = bytes_of(alloc, file)?;
-    match parse_menu(alloc, bytes.as_slice(), are_shell_patterns(kind)?) {
-        Ok(menu) => all_entries(alloc, &menu),
-        Err(error) => Ok(format!(in alloc; "{error}")?),
+pub fn tell_menu(page: &mut Page, field: &str) {
+    let (kind, file) = two_fields(field, '|');
+    let bytes = bytes_of(page, file);
+    match parse_menu(page.alloc(), &bytes, are_shell_patterns(kind)) {
+        Ok(menu) => tell_entries(page, &menu),
+        Err(error) => page.tell(error),
     }
 }
 
 /// The number of entries of a menu whose file repeats a text, and the last one.
-pub fn repeated(alloc: Global, field: &str) -> Result<String> {
-    let (count, part) = cut(field, '|')?;
-    let part = bytes_of(alloc, part)?;
-    let count: u32 = count.parse()?;
-    let mut bytes = Vec::new(alloc);
-    for _ in 0..count {
-        bytes.extend_from_slice(part.as_slice())?;
+pub fn tell_repeated(page: &mut Page, field: &str) {
+    let (count, part) = two_fields(field, '|');
+    let part = bytes_of(page, part);
+    let mut bytes = Vec::new(page.alloc());
+    for _ in 0..number(count) {
+        page.need(bytes.extend_from_slice(&part).is_ok());
     }
-    let answer = last_told(alloc, bytes.as_slice(), true)?;
-    Ok(format!(in alloc; "{} bytes, {answer}", bytes.len())?)
+    page.tell(format_args!("{} bytes, ", bytes.len()));
+    tell_last(page, &bytes, true);
+}
+
+/// For each prefix of a file a line: its length, and the number of its entries and the last one, or why it holds no menu.
+pub fn tell_cuts(page: &mut Page, field: &str) {
+    let (kind, file) = two_fields(field, '|');
+    let bytes = bytes_of(page, file);
+    page.tell(format_args!("{} bytes", bytes.len()));
+    for length in 0..bytes.len().saturating_add(1) {
+        page.tell(format_args!("\n{length}: "));
+        let prefix = bytes.get(..length).unwrap_or(b"");
+        tell_last(page, prefix, are_shell_patterns(kind));
+    }
 }
 
 /// The number of a file's entries, and the last one; or why the file holds no menu.
-pub fn last_told(alloc: Global, bytes: &[u8], shell_patterns: bool) -> Result<String> {
-    match parse_menu(alloc, bytes, shell_patterns) {
-        Ok(menu) => last_entry(alloc, &menu),
-        Err(error) => Ok(format!(in alloc; "{error}")?),
+fn tell_last(page: &mut Page, bytes: &[u8], shell_patterns: bool) {
+    match parse_menu(page.alloc(), bytes, shell_patterns) {
+        Ok(menu) => tell_last_entry(page, &menu),
+        Err(error) => page.tell(error),
     }
 }
 
-fn all_entries(alloc: Global, menu: &Menu) -> Result<String> {
-    let mut entries = format!(in alloc; "entries {}", menu.len())?;
-    for entry in 0..menu.len() {
-        let text = entry_text(alloc, menu.title(entry), menu.commands(entry))?;
-        entries.push_str("; ")?;
-        entries.push_str(text.as_str())?;
-    }
-    Ok(entries)
-}
-
-fn last_entry(alloc: Global, menu: &Menu) -> Result<String> {
+fn tell_last_entry(page: &mut Page, menu: &Menu) {
     let count = menu.len();
-    if count == 0 {
-        return Ok(String::from_str(alloc, "entries 0")?);
+    page.tell(format_args!("entries {count}"));
+    if count > 0 {
+        tell_entry(page, menu, count - 1);
     }
-    let last = entry_text(alloc, menu.title(count - 1), menu.commands(count - 1))?;
-    Ok(format!(in alloc; "entries {count}; {last}")?)
+}
+
+fn tell_entries(page: &mut Page, menu: &Menu) {
+    page.tell(format_args!("entries {}", menu.len()));
+    for entry in 0..menu.len() {
+        tell_entry(page, menu, entry);
+    }
 }
 
 /// A title, and in brackets the command lines, with a slash between two.
-fn entry_text(alloc: Global, title: &str, commands: &str) -> Result<String> {
-    let commands = commands.replace(alloc, "\n", " / ")?;
-    Ok(format!(in alloc; "{title} ({commands})")?)
+fn tell_entry(page: &mut Page, menu: &Menu, entry: usize)
+    requires { entry < length menu.now }
+{
+    page.put("; ");
+    page.put(menu.title(entry));
+    page.put(" (");
+    match menu.commands(entry).replace(page.alloc(), "\n", " / ") {
+        Ok(commands) => page.put(commands.as_str()),
+        Err(_error) => page.fail(),
+    }
+    page.put(")");
 }

@@ -1,46 +1,57 @@
 //! Which entries of a menu are shown.
 use crate::facts::fact_of;
-use crate::fields::{are_shell_patterns, bytes_of, cut};
-use anyhow::Result;
-use std::alloc::Global;
-use tree_trait::Tree;
+use crate::menus::are_shell_patterns;
+use row_page::{Page, bytes_of, two_fields};
+use tree_trait::{Tree, TreeError};
 use user_menu::{Fact, Menu, Shown, parse_menu, shown};
 
 /// Which entries of a file are shown in a panel beside another one.
-pub fn shown_entries<T: Tree>(alloc: Global, tree: &mut T, field: &str) -> Result<String> {
-    let (kind, rest) = cut(field, '|')?;
-    let (here, rest) = cut(rest, '|')?;
-    let (other, file) = cut(rest, '|')?;
-    let here = fact_of(alloc, here)?;
-    let other = fact_of(alloc, other)?;
-    let bytes = bytes_of(alloc, file)?;
-    match parse_menu(alloc, bytes.as_slice(), are_shell_patterns(kind)?) {
-        Ok(menu) => shown_of(alloc, tree, &menu, &here, &other),
-        Err(error) => Ok(format!(in alloc; "{error}")?),
+pub fn tell_shown<T: Tree>(page: &mut Page, tree: &mut T, field: &str) {
+    let (kind, rest) = two_fields(field, '|');
+    let (here, rest) = two_fields(rest, '|');
+    let (other, file) = two_fields(rest, '|');
+    let bytes = bytes_of(page, file);
+    match parse_menu(page.alloc(), &bytes, are_shell_patterns(kind)) {
+        Ok(menu) => tell_shown_here(page, tree, &menu, here, other),
+        Err(error) => page.tell(error),
     }
 }
 
-fn shown_of<T: Tree>(
-    alloc: Global,
+fn tell_shown_here<T: Tree>(page: &mut Page, tree: &mut T, menu: &Menu, here: &str, other: &str) {
+    match fact_of(page.alloc(), here) {
+        Some(here) => tell_shown_beside(page, tree, menu, &here, other),
+        None => page.fail(),
+    }
+}
+
+fn tell_shown_beside<T: Tree>(
+    page: &mut Page,
     tree: &mut T,
     menu: &Menu,
     here: &Fact,
-    other: &Fact,
-) -> Result<String> {
-    match shown(alloc, tree, menu, here, other) {
-        Ok(shown) => shown_text(alloc, &shown),
-        Err(error) => Ok(format!(in alloc; "{error}")?),
+    other: &str,
+) {
+    match fact_of(page.alloc(), other) {
+        Some(other) => tell(page, shown(page.alloc(), tree, menu, here, &other)),
+        None => page.fail(),
     }
 }
 
 /// The numbers of the shown entries, and the default.
-fn shown_text(alloc: Global, shown: &Shown) -> Result<String> {
-    let mut text = String::from_str(alloc, "shown")?;
+fn tell(page: &mut Page, answer: Result<Shown, TreeError>) {
+    match answer {
+        Ok(shown) => tell_entries(page, &shown),
+        Err(error) => page.tell(error),
+    }
+}
+
+fn tell_entries(page: &mut Page, shown: &Shown) {
+    page.put("shown");
     for entry in shown.entries.0.as_slice() {
-        text.push_str(format!(in alloc; " {entry}")?.as_str())?;
+        page.tell(format_args!(" {entry}"));
     }
     match shown.default {
-        Some(entry) => Ok(format!(in alloc; "{text}, default {entry}")?),
-        None => Ok(format!(in alloc; "{text}, no default")?),
+        Some(entry) => page.tell(format_args!(", default {entry}")),
+        None => page.put(", no default"),
     }
 }

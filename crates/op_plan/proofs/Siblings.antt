@@ -1,5 +1,5 @@
 -- Paths in one folder: two meet where their last names are one.
-use Rattle.std.proofs.Common.{◌≡◌, ℕ, Bool, true, false, List, [], ◌∷◌, ◌++◌, ◌+◌, Option, Some, None, Ok, length, map, refl, sym, ap, ◌∙◌, subst, inl, inr, arith}
+use Rattle.std.proofs.Common.{◌≡◌, ℕ, suc, ◌<◌, Bool, true, false, List, [], ◌∷◌, ◌++◌, ◌+◌, Option, Some, None, Ok, length, map, get_or, refl, sym, ap, ◌∙◌, subst, inl, inr, arith}
 use Rattle.std.specs.Prelude.{◌||◌, option_map, IfSome}
 use Rattle.std.specs.List.{list_any}
 use Rattle.std.specs.Str.{bytes_eq}
@@ -17,7 +17,7 @@ use Rattle.op_plan.specs.Sorting.{route_cmp, has_neighbours, neighbours_meet, Ar
 use Rattle.op_plan.proofs.Paths.{bool_same, prefix-way, prefix-from, meet-self, same_name, same_name-from}
 use Rattle.op_plan.proofs.Sorted.{neighbours-sorted, neighbours-map, sorted-map}
 use Rattle.op_plan.specs.declared.job.Pair.{Pair}
-use Rattle.op_plan.specs.Checks.{targets_from, none_twice}
+use Rattle.op_plan.specs.Checks.{sources_in, targets_from, none_twice}
 use Rattle.op_plan.proofs.CheckLemmas.{twice-none}
 use Rattle.op_plan.proofs.Twos.{list_any-same, two-map, two-permutation}
 
@@ -120,3 +120,22 @@ targets_apart names pairs (folder, e) h = ap (has_two meet) e ∙ (siblings-two 
 pub none_twice_apart : (names : List (List ℕ)) (pairs : List Pair) → ((folder : Route) × (targets_from pairs ≡ map (λ name. name ∷ folder) names))
     → has_two bytes_eq names ≡ false → none_twice pairs ≡ Ok tt
 none_twice_apart names pairs e h = twice-none pairs (targets_apart names pairs e h)
+
+-- ---- names that targets have of their sources
+
+sources_kept : (folder : Route) (names : List (List ℕ)) (pairs : List Pair) → length names ≡ length pairs
+    → ((k : ℕ) (d : Pair) (n : List ℕ) → k < length names → (get_or pairs k d).source ≡ get_or names k n ∷ folder)
+    → sources_in pairs ≡ map (λ name. name ∷ folder) names
+sources_kept folder [] [] size at = refl
+sources_kept folder [] (pair ∷ pairs) size at = absurd (omega (arith, size))
+sources_kept folder (name ∷ names) [] size at = absurd (omega (arith, size))
+sources_kept folder (name ∷ names) (pair ∷ pairs) size at =
+    ap (λ (r : Route). r ∷ sources_in pairs) (at 0 pair name (omega arith))
+    ∙ ap (λ (l : List Route). (name ∷ folder) ∷ l) (sources_kept folder names pairs (omega (arith, size)) (λ k d n below. at (suc k) d n (omega arith)))
+
+-- the sources lie in one folder under these names, and no two meet
+pub kept-apart : (folder : Route) (names : List (List ℕ)) (pairs : List Pair) → length names ≡ length pairs
+    → ((k : ℕ) (d : Pair) (n : List ℕ) → k < length names → (get_or pairs k d).source ≡ get_or names k n ∷ folder)
+    → has_two meet (sources_in pairs) ≡ false → has_two bytes_eq names ≡ false
+kept-apart folder names pairs size at apart =
+    sym (siblings-two folder names) ∙ (sym (ap (has_two meet) (sources_kept folder names pairs size at)) ∙ apart)

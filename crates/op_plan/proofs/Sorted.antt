@@ -1,6 +1,6 @@
 -- Sorted paths: where two of them meet, two neighbours do.
 use Rattle.std.proofs.Common.{◌≡◌, ℕ, ◌+◌, ◌-◌, ◌<◌, ◌≤◌, zero, suc, Bool, true, false, List, [], ◌∷◌, length, map, reverse, get_or, refl, sym, ap, ◌∙◌, inl, inr, subst, ⊎_elim, arith}
-use Rattle.std.specs.Prelude.{◌||◌}
+use Rattle.std.specs.Prelude.{◌||◌, ◌&&◌, not}
 use Rattle.std.specs.List.{list_any}
 use Rattle.std.specs.Str.{bytes_eq}
 use Rattle.std.specs.Cmp.{IsTotalOrder}
@@ -17,7 +17,7 @@ use Rattle.std.proofs.lemmas.Map.Text.{is_eq-slice_cmp}
 use Rattle.mc_text.specs.Routes.{Route, is_prefix}
 use Rattle.tree_trait.specs.Answers.{name_cmp}
 use Rattle.op_plan.specs.Meeting.{meet, has_two}
-use Rattle.op_plan.specs.Sorting.{route_cmp, has_neighbours, neighbours_meet}
+use Rattle.op_plan.specs.Sorting.{comes_apart, route_cmp, has_neighbours, neighbours_meet}
 use Rattle.op_plan.proofs.Paths.{bool_same, begins, same_name, same_name-from, prefix-begins}
 
 pub route_total : IsTotalOrder route_cmp
@@ -187,3 +187,27 @@ sorted-map {X} {Y} lt f (x ∷ xs) up = λ k d low high.
     let within : k + 1 < length (x ∷ xs) = omega (arith, size, high) in
     ap (λ (y : Y). lt y (get_or (map f (x ∷ xs)) k d)) (get_or-map f (x ∷ xs) (k + 1) x d within)
     ∙ (ap (λ (y : Y). lt (f (get_or (x ∷ xs) (k + 1) x)) y) (get_or-map f (x ∷ xs) k x d (omega arith)) ∙ up k x low within)
+
+-- ---- paths that come in their order
+
+less_turned : (o : Ordering) → is_lt o ≡ true → is_lt (ordering_reverse o) ≡ false
+less_turned Less h = refl
+less_turned Equal h = absurd (false≢true h)
+less_turned Greater h = absurd (false≢true h)
+
+apart_parts : (x y : Bool) → (x && not y) ≡ true → (x ≡ true) × (y ≡ false)
+apart_parts true true h = absurd (false≢true h)
+apart_parts true false h = (refl, refl)
+apart_parts false y h = absurd (false≢true h)
+
+abbrev ComeApart : List Route → Type 0
+ComeApart paths = (k : ℕ) (d : Route) → k + 1 < length paths → comes_apart (get_or paths k d) (get_or paths (k + 1) d) ≡ true
+
+-- each comes before the next one and doesn't hold it, so no two meet
+pub rising-apart : (paths : List Route) → ComeApart paths → has_two meet paths ≡ false
+rising-apart paths apart =
+    let up : IsSorted route_cmp paths = λ k d low high.
+    let parts = apart_parts _ _ (apart k d (omega (arith, high))) in
+    ap is_lt (route_total.antisymm (get_or paths (k + 1) d) (get_or paths k d)) ∙ less_turned (route_cmp (get_or paths k d) (get_or paths (k + 1) d)) parts.0 in
+    neighbours-sorted paths up
+    ∙ neighbours-all is_prefix paths (length paths) (omega arith) (λ k d below. (apart_parts _ _ (apart k d (omega (arith, below)))).1)

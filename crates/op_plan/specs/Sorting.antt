@@ -1,8 +1,9 @@
 -- Paths in an order in which each comes directly before all that lies below it: by their names from the root on, which are
 -- compared byte by byte.
-use Rattle.std.specs.Prelude.{◌≡◌, ℕ, ◌<◌, Bool, false, ◌||◌, List, [], ◌∷◌, length, map, take, reverse, Option, Some, None}
+use Rattle.std.specs.Prelude.{◌≡◌, ℕ, ◌<◌, Bool, false, not, ◌&&◌, ◌||◌, List, [], ◌∷◌, length, map, take, reverse, Option, Some, None}
 use Rattle.std.specs.List.{position, slice_get}
 use Rattle.std.specs.Cmp.Lexicographic.{slice_cmp}
+use Rattle.std.specs.Ordering.{is_lt}
 use Rattle.std.specs.declared.cmp.Ordering.{Ordering}
 use Rattle.mc_text.specs.Routes.{Route, is_prefix}
 use Rattle.tree_trait.specs.Answers.{name_cmp}
@@ -10,6 +11,10 @@ use Rattle.op_plan.specs.Meeting.{meet, has_two}
 
 abbrev pub route_cmp : Route → Route → Ordering
 route_cmp a b = slice_cmp name_cmp (reverse a) (reverse b)
+
+-- a path comes before another in this order, and doesn't hold it
+abbrev pub comes_apart : Route → Route → Bool
+comes_apart a b = is_lt (route_cmp a b) && not (is_prefix a b)
 
 -- two neighbours pass the test
 abbrev pub has_neighbours : {X : Type 0} → (X → X → Bool) → List X → Bool

@@ -2,6 +2,7 @@
 ghost use Rattle.std.specs.Prelude.{◌≡◌, ◌≢◌, ◌<◌, ◌||◌, ℕ, length, List, [], ◌∷◌, true, false, map, option_map, IfOk, IfErr, IfSome, OnOk};
 ghost use Rattle.std.specs.List.{list_any, position};
 ghost use Rattle.std.specs.Option.{option_map_or};
+ghost use Rattle.std.specs.Bool.{OnTrue};
 ghost use Rattle.std.specs.Str.{bytes_eq};
 ghost use Rattle.std.specs.BTreeSet.{contains_text};
 ghost use Rattle.mc_text.specs.Routes.{Route, is_prefix, same_path};
@@ -15,7 +16,7 @@ ghost use Rattle.op_plan.specs.Soundness.{ArePairsApart};
 use crate::claim::meet;
 use crate::error::PlanError;
 use crate::job::{Pair, Pairs};
-use crate::meeting::{any_twice, first_meeting};
+use crate::meeting::{any_twice, child_name, first_meeting};
 use mc_text::{Name, NoMemory, Path, PathError, Paths};
 use resolving::ResolveError;
 use std::alloc::Global;
@@ -216,16 +217,70 @@ fn first_target(pairs: &[Pair], path: &Path) -> Option<usize>
 /// Refuses two sources with one target. The targets have these names in one folder.
 #[tactic(auto, using(crate::proofs::Siblings::targets_apart, crate::proofs::Siblings::none_twice_apart))]
 fn refuse_twice(alloc: Global, names: &[Name], pairs: &[Pair]) -> Result<(), PlanError>
-    requires { (folder : Route) × (targets_from pairs.now ≡ map (λ name. name ∷ folder) names.now) }
+    requires placed { (folder : Route) × (targets_from pairs.now ≡ map (λ name. name ∷ folder) names.now) }
+    requires apart { has_two meet (sources_in pairs.now) ≡ false }
     ensures answer { Plans (none_twice pairs.now) result }
     ensures apart { OnOk result (has_two meet (targets_from pairs.now) ≡ false) }
     ensures no_fault { IfErr result (λ e. is_fault e ≡ false) }
     ensures carried { IfErr result CarriesPlanCause }
 {
-    if !any_twice(texts_of(alloc, names)?) {
+    if !any_name_twice(alloc, names, pairs)? {
         return Ok(());
     }
     refuse_meeting_targets(alloc, pairs)
+}
+
+/// Whether two of the names are one. Where they are those of the sources, which lie in one folder, none is, since no source is
+/// another.
+fn any_name_twice(alloc: Global, names: &[Name], pairs: &[Pair]) -> Result<bool, NoMemory>
+    requires { has_two meet (sources_in pairs.now) ≡ false }
+    ensures { IfOk result (λ found. found ≡ has_two bytes_eq names.now) }
+{
+    if are_kept(alloc, names, pairs)? {
+        return Ok(false);
+    }
+    Ok(any_twice(texts_of(alloc, names)?))
+}
+
+/// Whether the names are those of the sources, which lie in one folder.
+fn are_kept(alloc: Global, names: &[Name], pairs: &[Pair]) -> Result<bool, NoMemory>
+    requires { has_two meet (sources_in pairs.now) ≡ false }
+    ensures { IfOk result (λ kept. OnTrue kept (has_two bytes_eq names.now ≡ false)) }
+{
+    let Some(first) = pairs.first() else {
+        return Ok(false);
+    };
+    match first.source.parent(alloc)? {
+        Some(folder) => Ok(lie_in(&folder, names, pairs)),
+        None => Ok(false),
+    }
+}
+
+/// Whether the sources lie in the folder under these names, of which no two are one then.
+fn lie_in(folder: &Path, names: &[Name], pairs: &[Pair]) -> bool
+    requires { has_two meet (sources_in pairs.now) ≡ false }
+    ensures { OnTrue result (has_two bytes_eq names.now ≡ false) }
+{
+    if names.len() != pairs.len() {
+        return false;
+    }
+    for i in 0..names.len() {
+        if !is_child(folder, &names[i], &pairs[i].source) {
+            return false;
+        }
+    }
+    true
+}
+
+/// Whether a path is that of this name in the folder.
+#[tactic(auto, using(crate::proofs::Paths::same_name))]
+fn is_child(folder: &Path, name: &Name, path: &Path) -> bool
+    ensures { OnTrue result (path.now ≡ name.now ∷ folder.now) }
+{
+    match child_name(folder, path) {
+        Some(last) => last == name.text(),
+        None => false,
+    }
 }
 
 /// The texts of names.

@@ -6,7 +6,8 @@ ghost use Rattle.std.specs.List.Sorted.{IsPermutation, IsSorted};
 ghost use Rattle.tree_trait.specs.Answers.{name_cmp};
 ghost use Rattle.op_plan.specs.Meeting.{meet, has_two};
 ghost use Rattle.std.specs.Str.{bytes_eq};
-ghost use Rattle.op_plan.specs.Sorting.{route_cmp, has_neighbours, neighbours_meet, IsFirstMeeting, AreSiblings};
+ghost use Rattle.std.specs.Bool.{OnTrue};
+ghost use Rattle.op_plan.specs.Sorting.{comes_apart, route_cmp, has_neighbours, neighbours_meet, IsFirstMeeting, AreSiblings};
 
 use crate::claim::meet;
 use mc_text::{Name, NoMemory, Path};
@@ -28,10 +29,39 @@ pub fn first_meeting(alloc: Global, paths: &[Path]) -> Result<Option<(usize, usi
     }
 }
 
+/// Whether two of the paths meet. Where each comes before the next one, as in a listing, they need not be sorted.
+fn any_meet(alloc: Global, paths: &[Path]) -> Result<bool, NoMemory>
+    ensures { IfOk result (λ found. found ≡ has_two meet paths.now) }
+{
+    if rise_apart(paths) {
+        return Ok(false);
+    }
+    scattered_meet(alloc, paths)
+}
+
+/// Whether each path comes before the next one in the paths' order, and doesn't hold it.
+fn rise_apart(paths: &[Path]) -> bool
+    ensures { OnTrue result (has_two meet paths.now ≡ false) }
+{
+    for i in 1..paths.len() {
+        if !comes_apart(&paths[i - 1], &paths[i]) {
+            return false;
+        }
+    }
+    true
+}
+
+/// Whether a path comes before another in the paths' order, and doesn't hold it.
+fn comes_apart(path: &Path, next: &Path) -> bool
+    ensures { result ≡ comes_apart path.now next.now }
+{
+    order(path, next) == Ordering::Less && !path.is_prefix_of(next)
+}
+
 /// Whether two of the paths meet. In one folder two meet where their names are one. Else they are sorted: two neighbours meet
 /// then.
 #[tactic(auto, using(crate::proofs::Siblings::siblings_meet))]
-fn any_meet(alloc: Global, paths: &[Path]) -> Result<bool, NoMemory>
+fn scattered_meet(alloc: Global, paths: &[Path]) -> Result<bool, NoMemory>
     ensures { IfOk result (λ found. found ≡ has_two meet paths.now) }
 {
     match names_in_one_folder(alloc, paths)? {
@@ -83,7 +113,7 @@ fn names_in<'a>(
 }
 
 /// The last name of a path, if it lies directly in the folder.
-fn child_name<'a>(folder: &Path, path: &'a Path) -> Option<&'a str>
+pub fn child_name<'a>(folder: &Path, path: &'a Path) -> Option<&'a str>
     ensures { IfSome result (λ name. path.now ≡ name.now ∷ folder.now) }
 {
     if path.names().len() == folder.names().len() + 1 && folder.is_prefix_of(path) {

@@ -31,6 +31,9 @@ fn tell_section(page: &mut Page, name: &str, rows: &str) {
         "answers" => answer_rows::tell_rows(page, rows),
         "boxes" => box_rows::tell_rows(page, rows),
         "texts" => text_rows::tell_rows(page, rows),
+        "menus" => menu_rows::tell_rows(page, rows),
+        "viewer" => viewer_rows::tell_rows(page, rows),
+        "finding" => finding_rows::tell_rows(page, rows),
         _ => page.fail(),
     }
 }

@@ -1,38 +1,64 @@
-//! The files that are viewed.
+//! The files that are viewed, and the bytes that a field spells.
 ghost use Rattle.std.specs.Prelude.{◌≤◌};
 
-use crate::fields::bytes_of;
-use anyhow::{Result, bail};
 use mc_text::Path;
-use std::alloc::Global;
+use row_page::{Page, bytes_of, number, two_fields};
+use row_trees::{plant_file, plant_folder};
 use tree_trait::Tree;
 
 /// Plants the folder `/folder`, the file `/shut` that may not be read, and the empty file `/file`.
-pub fn plant<T: Tree>(alloc: Global, tree: &mut T) -> Result<()> {
-    let folder = Path::parse(alloc, "/folder")?;
-    tree.make_folder(alloc, &folder, 0o755)?;
-    plant_file(alloc, tree, "/shut", 0o200)?;
-    plant_file(alloc, tree, "/file", 0o644)?;
-    Ok(())
-}
-
-fn plant_file<T: Tree>(alloc: Global, tree: &mut T, path: &str, mode: u16) -> Result<()>
-    requires { mode ≤ 0o7777 }
-{
-    let path = Path::parse(alloc, path)?;
-    tree.make_file(alloc, &path, mode)?;
-    Ok(())
+pub fn plant_files<T: Tree>(page: &mut Page, tree: &mut T) {
+    plant_folder(page, tree, "/folder", 0o755);
+    plant_file(page, tree, "/shut", 0o200);
+    plant_file(page, tree, "/file", 0o644);
 }
 
 /// Writes `/file` anew.
-pub fn write<T: Tree>(alloc: Global, tree: &mut T, field: &str) -> Result<()> {
-    let path = Path::parse(alloc, "/file")?;
-    let bytes = bytes_of(alloc, field)?;
-    if bytes.len() > 65_536 {
-        bail!("a file of so many bytes");
+pub fn write<T: Tree>(page: &mut Page, tree: &mut T, field: &str) {
+    remove(page, tree);
+    plant_file(page, tree, "/file", 0o644);
+    let bytes = bytes_spelled(page, field);
+    write_bytes(page, tree, bytes.as_slice());
+}
+
+fn write_bytes<T: Tree>(page: &mut Page, tree: &mut T, bytes: &[u8]) {
+    match Path::parse(page.alloc(), "/file") {
+        Ok(path) => page.need(tree.write_at(page.alloc(), &path, 0, bytes).is_ok()),
+        Err(_error) => page.fail(),
     }
-    tree.remove_file(alloc, &path)?;
-    plant_file(alloc, tree, "/file", 0o644)?;
-    tree.write_at(alloc, &path, 0, bytes.as_slice())?;
-    Ok(())
+}
+
+/// Removes `/file`, where it is there.
+pub fn remove<T: Tree>(page: &mut Page, tree: &mut T) {
+    match Path::parse(page.alloc(), "/file") {
+        Ok(path) => {
+            let _gone = tree.remove_file(page.alloc(), &path);
+        }
+        Err(_error) => page.fail(),
+    }
+}
+
+/// The bytes of a field. Between signs `+` stand its parts, and behind a number and a `*` one that is repeated so often.
+pub fn bytes_spelled(page: &mut Page, field: &str) -> Vec<u8> {
+    let mut bytes = Vec::new(page.alloc());
+    for part in field.split('+') {
+        push_part(page, &mut bytes, part);
+    }
+    bytes
+}
+
+fn push_part(page: &mut Page, bytes: &mut Vec<u8>, part: &str) {
+    let (count, repeated) = two_fields(part, '*');
+    if repeated.is_empty() {
+        push_times(page, bytes, 1, part);
+    } else {
+        push_times(page, bytes, number(count), repeated);
+    }
+}
+
+fn push_times(page: &mut Page, bytes: &mut Vec<u8>, count: usize, part: &str) {
+    let part = bytes_of(page, part);
+    for _ in 0..count {
+        page.need(bytes.extend_from_slice(part.as_slice()).is_ok());
+    }
 }

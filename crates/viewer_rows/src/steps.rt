@@ -1,26 +1,29 @@
 //! The steps of a row.
-use anyhow::{Result, bail};
 use mc_viewer::ViewStep;
 
 /// The step that a word names.
-pub fn step_of(word: &str) -> Result<ViewStep> {
+pub fn step_of(word: &str) -> Option<ViewStep> {
     if let Some(line) = word.strip_prefix("line:") {
-        return Ok(ViewStep::Line(line.parse()?));
+        return Some(ViewStep::Line(line.parse().ok()?));
     }
     if let Some(byte) = word.strip_prefix("byte:") {
-        return Ok(ViewStep::Byte(byte.parse()?));
+        return Some(ViewStep::Byte(byte.parse().ok()?));
     }
+    plain_step(word)
+}
+
+fn plain_step(word: &str) -> Option<ViewStep> {
     match word {
-        "down" => Ok(ViewStep::Down),
-        "up" => Ok(ViewStep::Up),
-        "page-down" => Ok(ViewStep::PageDown),
-        "page-up" => Ok(ViewStep::PageUp),
-        "home" => Ok(ViewStep::Home),
-        "end" => Ok(ViewStep::End),
-        "left" => Ok(ViewStep::Left),
-        "right" => Ok(ViewStep::Right),
-        "wrap" => Ok(ViewStep::Wrap),
-        "hex" => Ok(ViewStep::Hex),
-        _ => bail!("no such step"),
+        "down" => Some(ViewStep::Down),
+        "up" => Some(ViewStep::Up),
+        "page-down" => Some(ViewStep::PageDown),
+        "page-up" => Some(ViewStep::PageUp),
+        "home" => Some(ViewStep::Home),
+        "end" => Some(ViewStep::End),
+        "left" => Some(ViewStep::Left),
+        "right" => Some(ViewStep::Right),
+        "wrap" => Some(ViewStep::Wrap),
+        "hex" => Some(ViewStep::Hex),
+        _ => None,
     }
 }

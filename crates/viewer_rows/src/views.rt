@@ -1,80 +1,72 @@
-//! A viewer that makes steps, and its page.
+//! A viewer that makes steps and searches, and its page.
 ghost use Rattle.std.specs.Prelude.{◌≤◌};
 
-use crate::files::write;
+use crate::files::{remove, write};
+use crate::searches::search_of;
 use crate::steps::step_of;
-use anyhow::{Result, bail};
 use mc_text::Rows;
 use mc_viewer::{Subject, ViewError, Viewer};
-use std::alloc::Global;
+use row_page::Page;
+use std::convert::AsStr;
 use tree_trait::Tree;
 
 /// The page behind the steps, or why there is none.
-pub fn viewed<T: Tree>(
-    alloc: Global,
+pub fn tell_view<T: Tree>(
+    page: &mut Page,
     tree: &mut T,
     subject: Subject,
     columns: u16,
     words: &str,
-) -> Result<String> {
-    if columns < 40 {
-        bail!("a narrow screen");
-    }
-    if columns > 400 {
-        bail!("a wide screen");
-    }
-    match Viewer::start(alloc, tree, subject, 10, columns) {
-        Ok(mut viewer) => stepped(alloc, tree, &mut viewer, words),
-        Err(error) => Ok(format!(in alloc; "{error:?}")?),
+) {
+    match Viewer::start(page.alloc(), tree, subject, 10, columns.clamp(40, 400)) {
+        Ok(mut viewer) => tell_steps(page, tree, &mut viewer, words),
+        Err(error) => page.tell(format_args!("{error:?}")),
     }
 }
 
 /// Makes each step, and shows the page. A step that is refused is told, and the next one made.
-fn stepped<T: Tree>(
-    alloc: Global,
-    tree: &mut T,
-    viewer: &mut Viewer,
-    words: &str,
-) -> Result<String> {
-    let mut answer = String::new(alloc);
+fn tell_steps<T: Tree>(page: &mut Page, tree: &mut T, viewer: &mut Viewer, words: &str) {
     for word in words.split(' ') {
-        if let Some(error) = step_with(alloc, tree, viewer, word)? {
-            answer.push_str(format!(in alloc; "{error:?} ")?.as_str())?;
+        match word {
+            "" => (),
+            "remove" => remove(page, tree),
+            _ => tell_word(page, tree, viewer, word),
         }
     }
-    match viewer.page(alloc, tree) {
-        Ok(rows) => push_rows(&mut answer, &rows)?,
-        Err(error) => answer.push_str(format!(in alloc; "{error:?}")?.as_str())?,
+    match viewer.page(page.alloc(), tree) {
+        Ok(rows) => tell_page(page, &rows),
+        Err(error) => page.tell(format_args!("{error:?}")),
     }
-    Ok(answer)
 }
 
-/// Makes a step, or writes the file anew, or removes it.
-fn step_with<T: Tree>(
-    alloc: Global,
-    tree: &mut T,
-    viewer: &mut Viewer,
-    word: &str,
-) -> Result<Option<ViewError>> {
-    if word.is_empty() {
-        return Ok(None);
-    }
+/// Writes the file anew, or searches, or makes a step.
+fn tell_word<T: Tree>(page: &mut Page, tree: &mut T, viewer: &mut Viewer, word: &str) {
     if let Some(bytes) = word.strip_prefix("write:") {
-        write(alloc, tree, bytes)?;
-        return Ok(None);
+        return write(page, tree, bytes);
     }
-    match viewer.go(alloc, tree, step_of(word)?) {
-        Ok(()) => Ok(None),
-        Err(error) => Ok(Some(error)),
+    if word == "next" {
+        return tell_refusal(page, viewer.next(page.alloc(), tree));
+    }
+    if let Some(what) = search_of(page, word) {
+        return tell_refusal(page, viewer.search(page.alloc(), tree, what));
+    }
+    match step_of(word) {
+        Some(step) => tell_refusal(page, viewer.go(page.alloc(), tree, step)),
+        None => page.fail(),
+    }
+}
+
+fn tell_refusal(page: &mut Page, answer: Result<(), ViewError>) {
+    if let Err(error) = answer {
+        page.tell(format_args!("{error:?} "));
     }
 }
 
 /// Each row between brackets.
-fn push_rows(answer: &mut String, rows: &Rows) -> Result<()> {
+fn tell_page(page: &mut Page, rows: &Rows) {
     for row in rows.as_slice() {
-        answer.push_str("[")?;
-        answer.push_str(row.0.as_str())?;
-        answer.push_str("]")?;
+        page.put("[");
+        page.put(row.as_str());
+        page.put("]");
     }
-    Ok(())
 }

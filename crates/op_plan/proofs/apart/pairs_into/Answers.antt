@@ -16,12 +16,20 @@ refuse_into-requires c =
     ap length made ∙ (length-map c.args.names.now (λ (name : List ℕ). name ∷ c.args.folder.now) ∙ c.requires.named) in
     ap targets_from (c.as_slice.ensures ∙ c.in_ok-pairs.ensures) ∙ (targets-paired c.args.sources c.in_ok-targets.targets size ∙ made)
 
-pub refuse_twice-requires : goal.refuse_twice-requires
-refuse_twice-requires c =
+pub refuse_twice-requires-clause-placed : goal.refuse_twice-requires-clause-placed
+refuse_twice-requires-clause-placed c =
     let made = c.in_ok-targets.ensures.joined in
     let size : length c.in_ok-targets.targets ≡ length c.args.sources =
     ap length made ∙ (length-map c.args.names.now (λ (name : List ℕ). name ∷ c.args.folder.now) ∙ c.requires.named) in
     (c.args.folder.now, ap targets_from (c.as_slice-2.ensures ∙ c.in_ok-pairs.ensures) ∙ (targets-paired c.args.sources c.in_ok-targets.targets size ∙ made))
+
+pub refuse_twice-requires-clause-apart : goal.refuse_twice-requires-clause-apart
+refuse_twice-requires-clause-apart c =
+    let targets = c.in_ok-targets.targets in
+    let size : length targets ≡ length c.args.sources =
+    ap length c.in_ok-targets.ensures.joined ∙ (length-map c.args.names.now (λ (name : List ℕ). name ∷ c.args.folder.now) ∙ c.requires.named) in
+    ap (λ (l : List Pair). has_two meet (sources_in l)) (c.as_slice-2.ensures ∙ c.in_ok-pairs.ensures)
+    ∙ (ap (has_two meet) (sources-paired c.args.sources targets size) ∙ c.requires.apart)
 
 pub returns-clause-apart : goal.returns-clause-apart
 returns-clause-apart c =

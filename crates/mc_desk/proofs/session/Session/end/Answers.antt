@@ -1,7 +1,7 @@
 -- A session is a trace of its tree's calls.
 use Rattle.std.proofs.Common.{rules, reverse, ap, sym, subst, ◌≡◌, ◌∙◌, None}
-use Rattle.history_laws.specs.Traces.{IsTracedTo, at_rest}
-use Rattle.mc_desk.specs.Sessions.{IsSession}
+use Rattle.history_laws.specs.Traces.{IsTracedTo, Stand, at_rest}
+use Rattle.mc_desk.specs.Sessions.{IsSession, SessionState}
 use Rattle.mc_desk.specs.Desks.{Seen, stand_with, with_end}
 use Rattle.mc_desk.specs.Outputs.{Output}
 use Rattle.mc_desk.specs.Shown.{HasGiven, Put, put_since}
@@ -13,15 +13,17 @@ pub returns-clause-traced : goal.returns-clause-traced
 returns-clause-traced g c =
     let desk = c.session.inside in
     let none : desk.standing.job ≡ None = search rules in
+    let state : Stand → Put → SessionState = λ stand put. record { screen = with_end desk.standing.quit desk.ui; stand = stand; contents = g.T.Tree.contents desk.tree; put = put } in
     subst (λ es. IsTracedTo g.N.Tag.opening (g.T.Tree.contents desk.tree) es) (sym c.into_history.ensures.entries)
     (session_traced_to g.N.Tag.start g.N.Tag.opening g.N.Tag.tree_faults desk.log.newest (with_end desk.standing.quit desk.ui) desk.dirty (g.T.Tree.contents desk.tree) desk.terminal.put
-    (subst (λ j. IsSession g.N.Tag.start g.N.Tag.opening g.N.Tag.tree_faults desk.log.newest (with_end desk.standing.quit desk.ui) (stand_with j desk.dirty) (g.T.Tree.contents desk.tree) desk.terminal.put) none
+    (subst (λ j. IsSession g.N.Tag.start g.N.Tag.opening g.N.Tag.tree_faults desk.log.newest (state (stand_with j desk.dirty) desk.terminal.put)) none
     c.session.invariant.desk.written.session))
 
 pub returns-clause-session : goal.returns-clause-session
 returns-clause-session g c =
     let desk = c.session.inside in
     let none : desk.standing.job ≡ None = search rules in
+    let state : Stand → Put → SessionState = λ stand put. record { screen = with_end desk.standing.quit desk.ui; stand = stand; contents = g.T.Tree.contents desk.tree; put = put } in
     let bytes = put_since g.N.Tag.given (g.S.Sink.given c.into_parts-screen.result.0) in
     let out : desk.terminal ≡ c.args.self.out = ap (λ (d : Seen). d.out) c.session.view_is ∙ (c.work_off.ensures.out ∙ c.close.ensures.out) in
     let put : desk.terminal.put ≡ (let p : Put = record { bytes = bytes; is_cut = c.args.self.out.put.is_cut } in p) =
@@ -30,9 +32,9 @@ returns-clause-session g c =
       with_end desk.standing.quit desk.ui,
       desk.dirty,
       end_noted desk.standing.quit desk.ui c.session.invariant.desk.settled,
-      subst (λ p. IsSession g.N.Tag.start g.N.Tag.opening g.N.Tag.tree_faults (reverse c.into_history.result.entries) (with_end desk.standing.quit desk.ui) (at_rest desk.dirty) (g.T.Tree.contents desk.tree) p) put
-          (subst (λ es. IsSession g.N.Tag.start g.N.Tag.opening g.N.Tag.tree_faults es (with_end desk.standing.quit desk.ui) (at_rest desk.dirty) (g.T.Tree.contents desk.tree) desk.terminal.put) (sym c.into_history.ensures.entries)
-          (subst (λ j. IsSession g.N.Tag.start g.N.Tag.opening g.N.Tag.tree_faults desk.log.newest (with_end desk.standing.quit desk.ui) (stand_with j desk.dirty) (g.T.Tree.contents desk.tree) desk.terminal.put) none
+      subst (λ p. IsSession g.N.Tag.start g.N.Tag.opening g.N.Tag.tree_faults (reverse c.into_history.result.entries) (state (at_rest desk.dirty) p)) put
+          (subst (λ es. IsSession g.N.Tag.start g.N.Tag.opening g.N.Tag.tree_faults es (state (at_rest desk.dirty) desk.terminal.put)) (sym c.into_history.ensures.entries)
+          (subst (λ j. IsSession g.N.Tag.start g.N.Tag.opening g.N.Tag.tree_faults desk.log.newest (state (stand_with j desk.dirty) desk.terminal.put)) none
           c.session.invariant.desk.written.session)),
     )
 

@@ -1,0 +1,36 @@
+//! Searches below folders of a tree in memory, and writes what each of them answers.
+#![tactic(auto)]
+
+ghost use Rattle.std.specs.Prelude.{◌≡◌, []};
+
+mod asking;
+mod things;
+
+use crate::asking::tell_row;
+use crate::things::put_things;
+use mem_tree::MemTree;
+use row_page::Page;
+use row_trees::fresh;
+
+/// What stands on the disk, line by line; then, behind a line `sought`, each row with its answers.
+pub fn tell_rows(page: &mut Page, lines: &str) {
+    match fresh(page.alloc(), 0) {
+        Ok(mut tree) => tell_in(page, &mut tree, lines),
+        Err(_error) => page.fail(),
+    }
+}
+
+fn tell_in(page: &mut Page, tree: &mut MemTree, lines: &str)
+    requires { tree.old.log.changes ≡ [] }
+{
+    let (things, rows) = lines.split_once("sought\n").unwrap_or((lines, ""));
+    put_things(page, tree, things);
+    page.put(things);
+    page.put("sought\n");
+    for row in rows.lines() {
+        page.put(row);
+        page.put(" =>");
+        tell_row(page, tree, row);
+        page.put("\n");
+    }
+}

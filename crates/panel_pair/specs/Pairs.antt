@@ -1,0 +1,42 @@
+-- The two panels of a session (own, after mc(1), "Directory Panels").
+use Rattle.panel_listing.specs.Listings.{Listed}
+use Rattle.mc_text.specs.Routes.{Route}
+use Rattle.mc_panels.specs.Panels.{PanelState}
+use Rattle.mc_panels.specs.Readings.{opened_panel}
+use Rattle.panel_pair.specs.declared.side.Side.{Side}
+use Rattle.panel_pair.specs.declared.side.Side.TheVariants.{Left, Right}
+
+-- the current panel, the other one, and the side on which the current one stands
+pub record PairState : Type 0 where
+  pub current : PanelState
+  pub other : PanelState
+  pub side : Side
+
+-- the other side
+abbrev pub opposite : Side → Side
+opposite Left = Right
+opposite Right = Left
+
+-- of two panels that stand so, the one on the left and the one on the right
+abbrev pub left_of : Side → PanelState → PanelState → PanelState
+left_of Left current other = current
+left_of Right current other = other
+
+abbrev pub right_of : Side → PanelState → PanelState → PanelState
+right_of Left current other = other
+right_of Right current other = current
+
+abbrev pub left_panel : PairState → PanelState
+left_panel pair = left_of pair.side pair.current pair.other
+
+abbrev pub right_panel : PairState → PanelState
+right_panel pair = right_of pair.side pair.current pair.other
+
+-- another state of the current panel
+abbrev pub with_current : PanelState → PairState → PairState
+with_current panel pair = record pair { current = panel }
+
+-- the panels of two folders that were read; the left one is current
+abbrev pub opened_pair : Route → Route → Listed → Listed → PairState
+opened_pair left right on_left on_right =
+    record { current = opened_panel left on_left; other = opened_panel right on_right; side = Left }

@@ -1,0 +1,27 @@
+//! What keys do to the panels, but for those that open a box, begin a job or end the session.
+use key_screen::Base;
+use mc_panels::{Arrangement, PanelFormat};
+use tagging::Pattern;
+
+/// What a key does to the panels. All but `SwitchPanel`, `SwapPanels` and `Compare` are of the current one.
+#[derive(Debug, Drop)]
+pub enum PanelCommand {
+    /// The cursor goes where this key leads.
+    Move(Base),
+    SwitchPanel,
+    SwapPanels,
+    /// Goes into the folder of the current row, or along a link to one; on anything else it does nothing.
+    Enter,
+    ReadAgain,
+    Back,
+    Forward,
+    /// Tags the current name, or takes its tag, and moves down.
+    Toggle,
+    Invert,
+    Select(Pattern),
+    Unselect(Pattern),
+    Compare,
+    Arrange(Arrangement),
+    ShowColumns(PanelFormat),
+    ShowBrief,
+}

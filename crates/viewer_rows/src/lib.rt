@@ -1,0 +1,54 @@
+//! Shows files and outputs, searches them, and writes the page that comes of each row.
+#![tactic(auto)]
+
+mod files;
+mod searches;
+mod steps;
+mod views;
+
+use crate::files::bytes_spelled;
+use mc_text::{Bytes, Path};
+use mc_viewer::Subject;
+use mem_tree::MemTree;
+use row_page::{Page, two_fields};
+use tree_trait::Tree;
+
+/// Each row with what comes of it: what is viewed, the columns, the bytes, the steps.
+pub fn tell_rows(page: &mut Page, rows: &str) {
+    match MemTree::new(page.alloc(), 0) {
+        Ok(mut tree) => tell_in(page, &mut tree, rows),
+        Err(_error) => page.fail(),
+    }
+}
+
+fn tell_in<T: Tree>(page: &mut Page, tree: &mut T, rows: &str) {
+    files::plant_files(page, tree);
+    for row in rows.lines() {
+        page.put(row);
+        page.put(" => ");
+        tell_row(page, tree, row);
+        page.put("\n");
+    }
+}
+
+fn tell_row<T: Tree>(page: &mut Page, tree: &mut T, row: &str) {
+    let (name, fields) = two_fields(row, '|');
+    let (columns, fields) = two_fields(fields, '|');
+    let (bytes, words) = two_fields(fields, '|');
+    let columns = columns.parse().unwrap_or(0);
+    match subject_of(page, tree, name, bytes) {
+        Some(subject) => views::tell_view(page, tree, subject, columns, words),
+        None => page.fail(),
+    }
+}
+
+/// What is viewed: an output, or a file, whose bytes are written first where there are any.
+fn subject_of<T: Tree>(page: &mut Page, tree: &mut T, name: &str, bytes: &str) -> Option<Subject> {
+    if name == "output" {
+        return Some(Subject::Output(Bytes(bytes_spelled(page, bytes))));
+    }
+    if !bytes.is_empty() {
+        files::write(page, tree, bytes);
+    }
+    Some(Subject::File(Path::parse(page.alloc(), name).ok()?))
+}
