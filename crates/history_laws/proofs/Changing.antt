@@ -281,9 +281,9 @@ module _ (told after : Said) (dirty dirty_after : List Route) (marks : Marks) (l
   was_shown p out = elim (where_is p) [
     | inl at ↦ inr (held_still p out ∙ subst (λ q. held (current log) (marks.was q) ≡ (after.earlier q).value) (sym at) (says.was (subst (λ q. marks.aside q ≡ false) at out)))
     | inr off ↦ elim (known.was_shown p out) [
-        | inl same ↦ inl (same ∙ sym (off_path p off))
-        | inr shown ↦ inr (held_still p out ∙ (shown ∙ sym (ap (λ (s : _). s.value) (says.off p off).1)))
-      ]
+      | inl same ↦ inl (same ∙ sym (off_path p off))
+      | inr shown ↦ inr (held_still p out ∙ (shown ∙ sym (ap (λ (s : _). s.value) (says.off p off).1)))
+    ]
   ]
 
   shows : (p : Route) → (after.part ≡ Some p → ⊥) → visible_tree (current now) p ≡ after.tree p
