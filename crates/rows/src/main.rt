@@ -31,6 +31,7 @@ fn tell_section(page: &mut Page, name: &str, rows: &str) {
         "answers" => answer_rows::tell_rows(page, rows),
         "boxes" => box_rows::tell_rows(page, rows),
         "texts" => text_rows::tell_rows(page, rows),
+        "panels" => pair_rows::tell_rows(page, rows),
         _ => page.fail(),
     }
 }
