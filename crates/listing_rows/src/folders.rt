@@ -6,6 +6,7 @@ use mem_tree::MemTree;
 use row_page::{Page, number, two_fields};
 use row_trees::{put_file, put_folder, put_link, put_other};
 
+/// Puts what each line spells on the disk.
 pub fn put_things(page: &mut Page, tree: &mut MemTree, lines: &str)
     requires { tree.old.log.changes ≡ [] }
 {

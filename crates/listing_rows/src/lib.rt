@@ -10,6 +10,7 @@ mod listings;
 mod painted;
 mod wishes;
 
+pub use folders::put_things;
 use mem_tree::MemTree;
 use row_page::{Page, two_fields};
 use row_trees::fresh;
@@ -34,7 +35,7 @@ fn tell_block_on(page: &mut Page, tree: &mut MemTree, block: &str)
     requires { tree.old.log.changes ≡ [] }
 {
     let (things, rows) = block.split_once("listed\n").unwrap_or((block, ""));
-    folders::put_things(page, tree, things);
+    put_things(page, tree, things);
     page.put(things);
     page.put("listed\n");
     tell_asked(page, tree, rows);

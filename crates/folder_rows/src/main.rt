@@ -1,0 +1,23 @@
+//! Runs the rows of the viewer, searches below a folder, and the two panels.
+#![tactic(auto)]
+
+use row_page::{Fault, Page};
+use row_sections::{Sections, run};
+
+/// The libraries of rows, by the names of their sections.
+struct Libraries;
+
+impl Sections for Libraries {
+    fn tell(page: &mut Page, name: &str, rows: &str) {
+        match name {
+            "viewer" => viewer_rows::tell_rows(page, rows),
+            "finding" => finding_rows::tell_rows(page, rows),
+            "panels" => pair_rows::tell_rows(page, rows),
+            _ => page.fail(),
+        }
+    }
+}
+
+fn main(rt: HostRuntime) -> Result<(), Fault> {
+    run::<Libraries>(&rt)
+}
