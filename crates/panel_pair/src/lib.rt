@@ -18,4 +18,4 @@ pub use keys::key_command;
 pub use looking::Unread;
 pub use opening::Unopened;
 pub use panels::Panels;
-pub use side::{Side, opposite};
+pub use side::Side;

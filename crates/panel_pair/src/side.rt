@@ -1,4 +1,4 @@
-//! The two sides of the screen.
+//! On which side of the screen a panel stands.
 ghost use Rattle.std.specs.Prelude.{◌≡◌};
 ghost use Rattle.panel_pair.specs.Pairs.{opposite as other_side};
 
@@ -9,12 +9,14 @@ pub enum Side {
     Right,
 }
 
-/// The other side.
-pub fn opposite(side: Side) -> Side
-    ensures { result ≡ other_side side }
-{
-    match side {
-        Side::Left => Side::Right,
-        Side::Right => Side::Left,
+impl Side {
+    /// The side across.
+    pub fn opposite(self) -> Side
+        ensures { result ≡ other_side self }
+    {
+        match self {
+            Side::Left => Side::Right,
+            Side::Right => Side::Left,
+        }
     }
 }

@@ -8,7 +8,6 @@ ghost use Rattle.panel_pair.specs.Readings.{ReadsTree, refused_in};
 
 use crate::command::PanelCommand;
 use crate::panels::Panels;
-use crate::side::opposite;
 use mc_panels::compare_panels;
 use resolving::ResolveError;
 use std::alloc::Global;
@@ -130,6 +129,6 @@ impl Panels {
         ensures { self.new ≡ switched self.old }
     {
         mem::swap(&mut self.current, &mut self.other);
-        self.side = opposite(self.side);
+        self.side = self.side.opposite();
     }
 }
