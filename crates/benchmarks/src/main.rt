@@ -3,10 +3,12 @@
 #![tactic(auto)]
 
 mod editor;
+mod finding;
 mod gapped;
 mod plan;
 mod printing;
 mod tree;
+mod viewer;
 
 use anyhow::{Result, bail};
 use std::convert::AsStr;
@@ -36,6 +38,12 @@ fn time(rt: &HostRuntime, subject: &str, words: &[String]) -> Result<()> {
             parts.as_str(),
             stride.as_str(),
         ),
-        _ => bail!("gap_text, editor WORK, tree WORK PLACE, or plan FOLDER COUNT PARTS STRIDE"),
+        ("viewer", [place, work, what]) => {
+            viewer::time_work(rt, place.as_str(), work.as_str(), what.as_str())
+        }
+        ("find", [folder, pattern]) => finding::time_search(rt, folder.as_str(), pattern.as_str()),
+        _ => bail!(
+            "gap_text, editor WORK, tree WORK PLACE, plan FOLDER COUNT PARTS STRIDE, viewer PLACE WORK WHAT, or find FOLDER PATTERN"
+        ),
     }
 }
