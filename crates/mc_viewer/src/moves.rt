@@ -1,9 +1,9 @@
 //! Where each step leads.
-ghost use Rattle.std.specs.Prelude.{◌≡◌, ◌+◌, ◌-◌, ◌<◌, ◌≤◌, ◌^◌, length, IfOk, IfErr};
+ghost use Rattle.std.specs.Prelude.{◌≡◌, ◌+◌, ◌-◌, ◌<◌, ◌≤◌, ◌^◌, length, IsOk, IfOk, IfErr};
 ghost use Rattle.tree_trait.specs.Answers.{IfKnown, HasCause};
 ghost use Rattle.mc_viewer.specs.Viewing.{held, IfHeld, IsReadError, AsTheTreeSays};
 ghost use Rattle.mc_viewer.specs.Rows.{all_rows, IsRow, rows_down, rows_up, line_behind};
-ghost use Rattle.mc_viewer.specs.Steps.{after_step, to_byte, down, up, to_end};
+ghost use Rattle.mc_viewer.specs.Steps.{after_step, to_byte, down, up, to_end, NeedsNoLook};
 
 use crate::error::ViewError;
 use crate::layout::Layout;
@@ -29,6 +29,7 @@ pub fn moved<T: Tree>(
     requires wide { 1 ≤ state.columns }
     ensures shown { IfKnown (held (T.contents tree.old) subject.now) (λ bytes.
         IfOk result (λ new. new ≡ after_step bytes step state)) }
+    ensures still { NeedsNoLook step → IsOk result × (tree.new ≡ tree.old) }
     ensures screen { IfOk result (λ new. (new.columns ≡ state.columns) × (new.lines ≡ state.lines)) }
     ensures refused { IfKnown (T.contents tree.old) (λ log. IfErr result (AsTheTreeSays log subject.now)) }
     ensures kinds { IfErr result IsReadError }

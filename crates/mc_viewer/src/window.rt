@@ -3,7 +3,7 @@ ghost use Rattle.std.specs.Prelude.{◌≡◌, ◌≤◌, ◌<◌, ◌^◌, ◌+
 ghost use Rattle.tree_trait.specs.Answers.{IfKnown, HasCause};
 ghost use Rattle.memchr.specs.Find.{FindsNeedle};
 ghost use Rattle.line_search.specs.Lines.{in_lines, lines_sought};
-ghost use Rattle.mc_viewer.specs.Viewing.{IfHeld, IsReadError, AsTheTreeSays};
+ghost use Rattle.mc_viewer.specs.Viewing.{IfShorter, IsReadError, AsTheTreeSays};
 ghost use Rattle.mc_viewer.specs.Searches.{sought, text_sought};
 
 use crate::error::ViewError;
@@ -29,7 +29,7 @@ pub fn sought<T: Tree>(
     from: u64,
 ) -> Result<Sought, ViewError>
     requires small { size ≤ 2 ^ 63 }
-    ensures shown { IfHeld (T.contents tree.old) subject.now size (λ bytes.
+    ensures shown { IfShorter (T.contents tree.old) subject.now size (λ bytes.
         IfOk result (λ found. found ≡ sought what.now bytes from)) }
     ensures refused { IfKnown (T.contents tree.old) (λ log. IfErr result (AsTheTreeSays log subject.now)) }
     ensures kinds { IfErr result IsReadError }
@@ -52,7 +52,7 @@ fn text_sought<T: Tree>(
     from: u64,
 ) -> Result<Sought, ViewError>
     requires small { size ≤ 2 ^ 63 }
-    ensures shown { IfHeld (T.contents tree.old) subject.now size (λ bytes.
+    ensures shown { IfShorter (T.contents tree.old) subject.now size (λ bytes.
         IfOk result (λ found. found ≡ text_sought text.now from (drop from bytes))) }
     ensures refused { IfKnown (T.contents tree.old) (λ log. IfErr result (AsTheTreeSays log subject.now)) }
     ensures kinds { IfErr result IsReadError }
@@ -87,7 +87,7 @@ fn through_pieces<T: Tree>(
     requires width { width ≡ length finder.now }
     requires some { 1 ≤ width }
     requires narrow { width ≤ 2 ^ 63 }
-    ensures shown { IfHeld (T.contents tree.old) subject.now size (λ bytes.
+    ensures shown { IfShorter (T.contents tree.old) subject.now size (λ bytes.
         IfOk result (λ found. found ≡ text_sought finder.now from (drop from bytes))) }
     ensures refused { IfKnown (T.contents tree.old) (λ log. IfErr result (AsTheTreeSays log subject.now)) }
     ensures kinds { IfErr result IsReadError }
@@ -124,7 +124,7 @@ fn lines_sought<T: Tree>(
     from: u64,
 ) -> Result<Sought, ViewError>
     requires small { size ≤ 2 ^ 63 }
-    ensures shown { IfHeld (T.contents tree.old) subject.now size (λ bytes.
+    ensures shown { IfShorter (T.contents tree.old) subject.now size (λ bytes.
         IfOk result (λ found. found ≡ lines_sought text.now from (drop from bytes))) }
     ensures refused { IfKnown (T.contents tree.old) (λ log. IfErr result (AsTheTreeSays log subject.now)) }
     ensures kinds { IfErr result IsReadError }
@@ -134,6 +134,7 @@ fn lines_sought<T: Tree>(
     match LineRegex::new(alloc, text) {
         Ok(regex) => regex_sought(alloc, tree, subject, size, &regex, from),
         Err(RegexError::BadPattern) => Ok(Sought::NoPattern),
+        Err(RegexError::TooBig) => Err(ViewError::Memory),
         Err(RegexError::Memory) => Err(ViewError::Memory),
     }
 }
@@ -148,7 +149,7 @@ fn regex_sought<T: Tree>(
     from: u64,
 ) -> Result<Sought, ViewError>
     requires small { size ≤ 2 ^ 63 }
-    ensures shown { IfHeld (T.contents tree.old) subject.now size (λ bytes.
+    ensures shown { IfShorter (T.contents tree.old) subject.now size (λ bytes.
         IfOk result (λ found. found ≡ in_lines regex.now from 0 (drop from bytes))) }
     ensures refused { IfKnown (T.contents tree.old) (λ log. IfErr result (AsTheTreeSays log subject.now)) }
     ensures kinds { IfErr result IsReadError }
@@ -169,7 +170,7 @@ fn through_lines<T: Tree>(
     from: u64,
 ) -> Result<Sought, ViewError>
     requires small { size ≤ 2 ^ 63 }
-    ensures shown { IfHeld (T.contents tree.old) subject.now size (λ bytes.
+    ensures shown { IfShorter (T.contents tree.old) subject.now size (λ bytes.
         IfOk result (λ found. found ≡ in_lines matcher.old from 0 (drop from bytes))) }
     ensures refused { IfKnown (T.contents tree.old) (λ log. IfErr result (AsTheTreeSays log subject.now)) }
     ensures kinds { IfErr result IsReadError }
