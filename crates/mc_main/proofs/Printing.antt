@@ -9,7 +9,7 @@ use Rattle.start_words.specs.Sizes.{ScreenSize}
 use Rattle.start_words.specs.declared.words.Words.{Words}
 use Rattle.start_words.specs.declared.words.Words.TheVariants.{Panels, NotBuilt}
 use Rattle.start_words.specs.declared.words.Words.TheVariants as asks
-use Rattle.mc_desk.specs.declared.starts.Side.TheVariants.{Left, Right}
+use Rattle.panel_pair.specs.declared.side.Side.TheVariants.{Left, Right}
 use Rattle.mc_desk.specs.declared.starts.StartError.{StartError}
 use Rattle.mc_desk.specs.declared.starts.StartError.TheVariants.{Tree, Memory}
 use Rattle.mc_desk.specs.declared.starts.Start.{Start}

@@ -5,7 +5,7 @@ use Rattle.tree_trait.specs.Calls.{ListFolder}
 use Rattle.tree_trait.specs.Refusals.{refusal_of}
 use Rattle.tree_trait.specs.Change.{CallLog, current}
 use Rattle.tree_trait.specs.Answers.{HasRisen}
-use Rattle.mc_desk.specs.declared.starts.Side.TheVariants.{Left, Right}
+use Rattle.panel_pair.specs.declared.side.Side.TheVariants.{Left, Right}
 use Rattle.mc_desk.specs.declared.starts.StartError.{StartError}
 use Rattle.mc_desk.specs.declared.starts.StartError.TheVariants.{Tree, Memory}
 use Rattle.mc_desk.specs.declared.starts.Start.{Start}
