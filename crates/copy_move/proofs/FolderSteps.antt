@@ -16,7 +16,7 @@ use Rattle.job_reports.specs.declared.report.Cause.TheVariants.{Memory}
 use Rattle.job_reports.specs.declared.report.Ending.{Ending}
 use Rattle.job_reports.specs.declared.report.Ending.TheVariants.{Finished, Aborted, Killed, NoMemory}
 use Rattle.job_reports.specs.declared.report.Did.{Did}
-use Rattle.job_reports.specs.declared.report.Did.TheVariants.{Began, Chunk, Placed, Removed, Kept, Skipped, Cleaned, Barrier, Troubled, Ended}
+use Rattle.job_reports.specs.declared.report.Did.TheVariants.{Began, Chunk, Placed, Removed, Made, Kept, Skipped, Cleaned, Barrier, Troubled, Ended}
 use Rattle.file_copy.specs.declared.stage.Stage.{Stage}
 use Rattle.file_copy.specs.declared.stage.Stage.TheVariants as at
 use Rattle.file_copy.specs.declared.stage.FolderState.{FolderState}
@@ -31,12 +31,16 @@ use Rattle.file_copy.specs.LastSteps.{Winds}
 use Rattle.job_reports.specs.Stops.{out_of_memory_at, calls_made_for, cause_of, trouble_at}
 use Rattle.copy_move.specs.declared.deletion.Stage.TheVariants as deletion
 use Rattle.copy_move.specs.declared.deletion.Stage.{Stage as DeletionStage}
+use Rattle.copy_move.specs.declared.making.MakingStage.{MakingStage}
+use Rattle.copy_move.specs.declared.making.MakingStage.TheVariants as making
 use Rattle.copy_move.specs.declared.work.Work.{Work}
-use Rattle.copy_move.specs.declared.work.Work.TheVariants.{Copy, Delete}
+use Rattle.copy_move.specs.declared.work.Work.TheVariants.{Copy, Delete, Make}
 use Rattle.copy_move.specs.declared.run.Course.{Course}
 use Rattle.copy_move.specs.declared.run.Course.TheVariants.{GoesOn, InTrouble, OwedSyncFailed, Skips, Ends}
 use Rattle.copy_move.specs.Deletions.{Deleting, DeletionCalls}
 use Rattle.copy_move.specs.Deletions as deletions
+use Rattle.copy_move.specs.Makings.{Making, MakingCalls}
+use Rattle.copy_move.specs.Makings as makings
 use Rattle.copy_move.specs.Jobs.{Running, CallsOn, TellsOn, WorkTells, WorkWinds, WorkCalls, course_after, is_fresh, skipped}
 use Rattle.copy_move.specs.Ranks.{rank_on}
 use Rattle.copy_move.specs.Settling.{NoneOwed, after_try, changed_folder, is_dirty, with_change}
@@ -60,6 +64,7 @@ copy_stays c new (Ended Aborted part) t = absurd t
 copy_stays c new (Ended Killed part) t = absurd t
 copy_stays c new (Ended NoMemory part) t = absurd t
 copy_stays c new (Removed path) t = absurd t
+copy_stays c new (Made made) t = absurd t
 copy_stays c new (Kept path) t = absurd t
 copy_stays c new (Skipped path cause) t = absurd t
 
@@ -75,16 +80,39 @@ deletion_stays d new (Ended NoMemory part) t = absurd t
 deletion_stays d new (Began part) t = absurd t
 deletion_stays d new (Chunk count) t = absurd t
 deletion_stays d new (Placed path) t = absurd t
+deletion_stays d new (Made made) t = absurd t
 deletion_stays d new (Kept kept) t = absurd t
 deletion_stays d new (Skipped path cause) t = absurd t
 deletion_stays d new (Cleaned part) t = absurd t
+
+-- a making stays at its path
+making_stays : (m new : Making) (did : Did) → makings.Tells m did new → new.path ≡ m.path
+making_stays m new (Made path) (at, path_is, is) = ap (λ (n : Making). n.path) is
+making_stays m new Barrier (at, is) = ap (λ (n : Making). n.path) is
+making_stays m new (Troubled trouble) t = ap (λ (n : Making). n.path) t.1
+making_stays m new (Ended Finished part) (at, none, is) = ap (λ (n : Making). n.path) is
+making_stays m new (Ended Aborted part) t = absurd t
+making_stays m new (Ended Killed part) t = absurd t
+making_stays m new (Ended NoMemory part) t = absurd t
+making_stays m new (Began part) t = absurd t
+making_stays m new (Chunk count) t = absurd t
+making_stays m new (Placed path) t = absurd t
+making_stays m new (Removed made) t = absurd t
+making_stays m new (Kept kept) t = absurd t
+making_stays m new (Skipped path cause) t = absurd t
+making_stays m new (Cleaned part) t = absurd t
 
 -- a job changes names in one folder
 pub same_folder : (old new : Work) (did : Did) → WorkTells old did new → changed_folder new ≡ changed_folder old
 same_folder (Copy c) (Copy new) did t = ap folder_of (copy_stays c new did t)
 same_folder (Copy c) (Delete new) did t = absurd t
+same_folder (Copy c) (Make new) did t = absurd t
 same_folder (Delete d) (Copy new) did t = absurd t
+same_folder (Delete d) (Make new) did t = absurd t
+same_folder (Make m) (Copy new) did t = absurd t
+same_folder (Make m) (Delete new) did t = absurd t
 same_folder (Delete d) (Delete new) did t = ap folder_of (deletion_stays d new did t)
+same_folder (Make m) (Make new) did t = ap folder_of (making_stays m new did t)
 
 copy_winds_there : (ending : Ending) (c new : Copying) (did : Did) → Winds ending c did new → new.target ≡ c.target
 copy_winds_there ending c new (Cleaned part) w = ap (λ (n : Copying). n.target) w.1
@@ -94,6 +122,7 @@ copy_winds_there ending c new (Began part) w = absurd w
 copy_winds_there ending c new (Chunk count) w = absurd w
 copy_winds_there ending c new (Placed path) w = absurd w
 copy_winds_there ending c new (Removed path) w = absurd w
+copy_winds_there ending c new (Made made) w = absurd w
 copy_winds_there ending c new (Kept kept) w = absurd w
 copy_winds_there ending c new (Skipped path cause) w = absurd w
 copy_winds_there ending c new (Troubled trouble) w = absurd w
@@ -105,16 +134,35 @@ deletion_winds_there ending d new (Began part) w = absurd w
 deletion_winds_there ending d new (Chunk count) w = absurd w
 deletion_winds_there ending d new (Placed path) w = absurd w
 deletion_winds_there ending d new (Removed path) w = absurd w
+deletion_winds_there ending d new (Made made) w = absurd w
 deletion_winds_there ending d new (Kept kept) w = absurd w
 deletion_winds_there ending d new (Skipped path cause) w = absurd w
 deletion_winds_there ending d new (Cleaned part) w = absurd w
 deletion_winds_there ending d new (Troubled trouble) w = absurd w
 
+making_winds_there : (ending : Ending) (m new : Making) (did : Did) → makings.Winds ending m did new → new.path ≡ m.path
+making_winds_there ending m new Barrier w = ap (λ (n : Making). n.path) w.1
+making_winds_there ending m new (Ended how part) w = ap (λ (n : Making). n.path) w.3
+making_winds_there ending m new (Began part) w = absurd w
+making_winds_there ending m new (Chunk count) w = absurd w
+making_winds_there ending m new (Placed path) w = absurd w
+making_winds_there ending m new (Made path) w = absurd w
+making_winds_there ending m new (Removed made) w = absurd w
+making_winds_there ending m new (Kept kept) w = absurd w
+making_winds_there ending m new (Skipped path cause) w = absurd w
+making_winds_there ending m new (Cleaned part) w = absurd w
+making_winds_there ending m new (Troubled trouble) w = absurd w
+
 pub winds_there : (ending : Ending) (old new : Work) (did : Did) → WorkWinds ending old did new → changed_folder new ≡ changed_folder old
 winds_there ending (Copy c) (Copy new) did w = ap folder_of (copy_winds_there ending c new did w)
 winds_there ending (Copy c) (Delete new) did w = absurd w
+winds_there ending (Copy c) (Make new) did w = absurd w
 winds_there ending (Delete d) (Copy new) did w = absurd w
+winds_there ending (Delete d) (Make new) did w = absurd w
+winds_there ending (Make m) (Copy new) did w = absurd w
+winds_there ending (Make m) (Delete new) did w = absurd w
 winds_there ending (Delete d) (Delete new) did w = ap folder_of (deletion_winds_there ending d new did w)
+winds_there ending (Make m) (Make new) did w = ap folder_of (making_winds_there ending m new did w)
 
 -- a folder that a job changed before, and that is synced, isn't changed again
 clean_copy : (c new : Copying) (did : Did) → Tells c did new → copying.is_fresh c.stage c.folder ≡ false → copying.is_dirty c.folder ≡ false → copying.is_dirty new.folder ≡ false
@@ -129,6 +177,7 @@ clean_copy c new (Ended Aborted part) t changed clean = absurd t
 clean_copy c new (Ended Killed part) t changed clean = absurd t
 clean_copy c new (Ended NoMemory part) t changed clean = absurd t
 clean_copy c new (Removed path) t changed clean = absurd t
+clean_copy c new (Made made) t changed clean = absurd t
 clean_copy c new (Kept path) t changed clean = absurd t
 clean_copy c new (Skipped path cause) t changed clean = absurd t
 
@@ -143,15 +192,37 @@ clean_deletion d new (Ended NoMemory part) t changed clean = absurd t
 clean_deletion d new (Began part) t changed clean = absurd t
 clean_deletion d new (Chunk count) t changed clean = absurd t
 clean_deletion d new (Placed path) t changed clean = absurd t
+clean_deletion d new (Made made) t changed clean = absurd t
 clean_deletion d new (Kept kept) t changed clean = absurd t
 clean_deletion d new (Skipped path cause) t changed clean = absurd t
 clean_deletion d new (Cleaned part) t changed clean = absurd t
 
+clean_making : (m new : Making) (did : Did) → makings.Tells m did new → makings.is_fresh m.stage ≡ false → makings.is_dirty m.stage ≡ false → makings.is_dirty new.stage ≡ false
+clean_making m new (Made path) (at, path_is, is) changed clean = absurd (true≢false (sym (ap makings.is_fresh at) ∙ changed))
+clean_making m new Barrier (at, is) changed clean = ap (λ (n : Making). makings.is_dirty n.stage) is
+clean_making m new (Troubled trouble) t changed clean = ap (λ (n : Making). makings.is_dirty n.stage) t.1 ∙ clean
+clean_making m new (Ended Finished part) (at, none, is) changed clean = ap (λ (n : Making). makings.is_dirty n.stage) is ∙ clean
+clean_making m new (Ended Aborted part) t changed clean = absurd t
+clean_making m new (Ended Killed part) t changed clean = absurd t
+clean_making m new (Ended NoMemory part) t changed clean = absurd t
+clean_making m new (Began part) t changed clean = absurd t
+clean_making m new (Chunk count) t changed clean = absurd t
+clean_making m new (Placed path) t changed clean = absurd t
+clean_making m new (Removed made) t changed clean = absurd t
+clean_making m new (Kept kept) t changed clean = absurd t
+clean_making m new (Skipped path cause) t changed clean = absurd t
+clean_making m new (Cleaned part) t changed clean = absurd t
+
 stays_clean : (old new : Work) (did : Did) → WorkTells old did new → is_fresh old ≡ false → is_dirty old ≡ false → is_dirty new ≡ false
 stays_clean (Copy c) (Copy new) did t changed clean = clean_copy c new did t changed clean
 stays_clean (Copy c) (Delete new) did t changed clean = absurd t
+stays_clean (Copy c) (Make new) did t changed clean = absurd t
 stays_clean (Delete d) (Copy new) did t changed clean = absurd t
+stays_clean (Delete d) (Make new) did t changed clean = absurd t
+stays_clean (Make m) (Copy new) did t changed clean = absurd t
+stays_clean (Make m) (Delete new) did t changed clean = absurd t
 stays_clean (Delete d) (Delete new) did t changed clean = clean_deletion d new did t changed clean
+stays_clean (Make m) (Make new) did t changed clean = clean_making m new did t changed clean
 
 -- a job that has changed nothing has no dirty folder
 fresh_copy : (stage : Stage) (folder : FolderState) → copying.is_fresh stage folder ≡ true → copying.is_dirty folder ≡ false
@@ -168,9 +239,16 @@ fresh_deletion deletion.Sync h = absurd (false≢true h)
 fresh_deletion deletion.Finish h = absurd (false≢true h)
 fresh_deletion deletion.PassedOver h = absurd (false≢true h)
 
+fresh_making : (stage : MakingStage) → makings.is_fresh stage ≡ true → makings.is_dirty stage ≡ false
+fresh_making making.Make h = refl
+fresh_making making.Sync h = absurd (false≢true h)
+fresh_making making.Finish h = absurd (false≢true h)
+fresh_making making.PassedOver h = absurd (false≢true h)
+
 pub fresh_clean : (work : Work) → is_fresh work ≡ true → is_dirty work ≡ false
 fresh_clean (Copy c) h = fresh_copy c.stage c.folder h
 fresh_clean (Delete d) h = fresh_deletion d.stage h
+fresh_clean (Make m) h = fresh_making m.stage h
 
 -- a skip changes nothing in the folder
 skipped_stage : (stage : DeletionStage) → deletions.is_dirty (deletions.skipped stage) ≡ deletions.is_dirty stage
@@ -179,9 +257,16 @@ skipped_stage deletion.Sync = refl
 skipped_stage deletion.Finish = refl
 skipped_stage deletion.PassedOver = refl
 
+skipped_making : (stage : MakingStage) → makings.is_dirty (makings.skipped stage) ≡ makings.is_dirty stage
+skipped_making making.Make = refl
+skipped_making making.Sync = refl
+skipped_making making.Finish = refl
+skipped_making making.PassedOver = refl
+
 pub skipped_dirty : (work : Work) → is_dirty (skipped work) ≡ is_dirty work
 skipped_dirty (Copy c) = refl
 skipped_dirty (Delete d) = skipped_stage d.stage
+skipped_dirty (Make m) = skipped_making m.stage
 
 -- where the folder is as it was, the dirty ones are too
 unchanged : (was now : Bool) (folder : Route) (dirty : List Route) → now ≡ was → dirty ≡ with_change was now folder dirty
@@ -240,6 +325,13 @@ no_first (Delete d) h = go d.stage refl h
     go deletion.Sync is h = absurd (false≢true h)
     go deletion.Finish is h = absurd (false≢true h)
     go deletion.PassedOver is h = absurd (false≢true h)
+no_first (Make m) h = go m.stage refl h
+  where
+    go : (stage : MakingStage) → m.stage ≡ stage → makings.is_fresh stage ≡ true → makings.Tells m (Troubled (out_of_memory_at false)) m
+    go making.Make is h = rw is ((refused.Memory, refl), refl)
+    go making.Sync is h = absurd (false≢true h)
+    go making.Finish is h = absurd (false≢true h)
+    go making.PassedOver is h = absurd (false≢true h)
 
 none_called : (unclaimed : Route → Type 0) (work : Work) (log : CallLog) → is_fresh work ≡ true → WorkCalls unclaimed work (Troubled (out_of_memory_at false)) work log (Some log)
 none_called unclaimed (Copy c) log h = go c.stage c.folder refl h
@@ -257,6 +349,13 @@ none_called unclaimed (Delete d) log h = go d.stage refl h
     go deletion.Sync is h = absurd (false≢true h)
     go deletion.Finish is h = absurd (false≢true h)
     go deletion.PassedOver is h = absurd (false≢true h)
+none_called unclaimed (Make m) log h = go m.stage refl h
+  where
+    go : (stage : MakingStage) → m.stage ≡ stage → makings.is_fresh stage ≡ true → MakingCalls m (Troubled (out_of_memory_at false)) log (Some log)
+    go making.Make is h = rw is (refused.Memory, refl, refl)
+    go making.Sync is h = absurd (false≢true h)
+    go making.Finish is h = absurd (false≢true h)
+    go making.PassedOver is h = absurd (false≢true h)
 
 same_log : (log now : CallLog) (contents : Option CallLog) → contents ≡ Some log → contents ≡ Some now → HasMore log 0 now
 same_log log now contents known is =

@@ -10,7 +10,7 @@ use Rattle.job_reports.specs.declared.report.Trouble.{Trouble}
 use Rattle.job_reports.specs.declared.report.Ending.{Ending}
 use Rattle.job_reports.specs.declared.report.Ending.TheVariants.{Finished}
 use Rattle.job_reports.specs.declared.report.Did.{Did}
-use Rattle.job_reports.specs.declared.report.Did.TheVariants.{Began, Chunk, Placed, Removed, Kept, Skipped, Cleaned, Barrier, Troubled, Ended}
+use Rattle.job_reports.specs.declared.report.Did.TheVariants.{Began, Chunk, Placed, Removed, Made, Kept, Skipped, Cleaned, Barrier, Troubled, Ended}
 use Rattle.job_reports.specs.Stops.{sync_answer, cause_of, trouble_at}
 use Rattle.copy_move.specs.declared.deletion.Stage.{Stage}
 use Rattle.copy_move.specs.declared.deletion.Stage.TheVariants.{Remove, Sync, Finish, PassedOver}
@@ -88,6 +88,7 @@ Tells d (Ended ending part) new = ⊥
 Tells d (Began part) new = ⊥
 Tells d (Chunk count) new = ⊥
 Tells d (Placed path) new = ⊥
+Tells d (Made made) new = ⊥
 Tells d (Kept kept) new = ⊥
 Tells d (Skipped path cause) new = ⊥
 Tells d (Cleaned part) new = ⊥
@@ -100,6 +101,7 @@ Winds ending d (Began part) new = ⊥
 Winds ending d (Chunk count) new = ⊥
 Winds ending d (Placed path) new = ⊥
 Winds ending d (Removed path) new = ⊥
+Winds ending d (Made made) new = ⊥
 Winds ending d (Kept kept) new = ⊥
 Winds ending d (Skipped path cause) new = ⊥
 Winds ending d (Cleaned part) new = ⊥
@@ -120,6 +122,7 @@ DeletionCalls d (Ended ending part) log after = after ≡ Some log
 DeletionCalls d (Began part) log after = ⊥
 DeletionCalls d (Chunk count) log after = ⊥
 DeletionCalls d (Placed path) log after = ⊥
+DeletionCalls d (Made made) log after = ⊥
 DeletionCalls d (Kept kept) log after = ⊥
 DeletionCalls d (Skipped path cause) log after = ⊥
 DeletionCalls d (Cleaned part) log after = ⊥
@@ -132,6 +135,7 @@ LastCalls d (Began part) log after = ⊥
 LastCalls d (Chunk count) log after = ⊥
 LastCalls d (Placed path) log after = ⊥
 LastCalls d (Removed path) log after = ⊥
+LastCalls d (Made made) log after = ⊥
 LastCalls d (Kept kept) log after = ⊥
 LastCalls d (Skipped path cause) log after = ⊥
 LastCalls d (Cleaned part) log after = ⊥

@@ -9,8 +9,10 @@ use Rattle.file_copy.specs.declared.stage.FolderState.TheVariants.{Synced, Dirty
 use Rattle.file_copy.specs.LastSteps.{last_steps}
 use Rattle.copy_move.specs.declared.deletion.Stage.{Stage as DeletionStage}
 use Rattle.copy_move.specs.declared.deletion.Stage.TheVariants as deletion
+use Rattle.copy_move.specs.declared.making.MakingStage.{MakingStage}
+use Rattle.copy_move.specs.declared.making.MakingStage.TheVariants as making
 use Rattle.copy_move.specs.declared.work.Work.{Work}
-use Rattle.copy_move.specs.declared.work.Work.TheVariants.{Copy, Delete}
+use Rattle.copy_move.specs.declared.work.Work.TheVariants.{Copy, Delete, Make}
 use Rattle.copy_move.specs.declared.run.Course.{Course}
 use Rattle.copy_move.specs.declared.run.Course.TheVariants.{GoesOn, InTrouble, OwedSyncFailed, Skips, Ends}
 use Rattle.copy_move.specs.Jobs.{Running}
@@ -33,6 +35,13 @@ deletion_rank deletion.Sync = 5
 deletion_rank deletion.Finish = 4
 deletion_rank deletion.PassedOver = 4
 
+-- of a making that goes on
+abbrev pub making_rank : MakingStage → ℕ
+making_rank making.Make = 6
+making_rank making.Sync = 5
+making_rank making.Finish = 4
+making_rank making.PassedOver = 4
+
 -- the last steps of a deletion
 abbrev pub last_deletion_steps : DeletionStage → ℕ
 last_deletion_steps deletion.Remove = 1
@@ -40,13 +49,22 @@ last_deletion_steps deletion.Sync = 2
 last_deletion_steps deletion.Finish = 1
 last_deletion_steps deletion.PassedOver = 1
 
+-- the last steps of a making
+abbrev pub last_making_steps : MakingStage → ℕ
+last_making_steps making.Make = 1
+last_making_steps making.Sync = 2
+last_making_steps making.Finish = 1
+last_making_steps making.PassedOver = 1
+
 abbrev pub work_rank : Work → ℕ
 work_rank (Copy c) = copy_rank c.stage c.folder
 work_rank (Delete d) = deletion_rank d.stage
+work_rank (Make m) = making_rank m.stage
 
 abbrev pub last_rank : Work → ℕ
 last_rank (Copy c) = last_steps c.stage c.folder
 last_rank (Delete d) = last_deletion_steps d.stage
+last_rank (Make m) = last_making_steps m.stage
 
 -- a job that waits counts as one that is aborted
 abbrev pub rank_on : Course → Work → ℕ

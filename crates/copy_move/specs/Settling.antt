@@ -16,19 +16,23 @@ use Rattle.job_reports.specs.Paths.{folder_of, without}
 use Rattle.file_copy.specs.Copying as copying
 use Rattle.file_copy.specs.LastSteps as last
 use Rattle.copy_move.specs.declared.work.Work.{Work}
-use Rattle.copy_move.specs.declared.work.Work.TheVariants.{Copy, Delete}
+use Rattle.copy_move.specs.declared.work.Work.TheVariants.{Copy, Delete, Make}
 use Rattle.copy_move.specs.Deletions.{DeletionLeaves}
 use Rattle.copy_move.specs.Deletions as deletions
+use Rattle.copy_move.specs.Makings.{MakingLeaves}
+use Rattle.copy_move.specs.Makings as makings
 
 -- the folder in which a job changes names
 abbrev pub changed_folder : Work → Route
 changed_folder (Copy c) = folder_of c.target
 changed_folder (Delete d) = folder_of d.path
+changed_folder (Make m) = folder_of m.path
 
 -- it has a change of names that no sync has brought onto the disk, as far as the job's own work goes
 abbrev pub is_dirty : Work → Bool
 is_dirty (Copy c) = copying.is_dirty c.folder
 is_dirty (Delete d) = deletions.is_dirty d.stage
+is_dirty (Make m) = makings.is_dirty m.stage
 
 -- a job's folder joins the dirty ones with its first change, and leaves them with its sync
 abbrev pub with_change : Bool → Bool → Route → List Route → List Route
@@ -47,6 +51,7 @@ after_try did left folder dirty = dirty
 abbrev pub TellsFolder : Work → Did → Option TreeError → CallLog → Option CallLog → Type 0
 TellsFolder (Copy c) did left log after = last.TellsFolder c did left log after
 TellsFolder (Delete d) did left log after = DeletionLeaves d did left log after
+TellsFolder (Make m) did left log after = MakingLeaves m did left log after
 
 -- the number of the mount on which a folder lies
 abbrev pub IsMountOf : FileSystem → Route → ℕ → Type 0

@@ -200,7 +200,7 @@ fn skipped(stage: Stage) -> Stage
 }
 
 /// A sync that was tried, whatever it answered. One that found no memory was not made.
-fn tried(answer: Result<(), TreeError>) -> LastStepResult
+pub(crate) fn tried(answer: Result<(), TreeError>) -> LastStepResult
     ensures did { result.did ≡ Did.Barrier }
     ensures calls { result.calls ≡ calls_made_for answer }
     ensures left { result.left ≡ refusal_in answer }
@@ -221,7 +221,7 @@ fn tried(answer: Result<(), TreeError>) -> LastStepResult
 }
 
 /// A last step that made no call.
-fn last(did: Did, left: Option<TreeError>) -> LastStepResult
+pub(crate) fn last(did: Did, left: Option<TreeError>) -> LastStepResult
     ensures { result ≡ record { did = did; calls = 0; left = left } }
 {
     LastStepResult {
@@ -243,7 +243,7 @@ pub(crate) fn with_call(did: Did) -> StepResult
     StepResult { did, calls: 1 }
 }
 
-fn ended(ending: Ending) -> Did
+pub(crate) fn ended(ending: Ending) -> Did
     ensures { result ≡ Did.Ended ending None }
 {
     Did::Ended { ending, part: None }

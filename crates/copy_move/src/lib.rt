@@ -3,6 +3,7 @@
 
 mod deletion;
 mod dirty;
+mod making;
 mod run;
 mod starting;
 mod work;
@@ -10,5 +11,6 @@ mod work;
 pub use deletion::{Deletion, Stage};
 pub use dirty::Dirty;
 pub use file_copy::PartTest;
+pub use making::{FolderMaking, MakingStage};
 pub use run::{Course, Run};
 pub use work::Work;

@@ -10,7 +10,7 @@ mod answering;
 mod stepping;
 
 use crate::dirty::Dirty;
-use crate::starting::{copy_of, deletion_of};
+use crate::starting::{copy_of, deletion_of, making_of};
 use crate::work::Work;
 use file_copy::PartTest;
 use job_reports::{Cause, Ending, Job, StepResult};
@@ -53,7 +53,7 @@ impl Model for Run {
 }
 
 impl Run {
-    /// Starts a job of one file, which isn't the root.
+    /// Starts a job of one path or pair, which isn't the root.
     pub fn start(alloc: Global, job: &Job, id: u32) -> Result<Run, NoMemory>
         requires sound { is_workable job.now ≡ true }
         ensures id { IfOk result (λ run. run.id ≡ id) }
@@ -62,6 +62,7 @@ impl Run {
         let work = match job {
             Job::Copy(pairs) => copy_of(alloc, pairs, id)?,
             Job::Delete(paths) => deletion_of(alloc, paths)?,
+            Job::MakeFolder(path) => making_of(alloc, path)?,
         };
         Ok(Run {
             id,

@@ -1,10 +1,11 @@
-//! What a job does: it copies a file, or it deletes one. One machine for each.
+//! What a job does: it copies a file, deletes one, or makes a folder. One machine for each.
 ghost use Rattle.std.specs.Prelude.{◌≡◌, option_map, true};
 ghost use Rattle.copy_move.specs.Jobs.{IsGoing, at_barrier, is_fresh, part_of, taken_anew as anew};
 ghost use Rattle.copy_move.specs.Settling.{changed_folder, is_dirty};
 ghost use Rattle.copy_move.specs.Steps.{WorkSkips, WorkSteps, WorkWindsUp};
 
 use crate::deletion::Deletion;
+use crate::making::FolderMaking;
 use file_copy::{FileCopy, PartTest};
 use job_reports::{Cause, Did, Ending, LastStepResult, StepResult};
 use mc_text::Path;
@@ -16,6 +17,7 @@ use tree_trait::Tree;
 pub enum Work {
     Copy(FileCopy),
     Delete(Deletion),
+    Make(FolderMaking),
 }
 
 impl Work {
@@ -34,6 +36,7 @@ impl Work {
         match self {
             Work::Copy(copy) => copy.step(alloc, tree, parts),
             Work::Delete(deletion) => deletion.step(alloc, tree),
+            Work::Make(making) => making.step(alloc, tree),
         }
     }
 
@@ -46,6 +49,7 @@ impl Work {
         match self {
             Work::Copy(copy) => copy.skip(alloc, cause),
             Work::Delete(deletion) => deletion.skip(alloc, cause),
+            Work::Make(making) => making.skip(alloc, cause),
         }
     }
 
@@ -58,6 +62,7 @@ impl Work {
         match self {
             Work::Copy(copy) => copy.retry(),
             Work::Delete(_) => {}
+            Work::Make(_) => {}
         }
     }
 
@@ -74,6 +79,7 @@ impl Work {
         match self {
             Work::Copy(copy) => copy.wind_up(alloc, tree, ending),
             Work::Delete(deletion) => deletion.wind_up(alloc, tree, ending),
+            Work::Make(making) => making.wind_up(alloc, tree, ending),
         }
     }
 
@@ -84,6 +90,7 @@ impl Work {
         match self {
             Work::Copy(copy) => copy.part(),
             Work::Delete(_) => None,
+            Work::Make(_) => None,
         }
     }
 
@@ -94,6 +101,7 @@ impl Work {
         match self {
             Work::Copy(copy) => copy.into_part(),
             Work::Delete(_) => None,
+            Work::Make(_) => None,
         }
     }
 
@@ -104,6 +112,7 @@ impl Work {
         match self {
             Work::Copy(copy) => copy.is_at_barrier(),
             Work::Delete(deletion) => deletion.is_at_barrier(),
+            Work::Make(making) => making.is_at_barrier(),
         }
     }
 
@@ -114,6 +123,7 @@ impl Work {
         match self {
             Work::Copy(copy) => copy.folder(),
             Work::Delete(deletion) => deletion.folder(),
+            Work::Make(making) => making.folder(),
         }
     }
 
@@ -124,6 +134,7 @@ impl Work {
         match self {
             Work::Copy(copy) => copy.is_dirty(),
             Work::Delete(deletion) => deletion.is_dirty(),
+            Work::Make(making) => making.is_dirty(),
         }
     }
 
@@ -134,6 +145,7 @@ impl Work {
         match self {
             Work::Copy(copy) => copy.is_fresh(),
             Work::Delete(deletion) => deletion.is_fresh(),
+            Work::Make(making) => making.is_fresh(),
         }
     }
 }

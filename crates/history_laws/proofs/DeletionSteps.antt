@@ -3,6 +3,7 @@ use Rattle.std.proofs.Common.{◌≡◌, ◌⊎◌, Bool, true, false, List, [],
 use Rattle.mc_text.specs.Routes.{Route}
 use Rattle.tree_trait.specs.declared.file_system.FileSystem.{FileSystem}
 use Rattle.tree_trait.specs.declared.calls.TreeError.{TreeError}
+use Rattle.tree_trait.specs.FileSystem.{find}
 use Rattle.tree_trait.specs.Calls.{RemoveFile, SyncFolder}
 use Rattle.tree_trait.specs.Change.{Syncs, CallLog, current, with_change}
 use Rattle.tree_trait.specs.CrashImages.{Among}
@@ -12,7 +13,7 @@ use Rattle.crash_law.proofs.Leading.{current_more}
 use Rattle.job_reports.specs.declared.report.Ending.{Ending}
 use Rattle.job_reports.specs.declared.report.Ending.TheVariants.{Finished, Aborted, Killed, NoMemory}
 use Rattle.job_reports.specs.declared.report.Did.{Did}
-use Rattle.job_reports.specs.declared.report.Did.TheVariants.{Began, Chunk, Placed, Removed, Kept, Skipped, Cleaned, Barrier, Troubled, Ended}
+use Rattle.job_reports.specs.declared.report.Did.TheVariants.{Began, Chunk, Placed, Removed, Made, Kept, Skipped, Cleaned, Barrier, Troubled, Ended}
 use Rattle.job_reports.specs.Paths.{folder_of, without}
 use Rattle.job_reports.specs.Stops.{sync_answer}
 use Rattle.job_reports.proofs.CallAnswers.{some_log}
@@ -27,10 +28,11 @@ use Rattle.copy_move.specs.Deletions as deletions
 use Rattle.copy_move.specs.Jobs.{course_after}
 use Rattle.copy_move.specs.Settling.{NoneOwed, after_try, with_change as moves_dirty}
 use Rattle.history_laws.proofs.Calming.{folder_synced, refused_is}
-use Rattle.history_laws.proofs.Knowing.{Said, IsKept}
-use Rattle.history_laws.proofs.JobKnows.{HasName, KnowsAfter, WorkKnows, none_waits, work_settled}
+use Rattle.history_laws.proofs.Knowing.{Said, IsKnown, IsKept}
+use Rattle.history_laws.proofs.JobKnows.{HasName, KnowsAfter, WorkKnows, none_waits, way_sure, work_settled}
 use Rattle.history_laws.proofs.Stepped.{Comes, comes_none, comes_one, said_after}
-use Rattle.history_laws.proofs.Deleted.{comes_refused, removes_file}
+use Rattle.history_laws.proofs.Deleted.{comes_refused, removal_done, removes_file}
+use Rattle.history_laws.proofs.Resting.{IsSureFolder, folder_at_of}
 
 pub last_among : (up : Route) (dirty : List Route) → Among (dirty ++ up ∷ []) up
 last_among up [] = inl refl
@@ -49,6 +51,18 @@ comes_synced told dirty marks log now up course work kept knows done =
     let s = folder_synced told dirty marks log kept.known up now done in
     comes_one told told dirty (without up dirty) marks marks log now (Syncs s.0) (λ m. WorkKnows told (without up dirty) m (current now) course work) kept s.1 s.2
     (work_settled now marks told (without up dirty) course work (subst (λ (x : FileSystem). WorkKnows told (without up dirty) marks x course work) (sym (ap current s.1 ∙ current_more log (Syncs s.0))) knows))
+
+-- where a file is removed its folder stands, and isn't in doubt
+sure_folder : (told : Said) (dirty : List Route) (marks : Marks) (log now : CallLog) (path up : Route) → IsKnown told dirty marks log → folder_of path ≡ up → Performs {A = Unit {0}} log (RemoveFile path) (Ok tt) (Some now)
+    → NoneOwed (current log) up dirty → IsSureFolder log up
+sure_folder told dirty marks log now path up known folder done none =
+    let it = removal_done log now path known.guarded.tree done in
+    let same : it.r.up ≡ up = sym (ap folder_of it.r.path_is) ∙ folder in
+    let at : find (current log) up ≡ Some it.r.f = subst (λ q. find (current log) q ≡ Some it.r.f) same it.r.folder in
+    record {
+      stands = folder_at_of (current log) up it.r.f at (known.guarded.tree.in_folders it.r.f it.r.name it.r.i it.r.leads);
+      sure = way_sure told dirty marks log up it.r.f known at none;
+    }
 
 pub same_dirty : (b : Bool) (up : Route) (dirty : List Route) → moves_dirty b b up dirty ≡ dirty
 same_dirty true up dirty = refl
@@ -90,8 +104,10 @@ module _ (told : Said) (dirty dirty_after : List Route) (marks : Marks) (log now
       leaves ∙ (ap (λ x. moves_dirty (deletions.is_dirty x) (deletions.is_dirty new.stage) (folder_of d.path) dirty) stage ∙ ap (λ (x : Deleting). moves_dirty false (deletions.is_dirty x.stage) (folder_of d.path) dirty) new_is) in
       let at_path : path ≡ name.name ∷ folder_of d.path = path_is ∙ name.is in
       let folder : folder_of path ≡ folder_of d.path = ap folder_of path_is in
-      let sure = ap (Rattle.history_laws.specs.Doubt.name_waits log) at_path ∙ none_waits told dirty marks log (folder_of d.path) kept.known (settled (ap is_fresh stage)) name.name in
-      removes_file told dirty dirty_after marks log now path (Delete d) (KnowsAfter (Removed path) (said_after now (Removed path) (Delete d) told) dirty_after (current now) GoesOn (Delete new)) kept none sure
+      let none_owed = settled (ap is_fresh stage) in
+      let calm = ap (Rattle.history_laws.specs.Doubt.name_waits log) at_path ∙ none_waits told dirty marks log (folder_of d.path) kept.known none_owed name.name in
+      let firm : IsSureFolder log (folder_of path) = subst (λ q. IsSureFolder log q) (sym folder) (sure_folder told dirty marks log now path (folder_of d.path) kept.known folder done none_owed) in
+      removes_file told dirty dirty_after marks log now path (Delete d) (KnowsAfter (Removed path) (said_after now (Removed path) (Delete d) told) dirty_after (current now) GoesOn (Delete new)) kept none calm firm (sym folder)
       (subst (λ xs. Among xs (folder_of path)) (sym routes) (subst (λ q. Among (dirty ++ folder_of d.path ∷ []) q) (sym folder) (last_among (folder_of d.path) dirty)))
       (λ q among. subst (λ xs. Among xs q) (sym routes) (among_more (folder_of d.path) q dirty among)) done
       (λ m. (subst (λ (x : Deleting). HasName x.path) (sym new_is) name, none))
@@ -123,6 +139,7 @@ module _ (told : Said) (dirty dirty_after : List Route) (marks : Marks) (log now
   deletion_tells d new (Began part) knows tells done settled leaves = absurd tells
   deletion_tells d new (Chunk count) knows tells done settled leaves = absurd tells
   deletion_tells d new (Placed path) knows tells done settled leaves = absurd tells
+  deletion_tells d new (Made made) knows tells done settled leaves = absurd tells
   deletion_tells d new (Kept kept) knows tells done settled leaves = absurd tells
   deletion_tells d new (Skipped path cause) knows tells done settled leaves = absurd tells
   deletion_tells d new (Cleaned part) knows tells done settled leaves = absurd tells
@@ -139,6 +156,7 @@ module _ (told : Said) (dirty dirty_after : List Route) (marks : Marks) (log now
   deletion_winds d new ending (Chunk count) left knows tells answer calls leaves = absurd tells
   deletion_winds d new ending (Placed path) left knows tells answer calls leaves = absurd tells
   deletion_winds d new ending (Removed path) left knows tells answer calls leaves = absurd tells
+  deletion_winds d new ending (Made made) left knows tells answer calls leaves = absurd tells
   deletion_winds d new ending (Kept kept) left knows tells answer calls leaves = absurd tells
   deletion_winds d new ending (Skipped path cause) left knows tells answer calls leaves = absurd tells
   deletion_winds d new ending (Cleaned part) left knows tells answer calls leaves = absurd tells

@@ -26,13 +26,13 @@ use Rattle.session_history.specs.Entries.{IsMoment, calls_in}
 use Rattle.history_laws.specs.Safe.{IsPart, IsSafe}
 use Rattle.history_laws.specs.Staying.{DoneLaw, HasFinished}
 use Rattle.history_laws.specs.Traces.{EventLeads, IsTraced, Stand, StepLeads}
-use Rattle.history_laws.proofs.Prefixes.{replayed_more, told_of}
+use Rattle.history_laws.proofs.Prefixes.{folders_more, folders_since, folders_told, replayed_more, told_of}
 use Rattle.history_laws.proofs.Finished.{finished_folder}
 use Rattle.history_laws.proofs.Histories.{enters, only_job, traced_reached}
 use Rattle.history_laws.proofs.Lasting.{finished_stays_law, replayed_since}
 use Rattle.history_laws.proofs.Moments.{IsShown, prefix_is, log_of, replay_law, session_law, shown_moment, sure_moment, traced_count}
 use Rattle.history_laws.proofs.Reports.{HasLive}
-use Rattle.history_laws.proofs.Resting.{folder_at, name_sure}
+use Rattle.history_laws.proofs.Resting.{name_sure}
 use Rattle.history_laws.proofs.Sources.{folder_is, item_in}
 use Rattle.history_laws.proofs.Staying.{event_part, stays_law}
 use Rattle.history_laws.proofs.Stepped.{more}
@@ -227,18 +227,20 @@ module _ (opening now : CallLog) (newest : List Entry) (stand : Stand) (tree : I
       ap (λ (l : CallLog). replayed_tree opening l (e ∷ older) path) f.later_is ∙ ap (λ v. v path) (replayed_more opening f.now f.later (e ∷ older) r.within) in
       ap (λ (s : Spot). s.value) (same ∙ sym shown) ∙ ap (λ (o : Option ℕ). option_map (λ i. value (node (current f.now) i)) o) (none_of _ (subst (λ (l : CallLog). is_some (find (current l) path) ≡ false) at none))
 
-  in_folder : folder_at (current opening) (folder_of path) ≡ true
+  in_folder : folders_told opening (e ∷ older) (folder_of path) ≡ true
   in_folder =
       let f = found in
       let by = ender opening tree settled now e older (folder_of path) h f in
-      ap (folder_at (current opening)) by.within ∙ finished_folder opening tree settled older f.was f.before by.job f.traced by.jobs_is (subst (λ i. has_changed i older ≡ true) (sym by.id_is) h.changed)
+      folders_more e.what (live_jobs older) (folders_told opening older) (folder_of path)
+      (ap (folders_told opening older) by.within ∙ finished_folder opening tree settled older f.was f.before by.job f.traced by.jobs_is (subst (λ i. has_changed i older ≡ true) (sym by.id_is) h.changed))
 
   of_gone : is_some (find (current at_end) path) ≡ false → is_unsettled at_end path ≡ false → Holds
   of_gone none sure_then =
       elim (session_law opening now newest standing coming stand calls image tree settled traced moment left) [ inl safe ↦ by standing since safe | inr safe ↦ by coming later safe ]
     where
       sure : is_unsettled (log_prefix opening calls now) path ≡ false
-      sure = sure_moment opening now newest standing coming stand calls path tree settled traced moment in_folder
+      sure = sure_moment opening now newest standing coming stand calls path tree settled traced moment
+          (folders_since opening (e ∷ older) standing path (folder_of path) since in_folder) (folders_since opening (e ∷ older) coming path (folder_of path) later in_folder)
           (stays_law opening now newest (e ∷ older) standing coming stand calls path tree settled traced moment since later (name_sure (log_prefix opening e.calls now) path sure_then) no_live)
 
       gone_by : (g : List Entry) → IsUnnamedSince (e ∷ older) path g → IsShown opening now (log_prefix opening calls now) g → is_some (find (current (log_prefix opening calls now)) path) ≡ true → ⊥

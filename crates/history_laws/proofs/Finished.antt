@@ -2,7 +2,7 @@
 use Rattle.std.proofs.Common.{◌≡◌, ◌⊎◌, ℕ, Bool, true, false, not, List, [], ◌∷◌, refl, sym, ◌∙◌, ap, subst, inl, inr, Option, Some, None}
 use Rattle.std.specs.Prelude.{◌==◌, ◌||◌, ◌&&◌, if◌then◌else◌, map}
 use Rattle.std.specs.Option.{option_map_or}
-use Rattle.std.proofs.lemmas.Bool.{true≢false, false≢true, both_ways, eq-eqb, and_parts, false_from_ne_true}
+use Rattle.std.proofs.lemmas.Bool.{true≢false, false≢true, and_from, both_ways, eq-eqb, and_parts, false_from_ne_true, or_left}
 use Rattle.mc_text.specs.Routes.{Route, same_path}
 use Rattle.tree_trait.specs.Shape.{IsTree}
 use Rattle.tree_trait.specs.Change.{CallLog, current}
@@ -11,14 +11,17 @@ use Rattle.tree_trait.proofs.Visible.{same_path-self}
 use Rattle.job_reports.specs.declared.report.Ending.{Ending}
 use Rattle.job_reports.specs.declared.report.Ending.TheVariants.{Finished, Aborted}
 use Rattle.job_reports.specs.declared.report.Did.{Did}
-use Rattle.job_reports.specs.declared.report.Did.TheVariants.{Began, Chunk, Placed, Removed, Kept, Skipped, Cleaned, Barrier, Troubled, Ended}
+use Rattle.job_reports.specs.declared.report.Did.TheVariants.{Began, Chunk, Placed, Removed, Made, Kept, Skipped, Cleaned, Barrier, Troubled, Ended}
 use Rattle.job_reports.specs.Stops.{cause_of}
-use Rattle.file_copy.specs.Copying.{Copying}
 use Rattle.file_copy.specs.Copying as copying
+use Rattle.copy_move.specs.declared.making.MakingStage.{MakingStage}
+use Rattle.copy_move.specs.declared.making.MakingStage.TheVariants as making
 use Rattle.copy_move.specs.declared.deletion.Stage.{Stage}
 use Rattle.copy_move.specs.declared.deletion.Stage.TheVariants.{Remove, Sync, Finish, PassedOver}
 use Rattle.job_reports.specs.declared.answer.Answer.{Answer}
 use Rattle.job_reports.specs.declared.answer.Answer.TheVariants.{Retry, Skip, SkipAll, Abort}
+use Rattle.job_reports.specs.Jobs.{folder_changed}
+use Rattle.session_history.specs.LiveJobs.{live_item, live_jobs}
 use Rattle.session_history.specs.declared.history.Event.{Event}
 use Rattle.session_history.specs.declared.history.Event.TheVariants.{Key, Look, Order, Step, Closed}
 use Rattle.session_history.specs.declared.history.Event.TheVariants as event
@@ -28,9 +31,9 @@ use Rattle.session_history.specs.declared.history.Entry.{Entry}
 use Rattle.copy_move.specs.declared.run.Course.{Course}
 use Rattle.copy_move.specs.declared.run.Course.TheVariants.{GoesOn, InTrouble, OwedSyncFailed, Skips, Ends}
 use Rattle.copy_move.specs.declared.work.Work.{Work}
-use Rattle.copy_move.specs.declared.work.Work.TheVariants.{Copy, Delete}
-use Rattle.copy_move.specs.Deletions.{Deleting}
+use Rattle.copy_move.specs.declared.work.Work.TheVariants.{Copy, Delete, Make}
 use Rattle.copy_move.specs.Deletions as deletions
+use Rattle.copy_move.specs.Makings as makings
 use Rattle.copy_move.specs.Jobs.{Running, TellsOn, WorkTells, answered_on, closed_course, closed_job, course_after, first_work, skipped, taken_anew}
 use Rattle.job_reports.specs.Reports.{ends}
 use Rattle.copy_move.specs.Settling.{changed_folder, is_dirty, with_change}
@@ -42,38 +45,15 @@ use Rattle.session_history.specs.Named.{begins_change, changed_after, has_change
 use Rattle.session_history.specs.Entries.{is_closed}
 use Rattle.copy_move.specs.Told.{running}
 use Rattle.history_laws.specs.Traces.{EventLeads, IsTraced, Stand, SyncLeads, WorkLeads, before_others, if_closed, ordered, with_job}
-use Rattle.history_laws.proofs.Beginnings.{begins_in}
+use Rattle.history_laws.proofs.Beginnings.{dirty_then}
 use Rattle.history_laws.proofs.Histories.{IsReached, only_job, traced_reached}
 use Rattle.history_laws.proofs.Owing.{in_filter, owed_law}
-use Rattle.history_laws.proofs.Reports.{with_one}
-use Rattle.history_laws.proofs.Resting.{folder_at, sure_path}
-use Rattle.history_laws.proofs.Sources.{folder_same, tells_same, work_paths}
+use Rattle.history_laws.proofs.Prefixes.{folders_event, folders_more, folders_told, told_of}
+use Rattle.history_laws.proofs.Reports.{HasLive, with_one}
+use Rattle.history_laws.proofs.Resting.{sure_path}
+use Rattle.history_laws.proofs.Sources.{folder_is, folder_same, item_in, tells_same, work_paths}
+use Rattle.history_laws.proofs.Stepped.{folders_by}
 use Rattle.history_laws.proofs.Unchanged.{first_clean, step_clean}
-
--- work that begins a change is dirty then
-dirty_then : (old new : Work) (did : Did) → WorkTells old did new → begins_change did ≡ true → is_dirty new ≡ true
-dirty_then (Copy c) (Copy new) (Began part) t h = ap (λ (x : Copying). copying.is_dirty x.folder) t.1.1
-dirty_then (Copy c) (Copy new) (Removed path) t h = absurd t
-dirty_then (Copy c) (Copy new) (Chunk count) t h = absurd (false≢true h)
-dirty_then (Copy c) (Copy new) (Placed path) t h = absurd (false≢true h)
-dirty_then (Copy c) (Copy new) (Kept kept) t h = absurd (false≢true h)
-dirty_then (Copy c) (Copy new) (Skipped path why) t h = absurd (false≢true h)
-dirty_then (Copy c) (Copy new) (Cleaned part) t h = absurd (false≢true h)
-dirty_then (Copy c) (Copy new) Barrier t h = absurd (false≢true h)
-dirty_then (Copy c) (Copy new) (Troubled trouble) t h = absurd (false≢true h)
-dirty_then (Copy c) (Copy new) (Ended ending part) t h = absurd (false≢true h)
-dirty_then (Copy c) (Delete new) did t h = absurd t
-dirty_then (Delete d) (Copy new) did t h = absurd t
-dirty_then (Delete d) (Delete new) (Removed path) (stage, path_is, new_is) h = ap (λ (x : Deleting). deletions.is_dirty x.stage) new_is
-dirty_then (Delete d) (Delete new) (Began part) t h = absurd t
-dirty_then (Delete d) (Delete new) (Chunk count) t h = absurd (false≢true h)
-dirty_then (Delete d) (Delete new) (Placed path) t h = absurd (false≢true h)
-dirty_then (Delete d) (Delete new) (Kept kept) t h = absurd (false≢true h)
-dirty_then (Delete d) (Delete new) (Skipped path why) t h = absurd (false≢true h)
-dirty_then (Delete d) (Delete new) (Cleaned part) t h = absurd (false≢true h)
-dirty_then (Delete d) (Delete new) Barrier t h = absurd (false≢true h)
-dirty_then (Delete d) (Delete new) (Troubled trouble) t h = absurd (false≢true h)
-dirty_then (Delete d) (Delete new) (Ended ending part) t h = absurd (false≢true h)
 
 -- a folder that was synced is no longer listed
 not_listed : (up : Route) (routes : List Route) → Among (without up routes) up → ⊥
@@ -107,6 +87,7 @@ changed_by false begins h = inr h
 skipped_folder : (work : Work) → changed_folder (skipped work) ≡ changed_folder work
 skipped_folder (Copy c) = refl
 skipped_folder (Delete d) = refl
+skipped_folder (Make m) = refl
 
 module _ (job new : Running) (did : Did) (dirty dirty_after : List Route) (log now : CallLog) (before : Bool) where
   -- by whether the folder was dirty before
@@ -146,7 +127,7 @@ pub record IsTidyJob (opening : CallLog) (g : List Entry) (dirty : List Route) (
   pub tidy : IsTidy (has_changed job.id g) dirty job
   pub aborted : (ending : Ending) → job.course ≡ Ends ending → ending ≡ Aborted
   pub clean : has_changed job.id g ≡ false → is_dirty job.work ≡ false
-  pub stands : has_changed job.id g ≡ true → folder_at (current opening) (changed_folder job.work) ≡ true
+  pub stands : has_changed job.id g ≡ true → folders_told opening g (changed_folder job.work) ≡ true
 
 abbrev pub AreTidy : CallLog → List Entry → List Route → List Running → Type 0
 AreTidy opening g dirty [] = Unit {0}
@@ -161,6 +142,7 @@ after_going (Began part) = tt
 after_going (Chunk count) = tt
 after_going (Placed path) = tt
 after_going (Removed path) = tt
+after_going (Made made) = tt
 after_going (Kept kept) = tt
 after_going (Skipped path why) = tt
 after_going (Cleaned part) = tt
@@ -183,12 +165,13 @@ kept_tidy opening g dirty job new id_is dirty_is folder_is on aborted old = reco
   tidy = λ changed going clean among. old.tidy (ap (λ n. has_changed n g) (sym id_is) ∙ changed) (on going) (sym dirty_is ∙ clean) (subst (λ q. Among dirty q) folder_is among);
   aborted = aborted;
   clean = λ unchanged. dirty_is ∙ old.clean (ap (λ n. has_changed n g) (sym id_is) ∙ unchanged);
-  stands = λ changed. ap (folder_at (current opening)) folder_is ∙ old.stands (ap (λ n. has_changed n g) (sym id_is) ∙ changed);
+  stands = λ changed. ap (folders_told opening g) folder_is ∙ old.stands (ap (λ n. has_changed n g) (sym id_is) ∙ changed);
 }
 
 anew_dirty : (work : Work) → (is_dirty (taken_anew work) ≡ is_dirty work) × (changed_folder (taken_anew work) ≡ changed_folder work)
 anew_dirty (Copy c) = (refl, refl)
 anew_dirty (Delete d) = (refl, refl)
+anew_dirty (Make m) = (refl, refl)
 
 some_end : (a b : Ending) → (let c : Course = Ends a in c) ≡ Ends b → b ≡ a
 some_end a b h = cc
@@ -239,7 +222,7 @@ module _ (opening : CallLog) (tree : IsTree (current opening)) (settled : all_se
     tidy = λ changed going clean among. t.tidy (sym (same job.id) ∙ changed) going clean among;
     aborted = t.aborted;
     clean = λ unchanged. t.clean (sym (same job.id) ∙ unchanged);
-    stands = λ changed. t.stands (sym (same job.id) ∙ changed);
+    stands = λ changed. folders_more e.what (live_jobs older) (folders_told opening older) (changed_folder job.work) (t.stands (sym (same job.id) ∙ changed));
   }
 
   begun_tidy : (g : List Entry) (dirty : List Route) (id : ℕ) (o : Option Work) → ((w : Work) → o ≡ Some w → is_dirty w ≡ false) → has_changed id g ≡ false → AreTidy opening g dirty (option_map_or (λ w. running id w ∷ []) o [])
@@ -254,10 +237,18 @@ module _ (opening : CallLog) (tree : IsTree (current opening)) (settled : all_se
   changed_same : (number id : ℕ) (before begins : Bool) → number ≡ id → (before || ((number == id) && begins)) ≡ (before || begins)
   changed_same number id before begins same = ap (λ b. before || (b && begins)) (eq-eqb number id same)
 
+  -- the folder of its first change is known to be on the disk then
+  first_told : (e : Entry) (older : List Entry) (id : ℕ) (did : Did) (work : Work) → live_item id (live_jobs older) ≡ Some (item_in work) → e.what ≡ Step id did → begins_change did ≡ true
+      → folders_told opening (e ∷ older) (changed_folder work) ≡ true
+  first_told e older id did work item_is what_is begins =
+      ap (λ w. folders_event w (live_jobs older) (folders_told opening older) (changed_folder work)) what_is
+      ∙ (ap (λ o. option_map_or (λ item. folders_by did (folder_changed item) (folders_told opening older)) o (folders_told opening older) (changed_folder work)) item_is
+      ∙ or_left _ _ (and_from _ _ begins (subst (λ q. same_path (changed_folder work) q ≡ true) (sym (folder_is work)) (same_path-self (changed_folder work)))))
+
   -- after a step of a job
-  step_tidy : (e : Entry) (older : List Entry) (id : ℕ) (did : Did) (job new : Running) (dirty dirty_after : List Route) (before now : CallLog) → IsTree (current before) → ((p : Route) → folder_at (current before) p ≡ folder_at (current opening) p)
+  step_tidy : (e : Entry) (older : List Entry) (id : ℕ) (did : Did) (job new : Running) (dirty dirty_after : List Route) (before now : CallLog) → live_item id (live_jobs older) ≡ Some (item_in job.work)
       → e.what ≡ Step id did → job.id ≡ id → ends did ≡ false → IsTidyJob opening older dirty job → WorkLeads job did new dirty dirty_after before now ⊎ SyncLeads job did new dirty dirty_after before now → IsTidyJob opening (e ∷ older) dirty_after new
-  step_tidy e older id did job new dirty dirty_after before now shape folders what_is id_is on t (inl works) =
+  step_tidy e older id did job new dirty dirty_after before now item_is what_is id_is on t (inl works) =
       let same = tells_same job new did works.tells in
       let changed_is : (has_changed job.id older || begins_change did) ≡ has_changed new.id (e ∷ older) =
       sym (changed_same id new.id (has_changed job.id older) (begins_change did) (sym id_is ∙ sym same.0))
@@ -267,12 +258,12 @@ module _ (opening : CallLog) (tree : IsTree (current opening)) (settled : all_se
             tidy_works job new did dirty dirty_after before now (has_changed job.id older) works t.tidy (changed_is ∙ changed) going clean among;
         aborted = tells_aborted job new did job.course refl works.tells t.aborted;
         clean = λ unchanged. let n = neither _ _ (changed_is ∙ unchanged) in step_clean job new did works.tells on n.1 (t.clean n.0);
-        stands = λ changed. ap (folder_at (current opening)) (folder_same new.work job.work same.1) ∙ elim (changed_by (has_changed job.id older) (begins_change did) (changed_is ∙ changed)) [
-          | inl b ↦ t.stands b
-          | inr h ↦ sym (folders (changed_folder job.work)) ∙ begins_in job new did dirty dirty_after before now shape works h
+        stands = λ changed. ap (folders_told opening (e ∷ older)) (folder_same new.work job.work same.1) ∙ elim (changed_by (has_changed job.id older) (begins_change did) (changed_is ∙ changed)) [
+          | inl b ↦ folders_more e.what (live_jobs older) (folders_told opening older) (changed_folder job.work) (t.stands b)
+          | inr h ↦ first_told e older id did job.work item_is what_is h
         ];
       }
-  step_tidy e older id did job new dirty dirty_after before now shape folders what_is id_is on t (inr syncs) = by syncs.synced
+  step_tidy e older id did job new dirty dirty_after before now item_is what_is id_is on t (inr syncs) = by syncs.synced
     where
       unchanged : (n : ℕ) → begins_change did ≡ false → has_changed n (e ∷ older) ≡ true → has_changed n older ≡ true
       unchanged n none changed = elim (changed_by (has_changed n older) ((id == n) && begins_change did) (sym (ap (λ w. changed_after n w (has_changed n older)) what_is) ∙ changed)) [
@@ -289,13 +280,13 @@ module _ (opening : CallLog) (tree : IsTree (current opening)) (settled : all_se
             (in_filter (λ kept. not (same_path kept syncs.folder)) (changed_folder job.work) dirty (subst (λ xs. Among xs (changed_folder job.work)) s.dirty_is among));
         aborted = t.aborted;
         clean = clean;
-        stands = λ changed. t.stands (unchanged job.id (ap begins_change s.did_is) changed);
+        stands = λ changed. folders_more e.what (live_jobs older) (folders_told opening older) (changed_folder job.work) (t.stands (unchanged job.id (ap begins_change s.did_is) changed));
       })
       by (inr s) = subst (λ (x : Running). IsTidyJob opening (e ∷ older) dirty_after x) (sym s.new_is) (record {
         tidy = λ changed going clean among. t.tidy (unchanged job.id (ap begins_change s.did_is) changed) (subst IsGoing (sym syncs.goes) tt) clean (subst (λ xs. Among xs (changed_folder job.work)) s.dirty_is among);
         aborted = λ ending x. no_end (OwedSyncFailed (cause_of s.error)) ending tt x;
         clean = clean;
-        stands = λ changed. t.stands (unchanged job.id (ap begins_change s.did_is) changed);
+        stands = λ changed. folders_more e.what (live_jobs older) (folders_told opening older) (changed_folder job.work) (t.stands (unchanged job.id (ap begins_change s.did_is) changed));
       })
 
   after_tidy : (g : List Entry) (dirty : List Route) (new : Running) (b : Bool) → (b ≡ false → IsTidyJob opening g dirty new) → AreTidy opening g dirty (before_others (if◌then◌else◌ b None (Some new)) [])
@@ -310,13 +301,16 @@ module _ (opening : CallLog) (tree : IsTree (current opening)) (settled : all_se
     where
       by : (what : Event) → e.what ≡ what → EventLeads was what f.after before now → AreTidy opening older was.dirty was.jobs → IsReached opening older was before → AreTidy opening (e ∷ older) (let a : Stand = f.after in a.dirty) (let a : Stand = f.after in a.jobs)
       by (Step id did) is s t r =
-          let one = only_job id was.jobs s.job _ was.dirty r.marks (current before) s.its r.knows in
+          let one = only_job id was.jobs s.job (told_of opening before older (let x : IsReached opening older was before = r in x.part)) was.dirty r.marks (current before) s.its r.knows in
           let tidy : IsTidyJob opening older was.dirty s.job = subst (λ js. AreTidy opening older was.dirty js) one.0 t in
+          let live : HasLive (live_jobs older) (s.job ∷ []) r.part = subst (λ js. HasLive (live_jobs older) js r.part) one.0 r.live in
+          let item_is : live_item id (live_jobs older) ≡ Some (item_in (let j : Running = s.job in j.work)) =
+          ap (live_item id) live ∙ ap (λ b. if◌then◌else◌ b (Some (item_in (let j : Running = s.job in j.work))) None) (eq-eqb (let j : Running = s.job in j.id) id one.1) in
           let a : Stand = f.after in
           let jobs_then : a.jobs ≡ before_others s.new [] = s.jobs_is ∙ (ap (with_job id s.new) one.0 ∙ (ap (λ n. with_job n s.new (s.job ∷ [])) (sym one.1) ∙ with_one s.job s.new)) in
           subst (λ js. AreTidy opening (e ∷ older) a.dirty js) (sym jobs_then) (elim s.leads [
             | inl stepped ↦ subst (λ o. AreTidy opening (e ∷ older) a.dirty (before_others o [])) (sym stepped.2)
-                (after_tidy (e ∷ older) a.dirty stepped.0 (ends did) (λ on. step_tidy e older id did s.job stepped.0 was.dirty a.dirty before now r.kept.known.guarded.tree r.kept.known.stand is one.1 on tidy stepped.1))
+                (after_tidy (e ∷ older) a.dirty stepped.0 (ends did) (λ on. step_tidy e older id did s.job stepped.0 was.dirty a.dirty before now item_is is one.1 on tidy stepped.1))
             | inr gives ↦ subst (λ o. AreTidy opening (e ∷ older) a.dirty (before_others o [])) (sym gives.1) tt
           ])
       by (event.Began id plan background) is s t r =
@@ -339,17 +333,33 @@ done_deletion Sync h = absurd (false≢true h)
 done_deletion Finish h = refl
 done_deletion PassedOver h = refl
 
+done_making : (stage : MakingStage) → makings.is_done stage ≡ true → makings.is_dirty stage ≡ false
+done_making making.Make h = absurd (false≢true h)
+done_making making.Sync h = absurd (false≢true h)
+done_making making.Finish h = refl
+done_making making.PassedOver h = refl
+
 done_work : (old new : Work) (part : Option Route) → WorkTells old (Ended Finished part) new → is_dirty old ≡ false
 done_work (Copy c) (Copy new) part (stage, synced, part_is, new_is) = ap copying.is_dirty synced
 done_work (Copy c) (Delete new) part t = absurd t
+done_work (Copy c) (Make new) part t = absurd t
 done_work (Delete d) (Copy new) part t = absurd t
+done_work (Delete d) (Make new) part t = absurd t
+done_work (Make m) (Copy new) part t = absurd t
+done_work (Make m) (Delete new) part t = absurd t
 done_work (Delete d) (Delete new) part (is_done, part_is, new_is) = done_deletion d.stage is_done
+done_work (Make m) (Make new) part (is_done, part_is, new_is) = done_making m.stage is_done
 
 wound_up : (ending : Ending) (old new : Work) (part : Option Route) → Rattle.copy_move.specs.Jobs.WorkWinds ending old (Ended Finished part) new → Finished ≡ ending
 wound_up ending (Copy c) (Copy new) part (none, synced, how_is, part_is, new_is) = how_is
 wound_up ending (Delete d) (Delete new) part (off, how_is, part_is, new_is) = how_is
+wound_up ending (Make m) (Make new) part (off, how_is, part_is, new_is) = how_is
 wound_up ending (Copy c) (Delete new) part t = absurd t
+wound_up ending (Copy c) (Make new) part t = absurd t
 wound_up ending (Delete d) (Copy new) part t = absurd t
+wound_up ending (Delete d) (Make new) part t = absurd t
+wound_up ending (Make m) (Copy new) part t = absurd t
+wound_up ending (Make m) (Delete new) part t = absurd t
 
 finished_tidy : (opening : CallLog) (g : List Entry) (dirty : List Route) (job new : Running) (part : Option Route) (course : Course) → job.course ≡ course → TellsOn course job (Ended Finished part) new → IsTidyJob opening g dirty job
     → has_changed job.id g ≡ true → Among dirty (changed_folder job.work) → ⊥
@@ -361,9 +371,9 @@ finished_tidy opening g dirty job new part (Skips why) is (inr (did_is, new_is))
 finished_tidy opening g dirty job new part (Ends ending) is (work, winds, new_is) t changed among =
     let e : Finished ≡ Aborted = wound_up ending job.work work part winds ∙ t.aborted ending is in let f : ⊥ = cc in f
 
--- so its folder stood at the opening, and no folder has gone since
+-- so its folder is known to be on the disk
 pub finished_folder : (opening : CallLog) → IsTree (current opening) → all_settled opening.changes ≡ true → (newest : List Entry) (stand : Stand) (now : CallLog) (job : Running) → IsTraced opening newest stand now
-    → stand.jobs ≡ job ∷ [] → has_changed job.id newest ≡ true → folder_at (current opening) (changed_folder job.work) ≡ true
+    → stand.jobs ≡ job ∷ [] → has_changed job.id newest ≡ true → folders_told opening newest (changed_folder job.work) ≡ true
 finished_folder opening tree settled newest stand now job traced jobs_is changed =
     let tidy : IsTidyJob opening newest stand.dirty job = subst (λ js. AreTidy opening newest stand.dirty js) jobs_is (traced_tidy opening tree settled newest stand now traced) in
     tidy.stands changed
@@ -371,8 +381,7 @@ finished_folder opening tree settled newest stand now job traced jobs_is changed
 pub finished_law : FinishedLaw
 finished_law opening now newest stand job new part path tree settled traced jobs_is tells changed folder =
     let r = traced_reached opening tree settled newest stand now traced in
-    let stands : folder_at (current now) (folder_of path) ≡ true =
-    r.kept.known.stand (folder_of path) ∙ (ap (folder_at (current opening)) folder ∙ finished_folder opening tree settled newest stand now job traced jobs_is changed) in
-    sure_path now r.kept.known.guarded.tree r.kept.known.files path stands (false_from_ne_true (name_waits now path) (λ waits.
+    let firm = r.kept.known.stand (folder_of path) (ap (folders_told opening newest) folder ∙ finished_folder opening tree settled newest stand now job traced jobs_is changed) in
+    sure_path now path firm.sure (false_from_ne_true (name_waits now path) (λ waits.
     finished_tidy opening newest stand.dirty job new part job.course refl tells (subst (λ js. AreTidy opening newest stand.dirty js) jobs_is (traced_tidy opening tree settled newest stand now traced)) changed
     (subst (λ q. Among stand.dirty q) folder (owed_law opening now newest stand path tree settled traced waits))))

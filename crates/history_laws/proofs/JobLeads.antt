@@ -17,11 +17,14 @@ use Rattle.file_copy.specs.Copying as copying
 use Rattle.job_reports.proofs.CallAnswers.{some_log}
 use Rattle.copy_move.specs.declared.deletion.Stage.{Stage as DeletionStage}
 use Rattle.copy_move.specs.declared.deletion.Stage.TheVariants as deletion
+use Rattle.copy_move.specs.declared.making.MakingStage.{MakingStage}
+use Rattle.copy_move.specs.declared.making.MakingStage.TheVariants as making
 use Rattle.copy_move.specs.declared.work.Work.{Work}
-use Rattle.copy_move.specs.declared.work.Work.TheVariants.{Copy, Delete}
+use Rattle.copy_move.specs.declared.work.Work.TheVariants.{Copy, Delete, Make}
 use Rattle.copy_move.specs.declared.run.Course.{Course}
 use Rattle.copy_move.specs.declared.run.Course.TheVariants.{GoesOn, InTrouble, OwedSyncFailed, Skips, Ends}
 use Rattle.copy_move.specs.Deletions as deletions
+use Rattle.copy_move.specs.Makings as makings
 use Rattle.copy_move.specs.Jobs.{Running, CallsOn, TellsOn, WorkCalls, WorkLastCalls, WorkTells, WorkWinds, course_after, is_fresh, skipped}
 use Rattle.copy_move.specs.Settling.{NoneOwed, changed_folder, is_dirty, with_change as moves_dirty}
 use Rattle.copy_move.specs.Steps.{LeavesDirty}
@@ -29,6 +32,7 @@ use Rattle.history_laws.specs.Traces.{IsUnclaimed, SyncLeads, WorkLeads}
 use Rattle.history_laws.proofs.Calming.{refused_is}
 use Rattle.history_laws.proofs.Deleted.{comes_refused}
 use Rattle.history_laws.proofs.DeletionSteps.{Steps, comes_synced, deletion_tells, deletion_winds, same_dirty, stands}
+use Rattle.history_laws.proofs.MakingSteps.{making_tells, making_winds}
 use Rattle.history_laws.proofs.CopySteps.{copy_tells}
 use Rattle.history_laws.proofs.JobSteps.{copy_winds, fresh_knows}
 use Rattle.history_laws.proofs.Knowing.{Said, IsKept}
@@ -46,6 +50,7 @@ skip_stage told m s course c Decided k = k
 skip_knows : (told : Said) (dirty : List Route) (m : Marks) (s : FileSystem) (course : Course) (work : Work) → WorkKnows told dirty m s course work → WorkKnows told dirty m s GoesOn (skipped work)
 skip_knows told dirty m s course (Copy c) (name, listed, stage) = (name, listed, skip_stage told m s course c c.stage stage)
 skip_knows told dirty m s course (Delete d) k = k
+skip_knows told dirty m s course (Make w) k = k
 
 skip_deletion : (stage : DeletionStage) → deletions.is_dirty (deletions.skipped stage) ≡ deletions.is_dirty stage
 skip_deletion deletion.Remove = refl
@@ -53,9 +58,16 @@ skip_deletion deletion.Sync = refl
 skip_deletion deletion.Finish = refl
 skip_deletion deletion.PassedOver = refl
 
+skip_making : (stage : MakingStage) → makings.is_dirty (makings.skipped stage) ≡ makings.is_dirty stage
+skip_making making.Make = refl
+skip_making making.Sync = refl
+skip_making making.Finish = refl
+skip_making making.PassedOver = refl
+
 skip_dirty : (work : Work) → is_dirty (skipped work) ≡ is_dirty work
 skip_dirty (Copy c) = refl
 skip_dirty (Delete d) = skip_deletion d.stage
+skip_dirty (Make m) = skip_making m.stage
 
 module _ (told : Said) (dirty dirty_after : List Route) (marks : Marks) (log now : CallLog) (kept : IsKept told dirty marks log) where
   work_tells : (old new : Work) (did : Did) → WorkKnows told dirty marks (current log) GoesOn old → WorkTells old did new → WorkCalls IsUnclaimed old did new log (Some now)
@@ -63,15 +75,25 @@ module _ (told : Said) (dirty dirty_after : List Route) (marks : Marks) (log now
       → Steps told dirty dirty_after marks log now kept did (course_after did) old new
   work_tells (Copy c) (Copy new) did knows tells calls settled leaves = copy_tells told dirty dirty_after marks log now kept c new did knows tells calls settled leaves
   work_tells (Delete d) (Delete new) did knows tells calls settled leaves = deletion_tells told dirty dirty_after marks log now kept d new did knows tells calls settled leaves
+  work_tells (Make w) (Make new) did knows tells calls settled leaves = making_tells told dirty dirty_after marks log now kept w new did knows tells calls settled leaves
   work_tells (Copy c) (Delete new) did knows tells calls settled leaves = absurd tells
+  work_tells (Copy c) (Make new) did knows tells calls settled leaves = absurd tells
   work_tells (Delete d) (Copy new) did knows tells calls settled leaves = absurd tells
+  work_tells (Delete d) (Make new) did knows tells calls settled leaves = absurd tells
+  work_tells (Make w) (Copy new) did knows tells calls settled leaves = absurd tells
+  work_tells (Make w) (Delete new) did knows tells calls settled leaves = absurd tells
 
   work_winds : (ending : Ending) (old new : Work) (did : Did) → WorkKnows told dirty marks (current log) (Ends ending) old → WorkWinds ending old did new → WorkLastCalls old did log (Some now)
       → LeavesDirty (Ends ending) old did new dirty dirty_after (Some log) (Some now) → Steps told dirty dirty_after marks log now kept did (Ends ending) old new
   work_winds ending (Copy c) (Copy new) did knows winds calls leaves = copy_winds told dirty dirty_after marks log now kept c new ending did leaves.refusal knows winds (leaves.tried log refl) calls leaves.dirty_is
   work_winds ending (Delete d) (Delete new) did knows winds calls leaves = deletion_winds told dirty dirty_after marks log now kept d new ending did leaves.refusal knows winds (leaves.tried log refl) calls leaves.dirty_is
+  work_winds ending (Make m) (Make new) did knows winds calls leaves = making_winds told dirty dirty_after marks log now kept m new ending did leaves.refusal knows winds (leaves.tried log refl) calls leaves.dirty_is
   work_winds ending (Copy c) (Delete new) did knows winds calls leaves = absurd winds
+  work_winds ending (Copy c) (Make new) did knows winds calls leaves = absurd winds
   work_winds ending (Delete d) (Copy new) did knows winds calls leaves = absurd winds
+  work_winds ending (Delete d) (Make new) did knows winds calls leaves = absurd winds
+  work_winds ending (Make m) (Copy new) did knows winds calls leaves = absurd winds
+  work_winds ending (Make m) (Delete new) did knows winds calls leaves = absurd winds
 
   abbrev pub Leads : Running → Did → Running → Type 0
   Leads job did new = Comes told (said_after now did job.work told) dirty_after log now (KnowsAfter did (said_after now did job.work told) dirty_after (current now) new.course new.work)

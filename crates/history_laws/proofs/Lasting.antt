@@ -7,8 +7,8 @@ use Rattle.tree_trait.specs.Change.{CallLog, current}
 use Rattle.tree_trait.specs.CrashImages.{Among}
 use Rattle.tree_trait.proofs.Visible.{same_path-self}
 use Rattle.job_reports.specs.declared.report.Did.{Did}
-use Rattle.job_reports.specs.declared.report.Did.TheVariants.{Began, Chunk, Placed, Removed, Kept, Skipped, Cleaned, Barrier, Troubled, Ended}
-use Rattle.job_reports.specs.Jobs.{Item, Copies, Removes}
+use Rattle.job_reports.specs.declared.report.Did.TheVariants.{Began, Chunk, Placed, Removed, Made, Kept, Skipped, Cleaned, Barrier, Troubled, Ended}
+use Rattle.job_reports.specs.Jobs.{Item, Copies, Removes, Makes}
 use Rattle.file_copy.specs.Copied.{copied}
 use Rattle.session_history.specs.declared.history.Event.{Event}
 use Rattle.session_history.specs.declared.history.Event.TheVariants.{Key, Look, Order, Step, Closed}
@@ -17,7 +17,7 @@ use Rattle.session_history.specs.declared.history.Entry.{Entry}
 use Rattle.copy_move.specs.Jobs.{Running}
 use Rattle.history_laws.specs.Doubt.{is_unsettled}
 use Rattle.session_history.specs.LiveJobs.{IsLivePart, LiveJob, live_jobs, live_item}
-use Rattle.history_laws.specs.Replayed.{log_prefix, placed_by, replayed_event, replayed_step, replayed_tree}
+use Rattle.history_laws.specs.Replayed.{log_prefix, new_folder, placed_by, replayed_event, replayed_step, replayed_tree}
 use Rattle.session_history.specs.Named.{named_after, named_by, named_parts, IsUnnamedSince, names, names_path}
 use Rattle.history_laws.specs.Safe.{IsSafe}
 use Rattle.session_history.specs.Entries.{calls_in}
@@ -27,8 +27,10 @@ use Rattle.history_laws.proofs.Finished.{finished_folder, finished_law}
 use Rattle.history_laws.proofs.Histories.{traced_reached}
 use Rattle.history_laws.proofs.Moments.{session_law, sure_moment}
 use Rattle.history_laws.proofs.Owing.{in_filter}
+use Rattle.history_laws.proofs.Prefixes.{folders_since, folders_told}
+use Rattle.job_reports.specs.Paths.{folder_of}
 use Rattle.history_laws.proofs.Reports.{HasLive}
-use Rattle.history_laws.proofs.Resting.{folder_at, name_sure}
+use Rattle.history_laws.proofs.Resting.{name_sure}
 use Rattle.history_laws.proofs.Staying.{stays_law}
 use Rattle.history_laws.proofs.Sources.{item_in}
 
@@ -36,6 +38,7 @@ use Rattle.history_laws.proofs.Sources.{item_in}
 placed_unnamed : (item : Option Item) (target : Route) (v : View) (path : Route) → same_path path target ≡ false → placed_by item target v path ≡ v path
 placed_unnamed (Some (Copies source to)) target v path unnamed = put_off v target (Rattle.std.specs.Option.option_map copied (v source).value) path unnamed
 placed_unnamed (Some (Removes file)) target v path unnamed = refl
+placed_unnamed (Some (Makes folder)) target v path unnamed = refl
 placed_unnamed None target v path unnamed = refl
 
 step_unnamed : (log : CallLog) (did : Did) (item : Option Item) (v : View) (path : Route) → names did path ≡ false → replayed_step log did item v path ≡ v path
@@ -45,6 +48,7 @@ step_unnamed log (Ended ending (Some part)) item v path unnamed = put_off v part
 step_unnamed log (Ended ending None) item v path unnamed = refl
 step_unnamed log (Began part) item v path unnamed = refl
 step_unnamed log (Chunk count) item v path unnamed = refl
+step_unnamed log (Made folder) item v path unnamed = put_off v folder (Some new_folder) path unnamed
 step_unnamed log (Kept kept) item v path unnamed = refl
 step_unnamed log (Skipped file cause) item v path unnamed = refl
 step_unnamed log (Cleaned part) item v path unnamed = refl
@@ -72,6 +76,7 @@ named_step (Began part) parts path unnamed (inr among) = among
 named_step (Placed target) parts path unnamed among = in_filter (λ kept. Rattle.std.specs.Prelude.not (same_path kept target)) path parts among
 named_step (Chunk count) parts path unnamed among = among
 named_step (Removed file) parts path unnamed among = among
+named_step (Made folder) parts path unnamed among = in_filter (λ kept. Rattle.std.specs.Prelude.not (same_path kept folder)) path parts among
 named_step (Kept kept) parts path unnamed among = among
 named_step (Skipped file cause) parts path unnamed among = among
 named_step (Cleaned part) parts path unnamed among = among
@@ -111,9 +116,12 @@ finished_stays_law opening now newest older standing coming was stand job new pa
         let r = traced_reached opening tree settled older was (log_prefix opening (calls_in older) now) before in
         unnamed (r.kept.known.aside path (r.kept.known.part path (part_known was.jobs r.part (live_jobs older) path r.live found)).0)
 
+    in_folder : folders_told opening older (folder_of path) ≡ true
+    in_folder = ap (folders_told opening older) folder ∙ finished_folder opening tree settled older was (log_prefix opening (calls_in older) now) job before jobs_is changed
+
     sure : is_unsettled (log_prefix opening calls now) path ≡ false
     sure = sure_moment opening now newest standing coming stand calls path tree settled traced moment
-        (ap (folder_at (current opening)) folder ∙ finished_folder opening tree settled older was (log_prefix opening (calls_in older) now) job before jobs_is changed)
+        (folders_since opening older standing path (folder_of path) since in_folder) (folders_since opening older coming path (folder_of path) later in_folder)
         (stays_law opening now newest older standing coming stand calls path tree settled traced moment since later
         (name_sure (log_prefix opening (calls_in older) now) path (finished_law opening (log_prefix opening (calls_in older) now) older was job new part path tree settled before jobs_is tells changed folder)) no_part)
 

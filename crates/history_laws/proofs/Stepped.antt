@@ -1,16 +1,17 @@
 -- What a step of a job comes to: at each call of it what is known holds, and at its end what the history says then.
-use Rattle.std.proofs.Common.{◌≡◌, ◌⊎◌, ℕ, ◌≤◌, Bool, false, ◌||◌, List, [], ◌∷◌, ◌++◌, length, sym, ◌∙◌, ap, subst, inl, inr, Option, Some, None, arith, take, append_assoc, append-nil, length-append}
+use Rattle.std.proofs.Common.{◌≡◌, ◌⊎◌, ℕ, ◌≤◌, Bool, false, ◌&&◌, ◌||◌, List, [], ◌∷◌, ◌++◌, length, sym, ◌∙◌, ap, subst, inl, inr, Option, Some, None, arith, take, append_assoc, append-nil, length-append}
 use Rattle.std.specs.Option.{option_map_or}
 use Rattle.std.proofs.lemmas.Bool.{cases_lt}
 use Rattle.std.proofs.Math.Seq.{take-append_seam, take-length}
 use Rattle.mc_text.specs.Routes.{Route, same_path}
 use Rattle.tree_trait.specs.Change.{Change, CallLog, with_change}
 use Rattle.crash_law.specs.Guarded.{Marks}
+use Rattle.job_reports.specs.Jobs.{folder_changed}
 use Rattle.job_reports.specs.declared.report.Did.{Did}
-use Rattle.job_reports.specs.declared.report.Did.TheVariants.{Began, Chunk, Placed, Removed, Kept, Skipped, Cleaned, Barrier, Troubled, Ended}
+use Rattle.job_reports.specs.declared.report.Did.TheVariants.{Began, Chunk, Placed, Removed, Made, Kept, Skipped, Cleaned, Barrier, Troubled, Ended}
 use Rattle.copy_move.specs.declared.work.Work.{Work}
 use Rattle.history_laws.specs.Replayed.{replayed_step, keeping}
-use Rattle.session_history.specs.Named.{changed_by, named_by}
+use Rattle.session_history.specs.Named.{begins_change, changed_by, named_by}
 use Rattle.history_laws.proofs.Knowing.{Said, IsKnown, IsKept, settled_kept, settled_marks}
 use Rattle.history_laws.proofs.Sources.{item_in}
 
@@ -64,6 +65,7 @@ part_after (Cleaned part) before = None
 part_after (Ended ending part) before = None
 part_after (Chunk count) before = before
 part_after (Removed path) before = before
+part_after (Made made) before = before
 part_after (Kept kept) before = before
 part_after (Skipped path cause) before = before
 part_after Barrier before = before
@@ -76,11 +78,16 @@ doubt_by (Placed path) part before = λ p. (before p || same_path p path) || opt
 doubt_by (Removed path) part before = λ p. before p || same_path p path
 doubt_by (Cleaned gone) part before = λ p. before p || same_path p gone
 doubt_by (Chunk count) part before = before
+doubt_by (Made path) part before = λ p. before p || same_path p path
 doubt_by (Kept kept) part before = before
 doubt_by (Skipped path cause) part before = before
 doubt_by Barrier part before = before
 doubt_by (Troubled trouble) part before = before
 doubt_by (Ended ending left) part before = before
+
+-- the folder of a job's first change is on the disk from then on
+abbrev pub folders_by : Did → Route → (Route → Bool) → Route → Bool
+folders_by did folder before = λ p. (begins_change did && same_path p folder) || before p
 
 abbrev pub said_after : CallLog → Did → Work → Said → Said
 said_after now did work told = record {
@@ -89,7 +96,7 @@ said_after now did work told = record {
   named = named_by did told.named;
   part = part_after did told.part;
   doubt = doubt_by did told.part told.doubt;
-  folders = told.folders;
+  folders = folders_by did (folder_changed (item_in work)) told.folders;
 }
 
 -- What a step comes to.
