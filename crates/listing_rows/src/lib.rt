@@ -16,13 +16,13 @@ use tree_trait::Tree;
 
 /// Each block of rows with what comes of it. Before a line `listed` stands what is on its disk.
 pub fn tell_rows(page: &mut Page, blocks: &str) {
-    tell_blocks::<Listings>(page, blocks);
+    tell_blocks::<ListingBlocks>(page, blocks);
 }
 
 /// Blocks of rows on listings and formats.
-struct Listings;
+struct ListingBlocks;
 
-impl Blocks for Listings {
+impl Blocks for ListingBlocks {
     fn tell(page: &mut Page, tree: &mut MemTree, block: &str) {
         let (things, rows) = block.split_once("listed\n").unwrap_or((block, ""));
         put_things(page, tree, things);

@@ -18,13 +18,13 @@ use tree_trait::Tree;
 /// Each block of rows with what comes of it. Before a line `opened` stands what is on its disk, and behind it the folders of both
 /// panels.
 pub fn tell_rows(page: &mut Page, blocks: &str) {
-    tell_blocks::<Sessions>(page, blocks);
+    tell_blocks::<PairBlocks>(page, blocks);
 }
 
 /// Blocks of rows on two panels.
-struct Sessions;
+struct PairBlocks;
 
-impl Blocks for Sessions {
+impl Blocks for PairBlocks {
     fn tell(page: &mut Page, tree: &mut MemTree, block: &str) {
         let (things, rows) = block.split_once("opened ").unwrap_or((block, ""));
         put_things(page, tree, things);
