@@ -4,7 +4,6 @@ use Rattle.std.proofs.lemmas.Bool.{false≢true}
 use Rattle.std.specs.Prelude.{nat_le}
 use Rattle.std.specs.Option.{option_map, option_map_or}
 use Rattle.mc_text.specs.Routes.{Route, spelled}
-use Rattle.tree_trait.specs.declared.file_system.FileSystem.{FileSystem}
 use Rattle.tree_trait.specs.declared.calls.TreeError.{TreeError}
 use Rattle.tree_trait.specs.declared.calls.TreeError.TheVariants.{Missing}
 use Rattle.tree_trait.specs.declared.calls.Meta.{Meta}
@@ -15,10 +14,7 @@ use Rattle.tree_trait.specs.Change.{CallLog, current}
 use Rattle.tree_trait.specs.Answers.{IsMeta, IfKnown, Reads}
 use Rattle.tree_trait.proofs.Walking.{stat-found}
 use Rattle.job_reports.proofs.PermittedCalls.{stat_missing}
-use Rattle.box_words.specs.declared.dialog.Chosen.{Chosen}
 use Rattle.mc_ui.specs.declared.panel_command.Opens.{Opens}
-use Rattle.mc_ui.specs.declared.choosing.Choice.TheVariants.{Nothing, Thing}
-use Rattle.mc_ui.specs.Choices.{IsLook}
 use Rattle.mc_ui.specs.Copies.{IsTaken, IsVacant, MayAsk, is_spot_of, may_open}
 use Rattle.mc_ui.specs.Screens.{sight}
 
@@ -45,17 +41,12 @@ may_ask box (Some log) path meta asks near reads kind =
     let r = reads log refl in
     first_decides _ _ asks (spot_kind box log path meta r.0 r.1 ∙ kind) (le_true _ _ near)
 
-pub thing_look : (box : Opens) (contents : Option CallLog) (wanted : Route) (chosen : Chosen) (meta : Meta) → chosen.path ≡ wanted → length (spelled chosen.path) ≤ 4096
-    → IfKnown contents (λ log. Reads log (Stat chosen.path) (let r : Result Meta TreeError = Ok meta in r) (IsMeta (current log) chosen.path)) → may_open box meta.kind ≡ true
-    → IsLook box (sight contents) wanted (Thing chosen)
-thing_look box contents wanted chosen meta same close reads kind =
-    subst (λ q. IsLook box (sight contents) q (Thing chosen)) same (may_ask box contents chosen.path meta true close reads kind, refl)
-
-pub no_look : (box : Opens) (contents : Option CallLog) (wanted path : Route) (meta : Meta) → path ≡ wanted → length (spelled path) ≤ 4096
-    → IfKnown contents (λ log. Reads log (Stat path) (let r : Result Meta TreeError = Ok meta in r) (IsMeta (current log) path)) → may_open box meta.kind ≡ false
-    → IsLook box (sight contents) wanted Nothing
-no_look box contents wanted path meta same close reads kind =
-    subst (λ q. IsLook box (sight contents) q Nothing) same (may_ask box contents path meta false close reads kind)
+pub thing_look : (box : Opens) (contents : Option CallLog) (wanted path : Route) (meta : Meta) → path ≡ wanted → length (spelled wanted) ≤ 4096
+    → IfKnown contents (λ log. Reads log (Stat path) (let r : Result Meta TreeError = Ok meta in r) (IsMeta (current log) path)) → may_open box meta.kind ≡ true
+    → MayAsk box (sight contents) wanted true × (path ≡ wanted)
+thing_look box contents wanted path meta same close reads kind =
+    let near : length (spelled path) ≤ 4096 = subst (λ (q : Route). length (spelled q) ≤ 4096) (sym same) close in
+    (subst (λ q. MayAsk box (sight contents) q true) same (may_ask box contents path meta true near reads kind), same)
 
 -- something stands where a look was answered
 pub taken : (contents : Option CallLog) (path : Route) (result : Result Meta TreeError)

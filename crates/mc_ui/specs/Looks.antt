@@ -1,11 +1,9 @@
 -- What reading the panels again comes to, after a job's end.
-use Rattle.std.specs.Prelude.{◌≡◌, ℕ, Bool, true, false, List, [], ◌∷◌, ◌++◌, Option, Some, None, map, ⊤}
+use Rattle.std.specs.Prelude.{◌≡◌, ℕ, Bool, true, false, List, [], ◌++◌, Option, map}
 use Rattle.tree_trait.specs.Change.{CallLog}
 use Rattle.tree_trait.specs.Answers.{IfKnown}
-use Rattle.resolving.specs.declared.error.ResolveError.{ResolveError}
 use Rattle.session_history.specs.declared.refusal.Refusal.{Refusal}
 use Rattle.session_history.specs.declared.refusal.Refusal.TheVariants.{Resolve}
-use Rattle.panel_pair.specs.declared.looking.Reread.{Reread}
 use Rattle.panel_pair.specs.declared.looking.Unread.{Unread}
 use Rattle.panel_pair.specs.Looks.{IsRereadOf, ShowsLooks, ShowsReread, unread_of}
 use Rattle.panel_pair.specs.Looks as pair

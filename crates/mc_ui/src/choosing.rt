@@ -41,13 +41,13 @@ pub fn choose<T: Tree>(
     let names = panel.selection(alloc)?;
     match names.as_slice() {
         [] => Ok(Choice::NoSelection),
-        [name] => look_at(alloc, tree, panel.folder(), name, opens),
+        [name] => look_at_thing(alloc, tree, panel.folder(), name, opens),
         [_, _, ..] => Ok(Choice::Nothing),
     }
 }
 
 /// Looks at a thing in a folder.
-fn look_at<T: Tree>(
+fn look_at_thing<T: Tree>(
     alloc: Global,
     tree: &mut T,
     folder: &Path,

@@ -1,9 +1,9 @@
 -- What was refused has its cause in the tree.
-use Rattle.std.proofs.Common.{◌≡◌, ℕ, ◌≤◌, inl, inr, List, [], ◌∷◌, ◌++◌, Option, Some, None, Result, Ok, Err, refl, sym, subst, ap, ◌∙◌, arith}
+use Rattle.std.proofs.Common.{◌≡◌, ℕ, ◌≤◌, inl, inr, List, [], ◌∷◌, Option, Result, Ok, Err, refl, sym, subst, ap, ◌∙◌, arith}
 use Rattle.mc_text.specs.Routes.{Route, path_text}
 use Rattle.tree_trait.specs.Refusals.{holder}
 use Rattle.tree_trait.specs.Change.{CallLog, current}
-use Rattle.tree_trait.specs.Answers.{IfKnown, HasCause, HasRisen}
+use Rattle.tree_trait.specs.Answers.{IfKnown, HasCause}
 use Rattle.resolving.specs.declared.error.ResolveError.{ResolveError}
 use Rattle.resolving.specs.declared.error.ResolveError.TheVariants.{Tree, TooManyLinks, TooLong, BadName, Fault, Memory}
 use Rattle.resolving.specs.declared.walking.Wanted.TheVariants.{FolderAlone}
@@ -12,15 +12,12 @@ use Rattle.resolving.specs.Resolution.{resolved}
 use Rattle.mc_panels.specs.declared.going.Way.{Way}
 use Rattle.mc_panels.specs.declared.going.Way.TheVariants.{Nowhere, Up, Into}
 use Rattle.mc_panels.specs.Panels.{PanelState, current_text}
-use Rattle.mc_panels.specs.declared.rereading.Attempt.{Attempt}
-use Rattle.mc_panels.specs.declared.rereading.Attempt.TheVariants.{Read, Refused}
-use Rattle.mc_panels.specs.Rereadings.{ShowsAttempt, refusal_in}
 use Rattle.mc_panels.specs.Goings.{way_of, Reads, ShowsNext, ShowsResolved}
 use Rattle.panel_pair.specs.declared.command.PanelCommand.{PanelCommand}
 use Rattle.panel_pair.specs.declared.command.PanelCommand.TheVariants.{Move, SwitchPanel, SwapPanels, Enter, ReadAgain, Back, Forward, Toggle, Invert, Select, Unselect, Compare, Arrange, ShowColumns, ShowBrief}
 use Rattle.panel_pair.specs.Commands.{CommandReads}
 use Rattle.panel_pair.specs.Openings.{ShowsPath}
-use Rattle.panel_pair.specs.Readings.{Each, HasReadCause, ReadsTree, listed}
+use Rattle.panel_pair.specs.Readings.{HasReadCause, ReadsTree}
 
 -- want of memory needs none
 memory_cause : (log : CallLog) (e : ResolveError) → e ≡ Memory → HasReadCause log e
@@ -79,39 +76,6 @@ command_cause ShowBrief log p e h = memory_cause log e h
 pub path_cause : (log : CallLog) (path : Route) (e : ResolveError) → ShowsPath log path (Err e) → HasReadCause log e
 path_cause log path e shows =
     resolved_cause log [] (path_text path) (resolved (current log) FolderAlone [] (path_text path)) e refl shows
-
--- what two readings read, and what they were refused
-abbrev pub MayTell : Option ResolveError → ℕ → ℕ → Type 0
-MayTell refused faults faults_after = refused ≡ Some Fault → HasRisen faults faults_after
-
-attempt_cause : (log : CallLog) (folder : Route) (a : Attempt) → ShowsAttempt log folder a → Each (HasReadCause log) (listed (refusal_in a))
-attempt_cause log folder (Read fresh) shows = tt
-attempt_cause log folder (Refused e) shows = (inl (folder, shows), tt)
-
-attempt_fault : (a : Attempt) (faults faults_after : ℕ) → MayTell (refusal_in a) faults faults_after
-    → Each (λ e. e ≡ Fault → HasRisen faults faults_after) (listed (refusal_in a))
-attempt_fault (Read fresh) faults faults_after may = tt
-attempt_fault (Refused e) faults faults_after may = ((λ fault. may (ap Some fault)), tt)
-
--- what holds of each of two lists holds of each of both
-each_append : {A : Type 0} → (P : A → Type 0) (xs ys : List A) → Each P xs → Each P ys → Each P (xs ++ ys)
-each_append P [] ys each more = more
-each_append P (x ∷ xs) ys each more = (each.0, each_append P xs ys each.1 more)
-
-pub reads_two : (left right : Attempt) (on_left on_right : Route) (before after : Option CallLog) (faults faults_after : ℕ)
-    → after ≡ before → faults ≤ faults_after
-    → IfKnown before (λ log. ShowsAttempt log on_left left) → IfKnown before (λ log. ShowsAttempt log on_right right)
-    → MayTell (refusal_in left) faults faults_after → MayTell (refusal_in right) faults faults_after
-    → ReadsTree (listed (refusal_in left) ++ listed (refusal_in right)) before after faults faults_after
-reads_two left right on_left on_right before after faults faults_after same later shows_left shows_right fault_left fault_right =
-    record {
-      same = same;
-      later = later;
-      causes = (λ log is. each_append (HasReadCause log) (listed (refusal_in left)) (listed (refusal_in right))
-          (attempt_cause log on_left left (shows_left log is)) (attempt_cause log on_right right (shows_right log is)));
-      fault = each_append (λ e. e ≡ Fault → HasRisen faults faults_after) (listed (refusal_in left)) (listed (refusal_in right))
-          (attempt_fault left faults faults_after fault_left) (attempt_fault right faults faults_after fault_right);
-    }
 
 -- what a call behind another one was refused
 pub reads_later : (A : Type 0) (told e : ResolveError) (before between after : Option CallLog) (faults faults_between faults_after : ℕ)
