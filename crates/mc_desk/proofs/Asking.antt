@@ -1,24 +1,20 @@
 -- What a key comes to, by what the desk decides about it.
-use Rattle.std.proofs.Common.{◌≡◌, ◌⊎◌, ℕ, Bool, true, false, List, [], sym, ◌∙◌, ap, subst, inl, inr, Option, Some, None}
-use Rattle.std.proofs.lemmas.Bool.{false≢true}
+use Rattle.std.proofs.Common.{◌≡◌, ℕ, true, List, [], sym, ◌∙◌, ap, subst, inl, inr, Option, Some, None}
 use Rattle.key_screen.specs.declared.keys.Key.{Key as KeyType}
 use Rattle.tree_trait.specs.Change.{CallLog}
-use Rattle.tree_trait.specs.Answers.{IfKnown, HasRisen}
 use Rattle.job_reports.specs.declared.row.JobRow.{JobRow}
 use Rattle.session_history.specs.declared.refusal.BeginError.TheVariants.{NoMoreIds}
 use Rattle.session_history.specs.declared.refusal.Refusal.{Refusal}
 use Rattle.session_history.specs.declared.refusal.Refusal.TheVariants as refusal
-use Rattle.session_history.specs.Refusals.{AreRefused}
 use Rattle.mc_ui.specs.declared.asks.Ask.{Ask}
 use Rattle.mc_ui.specs.declared.asks.Ask.TheVariants as ask
 use Rattle.mc_ui.specs.declared.asks.Told.{Told}
 use Rattle.mc_ui.specs.declared.asks.Told.TheVariants as told
-use Rattle.mc_ui.specs.Refused.{has_fault}
 use Rattle.mc_ui.specs.Screens.{Answers, Begins, Ends, KeyLeads, Screen, WellAsked, at_second, is_request, settled, told_refusal, with_ask}
 use Rattle.mc_ui.specs.Screens.{HasSameSize}
 use Rattle.mc_desk.specs.declared.granting.Deed.{Deed}
 use Rattle.mc_desk.specs.declared.granting.Deed.TheVariants as deed
-use Rattle.mc_desk.specs.Granting.{CanBeDone, IsGranted, IsWorked, KeyWorks, no_more_ids, told_of, with_deed}
+use Rattle.mc_desk.specs.Granting.{CanBeDone, IsGranted, IsWorked, KeyWorks, told_of, with_deed}
 
 module _ (contents : Option CallLog) (rows : List JobRow) (next : Option ℕ) (second : ℕ) (key : KeyType) (own : List Refusal) (asked : Ask) (before screen : Screen) (refusals : List Refusal) (now : Screen)
     (leads : KeyLeads contents rows second key own before (with_ask asked screen)) where

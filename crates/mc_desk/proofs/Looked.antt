@@ -1,5 +1,5 @@
 -- A look leaves a whole desk.
-use Rattle.std.proofs.Common.{◌≡◌, ℕ, ◌≤◌, ◌∷◌, Bool, true, false, List, [], Result, refl, sym, ◌∙◌, ap, subst, Option, Some, None, IsSome, arith}
+use Rattle.std.proofs.Common.{◌≡◌, ℕ, ◌≤◌, ◌∷◌, Bool, true, false, List, Result, refl, sym, ◌∙◌, ap, subst, Option, Some, None, IsSome}
 use Rattle.std.specs.Prelude.{if◌then◌else◌}
 use Rattle.std.specs.Option.{option_map}
 use Rattle.tree_trait.specs.declared.devices.SinkError.{SinkError}

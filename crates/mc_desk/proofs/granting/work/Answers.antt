@@ -1,5 +1,5 @@
 -- A key as the screen works it, and what is decided about it.
-use Rattle.std.proofs.Common.{ap, refl, ◌∙◌}
+use Rattle.std.proofs.Common.{ap, ◌∙◌}
 use Rattle.mc_ui.specs.Screens.{settled}
 use Rattle.mc_desk.specs.Granting.{told_of}
 use Rattle.mc_desk.proofs.Asking.{keeps_size, worked}

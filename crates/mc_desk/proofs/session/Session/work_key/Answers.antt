@@ -1,5 +1,5 @@
 -- A key is written down as it was worked, and what it asked for directly after it; its frame is on the terminal then.
-use Rattle.std.proofs.Common.{rules, ◌≡◌, ◌≤◌, ◌∷◌, false, None, ap, sym, subst, ◌∙◌, arith, refl}
+use Rattle.std.proofs.Common.{rules, ◌≡◌, ◌≤◌, ◌∷◌, false, None, ap, sym, subst, ◌∙◌, arith}
 use Rattle.session_history.specs.declared.history.Event.TheVariants.{Key}
 use Rattle.mc_desk.specs.Desks.{IsDesk, Seen, ShowsDesk, seen_of}
 use Rattle.mc_desk.specs.Granting.{IsWorked}
