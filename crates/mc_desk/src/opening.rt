@@ -45,7 +45,10 @@ pub fn open<T: Tree>(
         Err(NoMemory) => return Err(StartError::Memory),
     };
     match Panels::open(alloc, tree, &left, &right) {
-        Ok(panels) => Ok((Ui::new(panels, lines, columns, now), log, screen)),
+        Ok(panels) => {
+            let ui = Ui::new(panels, lines, columns, now);
+            Ok((ui, log, screen))
+        }
         Err(Unopened { side, error }) => Err(refused(side, error)),
     }
 }
