@@ -1,5 +1,5 @@
 -- What is viewed: its bytes, where they are known, and why it can't be read.
-use Rattle.std.specs.Prelude.{◌≡◌, ◌≢◌, ◌≤◌, ℕ, ⊤, List, length, Option, Some, None, Result, Ok, Err}
+use Rattle.std.specs.Prelude.{◌≡◌, ◌≢◌, ◌≤◌, ℕ, Bool, true, false, ⊤, List, length, Option, Some, None, Result, Ok, Err}
 use Rattle.tree_trait.specs.declared.calls.TreeError.{TreeError}
 use Rattle.tree_trait.specs.declared.calls.TreeError.TheVariants as tree
 use Rattle.tree_trait.specs.Calls.{ReadAt}
@@ -16,6 +16,11 @@ unfoldable pub held : Option CallLog → Subject → Option (List ℕ)
 held contents (Output bytes) = Some bytes
 held None (File path) = None
 held (Some log) (File path) = Some (node (current log) (found (current log) path)).bytes
+
+-- what a command put out, which no tree is asked for
+abbrev pub is_output : Subject → Bool
+is_output (Output bytes) = true
+is_output (File path) = false
 
 -- a fact on the bytes that are viewed, where they are known and so many
 abbrev pub IfHeld : Option CallLog → Subject → ℕ → (List ℕ → Type 0) → Type 0

@@ -1,7 +1,7 @@
 //! Where a search leads.
-ghost use Rattle.std.specs.Prelude.{◌≡◌, ◌≢◌, ◌≤◌, ◌^◌, None, Ok, Err, IfOk, IfErr};
+ghost use Rattle.std.specs.Prelude.{◌≡◌, ◌≢◌, ◌≤◌, ◌^◌, None, Ok, Err, IfOk, IfErr, true};
 ghost use Rattle.tree_trait.specs.Answers.{IfKnown, HasCause};
-ghost use Rattle.mc_viewer.specs.Viewing.{held, IfHeld, IfRead, IsReadable, IsReadError, AsTheTreeSays};
+ghost use Rattle.mc_viewer.specs.Viewing.{held, IfHeld, IfRead, IsReadable, IsReadError, AsTheTreeSays, is_output};
 ghost use Rattle.mc_viewer.specs.Steps.{to_byte};
 ghost use Rattle.mc_viewer.specs.Searches.{sought, start_from, first_from, next_from, landing, hit_landing, IsMissed, IsSearchError};
 
@@ -37,6 +37,7 @@ pub fn first_landing<T: Tree>(
     ensures refused { IfKnown (T.contents tree.old) (λ log. IfErr result (AsTheTreeSays log subject.now)) }
     ensures kinds { IfErr result IsSearchError }
     ensures same { T.contents tree.new ≡ T.contents tree.old }
+    ensures apart { is_output subject.now ≡ true → tree.new ≡ tree.old }
     ensures cause { HasCause (ViewError.Tree TreeError.Fault) (T.fault_count tree.old) (T.fault_count tree.new) result }
 {
     let size = size_of(alloc, tree, subject)?;
@@ -63,6 +64,7 @@ fn search_start<T: Tree>(
     ensures refused { IfKnown (T.contents tree.old) (λ log. IfErr result (AsTheTreeSays log subject.now)) }
     ensures kinds { IfErr result IsReadError }
     ensures same { T.contents tree.new ≡ T.contents tree.old }
+    ensures apart { is_output subject.now ≡ true → tree.new ≡ tree.old }
     ensures cause { HasCause (ViewError.Tree TreeError.Fault) (T.fault_count tree.old) (T.fault_count tree.new) result }
 {
     match what {
@@ -102,6 +104,7 @@ pub fn next_landing<T: Tree>(
     ensures refused { IfKnown (T.contents tree.old) (λ log. IfErr result (AsTheTreeSays log subject.now)) }
     ensures kinds { IfErr result IsSearchError }
     ensures same { T.contents tree.new ≡ T.contents tree.old }
+    ensures apart { is_output subject.now ≡ true → tree.new ≡ tree.old }
     ensures cause { HasCause (ViewError.Tree TreeError.Fault) (T.fault_count tree.old) (T.fault_count tree.new) result }
 {
     let Some(hit) = last else {
@@ -128,6 +131,7 @@ fn behind<T: Tree>(
     ensures refused { IfKnown (T.contents tree.old) (λ log. IfErr result (AsTheTreeSays log subject.now)) }
     ensures kinds { IfErr result IsReadError }
     ensures same { T.contents tree.new ≡ T.contents tree.old }
+    ensures apart { is_output subject.now ≡ true → tree.new ≡ tree.old }
     ensures cause { HasCause (ViewError.Tree TreeError.Fault) (T.fault_count tree.old) (T.fault_count tree.new) result }
 {
     if place >= size {
@@ -160,6 +164,7 @@ fn land<T: Tree>(
     ensures refused { IfKnown (T.contents tree.old) (λ log. IfErr result (AsTheTreeSays log subject.now)) }
     ensures kinds { IfErr result IsSearchError }
     ensures same { T.contents tree.new ≡ T.contents tree.old }
+    ensures apart { is_output subject.now ≡ true → tree.new ≡ tree.old }
     ensures cause { HasCause (ViewError.Tree TreeError.Fault) (T.fault_count tree.old) (T.fault_count tree.new) result }
 {
     match sought(alloc, tree, subject, size, what, from)? {
@@ -187,6 +192,7 @@ fn landed<T: Tree>(
     ensures refused { IfKnown (T.contents tree.old) (λ log. IfErr result (AsTheTreeSays log subject.now)) }
     ensures kinds { IfErr result IsReadError }
     ensures same { T.contents tree.new ≡ T.contents tree.old }
+    ensures apart { is_output subject.now ≡ true → tree.new ≡ tree.old }
     ensures cause { HasCause (ViewError.Tree TreeError.Fault) (T.fault_count tree.old) (T.fault_count tree.new) result }
 {
     let layout = layout_of(state);

@@ -1,7 +1,7 @@
 //! A viewer of a file or an output.
-ghost use Rattle.std.specs.Prelude.{◌≡◌, ◌≢◌, ◌≤◌, None, Ok, Err, IsOk, IfOk, IfErr, OnOk, OnErr};
+ghost use Rattle.std.specs.Prelude.{◌≡◌, ◌≢◌, ◌≤◌, None, Ok, Err, IsOk, IfOk, IfErr, OnOk, OnErr, true};
 ghost use Rattle.tree_trait.specs.Answers.{IfKnown, HasCause};
-ghost use Rattle.mc_viewer.specs.Viewing.{held, IfRead, IsReadable, IsReadError, AsTheTreeSays};
+ghost use Rattle.mc_viewer.specs.Viewing.{held, IfRead, IsReadable, IsReadError, AsTheTreeSays, is_output};
 ghost use Rattle.mc_viewer.specs.Searches.{after_search, after_next, moved_on, IsMissed, IsSearchError};
 ghost use Rattle.mc_viewer.specs.Steps.{begun, page_of, after_step, NeedsNoLook};
 
@@ -54,6 +54,7 @@ impl Viewer {
         ensures refused { IfKnown (T.contents tree.old) (λ log. IfErr result (AsTheTreeSays log subject)) }
         ensures kinds { IfErr result IsReadError }
         ensures same { T.contents tree.new ≡ T.contents tree.old }
+        ensures apart { is_output subject ≡ true → tree.new ≡ tree.old }
         ensures cause { HasCause (ViewError.Tree TreeError.Fault) (T.fault_count tree.old) (T.fault_count tree.new) result }
     {
         size_of(alloc, tree, &subject)?;
@@ -80,6 +81,7 @@ impl Viewer {
         ensures refused { IfKnown (T.contents tree.old) (λ log. IfErr result (AsTheTreeSays log self.now.subject)) }
         ensures kinds { IfErr result IsReadError }
         ensures same { T.contents tree.new ≡ T.contents tree.old }
+        ensures apart { is_output self.now.subject ≡ true → tree.new ≡ tree.old }
         ensures cause { HasCause (ViewError.Tree TreeError.Fault) (T.fault_count tree.old) (T.fault_count tree.new) result }
     {
         page_rows(
@@ -108,6 +110,7 @@ impl Viewer {
         ensures refused { IfKnown (T.contents tree.old) (λ log. IfErr result (AsTheTreeSays log self.old.subject)) }
         ensures kinds { IfErr result IsReadError }
         ensures same { T.contents tree.new ≡ T.contents tree.old }
+        ensures apart { is_output self.old.subject ≡ true → tree.new ≡ tree.old }
         ensures cause { HasCause (ViewError.Tree TreeError.Fault) (T.fault_count tree.old) (T.fault_count tree.new) result }
     {
         let state = moved(alloc, tree, &self.subject, self.state, step)?;
@@ -133,6 +136,7 @@ impl Viewer {
         ensures refused { IfKnown (T.contents tree.old) (λ log. IfErr result (AsTheTreeSays log self.old.subject)) }
         ensures kinds { IfErr result IsSearchError }
         ensures same { T.contents tree.new ≡ T.contents tree.old }
+        ensures apart { is_output self.old.subject ≡ true → tree.new ≡ tree.old }
         ensures cause { HasCause (ViewError.Tree TreeError.Fault) (T.fault_count tree.old) (T.fault_count tree.new) result }
     {
         let landing = first_landing(alloc, tree, &self.subject, self.state, &what)?;
@@ -158,6 +162,7 @@ impl Viewer {
         ensures refused { IfKnown (T.contents tree.old) (λ log. IfErr result (AsTheTreeSays log self.old.subject)) }
         ensures kinds { IfErr result IsSearchError }
         ensures same { T.contents tree.new ≡ T.contents tree.old }
+        ensures apart { is_output self.old.subject ≡ true → tree.new ≡ tree.old }
         ensures cause { HasCause (ViewError.Tree TreeError.Fault) (T.fault_count tree.old) (T.fault_count tree.new) result }
     {
         let landing = next_landing(alloc, tree, &self.subject, self.state, &self.last)?;

@@ -27,6 +27,7 @@ returns-in-TooLong-clause-shown g c = λ bytes known size_is.
 pub loop-at-preserved : goal.loop-at-preserved
 loop-at-preserved g c = record {
   same = c.in_ok-part.ensures.same ∙ c.loop-at.invariant.same;
+  apart = λ out. c.in_ok-part.ensures.apart out ∙ c.loop-at.invariant.apart out;
   later = omega (arith, c.in_ok-part.ensures.cause.later, c.loop-at.invariant.later);
   keeps = c.in-Passed.ensures.same ∙ c.loop-at.invariant.keeps;
   left = λ bytes known size_is.
