@@ -18,12 +18,13 @@ use Rattle.job_reports.specs.declared.job.Job.{Job}
 use Rattle.job_reports.specs.declared.job.Job.TheVariants as plan
 use Rattle.job_reports.specs.declared.answer.Answer.{Answer}
 use Rattle.job_reports.specs.declared.answer.Answer.TheVariants.{Retry, Skip, SkipAll, Abort}
-use Rattle.copy_move.specs.declared.deletion.Stage.TheVariants.{Remove}
 use Rattle.copy_move.specs.declared.work.Work.{Work}
 use Rattle.copy_move.specs.declared.work.Work.TheVariants.{Copy, Delete}
 use Rattle.copy_move.specs.declared.run.Course.{Course}
 use Rattle.copy_move.specs.declared.run.Course.TheVariants.{GoesOn, InTrouble, OwedSyncFailed, Skips, Ends}
-use Rattle.copy_move.specs.Deletions.{DeletionCalls, LastCalls}
+use Rattle.tree_deletion.specs.Standing.{after_item}
+use Rattle.tree_deletion.specs.Standing as standing
+use Rattle.copy_move.specs.Deletions.{DeletionCalls, IsAtStage, LastCalls, started}
 use Rattle.copy_move.specs.Deletions as deletions
 
 -- a live job: its number, what it does, and whether it goes on
@@ -36,11 +37,11 @@ pub record Running : Type 0 where
 abbrev pub copies : ℕ → Route → Route → Work
 copies id source target = Copy (begun id source target)
 
--- the deletion of a file, just begun
+-- the deletion of a thing with all that lies in it, just begun
 abbrev pub deletes : Route → Work
-deletes path = Delete (record { path = path; stage = Remove })
+deletes path = Delete (started path)
 
--- The work of a job of one file. Other plans aren't worked yet; and the root, which no folder holds, is neither deleted nor
+-- The work of a job of one item. Other plans aren't worked yet; and the root, which no folder holds, is neither deleted nor
 -- copied.
 abbrev pub first_work : ℕ → Job → Option Work
 first_work id (plan.Delete []) = None
@@ -51,20 +52,15 @@ first_work id (plan.Copy (pair ∷ [])) =
     if is_some (parent_of pair.source) && is_some (parent_of pair.target) then Some (copies id pair.source pair.target) else None
 first_work id (plan.Copy (pair ∷ more ∷ pairs)) = None
 
--- what a job works on: the file that is copied or deleted
-abbrev pub file_of : Work → Route
-file_of (Copy c) = c.source
-file_of (Delete d) = d.path
-
 -- the next call is at a barrier, where nothing can be skipped
 abbrev pub at_barrier : Work → Bool
 at_barrier (Copy c) = copying.at_barrier c.stage
-at_barrier (Delete d) = deletions.at_barrier d.stage
+at_barrier (Delete d) = standing.at_barrier d.stage
 
 -- the work of a job that has changed nothing yet
 abbrev pub is_fresh : Work → Bool
 is_fresh (Copy c) = copying.is_fresh c.stage c.folder
-is_fresh (Delete d) = deletions.is_fresh d.stage
+is_fresh (Delete d) = standing.is_fresh d.stage
 
 -- nothing can be skipped: the next call is at a barrier, or the trouble is a folder that an ended job left
 abbrev pub is_barred : Course → Work → Bool
@@ -74,10 +70,12 @@ is_barred (InTrouble cause) work = at_barrier work
 is_barred (Skips cause) work = at_barrier work
 is_barred (Ends ending) work = at_barrier work
 
--- the work without the file
-abbrev pub skipped : Work → Work
-skipped (Copy c) = Copy (record c { stage = copying.skipped c.stage })
-skipped (Delete d) = Delete (record d { stage = deletions.skipped d.stage })
+-- the work once what stands at this path was left as it is: the file that is copied, or something that is deleted
+abbrev pub PassesOver : Work → Route → Work → Type 0
+PassesOver (Copy c) path (Copy new) = (path ≡ c.source) × (new ≡ record c { stage = copying.skipped c.stage })
+PassesOver (Copy c) path (Delete new) = ⊥
+PassesOver (Delete d) path (Copy new) = ⊥
+PassesOver (Delete d) path (Delete new) = IsAtStage d (after_item d.path path d.stage) new
 
 -- the work taken up once more after a trouble; a deletion tries its call again
 abbrev pub taken_anew : Work → Work
@@ -129,14 +127,14 @@ course_after (Cleaned part) = GoesOn
 course_after Barrier = GoesOn
 course_after (Ended ending part) = GoesOn
 
--- What a step may report of a job that goes so, and what the job is then. A file that is to be skipped is reported with the
+-- What a step may report of a job that goes so, and what the job is then. What is to be skipped is reported with the
 -- cause of its trouble, or there is no memory for the report.
 abbrev pub TellsOn : Course → Running → Did → Running → Type 0
 TellsOn GoesOn job did new = (work : Work) × WorkTells job.work did work × (new ≡ record job { work = work; course = course_after did })
 TellsOn (InTrouble cause) job did new = ⊥
 TellsOn (OwedSyncFailed cause) job did new = ⊥
 TellsOn (Skips cause) job did new =
-    ((did ≡ Skipped (file_of job.work) cause) × (new ≡ record job { work = skipped job.work; course = GoesOn }))
+    ((path : Route) × (work : Work) × (did ≡ Skipped path cause) × PassesOver job.work path work × (new ≡ record job { work = work; course = GoesOn }))
     ⊎ ((did ≡ Troubled (out_of_memory_at (at_barrier job.work))) × (new ≡ record job { course = InTrouble Memory }))
 TellsOn (Ends ending) job did new = (work : Work) × WorkWinds ending job.work did work × (new ≡ record job { work = work })
 
@@ -147,12 +145,12 @@ JobTells job did new = TellsOn job.course job did new
 abbrev pub WorkCalls : (Route → Type 0) → Work → Did → Work → CallLog → Option CallLog → Type 0
 WorkCalls unclaimed (Copy c) did (Copy new) log after = CopyCalls unclaimed c did new log after
 WorkCalls unclaimed (Copy c) did (Delete new) log after = ⊥
-WorkCalls unclaimed (Delete d) did new log after = DeletionCalls d did log after
+WorkCalls unclaimed (Delete d) did new log after = DeletionCalls did log after
 
 -- the same of a last step
 abbrev pub WorkLastCalls : Work → Did → CallLog → Option CallLog → Type 0
 WorkLastCalls (Copy c) did log after = last.WindCalls c did log after
-WorkLastCalls (Delete d) did log after = LastCalls d did log after
+WorkLastCalls (Delete d) did log after = LastCalls did log after
 
 -- What a step of a job says of the tree's calls. The report of a skip makes none.
 abbrev pub CallsOn : (Route → Type 0) → Course → Running → Did → Running → CallLog → Option CallLog → Type 0

@@ -38,16 +38,15 @@ use Rattle.tree_trait.specs.declared.file_system.FileSystem.{FileSystem}
 use Rattle.session_history.specs.LiveJobs.{LiveJob, after_event, after_report, live, live_jobs, live_item}
 use Rattle.history_laws.specs.Replayed.{earlier_tree, log_prefix, replayed_step, replayed_tree}
 use Rattle.history_laws.specs.Traces.{EventLeads, Follows, IsJob, IsTraced, Stand, StepLeads, begun, if_closed, ordered, unless_ended, with_job}
-use Rattle.history_laws.proofs.Prefixes.{AreWithin, earlier_more, replayed_more, said_by, told_of, told_with, within_more}
+use Rattle.history_laws.proofs.Prefixes.{AreWithin, earlier_more, folders_of, replayed_more, said_by, told_of, told_with, within_more}
 use Rattle.history_laws.proofs.JobKnows.{StageKnows, WorkKnows, work_course}
 use Rattle.history_laws.proofs.JobLeads.{sync_leads, work_leads}
 use Rattle.history_laws.proofs.JobSteps.{gives_up}
 use Rattle.history_laws.proofs.Knowing.{Said, IsKept, anywhere}
 use Rattle.history_laws.proofs.Pending.{pending_settled, within_settled}
-use Rattle.history_laws.proofs.Resting.{folder_at}
 use Rattle.history_laws.proofs.Reports.{HasLive, JobsKnow, first_knows, knows_after, live_after, with_one}
 use Rattle.history_laws.proofs.Sources.{IsSame, answer_same, first_item, item_in, tells_same}
-use Rattle.history_laws.proofs.Stepped.{AreMids, Comes, doubt_by, more, part_after, said_after}
+use Rattle.history_laws.proofs.Stepped.{AreMids, Comes, doubt_by, folders_by, more, part_after, said_after}
 
 -- what holds after these entries
 pub record IsReached (opening : CallLog) (g : List Entry) (stand : Stand) (now : CallLog) : Type 0 where
@@ -207,11 +206,11 @@ module _ (opening : CallLog) (older : List Entry) (calls : ℕ) (was : Stand) (b
     told_is made now_is =
         let tree : replayed_tree opening now older ≡ replayed_tree opening before older = ap (λ l. replayed_tree opening l older) now_is ∙ replayed_more opening before made older r.within in
         let earlier : earlier_tree opening now older ≡ earlier_tree opening before older = ap (λ l. earlier_tree opening l older) now_is ∙ earlier_more opening before made older r.within in
-        ap (λ t. said_by (folder_at (current opening)) t (Rattle.history_laws.specs.Replayed.keeping (Rattle.session_history.specs.Named.changed_by did) (replayed_tree opening now older) (earlier_tree opening now older)) (Rattle.session_history.specs.Named.named_by did (Rattle.session_history.specs.Named.named_parts older)) (part_after did r.part))
+        ap (λ t. said_by (folders_by did (folders_of opening older)) t (Rattle.history_laws.specs.Replayed.keeping (Rattle.session_history.specs.Named.changed_by did) (replayed_tree opening now older) (earlier_tree opening now older)) (Rattle.session_history.specs.Named.named_by did (Rattle.session_history.specs.Named.named_parts older)) (part_after did r.part))
         (ap (λ l. replayed_step l did (live_item id (live_jobs older)) (replayed_tree opening now older)) at_end
         ∙ (ap (λ w. replayed_step now did w (replayed_tree opening now older)) item_is
         ∙ ap (replayed_step now did (Some (item_in job.work))) tree))
-        ∙ ap (λ t. said_by (folder_at (current opening)) (replayed_step now did (Some (item_in job.work)) (replayed_tree opening before older)) t (Rattle.session_history.specs.Named.named_by did (Rattle.session_history.specs.Named.named_parts older)) (part_after did r.part))
+        ∙ ap (λ t. said_by (folders_by did (folders_of opening older)) (replayed_step now did (Some (item_in job.work)) (replayed_tree opening before older)) t (Rattle.session_history.specs.Named.named_by did (Rattle.session_history.specs.Named.named_parts older)) (part_after did r.part))
         (ap (λ v. Rattle.history_laws.specs.Replayed.keeping (Rattle.session_history.specs.Named.changed_by did) v (earlier_tree opening now older)) tree
         ∙ ap (Rattle.history_laws.specs.Replayed.keeping (Rattle.session_history.specs.Named.changed_by did) (replayed_tree opening before older)) earlier)
         ∙ ap (λ d. (let t : Said = record (said_after now did job.work told) { doubt = d } in t)) (sym (doubt_anywhere did r.part))

@@ -1,5 +1,5 @@
 -- What a step of a job comes to: at each call of it what is known holds, and at its end what the history says then.
-use Rattle.std.proofs.Common.{◌≡◌, ◌⊎◌, ℕ, ◌≤◌, Bool, false, ◌||◌, List, [], ◌∷◌, ◌++◌, length, sym, ◌∙◌, ap, subst, inl, inr, Option, Some, None, arith, take, append_assoc, append-nil, length-append}
+use Rattle.std.proofs.Common.{◌≡◌, ◌⊎◌, ℕ, ◌≤◌, Bool, false, not, ◌&&◌, ◌||◌, List, [], ◌∷◌, ◌++◌, length, sym, ◌∙◌, ap, subst, inl, inr, Option, Some, None, arith, take, append_assoc, append-nil, length-append}
 use Rattle.std.specs.Option.{option_map_or}
 use Rattle.std.proofs.lemmas.Bool.{cases_lt}
 use Rattle.std.proofs.Math.Seq.{take-append_seam, take-length}
@@ -82,6 +82,19 @@ doubt_by Barrier part before = before
 doubt_by (Troubled trouble) part before = before
 doubt_by (Ended ending left) part before = before
 
+-- where folders stand then: a folder that was removed stands no more
+abbrev pub folders_by : Did → (Route → Bool) → Route → Bool
+folders_by (Removed path) before = λ p. before p && not (same_path p path)
+folders_by (Began made) before = before
+folders_by (Placed path) before = before
+folders_by (Cleaned gone) before = before
+folders_by (Chunk count) before = before
+folders_by (Kept kept) before = before
+folders_by (Skipped path cause) before = before
+folders_by Barrier before = before
+folders_by (Troubled trouble) before = before
+folders_by (Ended ending left) before = before
+
 abbrev pub said_after : CallLog → Did → Work → Said → Said
 said_after now did work told = record {
   tree = replayed_step now did (Some (item_in work)) told.tree;
@@ -89,7 +102,7 @@ said_after now did work told = record {
   named = named_by did told.named;
   part = part_after did told.part;
   doubt = doubt_by did told.part told.doubt;
-  folders = told.folders;
+  folders = folders_by did told.folders;
 }
 
 -- What a step comes to.

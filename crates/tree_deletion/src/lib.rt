@@ -8,10 +8,10 @@ mod meeting;
 mod removing;
 mod reports;
 mod skipping;
-mod unsynced;
+mod dirty;
 mod working;
 
 pub use deletion::{Deletion, Depth, Stage};
 pub use looking::Found;
 pub use meeting::Met;
-pub use unsynced::Unsynced;
+pub use dirty::Dirty;

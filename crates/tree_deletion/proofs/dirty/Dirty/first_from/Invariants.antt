@@ -1,7 +1,7 @@
 -- It goes on from there, and none was met yet.
 use Rattle.std.proofs.Common.{◌≤◌, ◌-◌, length}
 use Rattle.tree_deletion.specs.Folders.{NoneBetween}
-use Rattle.tree_deletion.proofs.unsynced.Unsynced.first_from.Given as goal
+use Rattle.tree_deletion.proofs.dirty.Dirty.first_from.Given as goal
 
 abbrev pub invariant-loop-at : goal.invariant-loop-at
 invariant-loop-at l = record {

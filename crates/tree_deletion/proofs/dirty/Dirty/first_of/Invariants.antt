@@ -3,7 +3,7 @@ use Rattle.std.proofs.Common.{◌≡◌, ◌⊎◌, false, length}
 use Rattle.mc_text.specs.Routes.{Route}
 use Rattle.tree_trait.specs.CrashImages.{Among}
 use Rattle.tree_deletion.specs.Folders.{is_of}
-use Rattle.tree_deletion.proofs.unsynced.Unsynced.first_of.Given as goal
+use Rattle.tree_deletion.proofs.dirty.Dirty.first_of.Given as goal
 
 abbrev pub invariant-loop-first : goal.invariant-loop-first
 invariant-loop-first l = record {

@@ -1,4 +1,6 @@
-//! Folders with a change of names that no sync has brought onto the disk.
+//! Folders with a change of names that no sync has brought onto the disk. The folder of a name joins them before the name is
+//! changed, and leaves them with its sync, or where it is gone itself; that of a job that ended without one stays, until a later
+//! job syncs it.
 ghost use Rattle.std.specs.Prelude.{◌≡◌, ◌+◌, ◌<◌, ◌^◌, ◌-◌, ◌||◌, [], length, remove, slice_get, take, true, Some, IfNone, IfOk, IfSome, OnErr, OnOk, if◌then◌else◌};
 ghost use Rattle.job_reports.specs.Paths.{without};
 ghost use Rattle.tree_deletion.specs.Folders.{IsOwn, IsOwnAt, NoneBetween, NoneOf, is_of, is_one_of, joined};
@@ -9,11 +11,11 @@ use std::marker::Model;
 
 /// Some folders, each once, in the order in which they joined.
 #[derive(Debug, Drop)]
-pub struct Unsynced {
+pub struct Dirty {
     folders: Vec<Path>,
 }
 
-impl Model for Unsynced {
+impl Model for Dirty {
     ghost use Rattle.std.specs.Prelude.{List};
     ghost use Rattle.mc_text.specs.Routes.{Route};
 
@@ -22,12 +24,12 @@ impl Model for Unsynced {
     ghost view = { λ u. u.folders.items };
 }
 
-impl Unsynced {
+impl Dirty {
     /// None yet. It takes no memory.
-    pub fn new(alloc: Global) -> Unsynced
+    pub fn new(alloc: Global) -> Dirty
         ensures { result ≡ [] }
     {
-        Unsynced {
+        Dirty {
             folders: Vec::new(alloc),
         }
     }
@@ -39,8 +41,15 @@ impl Unsynced {
         self.folders.len()
     }
 
+    /// The folders.
+    pub fn folders(&self) -> &[Path]
+        ensures { result.now ≡ self.now }
+    {
+        self.folders.as_slice()
+    }
+
     /// One more, unless it is one of them; whether it joined.
-    pub(crate) fn join(&mut self, alloc: Global, folder: &Path) -> Result<bool, NoMemory>
+    pub fn join(&mut self, alloc: Global, folder: &Path) -> Result<bool, NoMemory>
         ensures joined { OnOk result (self.new ≡ joined folder.now self.old) }
         ensures back { IfOk result (λ more. (if more then take (length self.new - 1) self.new else self.new) ≡ self.old) }
         ensures refused { OnErr result (self.new ≡ self.old) }
@@ -61,7 +70,7 @@ impl Unsynced {
     }
 
     /// The one that joined last leaves them again, if one did.
-    pub(crate) fn drop_last_if(&mut self, more: bool)
+    pub fn drop_last_if(&mut self, more: bool)
         ensures { self.new ≡ (if more then take (length self.old - 1) self.old else self.old) }
     {
         if more {
@@ -70,10 +79,19 @@ impl Unsynced {
     }
 
     /// A folder was synced, or is gone.
-    pub(crate) fn remove(&mut self, folder: &Path)
+    pub fn remove(&mut self, folder: &Path)
         ensures { self.new ≡ without folder.now self.old }
     {
         self.folders.retain(|kept| !kept.same(folder));
+    }
+
+    /// The same, if it was.
+    pub fn remove_if(&mut self, synced: bool, folder: &Path)
+        ensures { self.new ≡ (if synced then without folder.now self.old else self.old) }
+    {
+        if synced {
+            self.remove(folder);
+        }
     }
 
     /// The first that is this folder, or the top or below that.
@@ -92,7 +110,7 @@ impl Unsynced {
     }
 }
 
-impl Unsynced {
+impl Dirty {
     /// From this one on, where the first stands that is this folder, or the top or below that.
     pub(crate) fn first_from(&self, from: usize, folder: &Path, top: &Path) -> Option<usize>
         ensures own { IfSome result (IsOwnAt folder.now top.now self.now from) }
@@ -120,9 +138,10 @@ impl Unsynced {
     /// The one that stands there was synced.
     pub(crate) fn remove_at(&mut self, at: usize)
         requires { at < length self.old }
-        ensures { self.new ≡ remove self.old at }
+        ensures { IfSome (slice_get self.old at) (λ folder. self.new ≡ without folder self.old) }
     {
-        let _synced = self.folders.remove(at);
+        let synced = self.folders.remove(at);
+        self.remove(&synced);
     }
 }
 

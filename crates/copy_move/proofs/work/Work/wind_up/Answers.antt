@@ -1,0 +1,6 @@
+-- So is a last step.
+use Rattle.copy_move.proofs.FolderSteps.{deletion_winds_up}
+use Rattle.copy_move.proofs.work.Work.wind_up.Goals as goal
+
+pub returns-in-Delete : goal.returns-in-Delete
+returns-in-Delete g c = rw c.in-Delete.is (deletion_winds_up c.args.ending _ _ _ _ _ _ _ _ _ _ _ c.wind_up.ensures)
