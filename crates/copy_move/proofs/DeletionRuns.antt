@@ -1,32 +1,29 @@
 -- A step of a deletion, as its machine makes it.
-use Rattle.std.proofs.Common.{◌≡◌, ◌≢◌, ◌⊎◌, ℕ, suc, zero, ◌+◌, ◌-◌, ◌<◌, ◌≤◌, Bool, true, false, not, List, [], ◌∷◌, length, refl, sym, ◌∙◌, ap, subst, inl, inr, Option, Some, None, Result, Ok, Err, arith}
+use Rattle.std.proofs.Common.{◌≡◌, ◌⊎◌, ℕ, suc, zero, ◌+◌, ◌-◌, ◌<◌, ◌≤◌, Bool, true, false, not, List, [], ◌∷◌, length, refl, sym, ◌∙◌, ap, subst, inl, inr, Option, Some, None, Ok, Err, arith}
 use Rattle.std.specs.Prelude.{if◌then◌else◌, slice_get}
 use Rattle.std.proofs.lemmas.Bool.{or_left, true≢false, false≢true}
 use Rattle.mc_text.specs.Routes.{Route, is_prefix, parent_of, same_path}
 use Rattle.tree_trait.specs.declared.calls.TreeError.{TreeError}
-use Rattle.tree_trait.specs.declared.calls.TreeError.TheVariants as refused
-use Rattle.tree_trait.specs.Calls.{RemoveFile, RemoveFolder, SyncFolder}
+use Rattle.tree_trait.specs.Calls.{RemoveFile, RemoveFolder}
 use Rattle.tree_trait.specs.Change.{CallLog}
 use Rattle.tree_trait.specs.Answers.{IfKnown, Performs}
 use Rattle.tree_trait.specs.CrashImages.{Among}
 use Rattle.tree_trait.proofs.Visible.{same_path-self}
 use Rattle.job_reports.specs.declared.report.Cause.{Cause}
-use Rattle.job_reports.specs.declared.report.Cause.TheVariants.{Tree}
 use Rattle.job_reports.specs.declared.report.Trouble.{Trouble}
 use Rattle.job_reports.specs.declared.report.Ending.{Ending}
 use Rattle.job_reports.specs.declared.report.Ending.TheVariants.{Finished, Aborted, Killed, NoMemory}
 use Rattle.job_reports.specs.declared.report.Did.{Did}
-use Rattle.job_reports.specs.declared.report.Did.TheVariants.{Began, Chunk, Placed, Removed, Kept, Skipped, Cleaned, Barrier, Troubled, Ended}
+use Rattle.job_reports.specs.declared.report.Did.TheVariants.{Began, Chunk, Placed, Removed, Made, Kept, Skipped, Cleaned, Barrier, Troubled, Ended}
 use Rattle.job_reports.specs.Paths.{folder_of, without}
-use Rattle.job_reports.specs.Reports.{ends}
 use Rattle.job_reports.specs.Stops.{cause_of, sync_answer, trouble_at}
 use Rattle.tree_deletion.specs.declared.deletion.Stage.{Stage}
 use Rattle.tree_deletion.specs.declared.deletion.Stage.TheVariants.{Begin, Going, Sync}
 use Rattle.tree_deletion.specs.declared.deletion.Deletion.{Deletion}
-use Rattle.tree_deletion.specs.Descending.{Descends, Enters, IsAt}
+use Rattle.tree_deletion.specs.Descending.{Descends, Enters}
 use Rattle.tree_deletion.specs.Folders.{IsOwn, IsOwnAt, is_of, joined}
 use Rattle.tree_deletion.specs.Inside.{IsInside}
-use Rattle.tree_deletion.specs.Standing.{End, Item, Thing, after_item, at_barrier, item, things_left}
+use Rattle.tree_deletion.specs.Standing.{End, Item, Thing, after_item, at_barrier, item}
 use Rattle.tree_deletion.specs.Steps.{IsProgress, KeepsRest, LastSteps, RemovalLeaves, Skips, SyncSteps, Syncs, TakesOff, Tries, WorkCalls, WorkLeaves, WorkSteps, Works, after_try as machine_try, next_try, path_of, removal_of}
 use Rattle.tree_deletion.proofs.Staying.{descends_inside, item_inside, skip_falls}
 use Rattle.copy_move.specs.Deletions.{Deleting, DeletionCalls, DeletionLeaves, IsAtStage, IsRefused, LastCalls, Tells, TellsTried, Winds, left_in, machine_of}
@@ -89,6 +86,7 @@ module _ (m : Deletion) (tried : ℕ) (holds : parent_of m.path ≡ Some m.folde
   sync_tells (Began part) s = absurd s
   sync_tells (Chunk count) s = absurd s
   sync_tells (Placed path) s = absurd s
+  sync_tells (Made path) s = absurd s
   sync_tells (Removed path) s = absurd s
   sync_tells (Kept path) s = absurd s
   sync_tells (Skipped path cause) s = absurd s
@@ -101,6 +99,7 @@ module _ (m : Deletion) (tried : ℕ) (holds : parent_of m.path ≡ Some m.folde
   sync_calls (Began part) s log known = absurd s
   sync_calls (Chunk count) s log known = absurd s
   sync_calls (Placed path) s log known = absurd s
+  sync_calls (Made path) s log known = absurd s
   sync_calls (Removed path) s log known = absurd s
   sync_calls (Kept path) s log known = absurd s
   sync_calls (Skipped path cause) s log known = absurd s
@@ -116,6 +115,7 @@ module _ (m : Deletion) (tried : ℕ) (holds : parent_of m.path ≡ Some m.folde
   sync_leaves (Began part) s = absurd s
   sync_leaves (Chunk count) s = absurd s
   sync_leaves (Placed path) s = absurd s
+  sync_leaves (Made path) s = absurd s
   sync_leaves (Removed path) s = absurd s
   sync_leaves (Kept path) s = absurd s
   sync_leaves (Skipped path cause) s = absurd s
@@ -130,6 +130,7 @@ module _ (m : Deletion) (tried : ℕ) (holds : parent_of m.path ≡ Some m.folde
   no_progress (Began part) s h = s
   no_progress (Chunk count) s h = s
   no_progress (Placed path) s h = s
+  no_progress (Made path) s h = s
   no_progress (Skipped path cause) s h = s
   no_progress (Cleaned part) s h = s
 
@@ -194,6 +195,7 @@ module _ (m new : Deletion) (tried : ℕ) (holds : parent_of m.path ≡ Some m.f
     work_tells (Began part) w = absurd w
     work_tells (Chunk count) w = absurd w
     work_tells (Placed path) w = absurd w
+    work_tells (Made path) w = absurd w
     work_tells (Skipped path cause) w = absurd w
     work_tells (Cleaned part) w = absurd w
     work_tells Barrier w = absurd w
@@ -206,6 +208,7 @@ module _ (m new : Deletion) (tried : ℕ) (holds : parent_of m.path ≡ Some m.f
     work_keeps (Began part) w = absurd w
     work_keeps (Chunk count) w = absurd w
     work_keeps (Placed path) w = absurd w
+    work_keeps (Made path) w = absurd w
     work_keeps (Skipped path cause) w = absurd w
     work_keeps (Cleaned part) w = absurd w
     work_keeps Barrier w = absurd w
@@ -219,6 +222,7 @@ module _ (m new : Deletion) (tried : ℕ) (holds : parent_of m.path ≡ Some m.f
     work_calls (Began part) log after w h = absurd w
     work_calls (Chunk count) log after w h = absurd w
     work_calls (Placed path) log after w h = absurd w
+    work_calls (Made path) log after w h = absurd w
     work_calls (Skipped path cause) log after w h = absurd w
     work_calls (Cleaned part) log after w h = absurd w
     work_calls Barrier log after w h = absurd w
@@ -232,6 +236,7 @@ module _ (m new : Deletion) (tried : ℕ) (holds : parent_of m.path ≡ Some m.f
     work_leaves (Began part) dirty dirty_after before after w leaves called = absurd w
     work_leaves (Chunk count) dirty dirty_after before after w leaves called = absurd w
     work_leaves (Placed path) dirty dirty_after before after w leaves called = absurd w
+    work_leaves (Made path) dirty dirty_after before after w leaves called = absurd w
     work_leaves (Skipped path cause) dirty dirty_after before after w leaves called = absurd w
     work_leaves (Cleaned part) dirty dirty_after before after w leaves called = absurd w
     work_leaves Barrier dirty dirty_after before after w leaves called = absurd w
@@ -256,7 +261,7 @@ module _ (m new : Deletion) (tried : ℕ) (holds : parent_of m.path ≡ Some m.f
             m.walk.spare,
             new.walk.spare,
             subst (λ (x : Deletion). WorkSteps x (machine_of (seen new tried) new.walk.spare) did calls dirty dirty_after before after f0 f1) (machine_is m tried holds)
-            (subst (λ (x : Deletion). WorkSteps m x did calls dirty dirty_after before after f0 f1) (machine_is new tried still_holds) s),
+                (subst (λ (x : Deletion). WorkSteps m x did calls dirty dirty_after before after f0 f1) (machine_is new tried still_holds) s),
           );
           tells = work_tells s.mid on_stage within did w.works;
           called = λ log known. work_calls s.mid on_stage within did log after w.works (w.called log known);
@@ -339,6 +344,7 @@ module _ (ending : Ending) (m : Deletion) (from next : ℕ) (holds : parent_of m
   by_did (Began part) s t = absurd t
   by_did (Chunk count) s t = absurd t
   by_did (Placed path) s t = absurd t
+  by_did (Made path) s t = absurd t
   by_did (Removed path) s t = absurd t
   by_did (Kept path) s t = absurd t
   by_did (Skipped path cause) s t = absurd t

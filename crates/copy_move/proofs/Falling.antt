@@ -5,7 +5,7 @@ use Rattle.mc_text.specs.Routes.{Route}
 use Rattle.job_reports.specs.declared.report.Ending.{Ending}
 use Rattle.job_reports.specs.declared.report.Ending.TheVariants.{Finished, Aborted, Killed, NoMemory}
 use Rattle.job_reports.specs.declared.report.Did.{Did}
-use Rattle.job_reports.specs.declared.report.Did.TheVariants.{Began, Chunk, Placed, Removed, Kept, Skipped, Cleaned, Barrier, Troubled, Ended}
+use Rattle.job_reports.specs.declared.report.Did.TheVariants.{Began, Chunk, Placed, Removed, Made, Kept, Skipped, Cleaned, Barrier, Troubled, Ended}
 use Rattle.file_copy.specs.declared.stage.Stage.{Stage}
 use Rattle.file_copy.specs.declared.stage.Stage.TheVariants.{Begin, Fill, Clean, Left, Decided}
 use Rattle.file_copy.specs.declared.stage.Next.TheVariants as next
@@ -14,12 +14,15 @@ use Rattle.file_copy.specs.declared.stage.FolderState.TheVariants.{Synced, Dirty
 use Rattle.file_copy.specs.Copying.{Copying, IsSound, Tells, after_clean}
 use Rattle.file_copy.specs.Copying as copying
 use Rattle.file_copy.specs.LastSteps.{GoesDown, Winds, last_steps}
+use Rattle.copy_move.specs.declared.making.MakingStage.{MakingStage}
+use Rattle.copy_move.specs.declared.making.MakingStage.TheVariants as making
 use Rattle.copy_move.specs.declared.work.Work.{Work}
-use Rattle.copy_move.specs.declared.work.Work.TheVariants.{Copy, Delete}
-use Rattle.copy_move.specs.Deletions.{Deleting, left_in}
+use Rattle.copy_move.specs.declared.work.Work.TheVariants.{Copy, Delete, Make}
+use Rattle.copy_move.specs.Makings.{Making}
+use Rattle.copy_move.specs.Makings as makings
 use Rattle.copy_move.specs.Jobs.{course_after}
 use Rattle.job_reports.specs.Reports.{ends}
-use Rattle.copy_move.specs.Ranks.{copy_rank, deletion_rank, last_rank, rank_on, skip_rank, work_rank}
+use Rattle.copy_move.specs.Ranks.{copy_rank, last_making_steps, last_rank, making_rank, rank_on, skip_rank, work_rank}
 
 begins_below : (most size : ℕ) → size ≤ most → (size - 0) + 7 < most + 8
 begins_below most size fits = omega (arith, fits)
@@ -91,13 +94,40 @@ copy_falls old new (Ended Aborted part) t sound h = absurd t
 copy_falls old new (Ended Killed part) t sound h = absurd t
 copy_falls old new (Ended NoMemory part) t sound h = absurd t
 copy_falls old new (Removed path) t sound h = absurd t
+copy_falls old new (Made made) t sound h = absurd t
 copy_falls old new (Kept path) t sound h = absurd t
 copy_falls old new (Skipped path cause) t sound h = absurd t
+
+tried_low : (stage : MakingStage) → last_making_steps stage < making_rank stage
+tried_low making.Make = omega arith
+tried_low making.Sync = omega arith
+tried_low making.Finish = omega arith
+tried_low making.PassedOver = omega arith
 
 -- a job in trouble has fewer steps left than one that goes on
 pub trouble_falls : (work : Work) → last_rank work < work_rank work
 trouble_falls (Copy c) = let few = few_last c.stage c.folder in let more = more_left c.stage c.folder in omega (arith, few, more)
 trouble_falls (Delete d) = omega arith
+trouble_falls (Make m) = tried_low m.stage
+
+pub making_falls : (old new : Making) (did : Did) → makings.Tells old did new → ends did ≡ false → rank_on (course_after did) (Make new) < work_rank (Make old)
+making_falls old new (Made path) (at, path_is, is) h =
+    subst (λ (n : Making). making_rank n.stage < making_rank old.stage) (sym is) (subst (λ s. 5 < making_rank s) (sym at) (omega arith))
+making_falls old new Barrier (at, is) h =
+    subst (λ (n : Making). making_rank n.stage < making_rank old.stage) (sym is) (subst (λ s. 4 < making_rank s) (sym at) (omega arith))
+making_falls old new (Troubled trouble) (at, is) h =
+    subst (λ (n : Making). last_making_steps n.stage < making_rank old.stage) (sym is) (tried_low old.stage)
+making_falls old new (Ended Finished part) t h = absurd cc
+making_falls old new (Ended Aborted part) t h = absurd t
+making_falls old new (Ended Killed part) t h = absurd t
+making_falls old new (Ended NoMemory part) t h = absurd t
+making_falls old new (Began part) t h = absurd t
+making_falls old new (Chunk count) t h = absurd t
+making_falls old new (Placed path) t h = absurd t
+making_falls old new (Removed made) t h = absurd t
+making_falls old new (Kept kept) t h = absurd t
+making_falls old new (Skipped path cause) t h = absurd t
+making_falls old new (Cleaned part) t h = absurd t
 
 -- what the fall of a copy's last steps says of each report but the end
 pub last_copy_falls : (ending : Ending) (old new : Copying) (did : Did) → Winds ending old did new → GoesDown did old new → ends did ≡ false → last_rank (Copy new) < last_rank (Copy old)
@@ -108,9 +138,24 @@ last_copy_falls ending old new (Began part) w falls h = absurd w
 last_copy_falls ending old new (Chunk count) w falls h = absurd w
 last_copy_falls ending old new (Placed path) w falls h = absurd w
 last_copy_falls ending old new (Removed path) w falls h = absurd w
+last_copy_falls ending old new (Made made) w falls h = absurd w
 last_copy_falls ending old new (Kept kept) w falls h = absurd w
 last_copy_falls ending old new (Skipped path cause) w falls h = absurd w
 last_copy_falls ending old new (Troubled trouble) w falls h = absurd w
+
+pub last_making_falls : (ending : Ending) (old new : Making) (did : Did) → makings.Winds ending old did new → ends did ≡ false → last_rank (Make new) < last_rank (Make old)
+last_making_falls ending old new Barrier (at, is) h =
+    subst (λ (n : Making). last_making_steps n.stage < last_making_steps old.stage) (sym is) (subst (λ s. 1 < last_making_steps s) (sym at) (omega arith))
+last_making_falls ending old new (Ended how part) w h = absurd cc
+last_making_falls ending old new (Began part) w h = absurd w
+last_making_falls ending old new (Chunk count) w h = absurd w
+last_making_falls ending old new (Placed path) w h = absurd w
+last_making_falls ending old new (Made path) w h = absurd w
+last_making_falls ending old new (Removed made) w h = absurd w
+last_making_falls ending old new (Kept kept) w h = absurd w
+last_making_falls ending old new (Skipped path cause) w h = absurd w
+last_making_falls ending old new (Cleaned part) w h = absurd w
+last_making_falls ending old new (Troubled trouble) w h = absurd w
 
 -- a copy that passed over its file has few steps left
 pub passing_falls : (stage : Stage) (folder : FolderState) → copy_rank (copying.skipped stage) folder < 10
@@ -120,6 +165,20 @@ passing_falls (Clean part follows) folder = omega arith
 passing_falls (Left part) folder = omega arith
 passing_falls Decided folder = let low = decided_low folder in omega (arith, low)
 
+-- so has the making of a folder that is not made
+pub unmade_falls : (stage : MakingStage) → making_rank (makings.skipped stage) < 10
+unmade_falls making.Make = omega arith
+unmade_falls making.Sync = omega arith
+unmade_falls making.Finish = omega arith
+unmade_falls making.PassedOver = omega arith
+
 pub waiting_falls : (work : Work) → last_rank work < skip_rank work
 waiting_falls (Copy c) = let few = few_last c.stage c.folder in omega (arith, few)
 waiting_falls (Delete d) = omega arith
+waiting_falls (Make m) = by m.stage
+  where
+    by : (stage : MakingStage) → last_making_steps stage < 10
+    by making.Make = omega arith
+    by making.Sync = omega arith
+    by making.Finish = omega arith
+    by making.PassedOver = omega arith

@@ -1,6 +1,6 @@
 -- What the steps of a job make of the dirty folders.
 use Rattle.std.proofs.Common.{◌≡◌, ◌⊎◌, ℕ, ◌+◌, ◌-◌, ◌*◌, ◌<◌, ◌≤◌, ◌&&◌, not, Bool, true, false, List, [], ◌∷◌, ◌++◌, length, take, refl, sym, ◌∙◌, ap, subst, inl, inr, Option, Some, None, Result, Ok, Err, arith}
-use Rattle.std.proofs.lemmas.Bool.{true≢false, false≢true, or_left}
+use Rattle.std.proofs.lemmas.Bool.{true≢false, false≢true}
 use Rattle.std.proofs.lemmas.List.{length-append}
 use Rattle.std.specs.Prelude.{if◌then◌else◌}
 use Rattle.mc_text.specs.Routes.{Route}
@@ -16,7 +16,7 @@ use Rattle.job_reports.specs.declared.report.Cause.TheVariants.{Memory, Tree}
 use Rattle.job_reports.specs.declared.report.Ending.{Ending}
 use Rattle.job_reports.specs.declared.report.Ending.TheVariants.{Finished, Aborted, Killed, NoMemory}
 use Rattle.job_reports.specs.declared.report.Did.{Did}
-use Rattle.job_reports.specs.declared.report.Did.TheVariants.{Began, Chunk, Placed, Removed, Kept, Skipped, Cleaned, Barrier, Troubled, Ended}
+use Rattle.job_reports.specs.declared.report.Did.TheVariants.{Began, Chunk, Placed, Removed, Made, Kept, Skipped, Cleaned, Barrier, Troubled, Ended}
 use Rattle.file_copy.specs.declared.stage.Stage.{Stage}
 use Rattle.file_copy.specs.declared.stage.Stage.TheVariants as at
 use Rattle.file_copy.specs.declared.stage.FolderState.{FolderState}
@@ -34,17 +34,17 @@ use Rattle.tree_deletion.specs.Folders.{is_one_of, joined}
 use Rattle.tree_deletion.specs.Standing.{at_barrier as deletion_barrier}
 use Rattle.tree_deletion.specs.Steps.{IsProgress}
 use Rattle.copy_move.specs.declared.work.Work.{Work}
-use Rattle.copy_move.specs.declared.work.Work.TheVariants.{Copy, Delete}
+use Rattle.copy_move.specs.declared.work.Work.TheVariants.{Copy, Delete, Make}
 use Rattle.copy_move.specs.declared.run.Course.{Course}
 use Rattle.copy_move.specs.declared.run.Course.TheVariants.{GoesOn, InTrouble, OwedSyncFailed, Skips, Ends}
 use Rattle.copy_move.specs.Deletions.{Deleting, left_in}
 use Rattle.copy_move.specs.Deletions as deletions
 use Rattle.copy_move.specs.DeletionSteps.{DeletionSkips, DeletionStep, LastDeletionStep, after_try}
 use Rattle.copy_move.specs.Jobs.{Running, CallsOn, PassesOver, TellsOn, course_after, is_fresh}
-use Rattle.copy_move.specs.Ranks.{copy_rank, rank_at, rank_on, rank_with, tries_left, work_rank}
+use Rattle.copy_move.specs.Ranks.{copy_rank, rank_at, rank_on, tries_left}
 use Rattle.copy_move.specs.Settling.{NoneOwed, with_change}
 use Rattle.copy_move.specs.Steps.{LeavesDirty, OwnStep, OwedSyncStep, SkipSteps, Walks, WindingStep, WorkSkips, WorkSteps, WorkWindsUp, step_made}
-use Rattle.job_reports.proofs.Runs.{no_more, risen_before}
+use Rattle.job_reports.proofs.Runs.{risen_before}
 use Rattle.job_reports.proofs.Tried.{counts_try, tries_few}
 use Rattle.copy_move.proofs.DeletionRuns.{fewer, one_fewer}
 use Rattle.copy_move.proofs.Falling.{copy_falls, last_copy_falls, passing_falls, trouble_falls, waiting_falls}
@@ -71,6 +71,7 @@ copy_stays c new (Ended Aborted part) t = absurd t
 copy_stays c new (Ended Killed part) t = absurd t
 copy_stays c new (Ended NoMemory part) t = absurd t
 copy_stays c new (Removed path) t = absurd t
+copy_stays c new (Made made) t = absurd t
 copy_stays c new (Kept path) t = absurd t
 copy_stays c new (Skipped path cause) t = absurd t
 
@@ -82,6 +83,7 @@ copy_winds_there ending c new (Began part) w = absurd w
 copy_winds_there ending c new (Chunk count) w = absurd w
 copy_winds_there ending c new (Placed path) w = absurd w
 copy_winds_there ending c new (Removed path) w = absurd w
+copy_winds_there ending c new (Made made) w = absurd w
 copy_winds_there ending c new (Kept kept) w = absurd w
 copy_winds_there ending c new (Skipped path cause) w = absurd w
 copy_winds_there ending c new (Troubled trouble) w = absurd w
@@ -99,6 +101,7 @@ clean_copy c new (Ended Aborted part) t changed clean = absurd t
 clean_copy c new (Ended Killed part) t changed clean = absurd t
 clean_copy c new (Ended NoMemory part) t changed clean = absurd t
 clean_copy c new (Removed path) t changed clean = absurd t
+clean_copy c new (Made made) t changed clean = absurd t
 clean_copy c new (Kept path) t changed clean = absurd t
 clean_copy c new (Skipped path cause) t changed clean = absurd t
 
@@ -136,25 +139,26 @@ joined_more folder dirty = go (is_one_of folder dirty)
     go true = omega arith
     go false = let more = length-append dirty (folder ∷ []) in omega (arith, more)
 
-one_more : (was now : Bool) (folder : Route) (dirty : List Route) → length (with_change was now folder dirty) ≤ length dirty + 1
+pub one_more : (was now : Bool) (folder : Route) (dirty : List Route) → length (with_change was now folder dirty) ≤ length dirty + 1
 one_more false true folder dirty = joined_more folder dirty
 one_more true false folder dirty = let less = fewer folder dirty in omega (arith, less)
 one_more false false folder dirty = omega arith
 one_more true true folder dirty = omega arith
 
-tries_after : (did : Did) (work : Work) (dirty : List Route) → tries_left (course_after did) work dirty ≡ length dirty
+pub tries_after : (did : Did) (work : Work) (dirty : List Route) → tries_left (course_after did) work dirty ≡ length dirty
 tries_after (Troubled trouble) work dirty = refl
 tries_after (Began part) work dirty = refl
 tries_after (Chunk count) work dirty = refl
 tries_after (Placed path) work dirty = refl
 tries_after (Removed path) work dirty = refl
+tries_after (Made made) work dirty = refl
 tries_after (Kept path) work dirty = refl
 tries_after (Skipped path cause) work dirty = refl
 tries_after (Cleaned part) work dirty = refl
 tries_after Barrier work dirty = refl
 tries_after (Ended ending part) work dirty = refl
 
-weighs_less : (low high few many tries : ℕ) → low < high → few ≤ many + 1 → tries ≡ few → 3 * low + (few + tries) < 3 * high + (many + many)
+pub weighs_less : (low high few many tries : ℕ) → low < high → few ≤ many + 1 → tries ≡ few → 3 * low + (few + tries) < 3 * high + (many + many)
 weighs_less low high few many tries less more is = omega (arith, less, more, is)
 
 -- the step of a copy
@@ -178,7 +182,7 @@ module _ (unclaimed : Route → Type 0) (c new : Copying) (did : Did) (calls : �
         weighs_less (rank_on (course_after did) (Copy new)) (copy_rank c.stage c.folder) (length dirty_after) (length dirty) (tries_left (course_after did) (Copy new) dirty_after) low more (tries_after did (Copy new) dirty_after);
   }
 
-same_log : (log now : CallLog) (contents : Option CallLog) → contents ≡ Some log → contents ≡ Some now → HasMore log 0 now
+pub same_log : (log now : CallLog) (contents : Option CallLog) → contents ≡ Some log → contents ≡ Some now → HasMore log 0 now
 same_log log now contents known is =
     let same : log ≡ now = cc in
     let lengths = ap (λ (l : CallLog). length l.changes) (sym same) in
@@ -221,13 +225,14 @@ no_first unclaimed c did calls dirty dirty_after contents f fresh is count same 
     none_called log at.Decided folder is h = absurd (false≢true h)
 
 -- the last steps of a copy
-tried_more : (did : Did) (left : Option TreeError) (folder : Route) (dirty : List Route) → length (after_try did left folder dirty) ≤ length dirty + 1
+pub tried_more : (did : Did) (left : Option TreeError) (folder : Route) (dirty : List Route) → length (after_try did left folder dirty) ≤ length dirty + 1
 tried_more Barrier None folder dirty = let less = fewer folder dirty in omega (arith, less)
 tried_more Barrier (Some e) folder dirty = omega arith
 tried_more (Began part) left folder dirty = omega arith
 tried_more (Chunk bytes) left folder dirty = omega arith
 tried_more (Placed path) left folder dirty = omega arith
 tried_more (Removed path) left folder dirty = omega arith
+tried_more (Made made) left folder dirty = omega arith
 tried_more (Kept kept) left folder dirty = omega arith
 tried_more (Skipped path cause) left folder dirty = omega arith
 tried_more (Cleaned part) left folder dirty = omega arith
@@ -274,6 +279,7 @@ module _ (unclaimed : Route → Type 0) (d new : Deleting) (did : Did) (calls : 
   falls_by (Began part) t h less going = absurd t
   falls_by (Chunk count) t h less going = absurd t
   falls_by (Placed path) t h less going = absurd t
+  falls_by (Made made) t h less going = absurd t
   falls_by (Skipped path cause) t h less going = absurd t
   falls_by (Cleaned part) t h less going = absurd t
 
@@ -461,7 +467,9 @@ module _ (folder : Route) (dirty dirty_after : List Route) (job : Running) (goes
 -- a step after looks at the tree, which may have met faults
 walks_later : (old new : Work) (did : Did) (calls : ℕ) (dirty dirty_after : List Route) (before after : Option CallLog) (f0 f1 f2 : ℕ) → f0 ≤ f1 → Walks old new did calls dirty dirty_after before after f1 f2 → Walks old new did calls dirty dirty_after before after f0 f2
 walks_later (Copy c) new did calls dirty dirty_after before after f0 f1 f2 later w = tt
+walks_later (Make m) new did calls dirty dirty_after before after f0 f1 f2 later w = tt
 walks_later (Delete d) (Copy new) did calls dirty dirty_after before after f0 f1 f2 later w = absurd w
+walks_later (Delete d) (Make new) did calls dirty dirty_after before after f0 f1 f2 later w = absurd w
 walks_later (Delete d) (Delete new) did calls dirty dirty_after before after f0 f1 f2 later (inl (spare, spare_after, s)) = inl (
   spare,
   spare_after,

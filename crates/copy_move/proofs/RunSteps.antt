@@ -5,10 +5,10 @@ use Rattle.tree_trait.specs.declared.calls.TreeError.{TreeError}
 use Rattle.tree_trait.specs.Change.{CallLog}
 use Rattle.job_reports.specs.declared.report.Ending.{Ending}
 use Rattle.job_reports.specs.declared.report.Did.{Did}
-use Rattle.job_reports.specs.declared.report.Did.TheVariants.{Began, Chunk, Placed, Removed, Kept, Skipped, Cleaned, Barrier, Troubled, Ended}
+use Rattle.job_reports.specs.declared.report.Did.TheVariants.{Began, Chunk, Placed, Removed, Made, Kept, Skipped, Cleaned, Barrier, Troubled, Ended}
 use Rattle.job_reports.specs.Reports.{IsFault}
 use Rattle.copy_move.specs.declared.work.Work.{Work}
-use Rattle.copy_move.specs.declared.work.Work.TheVariants.{Copy, Delete}
+use Rattle.copy_move.specs.declared.work.Work.TheVariants.{Copy, Delete, Make}
 use Rattle.copy_move.specs.declared.run.Course.TheVariants.{GoesOn, Ends}
 use Rattle.copy_move.specs.Jobs.{Running, TellsOn, CallsOn, WorkWinds, course_after}
 use Rattle.copy_move.specs.Steps.{StepsOn, WorkSteps, WorkWindsUp}
@@ -17,12 +17,18 @@ use Rattle.copy_move.specs.Steps.{StepsOn, WorkSteps, WorkWindsUp}
 quiet_end : (ending : Ending) (old new : Work) (did : Did) → WorkWinds ending old did new → IsFault did → ⊥
 quiet_end ending (Copy c) (Copy new) (Troubled trouble) w h = w
 quiet_end ending (Copy c) (Delete new) (Troubled trouble) w h = w
+quiet_end ending (Copy c) (Make new) (Troubled trouble) w h = w
 quiet_end ending (Delete d) (Copy new) (Troubled trouble) w h = w
+quiet_end ending (Delete d) (Make new) (Troubled trouble) w h = w
+quiet_end ending (Make m) (Copy new) (Troubled trouble) w h = w
+quiet_end ending (Make m) (Delete new) (Troubled trouble) w h = w
 quiet_end ending (Delete d) (Delete new) (Troubled trouble) w h = w
+quiet_end ending (Make m) (Make new) (Troubled trouble) w h = w
 quiet_end ending old new (Began part) w h = h
 quiet_end ending old new (Chunk count) w h = h
 quiet_end ending old new (Placed path) w h = h
 quiet_end ending old new (Removed path) w h = h
+quiet_end ending old new (Made made) w h = h
 quiet_end ending old new (Kept kept) w h = h
 quiet_end ending old new (Skipped path cause) w h = h
 quiet_end ending old new (Cleaned part) w h = h

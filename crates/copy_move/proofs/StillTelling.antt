@@ -3,27 +3,31 @@ use Rattle.std.proofs.Common.{◌≡◌, List, [], ◌∷◌, take, inl, inr, Op
 use Rattle.mc_text.specs.Routes.{Route}
 use Rattle.tree_trait.specs.declared.calls.TreeError.{TreeError}
 use Rattle.tree_trait.specs.declared.calls.TreeError.TheVariants as refused
-use Rattle.tree_trait.specs.Calls.{Call, RemoveFile, RemoveFolder, SyncFolder}
+use Rattle.tree_trait.specs.Calls.{Call, MakeFolder, RemoveFile, RemoveFolder, SyncFolder}
 use Rattle.tree_trait.specs.Change.{CallLog, current}
 use Rattle.tree_trait.specs.Answers.{Performs}
 use Rattle.job_reports.specs.declared.report.Cause.{Cause}
 use Rattle.job_reports.specs.declared.report.Cause.TheVariants.{Tree, TargetKind, SpecialSource, TooDeep, PartTaken, TooLong, Unnamed, Changed, Memory}
 use Rattle.job_reports.specs.declared.report.Did.{Did}
-use Rattle.job_reports.specs.declared.report.Did.TheVariants.{Began, Chunk, Placed, Removed, Kept, Skipped, Cleaned, Barrier, Troubled, Ended}
+use Rattle.job_reports.specs.declared.report.Did.TheVariants.{Began, Chunk, Placed, Removed, Made, Kept, Skipped, Cleaned, Barrier, Troubled, Ended}
 use Rattle.file_copy.specs.declared.stage.Stage.{Stage}
 use Rattle.file_copy.specs.declared.stage.Stage.TheVariants.{Begin, Fill, Clean, Left, Decided}
 use Rattle.job_reports.specs.CallRuns.{RunStops, StopsAt}
 use Rattle.file_copy.specs.Copying.{Copying, Places, places_of}
+use Rattle.job_reports.specs.Jobs.{new_folder_mode}
 use Rattle.job_reports.specs.Paths.{folder_of}
 use Rattle.file_copy.specs.CopyCalls.{CopyCalls, CopyStops, making, placing, writing}
 use Rattle.file_copy.specs.LastSteps.{SyncTried, WindCalls, removable}
 use Rattle.job_reports.proofs.Runs.{all_some}
+use Rattle.copy_move.specs.declared.making.MakingStage.TheVariants as making
 use Rattle.copy_move.specs.declared.work.Work.{Work}
-use Rattle.copy_move.specs.declared.work.Work.TheVariants.{Copy, Delete}
+use Rattle.copy_move.specs.declared.work.Work.TheVariants.{Copy, Delete, Make}
 use Rattle.copy_move.specs.declared.run.Course.{Course}
 use Rattle.copy_move.specs.declared.run.Course.TheVariants.{GoesOn, InTrouble, OwedSyncFailed, Skips, Ends}
 use Rattle.copy_move.specs.Deletions.{DeletionCalls, IsRefused, LastCalls}
 use Rattle.copy_move.specs.Deletions as deletions
+use Rattle.copy_move.specs.Makings.{Answers, LastMakingCalls, Making, MakingCalls}
+use Rattle.copy_move.specs.Makings as makings
 use Rattle.copy_move.specs.Jobs.{CallsOn, JobCalls, Running, WorkCalls, WorkLastCalls}
 
 abbrev pub StillTells : Option CallLog → Type 0
@@ -40,6 +44,10 @@ refused_tells log e after (deletions.RefusedFile path h) = performs_tells log (R
 refused_tells log e after (deletions.RefusedFolder path h) = performs_tells log (RemoveFolder path) (Err e) after h
 refused_tells log e after (deletions.RefusedSync folder h) = performs_tells log (SyncFolder folder) (Err e) after h
 
+call_tells : (log : CallLog) (call : Option Call) (answer : Result (Unit {0}) TreeError) (after : Option CallLog) → Answers log call answer after → StillTells after
+call_tells log None answer after h = (log, h)
+call_tells log (Some call) answer after h = performs_tells log call answer after h
+
 -- a deletion
 deletion_tells : (did : Did) (log : CallLog) (after : Option CallLog) → DeletionCalls did log after → StillTells after
 deletion_tells (Removed path) log after (inl h) = performs_tells log (RemoveFile path) (Ok tt) after h
@@ -51,9 +59,24 @@ deletion_tells (Ended ending part) log after h = (log, h)
 deletion_tells (Began part) log after h = absurd h
 deletion_tells (Chunk count) log after h = absurd h
 deletion_tells (Placed path) log after h = absurd h
+deletion_tells (Made made) log after h = absurd h
 deletion_tells (Kept kept) log after h = (log, h)
 deletion_tells (Skipped path cause) log after h = absurd h
 deletion_tells (Cleaned part) log after h = absurd h
+
+-- a making
+making_tells : (m : Making) (did : Did) (log : CallLog) (after : Option CallLog) → MakingCalls m did log after → StillTells after
+making_tells m (Made path) log after h = performs_tells log (MakeFolder path new_folder_mode) (Ok tt) after h
+making_tells m Barrier log after h = call_tells log (makings.call_of making.Sync m.path) (Ok tt) after h
+making_tells m (Troubled trouble) log after h = call_tells log (makings.call_of m.stage m.path) (Err h.0) after h.2
+making_tells m (Ended ending part) log after h = (log, h)
+making_tells m (Began part) log after h = absurd h
+making_tells m (Chunk count) log after h = absurd h
+making_tells m (Placed path) log after h = absurd h
+making_tells m (Removed made) log after h = absurd h
+making_tells m (Kept kept) log after h = absurd h
+making_tells m (Skipped path cause) log after h = absurd h
+making_tells m (Cleaned part) log after h = absurd h
 
 last_tells : (did : Did) (log : CallLog) (after : Option CallLog) → LastCalls did log after → StillTells after
 last_tells Barrier log after (folder, answer, h) = performs_tells log (SyncFolder folder) answer after h
@@ -62,10 +85,24 @@ last_tells (Began part) log after h = absurd h
 last_tells (Chunk count) log after h = absurd h
 last_tells (Placed path) log after h = absurd h
 last_tells (Removed path) log after h = absurd h
+last_tells (Made made) log after h = absurd h
 last_tells (Kept kept) log after h = absurd h
 last_tells (Skipped path cause) log after h = absurd h
 last_tells (Cleaned part) log after h = absurd h
 last_tells (Troubled trouble) log after h = absurd h
+
+last_making_tells : (m : Making) (did : Did) (log : CallLog) (after : Option CallLog) → LastMakingCalls m did log after → StillTells after
+last_making_tells m Barrier log after h = call_tells log (makings.call_of making.Sync m.path) h.0 after h.1
+last_making_tells m (Ended ending part) log after h = (log, h)
+last_making_tells m (Began part) log after h = absurd h
+last_making_tells m (Chunk count) log after h = absurd h
+last_making_tells m (Placed path) log after h = absurd h
+last_making_tells m (Made path) log after h = absurd h
+last_making_tells m (Removed made) log after h = absurd h
+last_making_tells m (Kept kept) log after h = absurd h
+last_making_tells m (Skipped path cause) log after h = absurd h
+last_making_tells m (Cleaned part) log after h = absurd h
+last_making_tells m (Troubled trouble) log after h = absurd h
 
 -- calls in a row that stop
 stops_tell : (log : CallLog) (calls : List Call) (call : Call) (e : TreeError) (after : Option CallLog) → StopsAt log calls call e after → StillTells after
@@ -105,6 +142,7 @@ copy_tells unclaimed c (Cleaned part) new log after h = all_some (RemoveFile par
 copy_tells unclaimed c Barrier new log after h = all_some (SyncFolder (folder_of c.target) ∷ []) log after h
 copy_tells unclaimed c (Troubled trouble) new log after h = trouble_tells unclaimed (places_of c) c.stage trouble.cause trouble.path log after h
 copy_tells unclaimed c (Removed path) new log after h = absurd h
+copy_tells unclaimed c (Made made) new log after h = absurd h
 copy_tells unclaimed c (Kept path) new log after h = absurd h
 copy_tells unclaimed c (Skipped path cause) new log after h = (log, h)
 copy_tells unclaimed c (Ended ending part) new log after h = (log, h)
@@ -121,6 +159,7 @@ wind_tells c (Began part) log after h = absurd h
 wind_tells c (Chunk count) log after h = absurd h
 wind_tells c (Placed path) log after h = absurd h
 wind_tells c (Removed path) log after h = absurd h
+wind_tells c (Made made) log after h = absurd h
 wind_tells c (Kept kept) log after h = absurd h
 wind_tells c (Skipped path cause) log after h = absurd h
 wind_tells c (Troubled trouble) log after h = absurd h
@@ -129,11 +168,14 @@ wind_tells c (Troubled trouble) log after h = absurd h
 work_tells : (unclaimed : Route → Type 0) (work : Work) (did : Did) (new : Work) (log : CallLog) (after : Option CallLog) → WorkCalls unclaimed work did new log after → StillTells after
 work_tells unclaimed (Copy c) did (Copy new) log after h = copy_tells unclaimed c did new log after h
 work_tells unclaimed (Copy c) did (Delete new) log after h = absurd h
+work_tells unclaimed (Copy c) did (Make new) log after h = absurd h
 work_tells unclaimed (Delete d) did new log after h = deletion_tells did log after h
+work_tells unclaimed (Make m) did new log after h = making_tells m did log after h
 
 last_work_tells : (work : Work) (did : Did) (log : CallLog) (after : Option CallLog) → WorkLastCalls work did log after → StillTells after
 last_work_tells (Copy c) did log after h = wind_tells c did log after h
 last_work_tells (Delete d) did log after h = last_tells did log after h
+last_work_tells (Make m) did log after h = last_making_tells m did log after h
 
 calls_tell : (unclaimed : Route → Type 0) (course : Course) (job : Running) (did : Did) (new : Running) (log : CallLog) (after : Option CallLog) → CallsOn unclaimed course job did new log after → StillTells after
 calls_tell unclaimed GoesOn job did new log after h = work_tells unclaimed job.work did new.work log after h

@@ -10,7 +10,7 @@ use Rattle.job_reports.specs.declared.report.Trouble.{Trouble}
 use Rattle.job_reports.specs.declared.report.Ending.{Ending}
 use Rattle.job_reports.specs.declared.report.Ending.TheVariants.{Finished, Aborted, Killed, NoMemory}
 use Rattle.job_reports.specs.declared.report.Did.{Did}
-use Rattle.job_reports.specs.declared.report.Did.TheVariants.{Began, Chunk, Placed, Removed, Kept, Skipped, Cleaned, Barrier, Troubled, Ended}
+use Rattle.job_reports.specs.declared.report.Did.TheVariants.{Began, Chunk, Placed, Removed, Made, Kept, Skipped, Cleaned, Barrier, Troubled, Ended}
 use Rattle.file_copy.specs.declared.stage.Next.{Next}
 use Rattle.file_copy.specs.declared.stage.Next.TheVariants as next
 use Rattle.file_copy.specs.declared.stage.Stage.{Stage}
@@ -26,7 +26,7 @@ use Rattle.job_reports.specs.declared.job.Job.TheVariants as plan
 use Rattle.job_reports.specs.declared.answer.Answer.{Answer}
 use Rattle.job_reports.specs.declared.answer.Answer.TheVariants.{Retry, Skip, SkipAll, Abort}
 use Rattle.copy_move.specs.declared.work.Work.{Work}
-use Rattle.copy_move.specs.declared.work.Work.TheVariants.{Copy, Delete}
+use Rattle.copy_move.specs.declared.work.Work.TheVariants.{Copy, Delete, Make}
 use Rattle.copy_move.specs.declared.run.Course.{Course}
 use Rattle.copy_move.specs.declared.run.Course.TheVariants.{GoesOn, InTrouble, OwedSyncFailed, Skips, Ends}
 use Rattle.subtree_walk.specs.Places.{unopened}
@@ -35,9 +35,13 @@ use Rattle.tree_deletion.specs.declared.deletion.Stage.{Stage as DeletionStage}
 use Rattle.tree_deletion.specs.declared.deletion.Stage.TheVariants as deletion
 use Rattle.tree_deletion.specs.Standing.{after_item}
 use Rattle.tree_deletion.specs.Standing as standing
+use Rattle.copy_move.specs.declared.making.MakingStage.{MakingStage}
+use Rattle.copy_move.specs.declared.making.MakingStage.TheVariants as making
 use Rattle.copy_move.specs.Deletions.{Deleting, IsAtStage}
 use Rattle.copy_move.specs.Deletions as deletions
-use Rattle.copy_move.specs.Jobs.{Running, JobTells, TellsOn, WorkTells, WorkWinds, answered, answered_on, at_barrier, copies, course_after, deletes, first_work, is_fresh, PassesOver, taken_anew}
+use Rattle.copy_move.specs.Makings.{Making}
+use Rattle.copy_move.specs.Makings as makings
+use Rattle.copy_move.specs.Jobs.{Running, JobTells, TellsOn, WorkTells, WorkWinds, answered, answered_on, at_barrier, copies, course_after, deletes, first_work, is_fresh, makes, PassesOver, taken_anew}
 use Rattle.job_reports.specs.Reports.{ends}
 use Rattle.copy_move.specs.Told.{after_step, course_told, if_closed, running, skipped, stage_told, synced, told, work_told}
 
@@ -70,8 +74,13 @@ stage_is_told d new stage at =
 skipped_told : (work new : Work) (path : Route) → PassesOver work path new → skipped path (work_told work) ≡ work_told new
 skipped_told (Copy c) (Copy new) path (path_is, new_is) = ap (λ stage. Copy (record c { stage = stage })) (skipped_stage_told c.stage) ∙ ap (λ n. work_told (Copy n)) (sym new_is)
 skipped_told (Copy c) (Delete new) path h = absurd h
+skipped_told (Copy c) (Make new) path h = absurd h
 skipped_told (Delete d) (Copy new) path h = absurd h
 skipped_told (Delete d) (Delete new) path at = stage_is_told d new (after_item d.path path d.stage) at
+skipped_told (Delete d) (Make new) path h = absurd h
+skipped_told (Make m) (Copy new) path h = absurd h
+skipped_told (Make m) (Delete new) path h = absurd h
+skipped_told (Make m) (Make new) path (path_is, new_is) = ap Make (sym new_is)
 
 anew_stage_told : (stage : Stage) → copying.taken_anew (stage_told stage) ≡ stage_told (copying.taken_anew stage)
 anew_stage_told (at.Fill part facts done) = refl
@@ -83,6 +92,7 @@ anew_stage_told at.Decided = refl
 anew_told : (work : Work) → taken_anew (work_told work) ≡ work_told (taken_anew work)
 anew_told (Copy c) = ap (λ stage. Copy (record c { stage = stage })) (anew_stage_told c.stage)
 anew_told (Delete d) = refl
+anew_told (Make m) = refl
 
 -- before the first change no trouble of the work is at a barrier
 copy_bars : (stage : Stage) (folder : FolderState) (barrier : Bool) → barrier ≡ copying.at_barrier stage → (copying.is_fresh stage folder && barrier) ≡ false
@@ -98,6 +108,20 @@ deletion_bars deletion.Begin barrier h = h
 deletion_bars deletion.Going barrier h = refl
 deletion_bars deletion.Sync barrier h = refl
 
+making_bars : (stage : MakingStage) (barrier : Bool) → barrier ≡ makings.at_barrier stage → (makings.is_fresh stage && barrier) ≡ false
+making_bars making.Make barrier h = h
+making_bars making.Sync barrier h = refl
+making_bars making.Finish barrier h = refl
+making_bars making.PassedOver barrier h = refl
+
+-- the trouble of a making is at a barrier where its next call is
+making_trouble_bars : (stage : MakingStage) (path : Route) (trouble : Trouble) → makings.IsTroubleAt stage path trouble → trouble.barrier ≡ makings.at_barrier stage
+making_trouble_bars making.Make path trouble (e, is) = ap (λ (t : Trouble). t.barrier) is
+making_trouble_bars making.Sync [] trouble h = absurd h
+making_trouble_bars making.Sync (name ∷ folder) trouble (e, is) = ap (λ (t : Trouble). t.barrier) is
+making_trouble_bars making.Finish path trouble h = absurd h
+making_trouble_bars making.PassedOver path trouble h = absurd h
+
 fresh_stage_told : (stage : Stage) (folder : FolderState) → copying.is_fresh (stage_told stage) folder ≡ copying.is_fresh stage folder
 fresh_stage_told (at.Fill part facts done) folder = refl
 fresh_stage_told at.Begin folder = refl
@@ -108,15 +132,20 @@ fresh_stage_told at.Decided folder = refl
 pub fresh_told : (work : Work) → is_fresh (work_told work) ≡ is_fresh work
 fresh_told (Copy c) = fresh_stage_told c.stage c.folder
 fresh_told (Delete d) = refl
+fresh_told (Make m) = refl
 
 -- then the job is in trouble, as its history tells it
 in_trouble : (work : Work) (trouble : Trouble) → (is_fresh work && trouble.barrier) ≡ false → course_told (work_told work) trouble ≡ InTrouble trouble.cause
 in_trouble work trouble h = ap (λ b. if b && trouble.barrier then OwedSyncFailed trouble.cause else InTrouble trouble.cause) (fresh_told work)
     ∙ ap (λ b. if b then OwedSyncFailed trouble.cause else InTrouble trouble.cause) h
 
+pub making_in_trouble : (m : Making) (trouble : Trouble) → makings.IsTroubleAt m.stage m.path trouble → course_told (Make m) trouble ≡ InTrouble trouble.cause
+making_in_trouble m trouble h = in_trouble (Make m) trouble (making_bars m.stage trouble.barrier (making_trouble_bars m.stage m.path trouble h))
+
 skip_bars : (work : Work) → (is_fresh work && at_barrier work) ≡ false
 skip_bars (Copy c) = copy_bars c.stage c.folder (copying.at_barrier c.stage) refl
 skip_bars (Delete d) = deletion_bars d.stage (standing.at_barrier d.stage) refl
+skip_bars (Make m) = making_bars m.stage (makings.at_barrier m.stage) refl
 
 pub skip_in_trouble : (work : Work) → course_told (work_told work) (out_of_memory_at (at_barrier work)) ≡ InTrouble Memory
 skip_in_trouble work = in_trouble work (out_of_memory_at (at_barrier work)) (skip_bars work)
@@ -141,6 +170,7 @@ copy_told id old new (Ended Aborted part) t h = absurd t
 copy_told id old new (Ended Killed part) t h = absurd t
 copy_told id old new (Ended NoMemory part) t h = absurd t
 copy_told id old new (Removed path) t h = absurd t
+copy_told id old new (Made made) t h = absurd t
 copy_told id old new (Kept path) t h = absurd t
 copy_told id old new (Skipped path cause) t h = absurd t
 
@@ -160,8 +190,27 @@ deletion_told id old new (Ended NoMemory part) t h = absurd t
 deletion_told id old new (Began part) t h = absurd t
 deletion_told id old new (Chunk count) t h = absurd t
 deletion_told id old new (Placed path) t h = absurd t
+deletion_told id old new (Made made) t h = absurd t
 deletion_told id old new (Skipped path cause) t h = absurd t
 deletion_told id old new (Cleaned part) t h = absurd t
+
+-- a making that goes on
+making_told : (id : ℕ) (old new : Making) (did : Did) → makings.Tells old did new → ends did ≡ false
+    → after_step did (told (job_of id (Make old) GoesOn)) ≡ Some (told (job_of id (Make new) (course_after did)))
+making_told id old new (Made path) (from, path_is, is) h = rw is refl
+making_told id old new Barrier (from, is) h = rw is (ap (λ stage. Some (job_of id (Make (record old { stage = makings.after_sync stage })) GoesOn)) from)
+making_told id old new (Troubled trouble) (where_is, is) h = rw is (ap (λ course. Some (job_of id (Make old) course)) (making_in_trouble old trouble where_is))
+making_told id old new (Ended Finished part) t h = absurd cc
+making_told id old new (Ended Aborted part) t h = absurd t
+making_told id old new (Ended Killed part) t h = absurd t
+making_told id old new (Ended NoMemory part) t h = absurd t
+making_told id old new (Began part) t h = absurd t
+making_told id old new (Chunk count) t h = absurd t
+making_told id old new (Placed path) t h = absurd t
+making_told id old new (Removed made) t h = absurd t
+making_told id old new (Kept kept) t h = absurd t
+making_told id old new (Skipped path cause) t h = absurd t
+making_told id old new (Cleaned part) t h = absurd t
 
 -- the last steps
 copy_winds : (id : ℕ) (ending : Ending) (old new : Copying) (did : Did) → Winds ending old did new → ends did ≡ false
@@ -173,6 +222,7 @@ copy_winds id ending old new (Began part) t h = absurd t
 copy_winds id ending old new (Chunk count) t h = absurd t
 copy_winds id ending old new (Placed path) t h = absurd t
 copy_winds id ending old new (Removed path) t h = absurd t
+copy_winds id ending old new (Made made) t h = absurd t
 copy_winds id ending old new (Kept kept) t h = absurd t
 copy_winds id ending old new (Skipped path cause) t h = absurd t
 copy_winds id ending old new (Troubled trouble) t h = absurd t
@@ -186,24 +236,49 @@ deletion_winds id ending old new (Began part) t h = absurd t
 deletion_winds id ending old new (Chunk count) t h = absurd t
 deletion_winds id ending old new (Placed path) t h = absurd t
 deletion_winds id ending old new (Removed path) t h = absurd t
+deletion_winds id ending old new (Made made) t h = absurd t
 deletion_winds id ending old new (Kept kept) t h = absurd t
 deletion_winds id ending old new (Skipped path cause) t h = absurd t
 deletion_winds id ending old new (Cleaned part) t h = absurd t
 deletion_winds id ending old new (Troubled trouble) t h = absurd t
 
+making_winds : (id : ℕ) (ending : Ending) (old new : Making) (did : Did) → makings.Winds ending old did new → ends did ≡ false
+    → after_step did (told (job_of id (Make old) (Ends ending))) ≡ Some (told (job_of id (Make new) (Ends ending)))
+making_winds id ending old new Barrier (from, is) h = rw is (ap (λ stage. Some (job_of id (Make (record old { stage = makings.after_sync stage })) (Ends ending))) from)
+making_winds id ending old new (Ended how part) t h = absurd cc
+making_winds id ending old new (Began part) t h = absurd t
+making_winds id ending old new (Chunk count) t h = absurd t
+making_winds id ending old new (Placed path) t h = absurd t
+making_winds id ending old new (Made path) t h = absurd t
+making_winds id ending old new (Removed made) t h = absurd t
+making_winds id ending old new (Kept kept) t h = absurd t
+making_winds id ending old new (Skipped path cause) t h = absurd t
+making_winds id ending old new (Cleaned part) t h = absurd t
+making_winds id ending old new (Troubled trouble) t h = absurd t
+
 goes_told : (id : ℕ) (old new : Work) (did : Did) → WorkTells old did new → ends did ≡ false
     → after_step did (told (job_of id old GoesOn)) ≡ Some (told (job_of id new (course_after did)))
 goes_told id (Copy c) (Copy new) did t h = copy_told id c new did t h
 goes_told id (Copy c) (Delete new) did t h = absurd t
+goes_told id (Copy c) (Make new) did t h = absurd t
 goes_told id (Delete d) (Copy new) did t h = absurd t
+goes_told id (Delete d) (Make new) did t h = absurd t
+goes_told id (Make m) (Copy new) did t h = absurd t
+goes_told id (Make m) (Delete new) did t h = absurd t
 goes_told id (Delete d) (Delete new) did t h = deletion_told id d new did t h
+goes_told id (Make m) (Make new) did t h = making_told id m new did t h
 
 winds_told : (id : ℕ) (ending : Ending) (old new : Work) (did : Did) → WorkWinds ending old did new → ends did ≡ false
     → after_step did (told (job_of id old (Ends ending))) ≡ Some (told (job_of id new (Ends ending)))
 winds_told id ending (Copy c) (Copy new) did t h = copy_winds id ending c new did t h
 winds_told id ending (Copy c) (Delete new) did t h = absurd t
+winds_told id ending (Copy c) (Make new) did t h = absurd t
 winds_told id ending (Delete d) (Copy new) did t h = absurd t
+winds_told id ending (Delete d) (Make new) did t h = absurd t
+winds_told id ending (Make m) (Copy new) did t h = absurd t
+winds_told id ending (Make m) (Delete new) did t h = absurd t
 winds_told id ending (Delete d) (Delete new) did t h = deletion_winds id ending d new did t h
+winds_told id ending (Make m) (Make new) did t h = making_winds id ending m new did t h
 
 told_on : (course : Course) (id : ℕ) (work : Work) (new : Running) (did : Did) → TellsOn course (job_of id work course) did new → ends did ≡ false
     → after_step did (told (job_of id work course)) ≡ Some (told new)
@@ -224,6 +299,7 @@ step_told job new (Began part) t = sym (told_follows job new (Began part) t refl
 step_told job new (Chunk count) t = sym (told_follows job new (Chunk count) t refl)
 step_told job new (Placed path) t = sym (told_follows job new (Placed path) t refl)
 step_told job new (Removed path) t = sym (told_follows job new (Removed path) t refl)
+step_told job new (Made made) t = sym (told_follows job new (Made made) t refl)
 step_told job new (Kept kept) t = sym (told_follows job new (Kept kept) t refl)
 step_told job new (Skipped path cause) t = sym (told_follows job new (Skipped path cause) t refl)
 step_told job new (Cleaned part) t = sym (told_follows job new (Cleaned part) t refl)
@@ -259,6 +335,7 @@ began_told id (plan.Delete (path ∷ more ∷ paths)) = refl
 began_told id (plan.Copy []) = refl
 began_told id (plan.Copy (pair ∷ [])) = began_if id (is_some (parent_of pair.source) && is_some (parent_of pair.target)) (copies id pair.source pair.target) refl
 began_told id (plan.Copy (pair ∷ more ∷ pairs)) = refl
+began_told id (plan.MakeFolder path) = began_if id (is_some (parent_of path)) (makes path) refl
 
 -- the sync of a folder that an ended job left comes before the first change, and leaves the work as it is
 synced_copy : (c : Copying) (stage : Stage) (folder : FolderState) → copying.is_fresh stage folder ≡ true → synced (work_told (Copy (record c { stage = stage; folder = folder }))) ≡ work_told (Copy (record c { stage = stage; folder = folder }))
@@ -269,9 +346,16 @@ synced_copy c (at.Clean part follows) folder h = absurd (false≢true h)
 synced_copy c (at.Left part) folder h = absurd (false≢true h)
 synced_copy c at.Decided folder h = absurd (false≢true h)
 
+synced_making : (m : Making) (stage : MakingStage) → makings.is_fresh stage ≡ true → synced (Make (record m { stage = stage })) ≡ Make (record m { stage = stage })
+synced_making m making.Make h = refl
+synced_making m making.Sync h = absurd (false≢true h)
+synced_making m making.Finish h = absurd (false≢true h)
+synced_making m making.PassedOver h = absurd (false≢true h)
+
 fresh_synced : (work : Work) → is_fresh work ≡ true → synced (work_told work) ≡ work_told work
 fresh_synced (Copy c) h = synced_copy c c.stage c.folder h
 fresh_synced (Delete d) h = refl
+fresh_synced (Make m) h = synced_making m m.stage h
 
 fresh_unsettled : (work : Work) (trouble : Trouble) → is_fresh work ≡ true → trouble.barrier ≡ true → course_told (work_told work) trouble ≡ OwedSyncFailed trouble.cause
 fresh_unsettled work trouble fresh barrier =

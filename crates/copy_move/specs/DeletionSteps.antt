@@ -14,7 +14,7 @@ use Rattle.job_reports.specs.CallRuns.{HasMore}
 use Rattle.job_reports.specs.Paths.{folder_of, without}
 use Rattle.job_reports.specs.Reports.{IsFault, ends}
 use Rattle.job_reports.specs.Stops.{out_of_memory_at}
-use Rattle.tree_deletion.specs.Folders.{IsOwn, is_of}
+use Rattle.tree_deletion.specs.Folders.{is_of}
 use Rattle.tree_deletion.specs.Standing.{after_item, at_barrier}
 use Rattle.tree_deletion.specs.Steps.{IsProgress, SyncSteps, WorkSteps}
 use Rattle.copy_move.specs.Deletions.{Deleting, DeletionCalls, DeletionLeaves, IsAtStage, LastCalls, Tells, TellsTried, Winds, left_in, machine_of}

@@ -7,7 +7,7 @@ use Rattle.job_reports.specs.declared.report.Cause.TheVariants.{Memory}
 use Rattle.job_reports.specs.declared.report.Ending.{Ending}
 use Rattle.job_reports.specs.declared.report.Ending.TheVariants.{Aborted}
 use Rattle.job_reports.specs.declared.report.Did.{Did}
-use Rattle.job_reports.specs.declared.report.Did.TheVariants.{Began, Chunk, Placed, Removed, Kept, Skipped, Cleaned, Barrier, Troubled, Ended}
+use Rattle.job_reports.specs.declared.report.Did.TheVariants.{Began, Chunk, Placed, Removed, Made, Kept, Skipped, Cleaned, Barrier, Troubled, Ended}
 use Rattle.job_reports.specs.Reports.{passes_over}
 use Rattle.file_copy.specs.Copying.{begun}
 use Rattle.file_copy.specs.Copying as copying
@@ -18,14 +18,17 @@ use Rattle.job_reports.specs.declared.job.Job.{Job}
 use Rattle.job_reports.specs.declared.job.Job.TheVariants as plan
 use Rattle.job_reports.specs.declared.answer.Answer.{Answer}
 use Rattle.job_reports.specs.declared.answer.Answer.TheVariants.{Retry, Skip, SkipAll, Abort}
+use Rattle.copy_move.specs.declared.making.MakingStage.TheVariants as making
 use Rattle.copy_move.specs.declared.work.Work.{Work}
-use Rattle.copy_move.specs.declared.work.Work.TheVariants.{Copy, Delete}
+use Rattle.copy_move.specs.declared.work.Work.TheVariants.{Copy, Delete, Make}
 use Rattle.copy_move.specs.declared.run.Course.{Course}
 use Rattle.copy_move.specs.declared.run.Course.TheVariants.{GoesOn, InTrouble, OwedSyncFailed, Skips, Ends}
 use Rattle.tree_deletion.specs.Standing.{after_item}
 use Rattle.tree_deletion.specs.Standing as standing
 use Rattle.copy_move.specs.Deletions.{DeletionCalls, IsAtStage, LastCalls, started}
 use Rattle.copy_move.specs.Deletions as deletions
+use Rattle.copy_move.specs.Makings.{LastMakingCalls, MakingCalls}
+use Rattle.copy_move.specs.Makings as makings
 
 -- a live job: its number, what it does, and whether it goes on
 pub record Running : Type 0 where
@@ -41,8 +44,12 @@ copies id source target = Copy (begun id source target)
 abbrev pub deletes : Route → Work
 deletes path = Delete (started path)
 
--- The work of a job of one item. Other plans aren't worked yet; and the root, which no folder holds, is neither deleted nor
--- copied.
+-- the making of a folder, just begun
+abbrev pub makes : Route → Work
+makes path = Make (record { path = path; stage = making.Make })
+
+-- The work of a job of one item. Other plans aren't worked yet; and the root, which no folder holds, is neither copied, deleted nor
+-- made.
 abbrev pub first_work : ℕ → Job → Option Work
 first_work id (plan.Delete []) = None
 first_work id (plan.Delete (path ∷ [])) = if is_some (parent_of path) then Some (deletes path) else None
@@ -51,16 +58,19 @@ first_work id (plan.Copy []) = None
 first_work id (plan.Copy (pair ∷ [])) =
     if is_some (parent_of pair.source) && is_some (parent_of pair.target) then Some (copies id pair.source pair.target) else None
 first_work id (plan.Copy (pair ∷ more ∷ pairs)) = None
+first_work id (plan.MakeFolder path) = if is_some (parent_of path) then Some (makes path) else None
 
 -- the next call is at a barrier, where nothing can be skipped
 abbrev pub at_barrier : Work → Bool
 at_barrier (Copy c) = copying.at_barrier c.stage
 at_barrier (Delete d) = standing.at_barrier d.stage
+at_barrier (Make m) = makings.at_barrier m.stage
 
 -- the work of a job that has changed nothing yet
 abbrev pub is_fresh : Work → Bool
 is_fresh (Copy c) = copying.is_fresh c.stage c.folder
 is_fresh (Delete d) = standing.is_fresh d.stage
+is_fresh (Make m) = makings.is_fresh m.stage
 
 -- nothing can be skipped: the next call is at a barrier, or the trouble is a folder that an ended job left
 abbrev pub is_barred : Course → Work → Bool
@@ -70,27 +80,36 @@ is_barred (InTrouble cause) work = at_barrier work
 is_barred (Skips cause) work = at_barrier work
 is_barred (Ends ending) work = at_barrier work
 
--- the work once what stands at this path was left as it is: the file that is copied, or something that is deleted
+-- the work once what stands at this path was left as it is: the file that is copied, something that is deleted, or the folder that
+-- is not made
 abbrev pub PassesOver : Work → Route → Work → Type 0
 PassesOver (Copy c) path (Copy new) = (path ≡ c.source) × (new ≡ record c { stage = copying.skipped c.stage })
 PassesOver (Copy c) path (Delete new) = ⊥
+PassesOver (Copy c) path (Make new) = ⊥
 PassesOver (Delete d) path (Copy new) = ⊥
 PassesOver (Delete d) path (Delete new) = IsAtStage d (after_item d.path path d.stage) new
+PassesOver (Delete d) path (Make new) = ⊥
+PassesOver (Make m) path (Copy new) = ⊥
+PassesOver (Make m) path (Delete new) = ⊥
+PassesOver (Make m) path (Make new) = (path ≡ m.path) × (new ≡ record m { stage = makings.skipped m.stage })
 
--- the work taken up once more after a trouble; a deletion tries its call again
+-- the work taken up once more after a trouble; a deletion and a making try their call again
 abbrev pub taken_anew : Work → Work
 taken_anew (Copy c) = Copy (record c { stage = copying.taken_anew c.stage })
 taken_anew (Delete d) = Delete d
+taken_anew (Make m) = Make m
 
 -- the part that stands
 abbrev pub part_of : Work → Option Route
 part_of (Copy c) = copying.part_at c.stage
 part_of (Delete d) = None
+part_of (Make m) = None
 
 -- work that goes on: no part of it was left in last steps
 abbrev pub IsGoing : Work → Type 0
 IsGoing (Copy c) = last.left_at c.stage ≡ None
 IsGoing (Delete d) = ⊤
+IsGoing (Make m) = ⊤
 
 -- only a job that makes its last steps leaves a part
 abbrev pub IsSound : Course → Work → Type 0
@@ -104,15 +123,25 @@ IsSound (Ends ending) work = ⊤
 abbrev pub WorkTells : Work → Did → Work → Type 0
 WorkTells (Copy c) did (Copy new) = copying.Tells c did new
 WorkTells (Copy c) did (Delete new) = ⊥
+WorkTells (Copy c) did (Make new) = ⊥
 WorkTells (Delete d) did (Copy new) = ⊥
 WorkTells (Delete d) did (Delete new) = deletions.Tells d did new
+WorkTells (Delete d) did (Make new) = ⊥
+WorkTells (Make m) did (Copy new) = ⊥
+WorkTells (Make m) did (Delete new) = ⊥
+WorkTells (Make m) did (Make new) = makings.Tells m did new
 
 -- the same of a last step
 abbrev pub WorkWinds : Ending → Work → Did → Work → Type 0
 WorkWinds ending (Copy c) did (Copy new) = last.Winds ending c did new
 WorkWinds ending (Copy c) did (Delete new) = ⊥
+WorkWinds ending (Copy c) did (Make new) = ⊥
 WorkWinds ending (Delete d) did (Copy new) = ⊥
 WorkWinds ending (Delete d) did (Delete new) = deletions.Winds ending d did new
+WorkWinds ending (Delete d) did (Make new) = ⊥
+WorkWinds ending (Make m) did (Copy new) = ⊥
+WorkWinds ending (Make m) did (Delete new) = ⊥
+WorkWinds ending (Make m) did (Make new) = makings.Winds ending m did new
 
 -- a job whose call was refused waits for an answer, else it goes on
 abbrev pub course_after : Did → Course
@@ -121,6 +150,7 @@ course_after (Began part) = GoesOn
 course_after (Chunk count) = GoesOn
 course_after (Placed path) = GoesOn
 course_after (Removed path) = GoesOn
+course_after (Made made) = GoesOn
 course_after (Kept kept) = GoesOn
 course_after (Skipped path cause) = GoesOn
 course_after (Cleaned part) = GoesOn
@@ -145,12 +175,15 @@ JobTells job did new = TellsOn job.course job did new
 abbrev pub WorkCalls : (Route → Type 0) → Work → Did → Work → CallLog → Option CallLog → Type 0
 WorkCalls unclaimed (Copy c) did (Copy new) log after = CopyCalls unclaimed c did new log after
 WorkCalls unclaimed (Copy c) did (Delete new) log after = ⊥
+WorkCalls unclaimed (Copy c) did (Make new) log after = ⊥
 WorkCalls unclaimed (Delete d) did new log after = DeletionCalls did log after
+WorkCalls unclaimed (Make m) did new log after = MakingCalls m did log after
 
 -- the same of a last step
 abbrev pub WorkLastCalls : Work → Did → CallLog → Option CallLog → Type 0
 WorkLastCalls (Copy c) did log after = last.WindCalls c did log after
 WorkLastCalls (Delete d) did log after = LastCalls did log after
+WorkLastCalls (Make m) did log after = LastMakingCalls m did log after
 
 -- What a step of a job says of the tree's calls. The report of a skip makes none.
 abbrev pub CallsOn : (Route → Type 0) → Course → Running → Did → Running → CallLog → Option CallLog → Type 0

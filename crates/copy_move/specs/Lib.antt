@@ -1,5 +1,7 @@
 pub mod DeletionSteps
 pub mod Deletions
+pub mod Makings
+pub mod MakingSteps
 pub mod Jobs
 pub mod Ranks
 pub mod Settling

@@ -7,9 +7,11 @@ use Rattle.file_copy.specs.declared.stage.Next.TheVariants as next
 use Rattle.file_copy.specs.declared.stage.FolderState.{FolderState}
 use Rattle.file_copy.specs.declared.stage.FolderState.TheVariants.{Synced, Dirty}
 use Rattle.file_copy.specs.LastSteps.{last_steps}
+use Rattle.copy_move.specs.declared.making.MakingStage.{MakingStage}
+use Rattle.copy_move.specs.declared.making.MakingStage.TheVariants as making
 use Rattle.copy_move.specs.Deletions.{Deleting, left_in}
 use Rattle.copy_move.specs.declared.work.Work.{Work}
-use Rattle.copy_move.specs.declared.work.Work.TheVariants.{Copy, Delete}
+use Rattle.copy_move.specs.declared.work.Work.TheVariants.{Copy, Delete, Make}
 use Rattle.copy_move.specs.declared.run.Course.{Course}
 use Rattle.copy_move.specs.declared.run.Course.TheVariants.{GoesOn, InTrouble, OwedSyncFailed, Skips, Ends}
 use Rattle.copy_move.specs.Jobs.{Running}
@@ -29,18 +31,35 @@ copy_rank Decided Synced = 4
 abbrev pub deletion_rank : Deleting → ℕ
 deletion_rank d = left_in d + 2
 
+-- of a making that goes on
+abbrev pub making_rank : MakingStage → ℕ
+making_rank making.Make = 6
+making_rank making.Sync = 5
+making_rank making.Finish = 4
+making_rank making.PassedOver = 4
+
+-- the last steps of a making
+abbrev pub last_making_steps : MakingStage → ℕ
+last_making_steps making.Make = 1
+last_making_steps making.Sync = 2
+last_making_steps making.Finish = 1
+last_making_steps making.PassedOver = 1
+
 abbrev pub work_rank : Work → ℕ
 work_rank (Copy c) = copy_rank c.stage c.folder
 work_rank (Delete d) = deletion_rank d
+work_rank (Make m) = making_rank m.stage
 
 abbrev pub last_rank : Work → ℕ
 last_rank (Copy c) = last_steps c.stage c.folder
 last_rank (Delete d) = 1
+last_rank (Make m) = last_making_steps m.stage
 
 -- where something is to be skipped
 abbrev pub skip_rank : Work → ℕ
 skip_rank (Copy c) = 10
 skip_rank (Delete d) = deletion_rank d + 1
+skip_rank (Make m) = 10
 
 -- a job that waits counts as one that is aborted
 abbrev pub rank_on : Course → Work → ℕ
@@ -54,6 +73,7 @@ rank_on (Ends ending) work = last_rank work
 abbrev pub tries_left : Course → Work → List Route → ℕ
 tries_left (Ends ending) (Delete d) dirty = length dirty - d.tried
 tries_left (Ends ending) (Copy c) dirty = length dirty
+tries_left (Ends ending) (Make m) dirty = length dirty
 tries_left GoesOn work dirty = length dirty
 tries_left (InTrouble cause) work dirty = length dirty
 tries_left (OwedSyncFailed cause) work dirty = length dirty

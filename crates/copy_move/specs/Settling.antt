@@ -15,26 +15,31 @@ use Rattle.job_reports.specs.Paths.{folder_of, without}
 use Rattle.file_copy.specs.Copying as copying
 use Rattle.file_copy.specs.LastSteps as last
 use Rattle.copy_move.specs.declared.work.Work.{Work}
-use Rattle.copy_move.specs.declared.work.Work.TheVariants.{Copy, Delete}
+use Rattle.copy_move.specs.declared.work.Work.TheVariants.{Copy, Delete, Make}
 use Rattle.tree_deletion.specs.Folders.{is_of, joined}
 use Rattle.copy_move.specs.Deletions.{DeletionLeaves, TellsTried}
+use Rattle.copy_move.specs.Makings.{MakingLeaves}
+use Rattle.copy_move.specs.Makings as makings
 
 -- the folder that holds what a job places or removes
 abbrev pub changed_folder : Work → Route
 changed_folder (Copy c) = folder_of c.target
 changed_folder (Delete d) = folder_of d.path
+changed_folder (Make m) = folder_of m.path
 
 -- a folder in which a job may change names: of a deletion also the thing itself, and what lies in it
 abbrev pub is_own : Work → Route → Bool
 is_own (Copy c) kept = same_path kept (folder_of c.target)
 is_own (Delete d) kept = is_of (folder_of d.path) d.path kept
+is_own (Make m) kept = same_path kept (folder_of m.path)
 
 -- the thing that is deleted, or what lies in it
 abbrev pub is_within : Work → Route → Bool
 is_within (Copy c) kept = false
 is_within (Delete d) kept = is_prefix d.path kept
+is_within (Make m) kept = false
 
--- the folder of a copy joins the dirty ones with its first change, and leaves them with its sync
+-- the folder of a copy, or of a new folder, joins the dirty ones with its first change, and leaves them with its sync
 abbrev pub with_change : Bool → Bool → Route → List Route → List Route
 with_change false true folder dirty = joined folder dirty
 with_change true false folder dirty = without folder dirty
@@ -46,13 +51,20 @@ abbrev pub WorkLeaves : Work → Did → Work → List Route → List Route → 
 WorkLeaves (Copy c) did (Copy new) dirty dirty_after before after =
     dirty_after ≡ with_change (copying.is_dirty c.folder) (copying.is_dirty new.folder) (folder_of c.target) dirty
 WorkLeaves (Copy c) did (Delete new) dirty dirty_after before after = ⊥
+WorkLeaves (Copy c) did (Make new) dirty dirty_after before after = ⊥
 WorkLeaves (Delete d) did (Copy new) dirty dirty_after before after = ⊥
 WorkLeaves (Delete d) did (Delete new) dirty dirty_after before after = DeletionLeaves d did dirty dirty_after before after
+WorkLeaves (Delete d) did (Make new) dirty dirty_after before after = ⊥
+WorkLeaves (Make m) did (Copy new) dirty dirty_after before after = ⊥
+WorkLeaves (Make m) did (Delete new) dirty dirty_after before after = ⊥
+WorkLeaves (Make m) did (Make new) dirty dirty_after before after =
+    dirty_after ≡ with_change (makings.is_dirty m.stage) (makings.is_dirty new.stage) (folder_of m.path) dirty
 
 -- what a last step tells of the folder that it tried: the refusal of its sync, if that was in vain
 abbrev pub TellsFolder : Work → Did → Option TreeError → Route → CallLog → Option CallLog → Type 0
 TellsFolder (Copy c) did left folder log after = last.TellsFolder c did left log after
 TellsFolder (Delete d) did left folder log after = TellsTried did left folder log after
+TellsFolder (Make m) did left folder log after = MakingLeaves m did left log after
 
 -- the number of the mount on which a folder lies
 abbrev pub IsMountOf : FileSystem → Route → ℕ → Type 0

@@ -16,7 +16,7 @@ use Rattle.job_reports.specs.declared.report.Did.TheVariants.{Barrier, Skipped, 
 use Rattle.job_reports.specs.Stops.{out_of_memory_at, cause_of, trouble_at}
 use Rattle.copy_move.specs.declared.work.Work.{Work}
 use Rattle.copy_move.specs.declared.run.Course.{Course}
-use Rattle.copy_move.specs.declared.work.Work.TheVariants.{Copy, Delete}
+use Rattle.copy_move.specs.declared.work.Work.TheVariants.{Copy, Delete, Make}
 use Rattle.copy_move.specs.declared.run.Course.TheVariants.{GoesOn, InTrouble, OwedSyncFailed, Skips, Ends}
 use Rattle.copy_move.specs.DeletionSteps.{Goes, after_try}
 use Rattle.copy_move.specs.Jobs.{Running, JobTells, JobCalls, PassesOver, WorkTells, WorkCalls, WorkWinds, WorkLastCalls, at_barrier, course_after, is_fresh}
@@ -74,6 +74,8 @@ step_made old new did calls dirty dirty_after before after faults faults_after =
 abbrev pub Walks : Work → Work → Did → ℕ → List Route → List Route → Option CallLog → Option CallLog → ℕ → ℕ → Type 0
 Walks (Copy c) new did calls dirty dirty_after before after faults faults_after = ⊤
 Walks (Delete d) (Copy new) did calls dirty dirty_after before after faults faults_after = ⊥
+Walks (Delete d) (Make new) did calls dirty dirty_after before after faults faults_after = ⊥
+Walks (Make m) new did calls dirty dirty_after before after faults faults_after = ⊤
 Walks (Delete d) (Delete new) did calls dirty dirty_after before after faults faults_after = Goes d new did calls dirty dirty_after before after faults faults_after
 
 -- A piece of work, likewise. Fewer steps are left then, and at most three where it is refused.

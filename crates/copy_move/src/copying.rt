@@ -1,20 +1,18 @@
 //! The copy of a file, with the dirty folders: its folder joins them before the first change there, when there may still be no memory,
 //! and leaves them with its sync.
-ghost use Rattle.std.specs.Prelude.{◌≡◌, ◌&&◌, None, false, not, true};
+ghost use Rattle.std.specs.Prelude.{◌≡◌, None, false, true};
 ghost use Rattle.file_copy.specs.Copying.{is_fresh};
 ghost use Rattle.file_copy.specs.LastSteps.{left_at};
-ghost use Rattle.job_reports.specs.Paths.{folder_of};
 ghost use Rattle.copy_move.specs.declared.work.Work.{Work};
-ghost use Rattle.copy_move.specs.DeletionSteps.{after_try};
 ghost use Rattle.copy_move.specs.Steps.{WorkSteps, WorkWindsUp};
 
+use crate::noting::{but_not, note_try};
 use crate::reports::without_call;
 use file_copy::{FileCopy, PartTest};
 use job_reports::{Did, Ending, LastStepResult, StepResult, out_of_memory};
-use mc_text::Path;
 use std::alloc::Global;
 use tree_deletion::Dirty;
-use tree_trait::{Tree, TreeError};
+use tree_trait::Tree;
 
 /// Does the next piece of work of a copy.
 pub(crate) fn step_copy<T: Tree, P: PartTest>(
@@ -92,21 +90,4 @@ pub(crate) fn wind_up_copy<T: Tree>(
     let stepped = copy.wind_up(alloc, tree, ending);
     note_try(dirty, &stepped.did, stepped.left, copy.folder());
     stepped
-}
-
-/// The sync of a folder was tried in a last step, if this is the report of it, and may have been refused.
-fn note_try(dirty: &mut Dirty, did: &Did, left: Option<TreeError>, folder: &Path)
-    ensures { dirty.new ≡ after_try did.now left folder.now dirty.old }
-{
-    match did {
-        Did::Barrier => dirty.remove_if(left.is_none(), folder),
-        _ => {}
-    }
-}
-
-/// The one and not the other. (The prover keeps no branch of a call.)
-fn but_not(one: bool, other: bool) -> bool
-    ensures { result ≡ (one && not other) }
-{
-    one && !other
 }

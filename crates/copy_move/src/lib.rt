@@ -3,6 +3,9 @@
 
 mod copying;
 mod deletion;
+mod making;
+mod new_folder;
+mod noting;
 mod owed;
 mod reports;
 mod run;
@@ -11,6 +14,7 @@ mod work;
 
 pub use deletion::TreeDeletion;
 pub use file_copy::PartTest;
+pub use making::{FolderMaking, MakingStage};
 pub use run::{Course, Run};
 pub use tree_deletion::Dirty;
 pub use work::Work;

@@ -9,7 +9,7 @@ ghost use Rattle.copy_move.specs.Told.{running};
 mod answering;
 mod stepping;
 
-use crate::starting::{copy_of, deletion_of};
+use crate::starting::{copy_of, deletion_of, making_of};
 use crate::work::Work;
 use file_copy::PartTest;
 use job_reports::{Cause, Ending, Job, StepResult};
@@ -62,6 +62,7 @@ impl Run {
         let work = match job {
             Job::Copy(pairs) => copy_of(alloc, pairs, id)?,
             Job::Delete(paths) => deletion_of(alloc, paths)?,
+            Job::MakeFolder(path) => making_of(alloc, path)?,
         };
         Ok(Run {
             id,

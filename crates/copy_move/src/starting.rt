@@ -5,10 +5,11 @@ ghost use Rattle.job_reports.specs.Jobs.{is_workable};
 ghost use Rattle.copy_move.specs.Jobs.{IsGoing, first_work};
 
 use crate::deletion::TreeDeletion;
+use crate::making::FolderMaking;
 use crate::work::Work;
 use file_copy::FileCopy;
 use job_reports::Pairs;
-use mc_text::{NoMemory, Paths};
+use mc_text::{NoMemory, Path, Paths};
 use std::alloc::Global;
 
 /// The copy of one file.
@@ -41,9 +42,16 @@ pub(crate) fn deletion_of(alloc: Global, paths: &Paths) -> Result<Work, NoMemory
     let Some(folder) = path.parent(alloc)? else {
         unreachable!()
     };
-    Ok(Work::Delete(TreeDeletion::new(
-        alloc,
-        path.copy(alloc)?,
-        folder,
-    )))
+    Ok(Work::Delete(TreeDeletion::new(alloc, path.copy(alloc)?, folder)))
+}
+
+/// The making of one folder.
+pub(crate) fn making_of(alloc: Global, path: &Path) -> Result<Work, NoMemory>
+    requires { is_workable (Job.MakeFolder path.now) ≡ true }
+    ensures { IfOk result (λ work. (first_work 0 (Job.MakeFolder path.now) ≡ Some work) × IsGoing work) }
+{
+    let Some(folder) = path.parent(alloc)? else {
+        unreachable!()
+    };
+    Ok(Work::Make(FolderMaking::new(path.copy(alloc)?, folder)))
 }

@@ -1,4 +1,4 @@
-//! What a job does: it copies a file, or it deletes a thing with all that lies in it. One machine for each.
+//! What a job does: it copies a file, deletes a thing with all that lies in it, or makes a folder. One machine for each.
 ghost use Rattle.std.specs.Prelude.{◌≡◌, option_map, true};
 ghost use Rattle.copy_move.specs.Jobs.{IsGoing, at_barrier, is_fresh, part_of, taken_anew as anew};
 ghost use Rattle.copy_move.specs.Settling.{changed_folder, is_within};
@@ -6,6 +6,8 @@ ghost use Rattle.copy_move.specs.Steps.{WorkSkips, WorkSteps, WorkWindsUp};
 
 use crate::copying::{step_copy, wind_up_copy};
 use crate::deletion::TreeDeletion;
+use crate::making::FolderMaking;
+use crate::new_folder::{step_making, wind_up_making};
 use file_copy::{FileCopy, PartTest};
 use job_reports::{Cause, Did, Ending, LastStepResult, StepResult};
 use mc_text::Path;
@@ -18,6 +20,7 @@ use tree_trait::Tree;
 pub enum Work {
     Copy(FileCopy),
     Delete(TreeDeletion),
+    Make(FolderMaking),
 }
 
 impl Work {
@@ -37,6 +40,7 @@ impl Work {
         match self {
             Work::Copy(copy) => step_copy(copy, alloc, tree, parts, dirty),
             Work::Delete(deletion) => deletion.step(alloc, tree, dirty),
+            Work::Make(making) => step_making(making, alloc, tree, dirty),
         }
     }
 
@@ -49,6 +53,7 @@ impl Work {
         match self {
             Work::Copy(copy) => copy.skip(alloc, cause),
             Work::Delete(deletion) => deletion.skip(alloc, cause),
+            Work::Make(making) => making.skip(alloc, cause),
         }
     }
 
@@ -61,6 +66,7 @@ impl Work {
         match self {
             Work::Copy(copy) => copy.retry(),
             Work::Delete(_) => {}
+            Work::Make(_) => {}
         }
     }
 
@@ -78,6 +84,7 @@ impl Work {
         match self {
             Work::Copy(copy) => wind_up_copy(copy, alloc, tree, ending, dirty),
             Work::Delete(deletion) => deletion.wind_up(alloc, tree, ending, dirty),
+            Work::Make(making) => wind_up_making(making, alloc, tree, ending, dirty),
         }
     }
 
@@ -88,6 +95,7 @@ impl Work {
         match self {
             Work::Copy(copy) => copy.part(),
             Work::Delete(_) => None,
+            Work::Make(_) => None,
         }
     }
 
@@ -98,6 +106,7 @@ impl Work {
         match self {
             Work::Copy(copy) => copy.into_part(),
             Work::Delete(_) => None,
+            Work::Make(_) => None,
         }
     }
 
@@ -108,6 +117,7 @@ impl Work {
         match self {
             Work::Copy(copy) => copy.is_at_barrier(),
             Work::Delete(deletion) => deletion.is_at_barrier(),
+            Work::Make(making) => making.is_at_barrier(),
         }
     }
 
@@ -118,6 +128,7 @@ impl Work {
         match self {
             Work::Copy(copy) => copy.folder(),
             Work::Delete(deletion) => deletion.folder(),
+            Work::Make(making) => making.folder(),
         }
     }
 
@@ -128,6 +139,7 @@ impl Work {
         match self {
             Work::Copy(_) => false,
             Work::Delete(deletion) => deletion.path().is_prefix_of(folder),
+            Work::Make(_) => false,
         }
     }
 
@@ -138,6 +150,7 @@ impl Work {
         match self {
             Work::Copy(copy) => copy.is_fresh(),
             Work::Delete(deletion) => deletion.is_fresh(),
+            Work::Make(making) => making.is_fresh(),
         }
     }
 }

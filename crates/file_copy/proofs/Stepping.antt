@@ -7,7 +7,7 @@ use Rattle.tree_trait.specs.Answers.{IfKnown}
 use Rattle.job_reports.specs.declared.report.Cause.{Cause}
 use Rattle.job_reports.specs.declared.report.Ending.TheVariants.{Finished, Aborted, Killed, NoMemory}
 use Rattle.job_reports.specs.declared.report.Did.{Did}
-use Rattle.job_reports.specs.declared.report.Did.TheVariants.{Began, Chunk, Placed, Removed, Kept, Skipped, Cleaned, Barrier, Troubled, Ended}
+use Rattle.job_reports.specs.declared.report.Did.TheVariants.{Began, Chunk, Placed, Removed, Made as MadeFolder, Kept, Skipped, Cleaned, Barrier, Troubled, Ended}
 use Rattle.job_reports.specs.declared.report.Trouble.{Trouble}
 use Rattle.file_copy.specs.declared.stage.SourceFacts.{SourceFacts}
 use Rattle.file_copy.specs.declared.stage.Next.{Next}
@@ -133,6 +133,7 @@ calls_any P Q c (Cleaned part) new log after past tells h = h
 calls_any P Q c Barrier new log after past tells h = h
 calls_any P Q c (Troubled t) new log after past tells h = stops_any P Q _ c.stage t.cause t.path log after past h
 calls_any P Q c (Removed path) new log after past tells h = h
+calls_any P Q c (MadeFolder made) new log after past tells h = h
 calls_any P Q c (Kept kept) new log after past tells h = h
 calls_any P Q c (Skipped path cause) new log after past tells h = h
 calls_any P Q c (Ended ending part) new log after past tells h = h
@@ -195,5 +196,6 @@ tells_ready c (Ended Aborted part) new t ready = absurd t
 tells_ready c (Ended Killed part) new t ready = absurd t
 tells_ready c (Ended NoMemory part) new t ready = absurd t
 tells_ready c (Removed path) new t ready = absurd t
+tells_ready c (MadeFolder made) new t ready = absurd t
 tells_ready c (Kept path) new t ready = absurd t
 tells_ready c (Skipped path cause) new t ready = absurd t

@@ -3,7 +3,7 @@ use Rattle.std.specs.Prelude.{◌≡◌, ℕ, ◌+◌, ◌-◌, ◌^◌, ◌≤�
 use Rattle.mc_text.specs.Routes.{Route}
 use Rattle.job_reports.specs.declared.report.Ending.TheVariants.{Finished}
 use Rattle.job_reports.specs.declared.report.Did.{Did}
-use Rattle.job_reports.specs.declared.report.Did.TheVariants.{Began, Chunk, Placed, Removed, Kept, Skipped, Cleaned, Barrier, Troubled, Ended}
+use Rattle.job_reports.specs.declared.report.Did.TheVariants.{Began, Chunk, Placed, Removed, Made, Kept, Skipped, Cleaned, Barrier, Troubled, Ended}
 use Rattle.file_copy.specs.declared.stage.SourceFacts.{SourceFacts}
 use Rattle.file_copy.specs.declared.stage.Next.{Next}
 use Rattle.file_copy.specs.declared.stage.Next.TheVariants as next
@@ -103,6 +103,7 @@ Tells c (Troubled trouble) new = (trouble.barrier ≡ at_barrier c.stage) × (ne
 Tells c (Ended Finished part) new = (c.stage ≡ Decided) × (c.folder ≡ Synced) × (part ≡ None) × (new ≡ c)
 Tells c (Ended ending part) new = ⊥
 Tells c (Removed path) new = ⊥
+Tells c (Made made) new = ⊥
 Tells c (Kept path) new = ⊥
 Tells c (Skipped path cause) new = ⊥
 

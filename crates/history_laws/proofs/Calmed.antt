@@ -8,7 +8,7 @@ use Rattle.tree_trait.specs.Change.{CallLog, current}
 use Rattle.tree_trait.specs.CrashImages.{all_settled}
 use Rattle.crash_law.specs.Guarded.{Marks}
 use Rattle.job_reports.specs.declared.report.Did.{Did}
-use Rattle.job_reports.specs.declared.report.Did.TheVariants.{Began, Chunk, Placed, Removed, Kept, Skipped, Cleaned, Barrier, Troubled, Ended}
+use Rattle.job_reports.specs.declared.report.Did.TheVariants.{Began, Chunk, Placed, Removed, Made, Kept, Skipped, Cleaned, Barrier, Troubled, Ended}
 use Rattle.job_reports.specs.Paths.{folder_of}
 use Rattle.file_copy.specs.Copying as copying
 use Rattle.session_history.specs.declared.history.Event.TheVariants.{Step}
@@ -16,10 +16,11 @@ use Rattle.session_history.specs.declared.history.Entry.{Entry}
 use Rattle.copy_move.specs.declared.run.Course.{Course}
 use Rattle.copy_move.specs.declared.run.Course.TheVariants.{GoesOn}
 use Rattle.copy_move.specs.declared.work.Work.{Work}
-use Rattle.copy_move.specs.declared.work.Work.TheVariants.{Copy, Delete}
+use Rattle.copy_move.specs.declared.work.Work.TheVariants.{Copy, Delete, Make}
 use Rattle.tree_deletion.specs.declared.deletion.Stage.{Stage}
 use Rattle.tree_deletion.specs.declared.deletion.Stage.TheVariants.{Begin, Going, Sync}
 use Rattle.tree_deletion.specs.Standing.{at_barrier, is_fresh as is_fresh_stage}
+use Rattle.copy_move.specs.Makings as makings
 use Rattle.copy_move.specs.Jobs.{Running, WorkTells, is_fresh}
 use Rattle.copy_move.specs.Settling.{changed_folder}
 use Rattle.copy_move.specs.Steps.{SyncsFolder}
@@ -60,6 +61,7 @@ module _ (told : Said) (dirty : List Route) (marks : Marks) (s : FileSystem) (co
   fresh_then (Copy c) (Copy new) (Removed path) t h clean k = absurd t
   fresh_then (Copy c) (Copy new) (Chunk count) t h clean k = absurd (false≢true h)
   fresh_then (Copy c) (Copy new) (Placed path) t h clean k = absurd (false≢true h)
+  fresh_then (Copy c) (Copy new) (Made made) t h clean k = absurd t
   fresh_then (Copy c) (Copy new) (Kept kept) t h clean k = absurd (false≢true h)
   fresh_then (Copy c) (Copy new) (Skipped path why) t h clean k = absurd (false≢true h)
   fresh_then (Copy c) (Copy new) (Cleaned part) t h clean k = absurd (false≢true h)
@@ -67,17 +69,33 @@ module _ (told : Said) (dirty : List Route) (marks : Marks) (s : FileSystem) (co
   fresh_then (Copy c) (Copy new) (Troubled trouble) t h clean k = absurd (false≢true h)
   fresh_then (Copy c) (Copy new) (Ended ending part) t h clean k = absurd (false≢true h)
   fresh_then (Copy c) (Delete new) did t h clean k = absurd t
+  fresh_then (Copy c) (Make new) did t h clean k = absurd t
   fresh_then (Delete d) (Copy new) did t h clean k = absurd t
+  fresh_then (Delete d) (Make new) did t h clean k = absurd t
   fresh_then (Delete d) (Delete new) (Removed path) t h clean (name, none, intact) = (fresh_stage d.stage t.0 clean, none)
   fresh_then (Delete d) (Delete new) (Began part) t h clean k = absurd t
   fresh_then (Delete d) (Delete new) (Chunk count) t h clean k = absurd (false≢true h)
   fresh_then (Delete d) (Delete new) (Placed path) t h clean k = absurd (false≢true h)
+  fresh_then (Delete d) (Delete new) (Made made) t h clean k = absurd t
   fresh_then (Delete d) (Delete new) (Kept kept) t h clean k = absurd (false≢true h)
   fresh_then (Delete d) (Delete new) (Skipped path why) t h clean k = absurd (false≢true h)
   fresh_then (Delete d) (Delete new) (Cleaned part) t h clean k = absurd (false≢true h)
   fresh_then (Delete d) (Delete new) Barrier t h clean k = absurd (false≢true h)
   fresh_then (Delete d) (Delete new) (Troubled trouble) t h clean k = absurd (false≢true h)
   fresh_then (Delete d) (Delete new) (Ended ending part) t h clean k = absurd (false≢true h)
+  fresh_then (Make m) (Copy new) did t h clean k = absurd t
+  fresh_then (Make m) (Delete new) did t h clean k = absurd t
+  fresh_then (Make m) (Make new) (Made path) t h clean (name, none) = (ap makings.is_fresh t.0, none)
+  fresh_then (Make m) (Make new) (Began part) t h clean k = absurd t
+  fresh_then (Make m) (Make new) (Chunk count) t h clean k = absurd (false≢true h)
+  fresh_then (Make m) (Make new) (Placed path) t h clean k = absurd (false≢true h)
+  fresh_then (Make m) (Make new) (Removed made) t h clean k = absurd t
+  fresh_then (Make m) (Make new) (Kept kept) t h clean k = absurd (false≢true h)
+  fresh_then (Make m) (Make new) (Skipped path why) t h clean k = absurd (false≢true h)
+  fresh_then (Make m) (Make new) (Cleaned part) t h clean k = absurd (false≢true h)
+  fresh_then (Make m) (Make new) Barrier t h clean k = absurd (false≢true h)
+  fresh_then (Make m) (Make new) (Troubled trouble) t h clean k = absurd (false≢true h)
+  fresh_then (Make m) (Make new) (Ended ending part) t h clean k = absurd (false≢true h)
 
 no_route : (part : Option Route) (path : Route) → part ≡ None → part ≡ Some path → ⊥
 no_route part path none some = let f : ⊥ = cc in f

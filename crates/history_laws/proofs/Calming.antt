@@ -1,5 +1,5 @@
 -- Calls that change no name, by their answers: a sync, one that was refused, a write to the part, another mode of it.
-use Rattle.std.proofs.Common.{◌≡◌, ◌⊎◌, ℕ, ℤ, Bool, true, false, not, List, [], ◌∷◌, ◌++◌, length, refl, sym, ◌∙◌, ap, subst, inl, inr, Option, Some, Ok, Err}
+use Rattle.std.proofs.Common.{◌≡◌, ◌⊎◌, ℕ, ◌≤◌, ℤ, Bool, true, false, not, List, [], ◌∷◌, ◌++◌, length, refl, sym, ◌∙◌, ap, subst, inl, inr, Option, Some, Ok, Err, arith}
 use Rattle.std.specs.Prelude.{filter, ◌==◌}
 use Rattle.std.proofs.lemmas.Bool.{true≢false, both_ways, false_from_ne_true, eqb-true}
 use Rattle.std.proofs.lemmas.List.{length-set}
@@ -17,7 +17,7 @@ use Rattle.tree_trait.proofs.Finding.{find-once}
 use Rattle.tree_trait.proofs.Kept.{tree_set}
 use Rattle.tree_trait.proofs.Visible.{same_path-true}
 use Rattle.crash_law.specs.Guarded.{Marks}
-use Rattle.crash_law.proofs.Guarding.{same_quiet}
+use Rattle.crash_law.proofs.Guarding.{found_at, same_quiet}
 use Rattle.crash_law.proofs.Leading.{current_more}
 use Rattle.job_reports.proofs.CallAnswers.{some_log, done_call}
 use Rattle.job_reports.proofs.PermittedCalls.{sync_finds}
@@ -40,6 +40,7 @@ module _ (said : Said) (dirty : List Route) (marks : Marks) (log : CallLog) (kno
     };
     within = refl;
     still = λ p i other at. refl;
+    unborn = λ i past. refl;
   })
 
   pub synced_known : (f : ℕ) → IsKnown said dirty marks (with_change log (Syncs f))
@@ -52,6 +53,7 @@ module _ (said : Said) (dirty : List Route) (marks : Marks) (log : CallLog) (kno
     };
     within = refl;
     still = λ p i other at. refl;
+    unborn = λ i past. refl;
   })
 
   -- the part that stands leads to a node that is loose
@@ -65,6 +67,12 @@ module _ (said : Said) (dirty : List Route) (marks : Marks) (log : CallLog) (kno
         absurd (other (is ∙ ap (λ q. Some q) (find-once (current log) known.guarded.tree part p i at (there ∙ ap (λ k. Some k) (sym (eqb-true i j same))))))
     part_alone p j other there false same = refl
 
+    unborn_alone : (j : ℕ) → length (current log).nodes ≤ j → (i == j) ≡ false
+    unborn_alone j past = false_from_ne_true _ (λ same.
+        let e = eqb-true i j same in
+        let there = known.guarded.there part i (found_at log part (Some i) at) in
+        absurd (omega (arith, past, e, there)))
+
     pub written_known : (bytes : List ℕ) (time : ℤ) → IsKnown said dirty marks (with_change log (Writes i bytes time))
     written_known bytes time = calm_known said dirty marks log (Writes i bytes time) known (record {
       quiet = record {
@@ -75,6 +83,7 @@ module _ (said : Said) (dirty : List Route) (marks : Marks) (log : CallLog) (kno
       };
       within = refl;
       still = λ p j other there. part_alone p j other there (i == j) refl;
+      unborn = unborn_alone;
     })
 
     pub moded_known : (mode : ℕ) → IsKnown said dirty marks (with_change log (Sets i mode))
@@ -87,6 +96,7 @@ module _ (said : Said) (dirty : List Route) (marks : Marks) (log : CallLog) (kno
       };
       within = refl;
       still = λ p j other there. part_alone p j other there (i == j) refl;
+      unborn = unborn_alone;
     })
 
 abbrev without : Route → List Route → List Route

@@ -2,7 +2,7 @@
 use Rattle.std.proofs.Common.{◌≡◌, ◌⊎◌, ℕ, ◌<◌, Bool, true, false, List, [], ◌∷◌, ◌++◌, length, refl, sym, ◌∙◌, ap, subst, inl, inr, Option, Some, None, arith, cond, length-append}
 use Rattle.std.specs.Prelude.{is_some, option_and_then}
 use Rattle.std.specs.Option.{option_map, option_map_or}
-use Rattle.std.proofs.lemmas.Bool.{false≢true, true≢false, both_ways, false_from_ne_true}
+use Rattle.std.proofs.lemmas.Bool.{false≢true, both_ways, false_from_ne_true}
 use Rattle.mc_text.specs.Routes.{Route, same_path}
 use Rattle.tree_trait.specs.declared.file_system.FileSystem.{FileSystem}
 use Rattle.tree_trait.specs.FileSystem.{lookup, find, node, value, visible_tree, starts_mount}
@@ -15,16 +15,16 @@ use Rattle.tree_trait.proofs.Finding.{and_then-some, find-once, same_name-true, 
 use Rattle.tree_trait.proofs.Visible.{same_path-self, same_path-true}
 use Rattle.crash_law.specs.Guarded.{Marks, IsNaming}
 use Rattle.crash_law.specs.Steps.{IsAnchored}
-use Rattle.crash_law.proofs.Guarding.{find_same, found_at, naming_law, unsaid}
+use Rattle.crash_law.proofs.Guarding.{find_same, found_at, naming_law}
 use Rattle.crash_law.proofs.Leading.{current_more}
 use Rattle.crash_law.proofs.Removing.{removal_law}
 use Rattle.crash_law.proofs.Syncing.{unaltered_law}
 use Rattle.crash_law.proofs.Tops.{under_removed, none_below}
-use Rattle.history_laws.specs.Doubt.{is_pending, name_waits}
-use Rattle.history_laws.proofs.Pending.{pending_less, says_at, within_more}
+use Rattle.history_laws.specs.Doubt.{is_pending, is_unsettled, name_waits}
+use Rattle.history_laws.proofs.Pending.{pending_less, within_more}
 use Rattle.history_laws.proofs.Knowing.{Said, IsKnown, IsUnreached, held, nowhere}
-use Rattle.history_laws.proofs.Quiet.{folder_same, held_same, kind_same, shows_same, was_bare}
-use Rattle.history_laws.proofs.Resting.{folder_at, no_folder_at}
+use Rattle.history_laws.proofs.Quiet.{folder_same, held_same, kind_same, mount_same, shows_same, was_bare}
+use Rattle.history_laws.proofs.Resting.{IsSureFolder, mounted, stands_at, sure_still, unborn_more}
 
 pub some_none : {A : Type 0} (x : ℕ) → (let o : Option ℕ = Some x in o) ≡ None → A
 some_none x h = absurd (let e : ⊥ = cc in e)
@@ -106,8 +106,8 @@ pub record SaysGone (said after : Said) (marks : Marks) (log : CallLog) (path : 
   pub part : after.part ≡ None
   pub doubts : (p : Route) → said.doubt p ≡ true → after.doubt p ≡ true
   pub doubted : after.doubt path ≡ true
-  pub folders : (p : Route) → same_path p path ≡ false → after.folders p ≡ said.folders p
-  pub no_folder : after.folders path ≡ false
+  -- a folder that is said to be on the disk is another one, and it was said so before, or it is
+  pub folders : (p : Route) → after.folders p ≡ true → (same_path p path ≡ false) × ((said.folders p ≡ true) ⊎ IsSureFolder log p)
 
 -- Its removal keeps what is known. The folder that holds it is dirty then, and it is no longer one itself.
 module _ (told after : Said) (dirty dirty_after : List Route) (marks : Marks) (log : CallLog) (known : IsKnown told dirty marks log) (path : Route) (r : IsHollow (current log) path) (k : ℕ)
@@ -201,21 +201,6 @@ module _ (told after : Said) (dirty dirty_after : List Route) (marks : Marks) (l
         (kind_same log removes r.f (folder_there (current log).nodes r.f removed_folder) ∙ removed_folder)
   ]
 
-  firm_now : (g : ℕ) (m : List ℕ) (j : ℕ) → lookup (current now).names g m ≡ Some j → is_folder (node (current now) j) ≡ true → is_pending g m now.changes ≡ true → ⊥
-  firm_now g m j lead folder waits = by (is_some (says_of removes 0 g m)) refl
-    where
-      none_of : (o : Option (Option ℕ)) → is_some o ≡ false → o ≡ None
-      none_of None h = refl
-      none_of (Some x) h = absurd (true≢false h)
-
-      by : (b : Bool) → is_some (says_of removes 0 g m) ≡ b → ⊥
-      by true is =
-          let same = says_it g m is in
-          some_none j (sym lead ∙ (ap (λ h. lookup (current now).names h m) (sym same.0) ∙ (ap (lookup (current now).names r.f) (sym same.1) ∙ gone_name)))
-      by false not_said =
-          let old : lookup (current log).names g m ≡ Some j = sym (unsaid log removes g m (none_of _ (sym (says_at removes (length (current log).nodes) g m) ∙ not_said))) ∙ lead in
-          elim (pending_less g m log.changes removes waits) [ inl waited ↦ both_ways _ (known.files.firm g m j old (was_folder j folder)) waited | inr new ↦ both_ways _ not_said new ]
-
   no_path : (q : Route) (g : ℕ) → find (current now) q ≡ Some g → find (current now) q ≡ None → ⊥
   no_path q g some none = some_none g (sym some ∙ none)
 
@@ -294,11 +279,38 @@ module _ (told after : Said) (dirty dirty_after : List Route) (marks : Marks) (l
         shows_same log removes p (off_path p off) (λ i is. unaltered i (known.guarded.there p i (found_at log p (Some i) is))) ∙ (known.shows p o.2 ∙ sym o.0)
   ]
 
-  stand : (p : Route) → folder_at (current now) p ≡ after.folders p
-  stand p = elim (where_is p) [
-    | inl at ↦ subst (λ q. folder_at (current now) q ≡ after.folders q) (sym at) (no_folder_at (current now) path (λ i is folder. no_path path i is gone_path) ∙ sym says.no_folder)
-    | inr off ↦ folder_same log removes p (off_path p off) (λ i is. known.guarded.there p i (found_at log p (Some i) is)) ∙ (known.stand p ∙ sym (says.folders p off))
-  ]
+  -- a folder that isn't in doubt and stays is in none then
+  folder_sure : (p : Route) (j : ℕ) → find (current log) p ≡ Some j → is_folder (node (current log) j) ≡ true → find (current now) p ≡ Some j → is_unsettled log p ≡ false → is_unsettled now p ≡ false
+  folder_sure p j at folder stays sure = sure_still log removes known.guarded.tree
+      (λ q g h before holds then. elim (found_then q) [
+        | inl same ↦ let e : (let o : Option ℕ = Some g in o) ≡ Some h = sym before ∙ (sym same ∙ then) in cc
+        | inr gone ↦ absurd (no_path q h then gone)
+      ])
+      (λ g m k said before then holds.
+      let same = says_it g m said in
+      some_none k (sym then ∙ (ap (λ h. lookup (current now).names h m) (sym same.0) ∙ (ap (lookup (current now).names r.f) (sym same.1) ∙ gone_name))))
+      p j at folder stays sure
+
+  firm_still : (p : Route) → same_path p path ≡ false → IsSureFolder log p → IsSureFolder now p
+  firm_still p off firm =
+      let there = stands_at (current log) p firm.stands in
+      record {
+        stands = folder_same log removes p (off_path p off) (λ i is. known.guarded.there p i (found_at log p (Some i) is)) ∙ firm.stands;
+        sure = folder_sure p there.i there.at there.folder (off_path p off ∙ there.at) firm.sure;
+      }
+
+  stand : (p : Route) → after.folders p ≡ true → IsSureFolder now p
+  stand p there =
+      let k = says.folders p there in
+      elim k.1 [ inl before ↦ firm_still p k.0 (known.stand p before) | inr firm ↦ firm_still p k.0 firm ]
+
+  mounts_sure : (p : Route) → (visible_tree (current now) p).is_mount ≡ true → is_unsettled now p ≡ false
+  mounts_sure p on =
+      let there = mounted (current now) naming.tree p on in
+      elim (found_then p) [
+        | inl same ↦ folder_sure p there.i (sym same ∙ there.at) (was_folder there.i there.folder) there.at (known.files.mounts p (sym (mount_same log removes p same) ∙ on))
+        | inr gone ↦ absurd (no_path p there.i there.at gone)
+      ]
 
   pub removed_known : IsKnown after dirty_after marks now
   removed_known = record {
@@ -306,7 +318,8 @@ module _ (told after : Said) (dirty dirty_after : List Route) (marks : Marks) (l
     files = record {
       within = within_more log.changes removes refl known.files.within;
       bare = λ i m bare. false_from_ne_true _ (bare_now i m bare);
-      firm = λ g m j lead folder. false_from_ne_true _ (firm_now g m j lead folder);
+      unborn = unborn_more log removes (λ i past. naming.bytes i) naming.count known.files.unborn;
+      mounts = mounts_sure;
     };
     folders = λ i folder. known.folders i (was_folder i folder);
     aside = says.named;

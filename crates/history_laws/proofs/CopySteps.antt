@@ -2,8 +2,8 @@
 use Rattle.std.proofs.Common.{◌≡◌, ◌⊎◌, ℕ, ◌≤◌, ◌+◌, zero, suc, true, false, List, [], ◌∷◌, length, refl, sym, ◌∙◌, ap, subst, inl, inr, Option, Some, None, Ok, Err, arith}
 use Rattle.std.specs.Prelude.{unwrap_or, pos}
 use Rattle.std.specs.Option.{option_map, option_map_or}
-use Rattle.std.proofs.lemmas.Bool.{both_ways, or_left, or_right}
-use Rattle.mc_text.specs.Routes.{Route}
+use Rattle.std.proofs.lemmas.Bool.{both_ways, false_from_ne_true, or_left, or_right}
+use Rattle.mc_text.specs.Routes.{Route, same_path}
 use Rattle.tree_trait.specs.declared.file_system.Node.{Node}
 use Rattle.tree_trait.specs.declared.file_system.FileSystem.{FileSystem}
 use Rattle.tree_trait.specs.declared.calls.TreeError.{TreeError}
@@ -20,7 +20,7 @@ use Rattle.job_reports.specs.declared.report.Cause.{Cause}
 use Rattle.job_reports.specs.declared.report.Cause.TheVariants as cause
 use Rattle.job_reports.specs.declared.report.Ending.TheVariants.{Finished, Aborted, Killed, NoMemory}
 use Rattle.job_reports.specs.declared.report.Did.{Did}
-use Rattle.job_reports.specs.declared.report.Did.TheVariants.{Began, Chunk, Placed, Removed, Kept, Skipped, Cleaned, Barrier, Troubled, Ended}
+use Rattle.job_reports.specs.declared.report.Did.TheVariants.{Began, Chunk, Placed, Removed, Made, Kept, Skipped, Cleaned, Barrier, Troubled, Ended}
 use Rattle.file_copy.specs.declared.stage.FolderState.TheVariants.{Synced, Dirty}
 use Rattle.file_copy.specs.declared.stage.Next.{Next}
 use Rattle.file_copy.specs.declared.stage.Next.TheVariants as next
@@ -32,7 +32,7 @@ use Rattle.file_copy.specs.CopyCalls.{BeganOf, CopyCalls, CopyStops, making, nex
 use Rattle.file_copy.specs.Copying.{Copying, Tells, after_clean, is_dirty, is_fresh, places_of}
 use Rattle.job_reports.specs.Paths.{folder_of}
 use Rattle.job_reports.proofs.CallAnswers.{calm_stops, one_done, some_log}
-use Rattle.tree_trait.proofs.Visible.{same_path-self}
+use Rattle.tree_trait.proofs.Visible.{same_path-self, same_path-true}
 use Rattle.copy_move.specs.declared.work.Work.{Work}
 use Rattle.copy_move.specs.declared.work.Work.TheVariants.{Copy}
 use Rattle.copy_move.specs.declared.run.Course.{Course}
@@ -44,7 +44,8 @@ use Rattle.history_laws.proofs.Calming.{written_known}
 use Rattle.history_laws.proofs.Changing.{off_itself, removed_known}
 use Rattle.history_laws.proofs.Deleted.{IsRemoval, comes_refused, removal_done}
 use Rattle.history_laws.proofs.DeletionSteps.{Steps, ends, same_dirty, tried}
-use Rattle.history_laws.proofs.Filling.{begun, filled_more, listed_now, making_stands, target_free}
+use Rattle.history_laws.proofs.Resting.{folder_at}
+use Rattle.history_laws.proofs.Filling.{begun, filled_more, folder_firm, listed_now, making_stands, target_free}
 use Rattle.history_laws.proofs.Knowing.{Said, IsKnown, IsKept, settled_marks}
 use Rattle.history_laws.proofs.JobKnows.{NoneOn, HasPart, IsUntouched, KnowsAfter, StageKnows, WorkKnows, part_settled, untouched_settled, work_course}
 use Rattle.history_laws.proofs.PartNodes.{part_on, part_there, written_node}
@@ -70,6 +71,11 @@ part_cleaned told dirty marks log now work target part i kept has listed done = 
     untouched : IsUntouched marks (current log) target
     untouched = has.untouched
 
+    -- a folder stands elsewhere
+    no_file : (p : Route) → folder_at (current log) p ≡ true → same_path p part ≡ false
+    no_file p stands = false_from_ne_true _ (λ same.
+        both_ways _ (ap (folder_at (current log)) (same_path-true p part same) ∙ (ap (λ o. option_map_or (λ j. is_folder (node (current log) j)) o false) has.leads ∙ ap folder_kind has.file)) stands)
+
     folder_is : folder_of part ≡ folder_of target
     folder_is = ap folder_of has.beside
 
@@ -82,8 +88,7 @@ part_cleaned told dirty marks log now work target part i kept has listed done = 
           was = λ out. absurd (both_ways _ out aside);
           part = refl;
           doubts = λ p h. or_left _ _ h;
-          folders = λ p off. refl;
-          no_folder = sym (kept.known.stand part) ∙ (ap (λ o. option_map_or (λ j. is_folder (node (current log) j)) o false) has.leads ∙ ap folder_kind has.file);
+          folders = λ p there. (no_file p (kept.known.stand p there).stands, inl there);
           doubted = or_right _ _ (same_path-self part);
         }) (λ out. absurd (both_ways _ out aside)) (subst (λ q. Among dirty q) (sym folder_is ∙ ap folder_of it.r.path_is) listed) (λ q among off. among) in
         let after = with_change log (Removes it.r.f it.r.name it.k) in
@@ -190,12 +195,13 @@ module _ (told : Said) (dirty dirty_after : List Route) (marks : Marks) (log now
   copy_tells new (Began part) (name, listed, knows) (stage, (said, new_is)) (ready, began_of, (k, part_is, free, rows)) settled leaves =
       let at_begin = subst (λ x. StageKnows told marks (current log) GoesOn c x) stage knows in
       let is_said = subst (λ (x : Copying). BeganOf (current log) (places_of c) x.stage) new_is began_of in
-      let on_list = listed_now told dirty dirty_after marks log now kept c listed (leaves ∙ ap (λ (x : Copying). moves_dirty (is_dirty c.folder) (is_dirty x.folder) up dirty) new_is) c.folder refl in
+      let on_list = listed_now told dirty dirty_after marks log now kept c (λ e. (listed e).0) (leaves ∙ ap (λ (x : Copying). moves_dirty (is_dirty c.folder) (is_dirty x.folder) up dirty) new_is) c.folder refl in
       let stands = making_stands log now c k (one_done log (making (current log) (places_of c) k) now rows) in
-      let untouched = target_free told dirty dirty_after marks log now kept c name stands ready at_begin.1 (λ e. settled (ap (λ x. is_fresh x c.folder) stage ∙ e)) c.folder refl in
+      let firm = folder_firm told dirty dirty_after marks log now kept c stands (λ e. (listed e).1) (λ e. settled (ap (λ x. is_fresh x c.folder) stage ∙ e)) c.folder refl in
+      let untouched = target_free told dirty dirty_after marks log now kept c name firm ready at_begin.1 (λ e. settled (ap (λ x. is_fresh x c.folder) stage ∙ e)) c.folder refl in
       subst (λ (x : Copying). Steps told dirty dirty_after marks log now kept (Began part) GoesOn (Copy c) (Copy x)) (sym new_is)
       (subst (λ q. Steps told dirty dirty_after marks log now kept (Began q) GoesOn (Copy c) (Copy (record c { stage = Fill q said 0; folder = Dirty }))) (sym part_is)
-      (begun told dirty dirty_after marks log now kept c said k name ready is_said free at_begin.0 untouched (one_done log (making (current log) (places_of c) k) now rows) on_list.0 on_list.1))
+      (begun told dirty dirty_after marks log now kept c said k name ready is_said free at_begin.0 untouched (one_done log (making (current log) (places_of c) k) now rows) firm on_list.0 on_list.1))
   copy_tells new (Chunk count) (name, listed, knows) (part, said, done, stage, least, most, fits, new_is) (other_part, other_said, other_done, other_stage, count_is, rows) settled leaves =
       let e : (let o : Stage = Fill other_part other_said other_done in o) ≡ Fill part said done = sym other_stage ∙ stage in
       let p_is : other_part ≡ part = cc in
@@ -222,7 +228,7 @@ module _ (told : Said) (dirty dirty_after : List Route) (marks : Marks) (log now
       (subst (λ q. Comes told (said_after now (Placed q) (Copy c) told) dirty log now (KnowsAfter (Placed q) (said_after now (Placed q) (Copy c) told) dirty (current now) GoesOn (Copy (record c { stage = Decided })))) (sym path_is)
       (comes_map told (said_after now (Placed c.target) (Copy c) told) dirty log now (λ m. (said_after now (Placed c.target) (Copy c) told).part ≡ None)
       (λ m. WorkKnows (said_after now (Placed c.target) (Copy c) told) dirty m (current now) GoesOn (Copy (record c { stage = Decided }))) (λ m k none. (name, listed, none))
-      (part_placed told dirty c name.name name.is part at_fill.1.0 (listed at_fill.0) marks log now said kept at_fill.1.1 (at_fill.1.2 refl) row))))
+      (part_placed told dirty c name.name name.is part at_fill.1.0 (listed at_fill.0).0 marks log now said kept at_fill.1.1 (at_fill.1.2 refl) row))))
   copy_tells new (Cleaned part) (name, listed, knows) (follows, stage, new_is) rows settled leaves =
       let at_clean = subst (λ x. StageKnows told marks (current log) GoesOn c x) stage knows in
       with_routes (Cleaned part) GoesOn (Copy new) (leaves_same new (ap (λ (x : Copying). x.folder) new_is) leaves)
@@ -230,7 +236,7 @@ module _ (told : Said) (dirty dirty_after : List Route) (marks : Marks) (log now
       (comes_map told (said_after now (Cleaned part) (Copy c) told) dirty log now (λ m. IsUntouched m (current now) c.target)
       (λ m. WorkKnows (said_after now (Cleaned part) (Copy c) told) dirty m (current now) GoesOn (Copy (record c { stage = after_clean follows })))
       (λ m k untouched. (name, listed, cleaned_knows follows (said_after now (Cleaned part) (Copy c) told) m (current now) refl untouched))
-      (part_cleaned told dirty marks log now (Copy c) c.target part at_clean.1.0 kept at_clean.1.1 (listed at_clean.0)
+      (part_cleaned told dirty marks log now (Copy c) c.target part at_clean.1.0 kept at_clean.1.1 (listed at_clean.0).0
       (subst (λ (l : CallLog). Performs {A = Unit {0}} log (RemoveFile part) (Ok tt) (Some l)) (sym (some_log now rows.0 rows.2)) rows.1))))
   copy_tells new Barrier (name, listed, knows) (stage, dirty_is, new_is) rows settled leaves =
       let none = subst (λ x. StageKnows told marks (current log) GoesOn c x) stage knows in
@@ -251,5 +257,6 @@ module _ (told : Said) (dirty dirty_after : List Route) (marks : Marks) (log now
   copy_tells new (Ended Killed part) knows tells done settled leaves = absurd tells
   copy_tells new (Ended NoMemory part) knows tells done settled leaves = absurd tells
   copy_tells new (Removed path) knows tells done settled leaves = absurd tells
+  copy_tells new (Made made) knows tells calls settled leaves = absurd tells
   copy_tells new (Kept path) knows tells calls settled leaves = absurd tells
   copy_tells new (Skipped path why) knows tells done settled leaves = absurd tells

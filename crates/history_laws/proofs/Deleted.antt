@@ -1,5 +1,5 @@
 -- A removal keeps what is known, of a file and of an empty folder.
-use Rattle.std.proofs.Common.{◌≡◌, ◌⊎◌, ℕ, Bool, true, false, not, ◌&&◌, List, [], ◌∷◌, refl, sym, ◌∙◌, ap, subst, inl, inr, Option, Some, None, Ok, cond}
+use Rattle.std.proofs.Common.{◌≡◌, ◌⊎◌, ℕ, Bool, true, false, not, ◌&&◌, ◌||◌, List, [], ◌∷◌, refl, sym, ◌∙◌, ap, subst, inl, inr, Option, Some, None, Ok, cond}
 use Rattle.std.proofs.lemmas.Bool.{both_ways, false≢true, false_from_ne_true, or_left, or_right}
 use Rattle.mc_text.specs.Routes.{Route, same_path}
 use Rattle.tree_trait.specs.declared.file_system.FileSystem.{FileSystem}
@@ -11,11 +11,12 @@ use Rattle.tree_trait.specs.Calls.{RemoveFile, RemoveFolder}
 use Rattle.tree_trait.specs.Change.{Nothing, Removes, CallLog, current, with_change, change_of, found}
 use Rattle.tree_trait.specs.CrashImages.{Among}
 use Rattle.tree_trait.specs.Answers.{Performs}
-use Rattle.tree_trait.proofs.Visible.{same_path-self}
+use Rattle.tree_trait.proofs.Visible.{same_path-self, same_path-true}
 use Rattle.tree_trait.proofs.Walking.{check_passes, removable}
 use Rattle.crash_law.specs.Guarded.{Marks}
 use Rattle.crash_law.proofs.Leading.{current_more}
 use Rattle.job_reports.specs.declared.report.Did.TheVariants.{Removed}
+use Rattle.job_reports.specs.Jobs.{folder_changed}
 use Rattle.job_reports.specs.Paths.{folder_of}
 use Rattle.job_reports.proofs.CallAnswers.{done_call, IsDoneCall}
 use Rattle.copy_move.specs.declared.work.Work.{Work}
@@ -25,7 +26,9 @@ use Rattle.history_laws.proofs.Changing.{IsHollow, hollow_file, removed_known}
 use Rattle.history_laws.proofs.Emptied.{IsEmptied, emptied}
 use Rattle.history_laws.proofs.Knowing.{Said, IsKnown, IsKept, held, settled_marks}
 use Rattle.history_laws.proofs.JobKnows.{WorkKnows, work_settled}
-use Rattle.history_laws.proofs.Stepped.{Comes, comes_none, comes_one, said_after}
+use Rattle.history_laws.proofs.Resting.{IsSureFolder}
+use Rattle.history_laws.proofs.Sources.{item_in}
+use Rattle.history_laws.proofs.Stepped.{Comes, comes_none, comes_one, folders_by, said_after}
 
 -- no mount begins at what is no folder
 pub file_no_mount : (s : FileSystem) → IsTree s → (i : ℕ) → is_folder (node s i) ≡ false → starts_mount s i ≡ false
@@ -46,6 +49,16 @@ comes_refused told dirty marks log now course work kept knows (inr more) =
     comes_one told told dirty dirty marks marks log now Nothing (λ m. WorkKnows told dirty m (current now) course work) kept more
     (subst (λ (l : CallLog). IsKnown told dirty marks l) (sym more) (nothing_known told dirty marks log kept.known))
     (work_settled now marks told dirty course work (subst (λ (s : FileSystem). WorkKnows told dirty marks s course work) (sym (ap current more ∙ current_more log Nothing)) knows))
+
+pub either : (a b : Bool) → (a || b) ≡ true → (a ≡ true) ⊎ (b ≡ true)
+either true b h = inl refl
+either false b h = inr h
+
+-- of two that both hold, the second of which denies something
+both_hold : (a b : Bool) → (a && not b) ≡ true → (a ≡ true) × (b ≡ false)
+both_hold true false h = (refl, refl)
+both_hold true true h = absurd (false≢true h)
+both_hold false b h = absurd (false≢true h)
 
 -- the root isn't removed
 root_stays : (s : FileSystem) → IsTree s → refusal_of s (RemoveFolder []) ≡ None → ⊥
@@ -102,24 +115,17 @@ folder_removed log now (name ∷ up) tree done =
               );
         }
 
-and_false : (b : Bool) → (b && false) ≡ false
-and_false true = refl
-and_false false = refl
-
-and_true : (b : Bool) → (b && true) ≡ b
-and_true true = refl
-and_true false = refl
-
 -- it leads there
 pub removal_leads : (log now : CallLog) (path : Route) (it : IsRemoval log now path) → find (current log) path ≡ Some (let h = (let i : IsRemoval log now path = it in i.r) in h.i)
 removal_leads log now path it =
     ap (find (current log)) it.r.path_is ∙ (ap (Rattle.std.specs.Prelude.option_and_then (λ f. Rattle.tree_trait.specs.FileSystem.lookup (current log).names f it.r.name)) it.r.folder ∙ it.r.leads)
 
--- a thing is removed, of which a job knows that nothing was done there yet
+-- A thing is removed, of which a job knows that nothing was done there yet, and that the folder in which it changes names is on the disk.
 pub removes_thing : (told : Said) (dirty dirty_after : List Route) (marks : Marks) (log now : CallLog) (path : Route) (work : Work) (knows : Marks → Type 0) → IsKept told dirty marks log → told.part ≡ None
-    → (marks.aside path ≡ false → marks.was path ≡ find (current log) path) → Among dirty_after (folder_of path) → ((q : Route) → Among dirty q → same_path q path ≡ false → Among dirty_after q)
+    → (marks.aside path ≡ false → marks.was path ≡ find (current log) path) → IsSureFolder log (folder_changed (item_in work)) → Among dirty_after (folder_of path)
+    → ((q : Route) → Among dirty q → same_path q path ≡ false → Among dirty_after q)
     → IsRemoval log now path → knows (settled_marks now marks) → Comes told (said_after now (Removed path) work told) dirty_after log now knows
-removes_thing told dirty dirty_after marks log now path work knows kept none was listed more it known_of =
+removes_thing told dirty dirty_after marks log now path work knows kept none was firm listed more it known_of =
     comes_one told (said_after now (Removed path) work told) dirty dirty_after marks marks log now (Removes it.r.f it.r.name it.k) knows kept it.now_is
     (subst (λ (l : CallLog). IsKnown (said_after now (Removed path) work told) dirty_after marks l) (sym it.now_is)
     (removed_known told (said_after now (Removed path) work told) dirty dirty_after marks log kept.known path it.r it.k (record {
@@ -129,14 +135,24 @@ removes_thing told dirty dirty_after marks log now path work knows kept none was
       was = λ out. ap (held (current log)) (was out) ∙ (sym (ap (λ (s : Spot). s.value) shown) ∙ sym (ap (λ (s : Spot). s.value) (put_at told.earlier path (told.tree path).value)));
       part = none;
       doubts = λ p h. or_left _ _ h;
-      folders = λ p off. ap (λ b. told.folders p && not b) off ∙ and_true (told.folders p);
-      no_folder = ap (λ b. told.folders path && not b) (same_path-self path) ∙ and_false (told.folders path);
+      folders = folder_said;
       doubted = or_right _ _ (same_path-self path);
     }) was (subst (λ q. Among dirty_after (folder_of q)) it.r.path_is listed) more))
     known_of
   where
     no_part : (p : Route) → told.part ≡ Some p → ⊥
     no_part p is = let e : (let o : Option Route = None in o) ≡ Some p = sym none ∙ is in cc
+
+    -- a folder that is said to be on the disk then was said so before, or it is the one in which the job changes names
+    folder_said : (p : Route) → folders_by (Removed path) (folder_changed (item_in work)) told.folders p ≡ true → (same_path p path ≡ false) × ((told.folders p ≡ true) ⊎ IsSureFolder log p)
+    folder_said p there =
+        let both = both_hold (same_path p (folder_changed (item_in work)) || told.folders p) (same_path p path) there in (
+          both.1,
+          elim (either (same_path p (folder_changed (item_in work))) (told.folders p) both.0) [
+            | inl same ↦ inr (subst (λ q. IsSureFolder log q) (sym (same_path-true p (folder_changed (item_in work)) same)) firm)
+            | inr before ↦ inl before
+          ],
+        )
 
     shown : told.tree path ≡ visible_tree (current log) path
     shown = sym (kept.known.shows path (no_part path))

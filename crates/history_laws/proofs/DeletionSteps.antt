@@ -1,7 +1,7 @@
 -- Each step of a deletion keeps what is known.
-use Rattle.std.proofs.Common.{◌≡◌, ◌≢◌, ◌⊎◌, ℕ, Bool, true, false, List, [], ◌∷◌, ◌++◌, length, refl, sym, ◌∙◌, ap, subst, inl, inr, Option, Some, None, Ok, Err, arith}
+use Rattle.std.proofs.Common.{◌≡◌, ◌⊎◌, Bool, true, false, List, [], ◌∷◌, ◌++◌, refl, sym, ◌∙◌, ap, subst, inl, inr, Option, Some, None, Ok, arith, ◌||◌, not}
 use Rattle.std.specs.Prelude.{if◌then◌else◌}
-use Rattle.std.proofs.lemmas.Bool.{false≢true, or_cases}
+use Rattle.std.proofs.lemmas.Bool.{and_from, false≢true, or_cases, or_left}
 use Rattle.mc_text.specs.Routes.{Route, is_prefix, same_path}
 use Rattle.mc_text.proofs.Prefixes.{same_path-lengths}
 use Rattle.tree_trait.specs.declared.file_system.FileSystem.{FileSystem}
@@ -10,13 +10,13 @@ use Rattle.tree_trait.specs.Calls.{RemoveFile, RemoveFolder, SyncFolder}
 use Rattle.tree_trait.specs.Change.{Syncs, CallLog, current, with_change}
 use Rattle.tree_trait.specs.CrashImages.{Among}
 use Rattle.tree_trait.specs.Answers.{Performs}
-use Rattle.tree_trait.proofs.Visible.{same_path-true}
+use Rattle.tree_trait.proofs.Visible.{same_path-self, same_path-true}
 use Rattle.crash_law.specs.Guarded.{Marks}
 use Rattle.crash_law.proofs.Leading.{current_more}
 use Rattle.job_reports.specs.declared.report.Ending.{Ending}
 use Rattle.job_reports.specs.declared.report.Ending.TheVariants.{Finished, Aborted, Killed, NoMemory}
 use Rattle.job_reports.specs.declared.report.Did.{Did}
-use Rattle.job_reports.specs.declared.report.Did.TheVariants.{Began, Chunk, Placed, Removed, Kept, Skipped, Cleaned, Barrier, Troubled, Ended}
+use Rattle.job_reports.specs.declared.report.Did.TheVariants.{Began, Chunk, Placed, Removed, Made, Kept, Skipped, Cleaned, Barrier, Troubled, Ended}
 use Rattle.job_reports.specs.Paths.{folder_of, without}
 use Rattle.job_reports.specs.Stops.{sync_answer}
 use Rattle.job_reports.proofs.CallAnswers.{some_log}
@@ -35,9 +35,10 @@ use Rattle.copy_move.specs.Settling.{NoneOwed, with_change as moves_dirty}
 use Rattle.history_laws.proofs.Calming.{folder_synced, refused_is, still_listed}
 use Rattle.history_laws.proofs.Knowing.{Said, IsKept, settled_marks}
 use Rattle.history_laws.proofs.JobKnows.{HasName, IsIntact, KnowsAfter, WorkKnows, work_settled}
-use Rattle.history_laws.proofs.Stepped.{Comes, comes_none, comes_one, said_after}
+use Rattle.history_laws.proofs.Stepped.{Comes, comes_none, comes_one, folders_by, said_after}
 use Rattle.history_laws.proofs.Deleted.{IsRemoval, comes_refused, folder_removed, removal_done, removal_leads, removes_thing}
-use Rattle.history_laws.proofs.Intact.{intact_after, intact_begins, intact_was}
+use Rattle.history_laws.proofs.Intact.{folder_apart, folder_firm, intact_after, intact_begins, intact_was, removed_in}
+use Rattle.history_laws.proofs.Resting.{IsSureFolder}
 
 last_among : (up : Route) (dirty : List Route) → Among (dirty ++ up ∷ []) up
 last_among up [] = inl refl
@@ -108,13 +109,17 @@ module _ (told : Said) (dirty dirty_after : List Route) (marks : Marks) (log now
       (subst (λ o. Comes told (record told { part = o }) dirty log now (λ m. (let o : Option Route = None in o) ≡ None)) none
       (comes_none told told dirty log now (λ m. (let o : Option Route = None in o) ≡ None) marks is kept refl))
 
+  -- what a deletion knows that goes on, of the same path
+  moved : (d new : Deleting) → new.path ≡ d.path → IsIntact marks (current log) d.path × (told.folders (folder_of d.path) ≡ true) → IsIntact marks (current log) new.path × (told.folders (folder_of new.path) ≡ true)
+  moved d new path_is (intact, stands) = (subst (IsIntact marks (current log)) (sym path_is) intact, subst (λ q. told.folders (folder_of q) ≡ true) (sym path_is) stands)
+
   -- a deletion that stands at this stage, wherever its walk is
   pub stays : (course other : Course) (d new : Deleting) (stage : Stage) → WorkKnows told dirty marks (current log) course (Delete d) → IsAtStage d stage new → (stage ≡ Going → d.stage ≡ Going) → (routes : List Route)
       → WorkKnows told routes marks (current log) other (Delete new)
-  stays course other d new stage (name, none, intact) at goes routes = (
+  stays course other d new stage (name, none, known) at goes routes = (
     subst HasName (sym at.path_is) name,
     none,
-    λ is. subst (IsIntact marks (current log)) (sym at.path_is) (intact (goes (sym at.stage_is ∙ is))),
+    λ is. moved d new at.path_is (known (goes (sym at.stage_is ∙ is))),
   )
 
   pub still_going : (path : Route) (d : Deleting) → after_item d.path path d.stage ≡ Going → d.stage ≡ Going
@@ -126,22 +131,42 @@ module _ (told : Said) (dirty dirty_after : List Route) (marks : Marks) (log now
 
   -- what is known where a thing is removed
   intact_now : (d : Deleting) → WorkKnows told dirty marks (current log) GoesOn (Delete d) → at_barrier d.stage ≡ false → (is_fresh d.stage ≡ true → NoneOwed (current log) (Delete d) dirty) → IsIntact marks (current log) d.path
-  intact_now d (name, none, intact) going settled = by d.stage refl
+  intact_now d (name, none, known) going settled = by d.stage refl
     where
       by : (stage : Stage) → d.stage ≡ stage → IsIntact marks (current log) d.path
       by Begin is = intact_begins told dirty marks log kept d name (settled (ap is_fresh is))
-      by Going is = intact is
+      by Going is = (known is).0
+      by Sync is = absurd (false≢true (sym going ∙ ap at_barrier is))
+
+  -- the folder that holds the thing is on the disk then
+  firm_now : (d : Deleting) (path : Route) → WorkKnows told dirty marks (current log) GoesOn (Delete d) → at_barrier d.stage ≡ false → (is_fresh d.stage ≡ true → NoneOwed (current log) (Delete d) dirty)
+      → is_prefix d.path path ≡ true → IsRemoval log now path → IsSureFolder log (folder_of d.path)
+  firm_now d path (name, none, known) going settled within it = by d.stage refl
+    where
+      by : (stage : Stage) → d.stage ≡ stage → IsSureFolder log (folder_of d.path)
+      by Begin is = folder_firm told dirty marks log kept d name (settled (ap is_fresh is)) (removed_in log now d.path path kept.known.guarded.tree within it)
+      by Going is = kept.known.stand (folder_of d.path) (known is).1
       by Sync is = absurd (false≢true (sym going ∙ ap at_barrier is))
 
   above_it : (path : Route) → IsRemoval log now path → same_path (folder_of path) path ≡ false
   above_it path it = subst (λ q. same_path (folder_of q) q ≡ false) (sym it.r.path_is) (same_path-lengths it.r.up (it.r.name ∷ it.r.up) (λ e. let n : ⊥ = absurd (omega (arith, e)) in n))
 
-  removes : (d new : Deleting) (path : Route) (stage : Stage) → WorkKnows told dirty marks (current log) GoesOn (Delete d) → IsIntact marks (current log) d.path → is_prefix d.path path ≡ true → IsAtStage d stage new
-      → Among dirty_after (folder_of path) → ((q : Route) → Among dirty q → same_path q path ≡ false → Among dirty_after q) → IsRemoval log now path → Steps (Removed path) GoesOn (Delete d) (Delete new)
-  removes d new path stage (name, none, known) intact within at listed more it =
+  removes : (d new : Deleting) (path : Route) (stage : Stage) → WorkKnows told dirty marks (current log) GoesOn (Delete d) → IsIntact marks (current log) d.path → IsSureFolder log (folder_of d.path) → is_prefix d.path path ≡ true
+      → IsAtStage d stage new → Among dirty_after (folder_of path) → ((q : Route) → Among dirty q → same_path q path ≡ false → Among dirty_after q) → IsRemoval log now path → Steps (Removed path) GoesOn (Delete d) (Delete new)
+  removes d new path stage (name, none, known) intact firm within at listed more it =
       removes_thing told dirty dirty_after marks log now path (Delete d) (KnowsAfter (Removed path) (said_after now (Removed path) (Delete d) told) dirty_after (current now) GoesOn (Delete new)) kept none
-      (λ out. intact_was marks (current log) d.path path it.r.i intact within (removal_leads log now path it) out) listed more it
-      (subst HasName (sym at.path_is) name, none, λ is. subst (IsIntact (settled_marks now marks) (current now)) (sym at.path_is) (intact_after told dirty marks log now path d.path kept.known it intact))
+      (λ out. intact_was marks (current log) d.path path it.r.i intact within (removal_leads log now path it) out) firm listed more it (
+        subst HasName (sym at.path_is) name,
+        none,
+        λ is. (
+          subst (IsIntact (settled_marks now marks) (current now)) (sym at.path_is) (intact_after told dirty marks log now path d.path kept.known it intact),
+          subst (λ q. folders_by (Removed path) (folder_of d.path) told.folders (folder_of q) ≡ true) (sym at.path_is) there,
+        ),
+      )
+    where
+      there : folders_by (Removed path) (folder_of d.path) told.folders (folder_of d.path) ≡ true
+      there = and_from (same_path (folder_of d.path) (folder_of d.path) || told.folders (folder_of d.path)) (not (same_path (folder_of d.path) path)) (or_left _ _ (same_path-self (folder_of d.path)))
+          (ap not (folder_apart log now d.path path within it))
 
   refused_by : (e : TreeError) → IsRefused log e (Some now) → (now ≡ log) ⊎ (now ≡ with_change log Rattle.tree_trait.specs.Change.Nothing)
   refused_by e (RefusedFile path h) = refused_is log now (RemoveFile path) e (λ s left. refl) h
@@ -152,11 +177,11 @@ module _ (told : Said) (dirty dirty_after : List Route) (marks : Marks) (log now
       → (is_fresh d.stage ≡ true → NoneOwed (current log) (Delete d) dirty) → DeletionLeaves d did dirty dirty_after (Some log) (Some now) → Steps did (course_after did) (Delete d) (Delete new)
   deletion_tells d new (Removed path) knows (going, within, at) done settled (inl (leaves, called)) =
       let it = removal_done log now path kept.known.guarded.tree (called log refl) in
-      removes d new path _ knows (intact_now d knows going settled) within at (subst (λ xs. Among xs (folder_of path)) (sym leaves) (joined_holds (folder_of path) dirty))
+      removes d new path _ knows (intact_now d knows going settled) (firm_now d path knows going settled within it) within at (subst (λ xs. Among xs (folder_of path)) (sym leaves) (joined_holds (folder_of path) dirty))
       (λ q among off. subst (λ xs. Among xs q) (sym leaves) (joined_more (folder_of path) q dirty among)) it
   deletion_tells d new (Removed path) knows (going, within, at) done settled (inr (leaves, called)) =
       let it = folder_removed log now path kept.known.guarded.tree (called log refl) in
-      removes d new path _ knows (intact_now d knows going settled) within at
+      removes d new path _ knows (intact_now d knows going settled) (firm_now d path knows going settled within it) within at
       (subst (λ xs. Among xs (folder_of path)) (sym leaves) (still_listed path (folder_of path) (joined (folder_of path) dirty) (joined_holds (folder_of path) dirty) (above_it path it)))
       (λ q among off. subst (λ xs. Among xs q) (sym leaves) (still_listed path q (joined (folder_of path) dirty) (joined_more (folder_of path) q dirty among) off)) it
   deletion_tells d new (Kept path) knows (going, at) done settled leaves = stands GoesOn (Delete new) (stays GoesOn GoesOn d new _ knows at (still_going path d) dirty) leaves (some_log now log done)
@@ -176,20 +201,22 @@ module _ (told : Said) (dirty dirty_after : List Route) (marks : Marks) (log now
   deletion_tells d new (Began part) knows tells done settled leaves = absurd tells
   deletion_tells d new (Chunk count) knows tells done settled leaves = absurd tells
   deletion_tells d new (Placed path) knows tells done settled leaves = absurd tells
+  deletion_tells d new (Made made) knows tells done settled leaves = absurd tells
   deletion_tells d new (Skipped path cause) knows tells done settled leaves = absurd tells
   deletion_tells d new (Cleaned part) knows tells done settled leaves = absurd tells
 
   pub deletion_winds : (d new : Deleting) (ending : Ending) (did : Did) (left : Option TreeError) (folder : Route) → WorkKnows told dirty marks (current log) (Ends ending) (Delete d) → Winds ending d did new
       → TellsTried did left folder log (Some now) → LastCalls did log (Some now) → dirty_after ≡ after_try did left folder dirty
       → Steps did (Ends ending) (Delete d) (Delete new)
-  deletion_winds d new ending Barrier left folder (name, none, intact) (path_is, stage_is) answer calls leaves =
-      tried folder left (Ends ending) (Delete new) (λ routes. (subst HasName (sym path_is) name, none, λ is. subst (IsIntact marks (current log)) (sym path_is) (intact (sym stage_is ∙ is)))) answer leaves
+  deletion_winds d new ending Barrier left folder (name, none, known) (path_is, stage_is) answer calls leaves =
+      tried folder left (Ends ending) (Delete new) (λ routes. (subst HasName (sym path_is) name, none, λ is. moved d new path_is (known (sym stage_is ∙ is)))) answer leaves
   deletion_winds d new ending (Ended how part) left folder knows (how_is, part_is, path_is, stage_is) answer calls leaves =
       subst (λ o. Steps (Ended how o) (Ends ending) (Delete d) (Delete new)) (sym part_is) (ends (Delete d) knows.1 leaves (some_log now log calls))
   deletion_winds d new ending (Began part) left folder knows tells answer calls leaves = absurd tells
   deletion_winds d new ending (Chunk count) left folder knows tells answer calls leaves = absurd tells
   deletion_winds d new ending (Placed path) left folder knows tells answer calls leaves = absurd tells
   deletion_winds d new ending (Removed path) left folder knows tells answer calls leaves = absurd tells
+  deletion_winds d new ending (Made path) left folder knows tells answer calls leaves = absurd tells
   deletion_winds d new ending (Kept path) left folder knows tells answer calls leaves = absurd tells
   deletion_winds d new ending (Skipped path cause) left folder knows tells answer calls leaves = absurd tells
   deletion_winds d new ending (Cleaned part) left folder knows tells answer calls leaves = absurd tells

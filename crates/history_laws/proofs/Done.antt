@@ -26,16 +26,16 @@ use Rattle.session_history.specs.Entries.{IsMoment, calls_in}
 use Rattle.history_laws.specs.Safe.{IsPart, IsSafe}
 use Rattle.history_laws.specs.Staying.{DoneLaw, HasFinished}
 use Rattle.history_laws.specs.Traces.{EventLeads, IsTraced, Stand, StepLeads, WorkLeads}
-use Rattle.history_laws.proofs.Prefixes.{folders_event, folders_of, replayed_more, told_of}
+use Rattle.history_laws.proofs.Prefixes.{folders_event, folders_since, folders_told, replayed_more, told_of}
 use Rattle.history_laws.proofs.Finished.{finished_folder}
 use Rattle.history_laws.proofs.Histories.{enters, only_job, traced_reached}
-use Rattle.history_laws.proofs.Lasting.{finished_stays, folders_since, replayed_since}
+use Rattle.history_laws.proofs.Lasting.{finished_stays, replayed_since}
 use Rattle.history_laws.proofs.Moments.{IsShown, prefix_is, log_of, replay_law, session_law, shown_moment, sure_moment, traced_count}
 use Rattle.history_laws.proofs.Reports.{HasLive}
 use Rattle.history_laws.proofs.Resting.{name_sure}
 use Rattle.history_laws.proofs.Sources.{folder_is, item_in}
 use Rattle.history_laws.proofs.Staying.{event_part, stays_law}
-use Rattle.history_laws.proofs.Stepped.{more}
+use Rattle.history_laws.proofs.Stepped.{folders_by, more}
 
 -- what is unnamed since an entry is unnamed since those before it, where the entry doesn't name it
 since_before : (e : Entry) (older g : List Entry) (path : Route) → names_path e.what path ≡ false → IsUnnamedSince (e ∷ older) path g → IsUnnamedSince older path g
@@ -192,18 +192,19 @@ module _ (opening now : CallLog) (newest : List Entry) (stand : Stand) (tree : I
   found : IsFound opening tree settled now e older
   found = found_moment opening tree settled now e older path newest standing coming stand calls now [] traced (ap (log_of now) (sym (append-nil now.changes))) moment since
 
-  -- its folder stood then
-  in_folder : folders_of opening (e ∷ older) (folder_of path) ≡ true
+  -- its folder was on the disk then
+  in_folder : folders_told opening (e ∷ older) (folder_of path) ≡ true
   in_folder =
       let f = found in
       let by = ender opening tree settled now e older (folder_of path) h f in
-      ap (λ w. folders_event w (folders_of opening older) (folder_of path)) h.ended
-      ∙ (ap (folders_of opening older) by.within ∙ finished_folder opening tree settled older f.was f.before by.job f.traced by.jobs_is (subst (λ i. has_changed i older ≡ true) (sym by.id_is) h.changed))
+      ap (λ w. folders_event w (live_jobs older) (folders_told opening older) (folder_of path)) h.ended
+      ∙ (ap (λ o. Rattle.std.specs.Option.option_map_or (λ item. folders_by (Ended Finished h.part) (folder_changed item) (folders_told opening older)) o (folders_told opening older) (folder_of path)) h.its
+      ∙ (ap (folders_told opening older) by.within ∙ finished_folder opening tree settled older f.was f.before by.job f.traced by.jobs_is (subst (λ i. has_changed i older ≡ true) (sym by.id_is) h.changed)))
 
-  still_stands : folders_of opening standing (folder_of path) ≡ true
+  still_stands : folders_told opening standing (folder_of path) ≡ true
   still_stands = folders_since opening (e ∷ older) standing (folder_of path) since_folder in_folder
 
-  still_comes : folders_of opening coming (folder_of path) ≡ true
+  still_comes : folders_told opening coming (folder_of path) ≡ true
   still_comes = folders_since opening (e ∷ older) coming (folder_of path) later_folder in_folder
 
   -- a path that was never named as a part

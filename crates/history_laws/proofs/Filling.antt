@@ -1,5 +1,5 @@
 -- A part is made, and filled.
-use Rattle.std.proofs.Common.{◌≡◌, ℕ, ◌<◌, ◌≤◌, ◌+◌, true, false, List, [], ◌∷◌, ◌++◌, length, take, drop, refl, sym, ◌∙◌, ap, subst, Some, None, arith}
+use Rattle.std.proofs.Common.{◌≡◌, ℕ, ◌<◌, ◌≤◌, ◌+◌, true, false, List, [], ◌∷◌, length, take, drop, refl, sym, ◌∙◌, ap, subst, Some, None, arith}
 use Rattle.std.specs.Prelude.{◌==◌, ◌||◌, not, unwrap_or}
 use Rattle.std.proofs.lemmas.Bool.{false_from_ne_true, or_left}
 use Rattle.mc_text.specs.declared.kind.Kind.TheVariants.{File}
@@ -8,7 +8,7 @@ use Rattle.tree_trait.specs.declared.file_system.Node.{Node}
 use Rattle.tree_trait.specs.FileSystem.{find, node}
 use Rattle.tree_trait.specs.Change.{Change, Makes, Writes, CallLog, current, with_change, found, overwritten}
 use Rattle.tree_trait.specs.CrashImages.{Among}
-use Rattle.tree_trait.proofs.Visible.{same_path-true}
+use Rattle.tree_trait.proofs.Visible.{same_path-self, same_path-true}
 use Rattle.tree_trait.proofs.Walking.{stat-found}
 use Rattle.crash_law.specs.Guarded.{Marks}
 use Rattle.crash_law.proofs.Guarding.{found_there, same_quiet}
@@ -33,9 +33,9 @@ use Rattle.copy_move.specs.Settling.{with_change as moves_dirty}
 use Rattle.history_laws.specs.Traces.{IsUnclaimed}
 use Rattle.history_laws.proofs.Calming.{written_known}
 use Rattle.history_laws.proofs.Knowing.{Said, IsKnown, IsKept, settled_marks}
-use Rattle.history_laws.proofs.JobKnows.{HasName, HasPart, IsFilled, IsUntouched, NoneOn, WorkKnows, none_waits, part_settled, untouched_free}
+use Rattle.history_laws.proofs.JobKnows.{HasName, HasPart, IsFilled, IsUntouched, NoneOn, WorkKnows, none_waits, part_settled, untouched_free, way_sure}
 use Rattle.history_laws.proofs.MakingParts.{MakesPart, made_known, marks_new, new_node, off_part, part_leads, part_node, with_part}
-use Rattle.history_laws.proofs.Resting.{folder_at, folder_at_of, sure_path}
+use Rattle.history_laws.proofs.Resting.{IsSureFolder, folder_at, folder_at_of, stands_at, sure_path}
 use Rattle.history_laws.proofs.PartNodes.{other_node, part_on, part_there, written_node}
 use Rattle.history_laws.proofs.Stepped.{Comes, comes_one, said_after}
 use Rattle.history_laws.proofs.DeletionSteps.{joined_holds, joined_more}
@@ -56,13 +56,21 @@ module _ (told : Said) (dirty dirty_after : List Route) (marks : Marks) (log now
       Comes told (said_after now (Began part) (Copy c) told) dirty_after log now
       (λ m. WorkKnows (said_after now (Began part) (Copy c) told) dirty_after m (current now) GoesOn (Copy (record c { stage = Fill part said 0; folder = Dirty })))
 
+  -- its folder isn't in doubt
+  pub folder_firm : folder_at (current log) up ≡ true → (c.folder ≡ Dirty → told.folders up ≡ true) → (not (is_dirty c.folder) ≡ true → NoneOn (current log) up dirty) → (f : FolderState) → c.folder ≡ f
+      → IsSureFolder log up
+  folder_firm stands firm settled Dirty is = kept.known.stand up (firm is)
+  folder_firm stands firm settled Synced is =
+      let there = stands_at (current log) up stands in
+      record { stands = stands; sure = way_sure told dirty marks log up there.i kept.known there.at (settled (ap (λ x. not (is_dirty x)) is)) }
+
   -- the target of a copy that begins
-  pub target_free : HasName c.target → folder_at (current log) up ≡ true → IsReady (current log) (places_of c) → (c.folder ≡ Dirty → IsUntouched marks (current log) c.target)
+  pub target_free : HasName c.target → IsSureFolder log up → IsReady (current log) (places_of c) → (c.folder ≡ Dirty → IsUntouched marks (current log) c.target)
       → (not (is_dirty c.folder) ≡ true → NoneOn (current log) up dirty) → (f : FolderState) → c.folder ≡ f → IsUntouched marks (current log) c.target
-  target_free name stands ready untouched settled Dirty is = untouched is
-  target_free name stands ready untouched settled Synced is =
+  target_free name firm ready untouched settled Dirty is = untouched is
+  target_free name firm ready untouched settled Synced is =
       untouched_free told dirty marks log c.target kept
-      (sure_path log kept.known.guarded.tree kept.known.files c.target stands
+      (sure_path log c.target firm.sure
       (ap (Rattle.history_laws.specs.Doubt.name_waits log) name.is ∙ none_waits told dirty marks log up kept.known (settled (ap (λ x. not (is_dirty x)) is)) name.name))
       (stat_missing (current log) c.target ready.target)
 
@@ -78,7 +86,7 @@ module _ (told : Said) (dirty dirty_after : List Route) (marks : Marks) (log now
 
   module _ (said : SourceFacts) (k : ℕ) (target_name : HasName c.target) (ready : IsReady (current log) (places_of c)) (is_said : AreFactsOf (current log) c.source said)
       (free : IsFirstFree (current log) IsUnclaimed (places_of c) k) (none : told.part ≡ None) (untouched : IsUntouched marks (current log) c.target)
-      (d : IsDoneCall log (making (current log) (places_of c) k) now) (listed : Among dirty_after up) (more : (q : Route) → Among dirty q → Among dirty_after q) where
+      (d : IsDoneCall log (making (current log) (places_of c) k) now) (firm : IsSureFolder log up) (listed : Among dirty_after up) (more : (q : Route) → Among dirty q → Among dirty_after q) where
     abbrev name : List ℕ
     name = part_name c.job k
 
@@ -162,12 +170,12 @@ module _ (told : Said) (dirty dirty_after : List Route) (marks : Marks) (log now
     begun = comes_one told (with_part told part) dirty dirty_after marks (marks_new marks part n) log now (Makes f name made)
         (λ m. WorkKnows (with_part told part) dirty_after m (current now) GoesOn (Copy (record c { stage = Fill part said 0; folder = Dirty }))) kept d.is
         (subst (λ (l : CallLog). IsKnown (with_part told part) dirty_after (marks_new marks part n) l) (sym d.is)
-        (made_known told dirty dirty_after marks log kept.known name up f made makes refl listed more))
+        (made_known told dirty dirty_after marks log kept.known name up f made makes refl firm listed more))
         (subst (λ (l : CallLog). WorkKnows (with_part told part) dirty_after (settled_marks l (marks_new marks part n)) (current l) GoesOn (Copy (record c { stage = Fill part said 0; folder = Dirty }))) (sym d.is)
-        (target_name, (λ e. listed), (refl, (n, part_settled after (marks_new marks part n) (with_part told part) c.target part n has, λ e. filled))))
+        (target_name, (λ e. (listed, or_left _ _ (same_path-self up))), (refl, (n, part_settled after (marks_new marks part n) (with_part told part) c.target part n has, λ e. filled))))
 
   -- bytes are written behind the first
-  module _ (part : Route) (said : SourceFacts) (done : ℕ) (listed : c.folder ≡ Dirty → Among dirty up) (target_name : HasName c.target) (i : ℕ) (has : HasPart told marks (current log) c.target part i)
+  module _ (part : Route) (said : SourceFacts) (done : ℕ) (listed : c.folder ≡ Dirty → Among dirty up × (told.folders up ≡ true)) (target_name : HasName c.target) (i : ℕ) (has : HasPart told marks (current log) c.target part i)
       (filled : IsFilled (current log) c.source part said done i) (few : done + length (next_bytes (current log) c.source said done) ≤ said.size)
       (d : IsDoneCall log (writing (current log) (places_of c) part said done) now) (dirty_is : c.folder ≡ Dirty) where
     abbrev bytes : List ℕ

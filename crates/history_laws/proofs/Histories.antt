@@ -1,5 +1,5 @@
 -- By induction over a history: what is known holds where each entry ends, and before each call of it.
-use Rattle.std.proofs.Common.{◌≡◌, ℕ, ◌+◌, Bool, true, false, List, [], ◌∷◌, length, take, refl, sym, ◌∙◌, ap, subst, inl, inr, Option, Some, None, arith, append-nil}
+use Rattle.std.proofs.Common.{◌≡◌, ℕ, ◌+◌, Bool, true, false, ◌||◌, List, [], ◌∷◌, length, take, refl, sym, ◌∙◌, ap, subst, inl, inr, Option, Some, None, arith, append-nil}
 use Rattle.std.specs.Prelude.{map, ◌==◌, if◌then◌else◌}
 use Rattle.std.specs.Option.{option_map_or, option_map}
 use Rattle.std.proofs.lemmas.Bool.{false≢true, eq-eqb}
@@ -12,6 +12,9 @@ use Rattle.crash_law.specs.Guarded.{Marks}
 use Rattle.crash_law.specs.Steps.{as_it_stands}
 use Rattle.crash_law.proofs.Others.{opening_law}
 use Rattle.crash_law.proofs.Guarding.{found_there}
+use Rattle.job_reports.specs.Jobs.{folder_changed}
+use Rattle.history_laws.specs.Doubt.{is_pending, is_unsettled}
+use Rattle.tree_trait.specs.FileSystem.{find}
 use Rattle.job_reports.specs.declared.report.Did.{Did}
 use Rattle.job_reports.specs.declared.report.Ending.TheVariants.{NoMemory}
 use Rattle.job_reports.specs.declared.report.Did.TheVariants.{Ended}
@@ -26,7 +29,7 @@ use Rattle.session_history.specs.declared.history.Entry.{Entry}
 use Rattle.copy_move.specs.declared.run.Course.{Course}
 use Rattle.copy_move.specs.declared.run.Course.TheVariants.{GoesOn, InTrouble, OwedSyncFailed, Skips, Ends}
 use Rattle.copy_move.specs.declared.work.Work.{Work}
-use Rattle.copy_move.specs.declared.work.Work.TheVariants.{Copy, Delete}
+use Rattle.copy_move.specs.declared.work.Work.TheVariants.{Copy, Delete, Make}
 use Rattle.file_copy.specs.declared.stage.Stage.{Stage}
 use Rattle.file_copy.specs.declared.stage.Stage.TheVariants as at
 use Rattle.file_copy.specs.Copying.{Copying}
@@ -38,7 +41,7 @@ use Rattle.tree_trait.specs.declared.file_system.FileSystem.{FileSystem}
 use Rattle.session_history.specs.LiveJobs.{LiveJob, after_event, after_report, live, live_jobs, live_item}
 use Rattle.history_laws.specs.Replayed.{earlier_tree, log_prefix, replayed_step, replayed_tree}
 use Rattle.history_laws.specs.Traces.{EventLeads, Follows, IsJob, IsTraced, Stand, StepLeads, begun, if_closed, ordered, unless_ended, with_job}
-use Rattle.history_laws.proofs.Prefixes.{AreWithin, earlier_more, folders_of, replayed_more, said_by, told_of, told_with, within_more}
+use Rattle.history_laws.proofs.Prefixes.{AreWithin, earlier_more, folders_event, folders_told, replayed_more, said_by, told_of, told_with, within_more}
 use Rattle.history_laws.proofs.JobKnows.{StageKnows, WorkKnows, work_course}
 use Rattle.history_laws.proofs.JobLeads.{sync_leads, work_leads}
 use Rattle.history_laws.proofs.JobSteps.{gives_up}
@@ -65,6 +68,7 @@ doubt_anywhere (reported.Placed path) part = refl
 doubt_anywhere (reported.Removed path) part = refl
 doubt_anywhere (reported.Cleaned gone) part = refl
 doubt_anywhere (reported.Chunk count) part = refl
+doubt_anywhere (reported.Made made) part = refl
 doubt_anywhere (reported.Kept kept) part = refl
 doubt_anywhere (reported.Skipped path cause) part = refl
 doubt_anywhere reported.Barrier part = refl
@@ -95,6 +99,7 @@ anew_stage told m s course c at.Decided k = k
 anew_knows : (told : Said) (dirty : List Route) (m : Marks) (s : FileSystem) (course : Course) (work : Work) → WorkKnows told dirty m s course work → WorkKnows told dirty m s GoesOn (taken_anew work)
 anew_knows told dirty m s course (Copy c) (name, listed, stage) = (name, listed, anew_stage told m s course c c.stage stage)
 anew_knows told dirty m s course (Delete d) k = k
+anew_knows told dirty m s course (Make w) k = k
 
 module _ (told : Said) (dirty : List Route) (marks : Marks) (s : FileSystem) where
   abbrev Knows : Running → Type 0
@@ -206,14 +211,15 @@ module _ (opening : CallLog) (older : List Entry) (calls : ℕ) (was : Stand) (b
     told_is made now_is =
         let tree : replayed_tree opening now older ≡ replayed_tree opening before older = ap (λ l. replayed_tree opening l older) now_is ∙ replayed_more opening before made older r.within in
         let earlier : earlier_tree opening now older ≡ earlier_tree opening before older = ap (λ l. earlier_tree opening l older) now_is ∙ earlier_more opening before made older r.within in
-        ap (λ t. said_by (folders_by did (folders_of opening older)) t (Rattle.history_laws.specs.Replayed.keeping (Rattle.session_history.specs.Named.changed_by did) (replayed_tree opening now older) (earlier_tree opening now older)) (Rattle.session_history.specs.Named.named_by did (Rattle.session_history.specs.Named.named_parts older)) (part_after did r.part))
+        ap (λ t. said_by (folders_event (Step id did) (live_jobs older) (folders_told opening older)) t (Rattle.history_laws.specs.Replayed.keeping (Rattle.session_history.specs.Named.changed_by did) (replayed_tree opening now older) (earlier_tree opening now older)) (Rattle.session_history.specs.Named.named_by did (Rattle.session_history.specs.Named.named_parts older)) (part_after did r.part))
         (ap (λ l. replayed_step l did (live_item id (live_jobs older)) (replayed_tree opening now older)) at_end
         ∙ (ap (λ w. replayed_step now did w (replayed_tree opening now older)) item_is
         ∙ ap (replayed_step now did (Some (item_in job.work))) tree))
-        ∙ ap (λ t. said_by (folders_by did (folders_of opening older)) (replayed_step now did (Some (item_in job.work)) (replayed_tree opening before older)) t (Rattle.session_history.specs.Named.named_by did (Rattle.session_history.specs.Named.named_parts older)) (part_after did r.part))
+        ∙ ap (λ t. said_by (folders_event (Step id did) (live_jobs older) (folders_told opening older)) (replayed_step now did (Some (item_in job.work)) (replayed_tree opening before older)) t (Rattle.session_history.specs.Named.named_by did (Rattle.session_history.specs.Named.named_parts older)) (part_after did r.part))
         (ap (λ v. Rattle.history_laws.specs.Replayed.keeping (Rattle.session_history.specs.Named.changed_by did) v (earlier_tree opening now older)) tree
         ∙ ap (Rattle.history_laws.specs.Replayed.keeping (Rattle.session_history.specs.Named.changed_by did) (replayed_tree opening before older)) earlier)
-        ∙ ap (λ d. (let t : Said = record (said_after now did job.work told) { doubt = d } in t)) (sym (doubt_anywhere did r.part))
+        ∙ (ap (λ o. said_by (option_map_or (λ item. folders_by did (folder_changed item) (folders_told opening older)) o (folders_told opening older)) (replayed_step now did (Some (item_in job.work)) (replayed_tree opening before older)) (Rattle.history_laws.specs.Replayed.keeping (Rattle.session_history.specs.Named.changed_by did) (replayed_tree opening before older) (earlier_tree opening before older)) (Rattle.session_history.specs.Named.named_by did (Rattle.session_history.specs.Named.named_parts older)) (part_after did r.part)) item_is
+        ∙ ap (λ d. (let t : Said = record (said_after now did job.work told) { doubt = d } in t)) (sym (doubt_anywhere did r.part)))
 
     job_knows : WorkKnows told was.dirty r.marks (current before) job.course job.work
     job_knows = subst (λ js. JobsKnow told was.dirty r.marks (current before) js) jobs_is r.knows
@@ -349,7 +355,8 @@ module _ (opening : CallLog) (tree : IsTree (current opening)) (settled : all_se
       files = record {
         within = all_in;
         bare = λ i m bare. pending_settled i m opening.changes settled;
-        firm = λ f m j lead folder. pending_settled f m opening.changes settled;
+        unborn = λ i past. (opening_law opening tree settled).clean i refl;
+        mounts = λ p on. none_unsettled p;
       };
       folders = λ i folder. (refl, refl);
       aside = λ p is. absurd (false≢true is);
@@ -359,12 +366,20 @@ module _ (opening : CallLog) (tree : IsTree (current opening)) (settled : all_se
       part = λ p is. absurd (let f : ⊥ = cc in f);
       tracked = λ f m waits. absurd (false≢true (sym (pending_settled f m opening.changes settled) ∙ waits));
       doubts = λ p waits. refl;
-      stand = λ p. refl;
+      stand = λ p there. record { stands = there; sure = none_unsettled p };
     };
     aside = λ p is. absurd (false≢true is);
     was = λ p out sure. refl;
   }
     where
+      none_by : (name : List ℕ) (o : Option ℕ) → option_map_or (λ f. is_pending f name opening.changes) o false ≡ false
+      none_by name None = refl
+      none_by name (Some f) = pending_settled f name opening.changes settled
+
+      none_unsettled : (p : Route) → is_unsettled opening p ≡ false
+      none_unsettled [] = refl
+      none_unsettled (name ∷ up) = ap (λ b. b || is_unsettled opening up) (none_by name (find (current opening) up)) ∙ none_unsettled up
+
       all_in : Rattle.history_laws.proofs.Pending.all_within opening.changes ≡ true
       all_in = within_settled opening.changes settled
 

@@ -1,11 +1,13 @@
 -- What a deletion knows of the thing that it deletes, and of what lies in it: nothing was done there yet but its own removals.
-use Rattle.std.proofs.Common.{◌≡◌, ◌⊎◌, ℕ, Bool, true, false, List, [], ◌∷◌, ◌++◌, refl, sym, ◌∙◌, ap, subst, inl, inr, Option, Some, None}
+use Rattle.std.proofs.Common.{◌≡◌, ◌⊎◌, ℕ, ◌≤◌, Bool, true, false, List, [], ◌∷◌, ◌++◌, length, length-append, arith, refl, sym, ◌∙◌, ap, subst, inl, inr, Option, Some, None}
 use Rattle.std.specs.Option.{option_map_or}
-use Rattle.std.proofs.lemmas.Bool.{both_ways, or_cases, or_left, or_right, true≢false}
+use Rattle.std.proofs.lemmas.Bool.{both_ways, or_cases, or_left, or_right}
 use Rattle.mc_text.specs.Routes.{Route, is_prefix, same_path}
+use Rattle.mc_text.proofs.Prefixes.{same_path-lengths}
 use Rattle.tree_trait.specs.declared.file_system.FileSystem.{FileSystem}
 use Rattle.tree_trait.specs.FileSystem.{find, lookup}
-use Rattle.tree_trait.specs.Change.{Removes, CallLog, current, with_change}
+use Rattle.tree_trait.specs.Shape.{IsTree}
+use Rattle.tree_trait.specs.Change.{CallLog, current}
 use Rattle.tree_trait.specs.CrashImages.{Among}
 use Rattle.tree_trait.proofs.Finding.{and_then-some, find-once}
 use Rattle.tree_trait.proofs.Visible.{same_path-self, same_path-true}
@@ -16,12 +18,12 @@ use Rattle.job_reports.proofs.PermittedCalls.{stat_missing}
 use Rattle.copy_move.specs.declared.work.Work.TheVariants.{Delete}
 use Rattle.copy_move.specs.Deletions.{Deleting}
 use Rattle.copy_move.specs.Settling.{NoneOwed}
-use Rattle.history_laws.specs.Doubt.{is_pending, name_waits}
+use Rattle.history_laws.specs.Doubt.{is_pending, is_unsettled, name_waits}
 use Rattle.history_laws.proofs.Changing.{folder_anchored}
 use Rattle.history_laws.proofs.Deleted.{IsRemoval, removal_leads}
-use Rattle.history_laws.proofs.JobKnows.{HasName, IsIntact, intact_settled}
+use Rattle.history_laws.proofs.JobKnows.{HasName, IsIntact, intact_settled, none_on, way_sure}
 use Rattle.history_laws.proofs.Knowing.{IsKept, IsKnown, Said, settled_marks}
-use Rattle.history_laws.proofs.Resting.{folder_at_of, sure_path}
+use Rattle.history_laws.proofs.Resting.{IsSureFolder, folder_at, folder_at_of, stands_at, sure_path}
 
 pub prefix_way : (top p : Route) → is_prefix top p ≡ true → (rest : Route) × (p ≡ rest ++ top)
 prefix_way top [] h = ([], sym (same_path-true top [] h))
@@ -56,28 +58,56 @@ module _ (told : Said) (dirty : List Route) (marks : Marks) (log : CallLog) (kep
         | inr unreached ↦ absurd (unreached up at)
       ]
 
-  where_it_is : (name : List ℕ) (up rest : Route) → (let p : Route = name ∷ up in p) ≡ rest ++ d.path → (is_prefix d.path up ≡ true) ⊎ (up ≡ folder_of d.path)
-  where_it_is name up [] e = inr (ap folder_of e)
-  where_it_is name up (first ∷ rest) e = inl (subst (λ q. is_prefix d.path q ≡ true) (sym (ap folder_of e)) (prefix_append d.path rest))
+  -- nor is the folder that holds it in doubt
+  up_sure : (f : ℕ) → find (current log) (folder_of d.path) ≡ Some f → is_unsettled log (folder_of d.path) ≡ false
+  up_sure f at = way_sure told dirty marks log (folder_of d.path) f kept.known at (none_on (current log) (Delete d) dirty none)
+
+  pub folder_firm : folder_at (current log) (folder_of d.path) ≡ true → IsSureFolder log (folder_of d.path)
+  folder_firm stands = let there = stands_at (current log) (folder_of d.path) stands in record { stands = stands; sure = up_sure there.i there.at }
+
+  -- so nothing that stands there is
+  top_sure : (i : ℕ) → find (current log) (has.name ∷ folder_of d.path) ≡ Some i → is_unsettled log (has.name ∷ folder_of d.path) ≡ false
+  top_sure i at =
+      let h = and_then-some (find (current log) (folder_of d.path)) (λ g. lookup (current log).names g has.name) i at in
+      sure_path log (has.name ∷ folder_of d.path) (up_sure h.0 h.1) (calm has.name (folder_of d.path) h.0 h.1 (inr refl))
+
+  sure_there : (rest : Route) (i : ℕ) → find (current log) (rest ++ d.path) ≡ Some i → is_unsettled log (rest ++ d.path) ≡ false
+  sure_there [] i at = subst (λ q. is_unsettled log q ≡ false) (sym has.is) (top_sure i (sym (ap (find (current log)) has.is) ∙ at))
+  sure_there (name ∷ rest) i at =
+      let h = and_then-some (find (current log) (rest ++ d.path)) (λ g. lookup (current log).names g name) i at in
+      sure_path log (name ∷ rest ++ d.path) (sure_there rest h.0 h.1) (calm name (rest ++ d.path) h.0 h.1 (inl (prefix_append d.path rest)))
 
   -- before the first change nothing waits there, so all is as it was found
   pub intact_begins : IsIntact marks (current log) d.path
-  intact_begins rest out = by (rest ++ d.path) refl (find (current log) (rest ++ d.path)) refl
+  intact_begins rest out = by (find (current log) (rest ++ d.path)) refl
     where
-      of_path : (p : Route) (i : ℕ) → p ≡ rest ++ d.path → find (current log) p ≡ Some i → marks.aside p ≡ false → find (current log) p ≡ marks.was p
-      of_path [] i e at off = absurd (root_not rest e)
-        where
-          root_not : (rest : Route) → (let p : Route = [] in p) ≡ rest ++ d.path → ⊥
-          root_not [] e = let x : (let p : Route = [] in p) ≡ has.name ∷ folder_of d.path = e ∙ has.is in let f : ⊥ = cc in f
-          root_not (first ∷ rest) e = let f : ⊥ = cc in f
-      of_path (name ∷ up) i e at off =
-          let h = and_then-some (find (current log) up) (λ g. lookup (current log).names g name) i at in
-          let tree = kept.known.guarded.tree in
-          sym (kept.was (name ∷ up) off (sure_path log tree kept.known.files (name ∷ up) (folder_at_of (current log) up h.0 h.1 (tree.in_folders h.0 name i h.2)) (calm name up h.0 h.1 (where_it_is name up rest e))))
+      by : (o : Option ℕ) → find (current log) (rest ++ d.path) ≡ o → (find (current log) (rest ++ d.path) ≡ marks.was (rest ++ d.path)) ⊎ (find (current log) (rest ++ d.path) ≡ None)
+      by None is = inr is
+      by (Some i) is = inl (sym (kept.was (rest ++ d.path) out (sure_there rest i is)))
 
-      by : (p : Route) → p ≡ rest ++ d.path → (o : Option ℕ) → find (current log) (rest ++ d.path) ≡ o → (find (current log) (rest ++ d.path) ≡ marks.was (rest ++ d.path)) ⊎ (find (current log) (rest ++ d.path) ≡ None)
-      by p e None is = inr is
-      by p e (Some i) is = inl (subst (λ (q : Route). find (current log) q ≡ marks.was q) e (of_path p i e (ap (find (current log)) e ∙ is) (subst (λ (q : Route). marks.aside q ≡ false) (sym e) out)))
+-- where something stands at or below a path the folder that holds the path stands
+held_above : (s : FileSystem) (rest top : Route) (i : ℕ) → IsTree s → find s (rest ++ top) ≡ Some i → folder_at s (folder_of top) ≡ true
+held_above s [] [] i tree at = tree.root
+held_above s [] (name ∷ up) i tree at =
+    let h = and_then-some (find s up) (λ g. lookup s.names g name) i at in folder_at_of s up h.0 h.1 (tree.in_folders h.0 name i h.2)
+held_above s (name ∷ rest) top i tree at = let h = and_then-some (find s (rest ++ top)) (λ g. lookup s.names g name) i at in held_above s rest top h.0 tree h.1
+
+-- where something was removed there the folder that holds the path stands
+pub removed_in : (log now : CallLog) (top path : Route) → IsTree (current log) → is_prefix top path ≡ true → IsRemoval log now path → folder_at (current log) (folder_of top) ≡ true
+removed_in log now top path tree within it =
+    let w = prefix_way top path within in
+    held_above (current log) w.0 top it.r.i tree (ap (find (current log)) (sym w.1) ∙ removal_leads log now path it)
+
+not_above : (top path rest : Route) → path ≡ rest ++ top → 1 ≤ length path → same_path (folder_of top) path ≡ false
+not_above [] path rest e some = same_path-lengths [] path (λ same. absurd (omega (arith, same, some)))
+not_above (name ∷ up) path rest e some = same_path-lengths up path (λ same. let l = ap (λ (q : Route). length q) e in let n = length-append rest (name ∷ up) in absurd (omega (arith, same, l, n)))
+
+removal_some : (log now : CallLog) (path : Route) → IsRemoval log now path → 1 ≤ length path
+removal_some log now path it = subst (λ (q : Route). 1 ≤ length q) (sym it.r.path_is) (omega arith)
+
+-- and what is removed isn't that folder
+pub folder_apart : (log now : CallLog) (top path : Route) → is_prefix top path ≡ true → IsRemoval log now path → same_path (folder_of top) path ≡ false
+folder_apart log now top path within it = let w = prefix_way top path within in not_above top path w.0 w.1 (removal_some log now path it)
 
 -- what is removed next is as it was found
 pub intact_was : (marks : Marks) (s : FileSystem) (top path : Route) (i : ℕ) → IsIntact marks s top → is_prefix top path ≡ true → find s path ≡ Some i → marks.aside path ≡ false → marks.was path ≡ find s path

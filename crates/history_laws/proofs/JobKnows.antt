@@ -1,17 +1,19 @@
 -- What is known of a live job's part and target, by where its work stands.
-use Rattle.std.proofs.Common.{◌≡◌, ℕ, ◌≤◌, Bool, true, false, ◌&&◌, ◌||◌, ◌⊎◌, List, ◌∷◌, ◌++◌, length, take, refl, sym, ◌∙◌, ap, subst, inl, inr, Option, Some, None, cond}
+use Rattle.std.proofs.Common.{◌≡◌, ◌⊎◌, ℕ, ◌≤◌, Bool, true, false, ◌&&◌, ◌||◌, List, [], ◌∷◌, ◌++◌, length, take, refl, sym, ◌∙◌, ap, subst, inl, inr, Option, Some, None, cond}
 use Rattle.std.specs.Prelude.{is_some}
 use Rattle.std.specs.Option.{option_map_or}
 use Rattle.std.proofs.lemmas.Bool.{false≢true, both_ways}
 use Rattle.mc_text.specs.declared.kind.Kind.TheVariants.{File}
 use Rattle.mc_text.specs.Routes.{Route}
 use Rattle.tree_trait.specs.declared.file_system.FileSystem.{FileSystem}
-use Rattle.tree_trait.specs.FileSystem.{find, node}
-use Rattle.tree_trait.specs.Refusals.{mount_of, refusal_of}
+use Rattle.tree_trait.specs.declared.calls.TreeError.TheVariants.{Missing}
+use Rattle.tree_trait.specs.Calls.{Stat}
+use Rattle.tree_trait.specs.FileSystem.{find, lookup, node, starts_mount}
+use Rattle.tree_trait.specs.Refusals.{mount_here, mount_of, refusal_of}
 use Rattle.tree_trait.specs.Answers.{mount_number}
 use Rattle.tree_trait.specs.Change.{CallLog, current}
 use Rattle.tree_trait.specs.CrashImages.{Among}
-use Rattle.tree_trait.proofs.Finding.{find-once}
+use Rattle.tree_trait.proofs.Finding.{and_then-some, find-once}
 use Rattle.crash_law.specs.Guarded.{Marks}
 use Rattle.job_reports.specs.declared.report.Did.{Did}
 use Rattle.job_reports.specs.declared.report.Did.TheVariants.{Ended}
@@ -27,11 +29,9 @@ use Rattle.job_reports.proofs.PermittedCalls.{stat_missing}
 use Rattle.copy_move.specs.declared.run.Course.{Course}
 use Rattle.copy_move.specs.declared.run.Course.TheVariants.{GoesOn}
 use Rattle.copy_move.specs.declared.work.Work.{Work}
-use Rattle.copy_move.specs.declared.work.Work.TheVariants.{Copy, Delete}
-use Rattle.copy_move.specs.Settling.{LiesApart, NoneOwed, changed_folder}
+use Rattle.copy_move.specs.declared.work.Work.TheVariants.{Copy, Delete, Make}
+use Rattle.copy_move.specs.Settling.{IsMountOf, LiesApart, NoneOwed, changed_folder}
 use Rattle.tree_deletion.specs.declared.deletion.Stage.TheVariants.{Going}
-use Rattle.tree_trait.specs.declared.calls.TreeError.TheVariants.{Missing}
-use Rattle.tree_trait.specs.Calls.{Stat}
 use Rattle.crash_law.proofs.Unworked.{unworked_law}
 use Rattle.history_laws.specs.Doubt.{is_pending, is_unsettled, name_waits}
 use Rattle.history_laws.proofs.Knowing.{Said, IsKnown, IsKept, settled_marks}
@@ -85,8 +85,10 @@ StageKnows told marks s course c Decided = told.part ≡ None
 
 abbrev pub WorkKnows : Said → List Route → Marks → FileSystem → Course → Work → Type 0
 WorkKnows told dirty marks s course (Copy c) =
-    HasName c.target × (c.folder ≡ Dirty → Among dirty (folder_of c.target)) × StageKnows told marks s course c c.stage
-WorkKnows told dirty marks s course (Delete d) = HasName d.path × (told.part ≡ None) × (d.stage ≡ Going → IsIntact marks s d.path)
+    HasName c.target × (c.folder ≡ Dirty → Among dirty (folder_of c.target) × (told.folders (folder_of c.target) ≡ true)) × StageKnows told marks s course c c.stage
+WorkKnows told dirty marks s course (Delete d) =
+    HasName d.path × (told.part ≡ None) × (d.stage ≡ Going → IsIntact marks s d.path × (told.folders (folder_of d.path) ≡ true))
+WorkKnows told dirty marks s course (Make m) = HasName m.path × (told.part ≡ None)
 
 -- a path at which nothing stands, and of whose name nothing waits
 pub untouched_free : (told : Said) (dirty : List Route) (marks : Marks) (log : CallLog) (p : Route) → IsKept told dirty marks log → is_unsettled log p ≡ false → find (current log) p ≡ None → IsUntouched marks (current log) p
@@ -128,6 +130,25 @@ none_waits told dirty marks log up known none m = by (find (current log) up) ref
     by : (o : Option ℕ) → find (current log) up ≡ o → name_waits log (m ∷ up) ≡ false
     by None is = ap (λ x. option_map_or (λ f. is_pending f m log.changes) x false) is
     by (Some f) is = ap (λ x. option_map_or (λ f. is_pending f m log.changes) x false) is ∙ no_more f is (is_pending f m log.changes) refl
+
+-- nor is the folder itself in doubt, nor one above it: those on other mounts never are
+pub way_sure : (told : Said) (dirty : List Route) (marks : Marks) (log : CallLog) (up : Route) (i : ℕ) → IsKnown told dirty marks log → find (current log) up ≡ Some i → NoneOn (current log) up dirty
+    → is_unsettled log up ≡ false
+way_sure told dirty marks log [] i known at none = refl
+way_sure told dirty marks log (name ∷ up) i known at none =
+    by (starts_mount (current log) i) refl (λ above. way_sure told dirty marks log up h.0 known h.1 above)
+  where
+    h : (g : ℕ) × (find (current log) up ≡ Some g) × (lookup (current log).names g name ≡ Some i)
+    h = and_then-some (find (current log) up) (λ g. lookup (current log).names g name) i at
+
+    by : (b : Bool) → starts_mount (current log) i ≡ b → (NoneOn (current log) up dirty → is_unsettled log up ≡ false) → is_unsettled log (name ∷ up) ≡ false
+    by true starts rest = known.files.mounts (name ∷ up) (ap (λ o. option_map_or (starts_mount (current log)) o false) at ∙ starts)
+    by false starts rest =
+        let same : mount_of (current log) (name ∷ up) ≡ mount_of (current log) up =
+        ap (λ o. mount_here (current log) o (mount_of (current log) up)) at ∙ ap (λ b. cond b i (mount_of (current log) up)) starts in
+        let above = subst (λ n. (kept : Route) → Among dirty kept → (refusal_of (current log) (Stat kept) ≡ Some Missing)
+        ⊎ ((number : ℕ) × (number ≡ mount_number (current log).mounts n) × (IsMountOf (current log) kept number → ⊥))) same none in
+        ap (λ b. b || is_unsettled log up) (none_waits told dirty marks log up known above name) ∙ rest above
 
 -- What is known of a job is known with the marks that are settled.
 module _ (log : CallLog) (marks : Marks) where
@@ -178,7 +199,8 @@ module _ (log : CallLog) (marks : Marks) where
 
   pub work_settled : (told : Said) (dirty : List Route) (course : Course) (work : Work) → WorkKnows told dirty marks (current log) course work → WorkKnows told dirty (settled_marks log marks) (current log) course work
   work_settled told dirty course (Copy c) (name, listed, stage) = (name, listed, stage_settled told course c c.stage stage)
-  work_settled told dirty course (Delete d) (name, none, intact) = (name, none, λ is. intact_settled d.path (intact is))
+  work_settled told dirty course (Delete d) (name, none, intact) = (name, none, λ is. let k = intact is in (intact_settled d.path k.0, k.1))
+  work_settled told dirty course (Make w) k = k
 
 -- a job that goes on only where it went on knows what it knew
 pub stage_course : (told : Said) (marks : Marks) (s : FileSystem) (course other : Course) (c : Copying) (stage : Stage) → (other ≡ GoesOn → course ≡ GoesOn) → StageKnows told marks s course c stage → StageKnows told marks s other c stage
@@ -191,6 +213,7 @@ stage_course told marks s course other c Decided on k = k
 pub work_course : (told : Said) (dirty : List Route) (marks : Marks) (s : FileSystem) (course other : Course) (work : Work) → (other ≡ GoesOn → course ≡ GoesOn) → WorkKnows told dirty marks s course work → WorkKnows told dirty marks s other work
 work_course told dirty marks s course other (Copy c) on (name, listed, stage) = (name, listed, stage_course told marks s course other c c.stage on stage)
 work_course told dirty marks s course other (Delete d) on k = k
+work_course told dirty marks s course other (Make w) on k = k
 
 -- what is known after a report: of a job that has ended no part stands
 abbrev pub KnowsAfter : Did → Said → List Route → FileSystem → Course → Work → Marks → Type 0

@@ -18,9 +18,10 @@ use Rattle.file_copy.specs.Copying.{Copying}
 use Rattle.file_copy.specs.Copying as copying
 use Rattle.job_reports.proofs.CallAnswers.{some_log}
 use Rattle.copy_move.specs.declared.work.Work.{Work}
-use Rattle.copy_move.specs.declared.work.Work.TheVariants.{Copy, Delete}
+use Rattle.copy_move.specs.declared.work.Work.TheVariants.{Copy, Delete, Make}
 use Rattle.copy_move.specs.declared.run.Course.{Course}
 use Rattle.copy_move.specs.declared.run.Course.TheVariants.{GoesOn, InTrouble, OwedSyncFailed, Skips, Ends}
+use Rattle.copy_move.specs.Makings.{Making}
 use Rattle.copy_move.specs.Jobs.{Running, CallsOn, TellsOn, WorkCalls, WorkLastCalls, WorkTells, PassesOver, WorkWinds, course_after, is_fresh}
 use Rattle.copy_move.specs.DeletionSteps.{after_try}
 use Rattle.copy_move.specs.Settling.{NoneOwed, WorkLeaves}
@@ -29,6 +30,7 @@ use Rattle.history_laws.specs.Traces.{IsUnclaimed, SyncLeads, WorkLeads}
 use Rattle.history_laws.proofs.Calming.{refused_is}
 use Rattle.history_laws.proofs.Deleted.{comes_refused}
 use Rattle.history_laws.proofs.DeletionSteps.{Steps, comes_synced, deletion_tells, deletion_winds, stands, stays, still_going}
+use Rattle.history_laws.proofs.MakingSteps.{making_tells, making_winds}
 use Rattle.history_laws.proofs.CopySteps.{copy_tells}
 use Rattle.history_laws.proofs.JobSteps.{copy_winds, fresh_knows}
 use Rattle.history_laws.proofs.Knowing.{Said, IsKept}
@@ -48,7 +50,12 @@ module _ (told : Said) (dirty dirty_after : List Route) (marks : Marks) (log now
   skip_knows course (Copy c) (Copy new) path (path_is, new_is) (name, listed, stage) =
       subst (λ (n : Copying). WorkKnows told dirty marks (current log) GoesOn (Copy n)) (sym new_is) (name, listed, skip_stage told marks (current log) course c c.stage stage)
   skip_knows course (Copy c) (Delete new) path h k = absurd h
+  skip_knows course (Copy c) (Make new) path h k = absurd h
   skip_knows course (Delete d) (Copy new) path h k = absurd h
+  skip_knows course (Delete d) (Make new) path h k = absurd h
+  skip_knows course (Make m) (Copy new) path h k = absurd h
+  skip_knows course (Make m) (Delete new) path h k = absurd h
+  skip_knows course (Make m) (Make new) path (path_is, new_is) k = subst (λ (n : Making). WorkKnows told dirty marks (current log) GoesOn (Make n)) (sym new_is) k
   skip_knows course (Delete d) (Delete new) path at k = stays told dirty dirty_after marks log now kept course GoesOn d new _ k at (still_going told dirty dirty_after marks log now kept path d) dirty
 
   work_tells : (old new : Work) (did : Did) → WorkKnows told dirty marks (current log) GoesOn old → WorkTells old did new → WorkCalls IsUnclaimed old did new log (Some now)
@@ -56,8 +63,13 @@ module _ (told : Said) (dirty dirty_after : List Route) (marks : Marks) (log now
       → Steps told dirty dirty_after marks log now kept did (course_after did) old new
   work_tells (Copy c) (Copy new) did knows tells calls settled leaves = copy_tells told dirty dirty_after marks log now kept c new did knows tells calls (λ fresh. none_on (current log) (Copy c) dirty (settled fresh)) leaves
   work_tells (Delete d) (Delete new) did knows tells calls settled leaves = deletion_tells told dirty dirty_after marks log now kept d new did knows tells calls settled leaves
+  work_tells (Make w) (Make new) did knows tells calls settled leaves = making_tells told dirty dirty_after marks log now kept w new did knows tells calls (λ fresh. none_on (current log) (Make w) dirty (settled fresh)) leaves
   work_tells (Copy c) (Delete new) did knows tells calls settled leaves = absurd tells
+  work_tells (Copy c) (Make new) did knows tells calls settled leaves = absurd tells
   work_tells (Delete d) (Copy new) did knows tells calls settled leaves = absurd tells
+  work_tells (Delete d) (Make new) did knows tells calls settled leaves = absurd tells
+  work_tells (Make w) (Copy new) did knows tells calls settled leaves = absurd tells
+  work_tells (Make w) (Delete new) did knows tells calls settled leaves = absurd tells
 
   work_winds : (ending : Ending) (old new : Work) (did : Did) → WorkKnows told dirty marks (current log) (Ends ending) old → WorkWinds ending old did new → WorkLastCalls old did log (Some now)
       → LeavesDirty (Ends ending) old did new dirty dirty_after (Some log) (Some now) → Steps told dirty dirty_after marks log now kept did (Ends ending) old new
@@ -66,8 +78,15 @@ module _ (told : Said) (dirty dirty_after : List Route) (marks : Marks) (log now
       (leaves.dirty_is ∙ ap (λ f. after_try did leaves.refusal f dirty) (same_path-true leaves.folder (folder_of c.target) leaves.own))
   work_winds ending (Delete d) (Delete new) did knows winds calls leaves =
       deletion_winds told dirty dirty_after marks log now kept d new ending did leaves.refusal leaves.folder knows winds (leaves.tried log refl) calls leaves.dirty_is
+  work_winds ending (Make m) (Make new) did knows winds calls leaves =
+      making_winds told dirty dirty_after marks log now kept m new ending did leaves.refusal knows winds (leaves.tried log refl) calls
+      (leaves.dirty_is ∙ ap (λ f. after_try did leaves.refusal f dirty) (same_path-true leaves.folder (folder_of m.path) leaves.own))
   work_winds ending (Copy c) (Delete new) did knows winds calls leaves = absurd winds
+  work_winds ending (Copy c) (Make new) did knows winds calls leaves = absurd winds
   work_winds ending (Delete d) (Copy new) did knows winds calls leaves = absurd winds
+  work_winds ending (Delete d) (Make new) did knows winds calls leaves = absurd winds
+  work_winds ending (Make m) (Copy new) did knows winds calls leaves = absurd winds
+  work_winds ending (Make m) (Delete new) did knows winds calls leaves = absurd winds
 
   abbrev pub Leads : Running → Did → Running → Type 0
   Leads job did new = Comes told (said_after now did job.work told) dirty_after log now (KnowsAfter did (said_after now did job.work told) dirty_after (current now) new.course new.work)

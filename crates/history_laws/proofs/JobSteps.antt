@@ -17,7 +17,7 @@ use Rattle.crash_law.specs.Guarded.{Marks}
 use Rattle.job_reports.specs.declared.report.Ending.{Ending}
 use Rattle.job_reports.specs.declared.report.Ending.TheVariants.{NoMemory}
 use Rattle.job_reports.specs.declared.report.Did.{Did}
-use Rattle.job_reports.specs.declared.report.Did.TheVariants.{Began, Chunk, Placed, Removed, Kept, Skipped, Cleaned, Barrier, Troubled, Ended}
+use Rattle.job_reports.specs.declared.report.Did.TheVariants.{Began, Chunk, Placed, Removed, Made, Kept, Skipped, Cleaned, Barrier, Troubled, Ended}
 use Rattle.file_copy.specs.declared.stage.FolderState.{FolderState}
 use Rattle.file_copy.specs.declared.stage.FolderState.TheVariants.{Synced, Dirty}
 use Rattle.file_copy.specs.declared.stage.Stage.{Stage}
@@ -28,7 +28,7 @@ use Rattle.file_copy.specs.LastSteps.{SyncAnswers, WindCalls, Winds, given_up, l
 use Rattle.file_copy.specs.LastSteps as last
 use Rattle.job_reports.proofs.CallAnswers.{some_log}
 use Rattle.copy_move.specs.declared.work.Work.{Work}
-use Rattle.copy_move.specs.declared.work.Work.TheVariants.{Copy, Delete}
+use Rattle.copy_move.specs.declared.work.Work.TheVariants.{Copy, Delete, Make}
 use Rattle.copy_move.specs.declared.run.Course.{Course}
 use Rattle.copy_move.specs.declared.run.Course.TheVariants.{Ends}
 use Rattle.copy_move.specs.Jobs.{part_of}
@@ -56,6 +56,7 @@ fresh_synced Decided folder fresh dirty = false≢true fresh
 pub fresh_knows : (told : Said) (dirty other : List Route) (marks : Marks) (s : FileSystem) (course : Course) (work : Work) → jobs.is_fresh work ≡ true → WorkKnows told dirty marks s course work → WorkKnows told other marks s course work
 fresh_knows told dirty other marks s course (Copy c) fresh (name, listed, stage) = (name, (λ e. absurd (fresh_synced c.stage c.folder fresh e)), stage)
 fresh_knows told dirty other marks s course (Delete d) fresh k = k
+fresh_knows told dirty other marks s course (Make w) fresh k = k
 
 module _ (told : Said) (dirty dirty_after : List Route) (marks : Marks) (log now : CallLog) (kept : IsKept told dirty marks log) where
   -- an end names the part that stays
@@ -116,6 +117,8 @@ module _ (told : Said) (dirty dirty_after : List Route) (marks : Marks) (log now
       subst (λ x. Comes told (said_after now x (Copy c) told) dirty_after log now (λ m. (said_after now x (Copy c) told).part ≡ None)) (sym did_is) (ends_copy NoMemory c course (part_at c.stage) knows refl same is)
   gives_up (Delete d) course did knows did_is same is =
       subst (λ x. Comes told (said_after now x (Delete d) told) dirty_after log now (λ m. (said_after now x (Delete d) told).part ≡ None)) (sym did_is) (ends told dirty dirty_after marks log now kept (Delete d) knows.1 same is)
+  gives_up (Make w) course did knows did_is same is =
+      subst (λ x. Comes told (said_after now x (Make w) told) dirty_after log now (λ m. (said_after now x (Make w) told).part ≡ None)) (sym did_is) (ends told dirty dirty_after marks log now kept (Make w) knows.1 same is)
 
   -- the part that a last step removes
   removed_part : (c : Copying) (ending : Ending) (part : Route) (stage : Stage) → StageKnows told marks (current log) (Ends ending) c stage → removable stage ≡ Some part
@@ -156,7 +159,7 @@ module _ (told : Said) (dirty dirty_after : List Route) (marks : Marks) (log now
       (comes_map told (said_after now (Cleaned part) (Copy c) told) dirty log now _
       (λ m. WorkKnows (said_after now (Cleaned part) (Copy c) told) dirty m (current now) (Ends ending) (Copy (record c { stage = Decided })))
       (λ m k untouched. (name, listed, refl))
-      (part_cleaned told dirty marks log now (Copy c) c.target part r.1.0 kept r.1.1 (listed r.0)
+      (part_cleaned told dirty marks log now (Copy c) c.target part r.1.0 kept r.1.1 (listed r.0).0
       (subst (λ (l : CallLog). Performs {A = Unit {0}} log (RemoveFile part) (Ok tt) (Some l)) (sym (some_log now rows.0 rows.2)) rows.1))))
   copy_winds c new ending Barrier left knows (dirty_is, new_is) answers rows leaves =
       subst (λ (x : Copying). Comes told told dirty_after log now (λ m. WorkKnows told dirty_after m (current now) (Ends ending) (Copy x))) (sym new_is) (by (removable c.stage) answers)
@@ -173,6 +176,7 @@ module _ (told : Said) (dirty dirty_after : List Route) (marks : Marks) (log now
   copy_winds c new ending (Chunk count) left knows winds tells rows leaves = absurd winds
   copy_winds c new ending (Placed path) left knows winds tells rows leaves = absurd winds
   copy_winds c new ending (Removed path) left knows winds tells rows leaves = absurd winds
+  copy_winds c new ending (Made made) left knows winds tells rows leaves = absurd winds
   copy_winds c new ending (Kept kept) left knows winds tells rows leaves = absurd winds
   copy_winds c new ending (Skipped path why) left knows winds tells rows leaves = absurd winds
   copy_winds c new ending (Troubled trouble) left knows winds tells rows leaves = absurd winds

@@ -14,10 +14,10 @@ use Rattle.crash_law.specs.Guarded.{Marks, IsGuarded, Holds}
 use Rattle.crash_law.proofs.Guarding.{settle_law, guard_law, found_at}
 use Rattle.crash_law.proofs.Leading.{find_law}
 use Rattle.history_laws.specs.Doubt.{is_pending, is_unsettled, name_waits}
-use Rattle.history_laws.proofs.Resting.{IsOfFiles, folder_at, settled_unless}
+use Rattle.history_laws.proofs.Resting.{IsOfFiles, IsSureFolder, settled_unless}
 
 -- what a history says: what each path shows, what it showed before its last change, the paths that were named as parts, the
--- part that stands, of which names a change may wait for a sync, and where folders stand
+-- part that stands, of which names a change may wait for a sync, and where folders are known to stand on the disk
 pub record Said : Type 0 where
   pub tree : View
   pub earlier : View
@@ -55,7 +55,7 @@ pub record IsKnown (said : Said) (dirty : List Route) (marks : Marks) (log : Cal
   -- what waits lies in a dirty folder, or in one to which no path leads any more
   pub tracked : (f : ℕ) (m : List ℕ) → is_pending f m log.changes ≡ true → ((up : Route) × Among dirty up × (find (current log) up ≡ Some f)) ⊎ IsUnreached log f
   pub doubts : (p : Route) → name_waits log p ≡ true → said.doubt p ≡ true
-  pub stand : (p : Route) → folder_at (current log) p ≡ said.folders p
+  pub stand : (p : Route) → said.folders p ≡ true → IsSureFolder log p
 
 -- and where nothing waits nothing is left open
 pub record IsKept (said : Said) (dirty : List Route) (marks : Marks) (log : CallLog) : Type 0 where

@@ -1,5 +1,5 @@
 -- What a finished job did stays done: no crash at a later moment brings back what was before, until an entry names the path.
-use Rattle.std.proofs.Common.{◌≡◌, ℕ, ◌+◌, Bool, true, false, not, ◌&&◌, List, [], ◌∷◌, length, refl, sym, ◌∙◌, ap, subst, inl, inr, Option, Some, None}
+use Rattle.std.proofs.Common.{◌≡◌, ℕ, ◌+◌, true, false, not, List, [], ◌∷◌, length, refl, sym, ◌∙◌, ap, subst, inl, inr, Option, Some, None}
 use Rattle.std.proofs.lemmas.Bool.{both_ways}
 use Rattle.mc_text.specs.Routes.{Route, same_path}
 use Rattle.tree_trait.specs.declared.file_system.FileSystem.{FileSystem}
@@ -9,8 +9,8 @@ use Rattle.tree_trait.specs.Change.{CallLog, current}
 use Rattle.tree_trait.specs.CrashImages.{Among, IsCrashImage, all_settled}
 use Rattle.tree_trait.proofs.Visible.{same_path-self}
 use Rattle.job_reports.specs.declared.report.Did.{Did}
-use Rattle.job_reports.specs.declared.report.Did.TheVariants.{Began, Chunk, Placed, Removed, Kept, Skipped, Cleaned, Barrier, Troubled, Ended}
-use Rattle.job_reports.specs.Jobs.{Item, Copies, Removes}
+use Rattle.job_reports.specs.declared.report.Did.TheVariants.{Began, Chunk, Placed, Removed, Made, Kept, Skipped, Cleaned, Barrier, Troubled, Ended}
+use Rattle.job_reports.specs.Jobs.{Item, Copies, Removes, Makes}
 use Rattle.file_copy.specs.Copied.{copied}
 use Rattle.session_history.specs.declared.history.Event.{Event}
 use Rattle.session_history.specs.declared.history.Event.TheVariants.{Key, Look, Order, Step, Closed}
@@ -22,7 +22,7 @@ use Rattle.copy_move.specs.Jobs.{Running}
 use Rattle.copy_move.specs.Settling.{changed_folder}
 use Rattle.history_laws.specs.Doubt.{is_unsettled}
 use Rattle.session_history.specs.LiveJobs.{IsLivePart, LiveJob, live_jobs, live_item}
-use Rattle.history_laws.specs.Replayed.{log_prefix, placed_by, replayed_event, replayed_step, replayed_tree}
+use Rattle.history_laws.specs.Replayed.{log_prefix, new_folder, placed_by, replayed_event, replayed_step, replayed_tree}
 use Rattle.history_laws.specs.Traces.{IsTraced, Stand, WorkLeads}
 use Rattle.session_history.specs.Named.{has_changed, named_after, named_by, named_parts, IsUnnamedSince, names, names_path}
 use Rattle.history_laws.specs.Safe.{IsSafe}
@@ -33,8 +33,8 @@ use Rattle.history_laws.proofs.Finished.{finished_folder, finished_law}
 use Rattle.history_laws.proofs.Histories.{traced_reached}
 use Rattle.history_laws.proofs.Moments.{session_law, sure_moment}
 use Rattle.history_laws.proofs.Owing.{in_filter}
+use Rattle.history_laws.proofs.Prefixes.{folders_since, folders_told}
 use Rattle.history_laws.proofs.Reports.{HasLive}
-use Rattle.history_laws.proofs.Prefixes.{folders_event, folders_of}
 use Rattle.history_laws.proofs.Resting.{name_sure}
 use Rattle.history_laws.proofs.Staying.{stays_law}
 use Rattle.history_laws.proofs.Sources.{item_in}
@@ -43,6 +43,7 @@ use Rattle.history_laws.proofs.Sources.{item_in}
 placed_unnamed : (item : Option Item) (target : Route) (v : View) (path : Route) → same_path path target ≡ false → placed_by item target v path ≡ v path
 placed_unnamed (Some (Copies source to)) target v path unnamed = put_off v target (Rattle.std.specs.Option.option_map copied (v source).value) path unnamed
 placed_unnamed (Some (Removes file)) target v path unnamed = refl
+placed_unnamed (Some (Makes folder)) target v path unnamed = refl
 placed_unnamed None target v path unnamed = refl
 
 step_unnamed : (log : CallLog) (did : Did) (item : Option Item) (v : View) (path : Route) → names did path ≡ false → replayed_step log did item v path ≡ v path
@@ -52,6 +53,7 @@ step_unnamed log (Ended ending (Some part)) item v path unnamed = put_off v part
 step_unnamed log (Ended ending None) item v path unnamed = refl
 step_unnamed log (Began part) item v path unnamed = refl
 step_unnamed log (Chunk count) item v path unnamed = refl
+step_unnamed log (Made folder) item v path unnamed = put_off v folder (Some new_folder) path unnamed
 step_unnamed log (Kept kept) item v path unnamed = refl
 step_unnamed log (Skipped file cause) item v path unnamed = refl
 step_unnamed log (Cleaned part) item v path unnamed = refl
@@ -79,6 +81,7 @@ named_step (Began part) parts path unnamed (inr among) = among
 named_step (Placed target) parts path unnamed among = in_filter (λ kept. Rattle.std.specs.Prelude.not (same_path kept target)) path parts among
 named_step (Chunk count) parts path unnamed among = among
 named_step (Removed file) parts path unnamed among = among
+named_step (Made folder) parts path unnamed among = in_filter (λ kept. Rattle.std.specs.Prelude.not (same_path kept folder)) path parts among
 named_step (Kept kept) parts path unnamed among = among
 named_step (Skipped file cause) parts path unnamed among = among
 named_step (Cleaned part) parts path unnamed among = among
@@ -109,34 +112,11 @@ part_known (job ∷ []) part live path is found = by (subst (λ l. IsLivePart l 
     by (one, inr none, part_is) = absurd none
 part_known (job ∷ other ∷ jobs) part live path many found = absurd many
 
--- a folder that no entry names stands where it stood
-event_folders : (what : Event) (folders : Route → Bool) (path : Route) → names_path what path ≡ false → folders path ≡ true → folders_event what folders path ≡ true
-event_folders (Step id (Removed file)) folders path unnamed stands = ap (λ b. folders path && not b) unnamed ∙ ap (λ b. b && true) stands
-event_folders (Step id (Began part)) folders path unnamed stands = stands
-event_folders (Step id (Placed target)) folders path unnamed stands = stands
-event_folders (Step id (Chunk count)) folders path unnamed stands = stands
-event_folders (Step id (Kept kept)) folders path unnamed stands = stands
-event_folders (Step id (Skipped file cause)) folders path unnamed stands = stands
-event_folders (Step id (Cleaned part)) folders path unnamed stands = stands
-event_folders (Step id Barrier) folders path unnamed stands = stands
-event_folders (Step id (Troubled trouble)) folders path unnamed stands = stands
-event_folders (Step id (Ended ending part)) folders path unnamed stands = stands
-event_folders (event.Began id plan background) folders path unnamed stands = stands
-event_folders (Order id order) folders path unnamed stands = stands
-event_folders (Key key now refusals lost) folders path unnamed stands = stands
-event_folders (Look refusals) folders path unnamed stands = stands
-event_folders Closed folders path unnamed stands = stands
-
-pub folders_since : (opening : CallLog) (older g : List Entry) (path : Route) → IsUnnamedSince older path g → folders_of opening older path ≡ true → folders_of opening g path ≡ true
-folders_since opening older [] path same stands = subst (λ x. folders_of opening x path ≡ true) same stands
-folders_since opening older (e ∷ g) path (inl same) stands = subst (λ x. folders_of opening x path ≡ true) same stands
-folders_since opening older (e ∷ g) path (inr (unnamed, since)) stands = event_folders e.what (folders_of opening g) path unnamed (folders_since opening older g path since stands)
-
 -- what a finished job did stays, as long as its folder stands
 pub finished_stays : (opening now after : CallLog) (newest older standing coming : List Entry) (was stand : Stand) (dirty : List Route) (job new : Running) (part : Option Route) (calls : ℕ) (path : Route) (image : FileSystem)
     → IsTree (current opening) → all_settled opening.changes ≡ true → IsTraced opening newest stand now → IsTraced opening older was (log_prefix opening (calls_in older) now)
     → was.jobs ≡ job ∷ [] → WorkLeads job (Ended Finished part) new was.dirty dirty (log_prefix opening (calls_in older) now) after → has_changed job.id older ≡ true → folder_of path ≡ changed_folder job.work → (Among (named_parts older) path → ⊥)
-    → IsMoment newest standing coming calls → IsUnnamedSince older path standing → IsUnnamedSince older path coming → folders_of opening standing (folder_of path) ≡ true → folders_of opening coming (folder_of path) ≡ true
+    → IsMoment newest standing coming calls → IsUnnamedSince older path standing → IsUnnamedSince older path coming → folders_told opening standing (folder_of path) ≡ true → folders_told opening coming (folder_of path) ≡ true
     → IsCrashImage now (length opening.changes + calls) image → value_at image path ≡ (replayed_tree opening now older path).value
 finished_stays opening now after newest older standing coming was stand dirty job new part calls path image tree settled traced before jobs_is works changed folder unnamed moment since later stands comes left =
     elim (session_law opening now newest standing coming stand calls image tree settled traced moment left) [ inl safe ↦ by standing since safe | inr safe ↦ by coming later safe ]
@@ -160,7 +140,7 @@ finished_stays opening now after newest older standing coming was stand dirty jo
 
 pub finished_stays_law : FinishedStaysLaw
 finished_stays_law opening now after newest older standing coming was stand dirty job new part calls path image tree settled traced before jobs_is works changed folder unnamed moment since later since_folder later_folder left =
-    let stands : folders_of opening older (folder_of path) ≡ true =
-    ap (folders_of opening older) folder ∙ finished_folder opening tree settled older was (log_prefix opening (calls_in older) now) job before jobs_is changed in
+    let stands : folders_told opening older (folder_of path) ≡ true =
+    ap (folders_told opening older) folder ∙ finished_folder opening tree settled older was (log_prefix opening (calls_in older) now) job before jobs_is changed in
     finished_stays opening now after newest older standing coming was stand dirty job new part calls path image tree settled traced before jobs_is works changed folder unnamed moment since later
     (folders_since opening older standing (folder_of path) since_folder stands) (folders_since opening older coming (folder_of path) later_folder stands) left

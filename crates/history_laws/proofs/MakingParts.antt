@@ -19,7 +19,9 @@ use Rattle.crash_law.proofs.Guarding.{settle_law, find_same, said}
 use Rattle.crash_law.proofs.Leading.{current_more}
 use Rattle.crash_law.proofs.Making.{making_law}
 use Rattle.crash_law.proofs.Tops.{under_made, none_below}
+use Rattle.job_reports.specs.Paths.{folder_of}
 use Rattle.history_laws.proofs.Knowing.{Said, IsKnown, nowhere}
+use Rattle.history_laws.proofs.Resting.{IsSureFolder}
 use Rattle.history_laws.proofs.Renaming.{naming_known}
 use Rattle.history_laws.proofs.Changing.{seen_nowhere, none_below_file, folder_anchored, off_itself, said_one, some_none, some_is}
 
@@ -94,7 +96,7 @@ pub record MakesPart (told : Said) (log : CallLog) (name : List ℕ) (up : Route
   pub free : lookup (current log).names f name ≡ None
 
 abbrev pub with_part : Said → Route → Said
-with_part told part = record (naming_part told part) { part = Some part; doubt = λ p. told.doubt p || same_path p part }
+with_part told part = record (naming_part told part) { part = Some part; doubt = λ p. told.doubt p || same_path p part; folders = λ p. same_path p (folder_of part) || told.folders p }
 
 module _ (told : Said) (dirty dirty_after : List Route) (marks : Marks) (log : CallLog) (known : IsKnown told dirty marks log) (name : List ℕ) (up : Route) (f : ℕ) (made : Node)
     (m : MakesPart told log name up f) (bare : is_folder made ≡ false) where
@@ -171,8 +173,8 @@ module _ (told : Said) (dirty dirty_after : List Route) (marks : Marks) (log : C
   nodes_more : length (current now).nodes ≡ count_after makes (new_node log)
   nodes_more = ap (λ (s : FileSystem). length s.nodes) (current_more log makes) ∙ count-after_change (current log) makes
 
-  pub made_known : Among dirty_after up → ((q : Route) → Among dirty q → Among dirty_after q) → IsKnown (with_part told part) dirty_after (marks_new marks part (new_node log)) now
-  made_known listed more = naming_known (naming_part told part) (with_part told part) dirty dirty_after (marks_new marks part (new_node log)) log makes up part part f marked (record {
+  pub made_known : IsSureFolder log up → Among dirty_after up → ((q : Route) → Among dirty q → Among dirty_after q) → IsKnown (with_part told part) dirty_after (marks_new marks part (new_node log)) now
+  made_known firm listed more = naming_known (naming_part told part) (with_part told part) dirty dirty_after (marks_new marks part (new_node log)) log makes up part part f marked (record {
     naming = naming;
     within = refl;
     stands = stands;
@@ -185,7 +187,7 @@ module _ (told : Said) (dirty dirty_after : List Route) (marks : Marks) (log : C
     more = more;
     at = λ k h. inl (ap (λ q. (let r : Route = q ∷ up in r)) (sym (name_is k h)));
     doubts = λ p h. or_left _ _ h;
-    folders = λ p. refl;
+    folders = λ p h. elim (either _ _ h) [ inl same ↦ inr (subst (λ q. IsSureFolder log q) (sym (same_path-true p up same)) firm) | inr before ↦ inl before ];
     touched = λ p at. or_right _ _ (subst (λ q. same_path q part ≡ true) (sym (either_is p at)) (same_path-self part));
     named = marked.aside;
     off = λ p first second. (off_part p first, refl, refl, λ is. some_none_route p (sym m.none ∙ is));

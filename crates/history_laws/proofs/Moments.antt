@@ -19,7 +19,7 @@ use Rattle.history_laws.specs.Replayed.{log_prefix, replayed_tree}
 use Rattle.session_history.specs.Entries.{IsMoment, calls_in}
 use Rattle.history_laws.specs.Safe.{IsSafe, ReplayLaw, SessionLaw}
 use Rattle.history_laws.specs.Traces.{Follows, IsTraced, Stand}
-use Rattle.history_laws.proofs.Prefixes.{folders_of, told_more, told_of, within_more}
+use Rattle.history_laws.proofs.Prefixes.{folders_told, told_more, told_of, within_more}
 use Rattle.history_laws.proofs.Histories.{IsEntered, IsReached, enters, traced_reached}
 use Rattle.history_laws.proofs.Knowing.{IsKept, Said, safe_path}
 use Rattle.history_laws.proofs.Reports.{HasLive, JobsKnow}
@@ -153,14 +153,12 @@ shown_moment opening now newest standing coming stand calls tree settled traced 
     (λ g part dirty marks live kept path other. kept.known.shows path (λ is. other (live path is)))
     standing coming newest stand now [] traced (ap (log_of now) (sym (Rattle.std.proofs.Common.append-nil now.changes))) moment
 
--- At each moment, as of those that stand or with the one under way, a path in a folder that stands, as the history says, is in doubt only
--- where its own name waits.
+-- in a folder that is known to be on the disk a path is in doubt only where its own name waits
 pub sure_moment : (opening now : CallLog) (newest standing coming : List Entry) (stand : Stand) (calls : ℕ) (path : Route) → IsTree (current opening) → all_settled opening.changes ≡ true → IsTraced opening newest stand now
-    → IsMoment newest standing coming calls → folders_of opening standing (folder_of path) ≡ true → folders_of opening coming (folder_of path) ≡ true
-    → name_waits (log_prefix opening calls now) path ≡ false → is_unsettled (log_prefix opening calls now) path ≡ false
+    → IsMoment newest standing coming calls → folders_told opening standing (folder_of path) ≡ true → folders_told opening coming (folder_of path) ≡ true → name_waits (log_prefix opening calls now) path ≡ false → is_unsettled (log_prefix opening calls now) path ≡ false
 sure_moment opening now newest standing coming stand calls path tree settled traced moment stands comes none = elim (known_moment opening tree settled now calls
-    (λ g. folders_of opening g (folder_of path) ≡ true → is_unsettled (log_prefix opening calls now) path ≡ false)
-    (λ g part dirty marks live kept there. sure_path (log_prefix opening calls now) kept.known.guarded.tree kept.known.files path (kept.known.stand (folder_of path) ∙ there) none)
+    (λ g. folders_told opening g (folder_of path) ≡ true → is_unsettled (log_prefix opening calls now) path ≡ false)
+    (λ g part dirty marks live kept known. let firm = kept.known.stand (folder_of path) known in sure_path (log_prefix opening calls now) path firm.sure none)
     standing coming newest stand now [] traced (ap (log_of now) (sym (Rattle.std.proofs.Common.append-nil now.changes))) moment) [ inl sure ↦ sure stands | inr sure ↦ sure comes ]
 
 -- a session adds calls to the log

@@ -13,13 +13,14 @@ use Rattle.job_reports.specs.Paths.{folder_of}
 use Rattle.copy_move.specs.declared.run.Course.{Course}
 use Rattle.copy_move.specs.declared.run.Course.TheVariants.{GoesOn}
 use Rattle.copy_move.specs.declared.work.Work.{Work}
-use Rattle.copy_move.specs.declared.work.Work.TheVariants.{Copy, Delete}
+use Rattle.copy_move.specs.declared.work.Work.TheVariants.{Copy, Delete, Make}
 use Rattle.copy_move.specs.Deletions.{Deleting, DeletionLeaves, Tells}
+use Rattle.copy_move.specs.Makings as makings
 use Rattle.copy_move.specs.Jobs.{TellsOn, WorkTells}
 use Rattle.copy_move.specs.Settling.{LiesApart, NoneOwed, WorkLeaves, changed_folder, is_own, with_change}
 use Rattle.file_copy.specs.Copying as copying
 use Rattle.job_reports.specs.declared.report.Did.{Did}
-use Rattle.job_reports.specs.declared.report.Did.TheVariants.{Began, Chunk, Placed, Removed, Kept, Skipped, Cleaned, Barrier, Troubled, Ended}
+use Rattle.job_reports.specs.declared.report.Did.TheVariants.{Began, Chunk, Placed, Removed, Made, Kept, Skipped, Cleaned, Barrier, Troubled, Ended}
 use Rattle.tree_deletion.specs.Folders.{is_one_of, joined}
 use Rattle.tree_trait.specs.declared.file_system.FileSystem.{FileSystem}
 use Rattle.tree_trait.specs.declared.calls.TreeError.TheVariants.{Missing}
@@ -94,6 +95,16 @@ own_folder d path q within same = let w = prefix_way d.path path within in by w.
 own_or_before : (old next new : Work) (did : Did) (q : Route) (dirty dirty_after : List Route) (before after : Option CallLog) → WorkTells old did next → WorkLeaves old did new dirty dirty_after before after → Among dirty_after q
     → (is_own old q ≡ true) ⊎ Among dirty q
 own_or_before (Copy c) next (Delete new) did q dirty dirty_after before after t leaves among = absurd leaves
+own_or_before (Copy c) next (Make new) did q dirty dirty_after before after t leaves among = absurd leaves
+own_or_before (Make m) next (Copy new) did q dirty dirty_after before after t leaves among = absurd leaves
+own_or_before (Make m) next (Delete new) did q dirty dirty_after before after t leaves among = absurd leaves
+own_or_before (Make m) next (Make new) did q dirty dirty_after before after t leaves among =
+    elim (changed_or_before (makings.is_dirty m.stage) (makings.is_dirty new.stage) (folder_of m.path) q dirty (subst (λ xs. Among xs q) leaves among)) [
+      | inl same ↦ inl (subst (λ p. same_path p (folder_of m.path) ≡ true) (sym same) (same_path-self (folder_of m.path)))
+      | inr old ↦ inr old
+    ]
+own_or_before (Delete d) (Make next) new did q dirty dirty_after before after t leaves among = absurd t
+own_or_before (Delete d) (Delete next) (Make new) did q dirty dirty_after before after t leaves among = absurd leaves
 own_or_before (Copy c) next (Copy new) did q dirty dirty_after before after t leaves among =
     elim (changed_or_before (copying.is_dirty c.folder) (copying.is_dirty new.folder) (folder_of c.target) q dirty (subst (λ xs. Among xs q) leaves among)) [
       | inl same ↦ inl (subst (λ p. same_path p (folder_of c.target) ≡ true) (sym same) (same_path-self (folder_of c.target)))
@@ -117,6 +128,7 @@ own_or_before (Delete d) (Delete next) (Delete new) did q dirty dirty_after befo
     by (Began part) t h = absurd t
     by (Chunk count) t h = absurd t
     by (Placed path) t h = absurd t
+    by (Made path) t h = absurd t
     by (Skipped path why) t h = absurd t
     by (Cleaned part) t h = absurd t
 

@@ -79,7 +79,7 @@ pub record PlacesPart (told after : Said) (marks : Marks) (log : CallLog) (part 
   pub earlier : (after.earlier (target ∷ up)).value ≡ None
   pub none : after.part ≡ None
   pub doubts : (p : Route) → told.doubt p ≡ true → after.doubt p ≡ true
-  pub folders : (p : Route) → after.folders p ≡ told.folders p
+  pub folders : (p : Route) → after.folders p ≡ true → told.folders p ≡ true
   pub doubted : (after.doubt (target ∷ up) ≡ true) × (after.doubt (part ∷ up) ≡ true)
 
 module _ (told after : Said) (dirty dirty_after : List Route) (marks : Marks) (log : CallLog) (known : IsKnown told dirty marks log) (part target : List ℕ) (up : Route) (f i : ℕ) (r : Option ℕ)
@@ -214,7 +214,7 @@ module _ (told after : Said) (dirty dirty_after : List Route) (marks : Marks) (l
       | inr e ↦ inr (ap (λ q. (let l : Route = q ∷ up in l)) (sym e))
     ];
     doubts = h.doubts;
-    folders = h.folders;
+    folders = λ p there. inl (h.folders p there);
     touched = λ p at. elim at [
       | inl e ↦ subst (λ q. after.doubt q ≡ true) (sym e) h.doubted.0
       | inr e ↦ subst (λ q. after.doubt q ≡ true) (sym e) h.doubted.1

@@ -256,7 +256,7 @@ module _ (told : Said) (dirty : List Route) (c : Copying) (tname : List ℕ) (ta
           (ap (λ (s : Spot). s.value) (put_at told.earlier c.target (told.tree c.target).value) ∙ ap (λ (s : Spot). s.value) target_seen);
       none = refl;
       doubts = λ p h. or_left _ _ (or_left _ _ h);
-      folders = λ p. refl;
+      folders = λ p there. there;
       doubted = (
         or_left _ _ (or_right _ _ (subst (λ q. same_path q c.target ≡ true) target_is (same_path-self c.target))),
         or_right _ _ (ap (λ o. option_map_or (same_path (has.name ∷ up)) o false) (has.part_is ∙ ap (λ q. Some q) has.beside) ∙ same_path-self (has.name ∷ up)),

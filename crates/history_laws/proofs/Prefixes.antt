@@ -1,36 +1,43 @@
 -- What a history says of its first calls doesn't hang on those that come later.
-use Rattle.std.proofs.Common.{◌≡◌, ℕ, ◌+◌, ◌≤◌, Bool, List, [], ◌∷◌, length, length-append, refl, ◌∙◌, ap, Option, arith}
+use Rattle.std.proofs.Common.{◌≡◌, ℕ, ◌+◌, ◌≤◌, ◌||◌, not, Bool, true, false, List, [], ◌∷◌, length, length-append, refl, ◌∙◌, ap, subst, inl, inr, Option, Some, None, arith}
+use Rattle.std.proofs.lemmas.Bool.{and_from, or_right}
 use Rattle.std.proofs.lemmas.List.{take-append-le}
-use Rattle.mc_text.specs.Routes.{Route}
+use Rattle.std.specs.Option.{option_map_or}
+use Rattle.mc_text.specs.Routes.{Route, same_path}
+use Rattle.job_reports.specs.declared.report.Did.{Did}
+use Rattle.job_reports.specs.declared.report.Did.TheVariants.{Began, Chunk, Placed, Removed, Made, Kept, Skipped, Cleaned, Barrier, Troubled, Ended}
+use Rattle.job_reports.specs.Jobs.{Item, folder_changed}
 use Rattle.tree_trait.specs.FileSystem.{View}
 use Rattle.tree_trait.specs.Change.{Change, CallLog, current}
 use Rattle.session_history.specs.declared.history.Event.{Event}
 use Rattle.session_history.specs.declared.history.Event.TheVariants.{Key, Look, Order, Step, Closed}
 use Rattle.session_history.specs.declared.history.Event.TheVariants as event
 use Rattle.session_history.specs.declared.history.Entry.{Entry}
-use Rattle.session_history.specs.LiveJobs.{live_jobs}
+use Rattle.session_history.specs.LiveJobs.{LiveJob, live_item, live_jobs}
 use Rattle.history_laws.specs.Replayed.{earlier_event, earlier_tree, log_prefix, replayed_event, replayed_tree}
-use Rattle.session_history.specs.Named.{named_after, named_parts}
+use Rattle.session_history.specs.Named.{IsUnnamedSince, named_after, named_parts, names, names_path}
 use Rattle.history_laws.proofs.Knowing.{Said, anywhere}
 use Rattle.history_laws.proofs.Resting.{folder_at}
 use Rattle.history_laws.proofs.Stepped.{folders_by, more}
 
--- where folders stand after an event, and after these entries
-abbrev pub folders_event : Event → (Route → Bool) → Route → Bool
-folders_event (Step id did) before = folders_by did before
-folders_event (Key key time refusals lost) before = before
-folders_event (Look refusals) before = before
-folders_event (event.Began id plan background) before = before
-folders_event (Order id order) before = before
-folders_event Closed before = before
+-- the folders that are known to be on the disk after an event: the one in which a step made a job's first change is, and none that
+-- was removed
+abbrev pub folders_event : Event → List LiveJob → (Route → Bool) → Route → Bool
+folders_event (Step id did) jobs before = option_map_or (λ item. folders_by did (folder_changed item) before) (live_item id jobs) before
+folders_event (Key key now refusals lost) jobs before = before
+folders_event (Look refusals) jobs before = before
+folders_event (event.Began id plan background) jobs before = before
+folders_event (Order id order) jobs before = before
+folders_event Closed jobs before = before
 
-abbrev pub folders_of : CallLog → List Entry → Route → Bool
-folders_of opening [] = folder_at (current opening)
-folders_of opening (e ∷ older) = folders_event e.what (folders_of opening older)
+-- after these entries: those that stood at the opening, too
+abbrev pub folders_told : CallLog → List Entry → Route → Bool
+folders_told opening [] = folder_at (current opening)
+folders_told opening (e ∷ older) = folders_event e.what (live_jobs older) (folders_told opening older)
 
 -- what a history says, over a tree that has come to this log
 abbrev pub told_of : CallLog → CallLog → List Entry → Option Route → Said
-told_of opening end g part = record { tree = replayed_tree opening end g; earlier = earlier_tree opening end g; named = named_parts g; part = part; doubt = anywhere; folders = folders_of opening g }
+told_of opening end g part = record { tree = replayed_tree opening end g; earlier = earlier_tree opening end g; named = named_parts g; part = part; doubt = anywhere; folders = folders_told opening g }
 
 -- the same after one event more, by which so many calls were made
 abbrev pub told_with : CallLog → CallLog → List Entry → ℕ → Event → Option Route → Said
@@ -40,7 +47,7 @@ told_with opening end older calls what part = record {
   named = named_after what (named_parts older);
   part = part;
   doubt = anywhere;
-  folders = folders_event what (folders_of opening older);
+  folders = folders_event what (live_jobs older) (folders_told opening older);
 }
 
 -- the calls of these entries were made
@@ -72,5 +79,36 @@ said_by folders tree earlier named part = record { tree = tree; earlier = earlie
 
 pub told_more : (opening now : CallLog) (cs : List Change) (g : List Entry) (part : Option Route) → AreWithin opening g now → told_of opening (more now cs) g part ≡ told_of opening now g part
 told_more opening now cs g part w =
-    ap (λ v. said_by (folders_of opening g) v (earlier_tree opening (more now cs) g) (named_parts g) part) (replayed_more opening now cs g w)
-    ∙ ap (λ v. said_by (folders_of opening g) (replayed_tree opening now g) v (named_parts g) part) (earlier_more opening now cs g w)
+    ap (λ v. said_by (folders_told opening g) v (earlier_tree opening (more now cs) g) (named_parts g) part) (replayed_more opening now cs g w)
+    ∙ ap (λ v. said_by (folders_told opening g) (replayed_tree opening now g) v (named_parts g) part) (earlier_more opening now cs g w)
+
+-- a folder that is known to be on the disk stays known until a report names it
+known_by : (did : Did) (folder : Route) (before : Route → Bool) (p : Route) → names did p ≡ false → before p ≡ true → folders_by did folder before p ≡ true
+known_by (Began part) folder before p unnamed h = or_right _ _ h
+known_by (Removed path) folder before p unnamed h = and_from (same_path p folder || before p) (not (same_path p path)) (or_right _ _ h) (ap not unnamed)
+known_by (Made path) folder before p unnamed h = or_right _ _ h
+known_by (Chunk count) folder before p unnamed h = h
+known_by (Placed path) folder before p unnamed h = h
+known_by (Kept kept) folder before p unnamed h = h
+known_by (Skipped path cause) folder before p unnamed h = h
+known_by (Cleaned part) folder before p unnamed h = h
+known_by Barrier folder before p unnamed h = h
+known_by (Troubled trouble) folder before p unnamed h = h
+known_by (Ended ending part) folder before p unnamed h = h
+
+known_still : (did : Did) (item : Option Item) (before : Route → Bool) (p : Route) → names did p ≡ false → before p ≡ true → option_map_or (λ i. folders_by did (folder_changed i) before) item before p ≡ true
+known_still did None before p unnamed h = h
+known_still did (Some item) before p unnamed h = known_by did (folder_changed item) before p unnamed h
+
+pub folders_more : (what : Event) (jobs : List LiveJob) (before : Route → Bool) (p : Route) → names_path what p ≡ false → before p ≡ true → folders_event what jobs before p ≡ true
+folders_more (Step id did) jobs before p unnamed h = known_still did (live_item id jobs) before p unnamed h
+folders_more (Key key now refusals lost) jobs before p unnamed h = h
+folders_more (Look refusals) jobs before p unnamed h = h
+folders_more (event.Began id plan background) jobs before p unnamed h = h
+folders_more (Order id order) jobs before p unnamed h = h
+folders_more Closed jobs before p unnamed h = h
+
+pub folders_since : (opening : CallLog) (older g : List Entry) (p : Route) → IsUnnamedSince older p g → folders_told opening older p ≡ true → folders_told opening g p ≡ true
+folders_since opening older [] p same h = subst (λ x. folders_told opening x p ≡ true) same h
+folders_since opening older (e ∷ g) p (inl same) h = subst (λ x. folders_told opening x p ≡ true) same h
+folders_since opening older (e ∷ g) p (inr (unnamed, since)) h = folders_more e.what (live_jobs g) (folders_told opening g) p unnamed (folders_since opening older g p since h)

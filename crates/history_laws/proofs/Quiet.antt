@@ -1,5 +1,5 @@
 -- Calls that change no name keep what is known: a sync, a write to the part that stands, another mode of it.
-use Rattle.std.proofs.Common.{◌≡◌, ℕ, ◌<◌, Bool, true, false, List, [], ◌∷◌, length, refl, sym, ◌∙◌, ap, subst, inl, inr, Option, Some, None}
+use Rattle.std.proofs.Common.{◌≡◌, ℕ, ◌<◌, ◌≤◌, Bool, true, false, List, [], ◌∷◌, length, refl, sym, ◌∙◌, ap, subst, inl, inr, Option, Some, None, arith}
 use Rattle.std.specs.Prelude.{is_some, ◌==◌}
 use Rattle.std.specs.List.{list_any}
 use Rattle.std.specs.Option.{option_map, option_map_or}
@@ -13,13 +13,13 @@ use Rattle.tree_trait.specs.Change.{Change, Nothing, Makes, Moves, Removes, Sets
 use Rattle.tree_trait.specs.CrashImages.{says, alters}
 use Rattle.tree_trait.proofs.Kept.{folder_there}
 use Rattle.crash_law.specs.Guarded.{Marks, IsQuiet}
-use Rattle.crash_law.proofs.Guarding.{quiet_law, same_quiet, unsaid, folder_kept, found_at}
+use Rattle.crash_law.proofs.Guarding.{quiet_law, same_quiet, folder_kept, found_at}
 use Rattle.crash_law.proofs.Leading.{current_more}
 use Rattle.crash_law.proofs.Syncing.{unaltered_law}
-use Rattle.history_laws.specs.Doubt.{is_pending, name_waits}
+use Rattle.history_laws.specs.Doubt.{is_pending, is_unsettled, name_waits}
 use Rattle.history_laws.proofs.Pending.{is_within, within_more, pending_less, says_at}
 use Rattle.history_laws.proofs.Knowing.{Said, IsKnown, held}
-use Rattle.history_laws.proofs.Resting.{folder_at}
+use Rattle.history_laws.proofs.Resting.{IsSureFolder, folder_at, mounted, stands_at, sure_still, unborn_more}
 
 mounts_after : (s : FileSystem) (c : Change) → (after_change s c).mounts ≡ s.mounts
 mounts_after s Nothing = refl
@@ -73,6 +73,14 @@ module _ (log : CallLog) (c : Change) where
       ∙ (ap (λ v. (let s : Spot = record { value = v; is_mount = option_map_or (starts_mount (current (with_change log c))) (find (current log) p) false } in s)) e.0
       ∙ ap (λ m. (let s : Spot = record { value = value_at (current log) p; is_mount = m } in s)) e.1)
 
+  mount_by : (o : Option ℕ) → option_map_or (starts_mount (current (with_change log c))) o false ≡ option_map_or (starts_mount (current log)) o false
+  mount_by None = refl
+  mount_by (Some i) = ap (λ (ms : List Mount). list_any (λ (m : Mount). m.folder == i) ms) mounts_same
+
+  -- a mount begins at a path that leads where it led, if one began there
+  pub mount_same : (p : Route) → find (current (with_change log c)) p ≡ find (current log) p → (visible_tree (current (with_change log c)) p).is_mount ≡ (visible_tree (current log) p).is_mount
+  mount_same p found = ap (λ o. option_map_or (starts_mount (current (with_change log c))) o false) found ∙ mount_by (find (current log) p)
+
   pub held_same : (o : Option ℕ) → ((i : ℕ) → o ≡ Some i → node (current (with_change log c)) i ≡ node (current log) i) → held (current (with_change log c)) o ≡ held (current log) o
   held_same o same = (spot_by o same).0
 
@@ -81,6 +89,7 @@ pub record IsCalm (said : Said) (marks : Marks) (log : CallLog) (c : Change) : T
   pub quiet : IsQuiet marks log c
   pub within : is_within c ≡ true
   pub still : (p : Route) (i : ℕ) → (said.part ≡ Some p → ⊥) → find (current log) p ≡ Some i → alters i c ≡ false
+  pub unborn : (i : ℕ) → length (current log).nodes ≤ i → alters i c ≡ false
 
 module _ (said : Said) (dirty : List Route) (marks : Marks) (log : CallLog) (c : Change) (known : IsKnown said dirty marks log) (calm : IsCalm said marks log c) where
   abbrev now : CallLog
@@ -120,13 +129,34 @@ module _ (said : Said) (dirty : List Route) (marks : Marks) (log : CallLog) (c :
       by None is = absurd (false≢true (in_now None is))
       by (Some f) is = ap (λ x. option_map_or (λ g. is_pending g name log.changes) x false) is ∙ waited f name (in_now (Some f) is)
 
+  -- what isn't in doubt stays so
+  calm_sure : (p : Route) (j : ℕ) → find (current log) p ≡ Some j → is_folder (node (current log) j) ≡ true → is_unsettled log p ≡ false → is_unsettled now p ≡ false
+  calm_sure p j at folder sure = sure_still log c known.guarded.tree
+      (λ q g h before holds then. let e : (let o : Option ℕ = Some g in o) ≡ Some h = sym before ∙ (sym (same_quiet log c quiet_of.names q) ∙ then) in cc)
+      (λ g m k said before then holds. said_none g m said) p j at folder (same_quiet log c quiet_of.names p ∙ at) sure
+
+  calm_firm : (p : Route) → IsSureFolder log p → IsSureFolder now p
+  calm_firm p firm =
+      let there = stands_at (current log) p firm.stands in
+      record {
+        stands = folder_same log c p (same_quiet log c quiet_of.names p) (λ i is. known.guarded.there p i (found_at log p (Some i) is)) ∙ firm.stands;
+        sure = calm_sure p there.i there.at there.folder firm.sure;
+      }
+
+  calm_mounts : (p : Route) → (visible_tree (current now) p).is_mount ≡ true → is_unsettled now p ≡ false
+  calm_mounts p on =
+      let before = sym (mount_same log c p (same_quiet log c quiet_of.names p)) ∙ on in
+      let there = mounted (current log) known.guarded.tree p before in
+      calm_sure p there.i there.at there.folder (known.files.mounts p before)
+
   pub calm_known : IsKnown said dirty marks now
   calm_known = record {
     guarded = quiet_law marks log c known.guarded quiet_of;
     files = record {
       within = within_more log.changes c calm.within known.files.within;
       bare = λ i m h. waits_not i m (known.files.bare i m (was_bare log c i h));
-      firm = λ f m j lead folder. waits_not f m (known.files.firm f m j (sym (unsaid log c f m (quiet_of.names f m)) ∙ lead) (was_folder j folder));
+      unborn = unborn_more log c calm.unborn (let same = quiet_of.count in omega (arith, same)) known.files.unborn;
+      mounts = calm_mounts;
     };
     folders = λ i folder. known.folders i (was_folder i folder);
     aside = known.aside;
@@ -142,5 +172,5 @@ module _ (said : Said) (dirty : List Route) (marks : Marks) (log : CallLog) (c :
       | inr none ↦ inr (λ p leads. none p (sym (same_quiet log c quiet_of.names p) ∙ leads))
     ];
     doubts = λ p waits. known.doubts p (waits_before p waits);
-    stand = λ p. folder_same log c p (same_quiet log c quiet_of.names p) (λ i is. known.guarded.there p i (found_at log p (Some i) is)) ∙ known.stand p;
+    stand = λ p there. calm_firm p (known.stand p there);
   }

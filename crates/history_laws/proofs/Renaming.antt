@@ -2,7 +2,7 @@
 use Rattle.std.proofs.Common.{◌≡◌, ◌⊎◌, ℕ, ◌<◌, ◌≤◌, Bool, true, false, List, [], ◌∷◌, length, refl, sym, ◌∙◌, ap, subst, inl, inr, Option, Some, None, arith}
 use Rattle.std.specs.Prelude.{is_some, option_and_then}
 use Rattle.std.specs.Option.{option_map_or}
-use Rattle.std.proofs.lemmas.Bool.{false≢true, true≢false, both_ways, false_from_ne_true, cases_lt}
+use Rattle.std.proofs.lemmas.Bool.{false≢true, both_ways, false_from_ne_true, cases_lt}
 use Rattle.mc_text.specs.Routes.{Route, same_path}
 use Rattle.tree_trait.specs.FileSystem.{lookup, find, node, visible_tree}
 use Rattle.tree_trait.specs.Refusals.{is_folder}
@@ -12,13 +12,13 @@ use Rattle.tree_trait.proofs.Finding.{and_then-some, find-once}
 use Rattle.tree_trait.proofs.Kept.{folder_there}
 use Rattle.tree_trait.proofs.Visible.{same_path-true}
 use Rattle.crash_law.specs.Guarded.{Marks, IsNaming, IsUnder, Touches}
-use Rattle.crash_law.proofs.Guarding.{naming_law, unsaid, find_same, found_at}
+use Rattle.crash_law.proofs.Guarding.{naming_law, find_same, found_at}
 use Rattle.crash_law.proofs.Syncing.{unaltered_law}
-use Rattle.history_laws.specs.Doubt.{is_pending, name_waits}
+use Rattle.history_laws.specs.Doubt.{is_pending, is_unsettled, name_waits}
 use Rattle.history_laws.proofs.Pending.{is_within, within_more, pending_less, says_at}
 use Rattle.history_laws.proofs.Knowing.{Said, IsKnown, IsUnreached, held, nowhere}
-use Rattle.history_laws.proofs.Quiet.{folder_same, kind_same, was_bare, shows_same, held_same}
-use Rattle.history_laws.proofs.Resting.{folder_at, no_folder_at}
+use Rattle.history_laws.proofs.Quiet.{kind_same, mount_same, was_bare, shows_same, held_same}
+use Rattle.history_laws.proofs.Resting.{IsSureFolder, folder_at_of, mounted, stands_at, sure_still, unborn_more}
 
 -- A call that changes the names of files in one folder, at these two paths alone, and what the history says then.
 pub record IsFileNaming (said after : Said) (dirty dirty_after : List Route) (marks : Marks) (log : CallLog) (c : Change) (up first second : Route) (f : ℕ) : Type 0 where
@@ -37,7 +37,8 @@ pub record IsFileNaming (said after : Said) (dirty dirty_after : List Route) (ma
   -- of these two a change may wait then
   pub at : (m : List ℕ) → is_some (says c 0 f m) ≡ true → ((m ∷ up) ≡ first) ⊎ ((m ∷ up) ≡ second)
   pub doubts : (p : Route) → said.doubt p ≡ true → after.doubt p ≡ true
-  pub folders : (p : Route) → after.folders p ≡ said.folders p
+  -- where a folder is said to be on the disk it was said so before, or it is
+  pub folders : (p : Route) → after.folders p ≡ true → (said.folders p ≡ true) ⊎ IsSureFolder log p
   pub touched : (p : Route) → (p ≡ first) ⊎ (p ≡ second) → after.doubt p ≡ true
   pub named : (p : Route) → marks.aside p ≡ true → Among after.named p
   -- elsewhere all is as it was
@@ -109,12 +110,30 @@ module _ (said after : Said) (dirty dirty_after : List Route) (marks : Marks) (l
           let leads : lookup (current now).names f name ≡ Some j = sym (ap (option_and_then (λ k. lookup (current now).names k name)) stands) ∙ at in
           both_ways _ (n.files_now name j (subst (λ k. is_some (says c 0 k name) ≡ true) g_is s) leads) folder
 
-  -- so folders stand where they stood
-  folders_same : (p : Route) → folder_at (current now) p ≡ folder_at (current log) p
-  folders_same p = elim (find_same log c p) [
-    | inl same ↦ folder_same log c p same (λ i is. known.guarded.there p i (found_at log p (Some i) is))
-    | inr under ↦ no_folder_at (current now) p (λ j. no_folder_then p j under) ∙ sym (no_folder_at (current log) p (λ j. no_folder_under p j under))
-  ]
+  -- so a folder that isn't in doubt stays so
+  folder_sure : (p : Route) (j : ℕ) → find (current log) p ≡ Some j → is_folder (node (current log) j) ≡ true → is_unsettled log p ≡ false → is_unsettled now p ≡ false
+  folder_sure p j at folder sure = sure_still log c known.guarded.tree
+      (λ q g h before holds then. let e : (let o : Option ℕ = Some g in o) ≡ Some h = sym (folder_stays q g before holds) ∙ then in cc)
+      (λ g m k said before then holds.
+      let g_is : g ≡ f = n.here g m said in
+      both_ways _ (n.files m k (subst (λ h. is_some (says c 0 h m) ≡ true) g_is said) (subst (λ h. lookup (current log).names h m ≡ Some k) g_is before)) holds)
+      p j at folder (folder_stays p j at folder) sure
+
+  firm_still : (p : Route) → IsSureFolder log p → IsSureFolder now p
+  firm_still p firm =
+      let there = stands_at (current log) p firm.stands in
+      record {
+        stands = folder_at_of (current now) p there.i (folder_stays p there.i there.at there.folder) (kind_same log c there.i (folder_there (current log).nodes there.i there.folder) ∙ there.folder);
+        sure = folder_sure p there.i there.at there.folder firm.sure;
+      }
+
+  mounts_sure : (p : Route) → (visible_tree (current now) p).is_mount ≡ true → is_unsettled now p ≡ false
+  mounts_sure p on =
+      let there = mounted (current now) naming_of.tree p on in
+      elim (find_same log c p) [
+        | inl same ↦ folder_sure p there.i (sym same ∙ there.at) (was_folder there.i there.folder) (known.files.mounts p (sym (mount_same log c p same) ∙ on))
+        | inr under ↦ absurd (no_folder_then p there.i under there.at there.folder)
+      ]
 
   -- a folder to which no path leads stays so
   unreached_stays : (g : ℕ) → is_folder (node (current log) g) ≡ true → IsUnreached log g → IsUnreached now g
@@ -138,22 +157,6 @@ module _ (said after : Said) (dirty dirty_after : List Route) (marks : Marks) (l
         let there = folder_there (current log).nodes f n.folder in
         both_ways _ (subst (λ k. is_folder (node (current now) k) ≡ false) i_is bare) (kind_same log c f there ∙ n.folder)
   ]
-
-  firm_now : (g : ℕ) (m : List ℕ) (j : ℕ) → lookup (current now).names g m ≡ Some j → is_folder (node (current now) j) ≡ true → is_pending g m now.changes ≡ true → ⊥
-  firm_now g m j lead folder waits = by (is_some (says c 0 g m)) refl
-    where
-      none_of : (o : Option (Option ℕ)) → is_some o ≡ false → o ≡ None
-      none_of None h = refl
-      none_of (Some x) h = absurd (true≢false h)
-
-      by : (b : Bool) → is_some (says c 0 g m) ≡ b → ⊥
-      by false not_said =
-          let old : lookup (current log).names g m ≡ Some j = sym (unsaid log c g m (none_of _ (sym (says_at c (length (current log).nodes) g m) ∙ not_said))) ∙ lead in
-          elim (pending_less g m log.changes c waits) [ inl waited ↦ both_ways _ (known.files.firm g m j old (was_folder j folder)) waited | inr new ↦ both_ways _ not_said new ]
-      by true is_said =
-          let g_is : g ≡ f = n.here g m is_said in
-          let at_f = subst (λ k. is_some (says c 0 k m) ≡ true) g_is is_said in
-          both_ways _ (n.files_now m j at_f (subst (λ k. lookup (current now).names k m ≡ Some j) g_is lead)) folder
 
   -- one of the two paths, or another
   abbrev Where : Route → Type 0
@@ -231,7 +234,8 @@ module _ (said after : Said) (dirty dirty_after : List Route) (marks : Marks) (l
     files = record {
       within = within_more log.changes c n.within known.files.within;
       bare = λ i m bare. false_from_ne_true _ (bare_now i m bare);
-      firm = λ g m j lead folder. false_from_ne_true _ (firm_now g m j lead folder);
+      unborn = unborn_more log c (λ i past. naming_of.bytes i) naming_of.count known.files.unborn;
+      mounts = mounts_sure;
     };
     folders = λ i folder. known.folders i (was_folder i folder);
     aside = n.named;
@@ -241,5 +245,5 @@ module _ (said after : Said) (dirty dirty_after : List Route) (marks : Marks) (l
     part = n.part;
     tracked = tracked;
     doubts = doubts;
-    stand = λ p. folders_same p ∙ (known.stand p ∙ sym (n.folders p));
+    stand = λ p there. elim (n.folders p there) [ inl before ↦ firm_still p (known.stand p before) | inr firm ↦ firm_still p firm ];
   }

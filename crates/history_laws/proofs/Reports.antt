@@ -6,7 +6,7 @@ use Rattle.mc_text.specs.Routes.{Route, parent_of}
 use Rattle.tree_trait.specs.declared.file_system.FileSystem.{FileSystem}
 use Rattle.crash_law.specs.Guarded.{Marks}
 use Rattle.job_reports.specs.declared.report.Did.{Did}
-use Rattle.job_reports.specs.declared.report.Did.TheVariants.{Began, Chunk, Placed, Removed, Kept, Skipped, Cleaned, Barrier, Troubled, Ended}
+use Rattle.job_reports.specs.declared.report.Did.TheVariants.{Began, Chunk, Placed, Removed, Made, Kept, Skipped, Cleaned, Barrier, Troubled, Ended}
 use Rattle.job_reports.specs.declared.job.Job.{Job}
 use Rattle.job_reports.specs.declared.job.Job.TheVariants as plan
 use Rattle.job_reports.specs.Jobs.{Item}
@@ -46,6 +46,7 @@ module _ (told : Said) (dirty : List Route) (marks : Marks) (s : FileSystem) (ne
   knows_after (Chunk count) k = k
   knows_after (Placed path) k = k
   knows_after (Removed path) k = k
+  knows_after (Made made) k = k
   knows_after (Kept kept) k = k
   knows_after (Skipped path why) k = k
   knows_after (Cleaned part) k = k
@@ -71,6 +72,7 @@ module _ (id : ℕ) (item : Item) (part : Option Route) (new : Running) (same : 
   live_after (Chunk count) = stays part _ (kept_if (id == id) _ _ (same_id id))
   live_after (Placed path) = stays None _ (kept_if (id == id) _ _ (same_id id))
   live_after (Removed path) = stays part _ (kept_if (id == id) _ _ (same_id id))
+  live_after (Made made) = stays part _ (kept_if (id == id) _ _ (same_id id))
   live_after (Kept kept) = stays part _ (kept_if (id == id) _ _ (same_id id))
   live_after (Skipped path why) = stays part _ (kept_if (id == id) _ _ (same_id id))
   live_after (Cleaned p) = stays None _ (kept_if (id == id) _ _ (same_id id))
@@ -87,6 +89,10 @@ module _ (told : Said) (dirty : List Route) (marks : Marks) (s : FileSystem) (no
   deletes path w true has is = subst (λ x. WorkKnows told dirty marks s GoesOn x) (let e : Rattle.copy_move.specs.Jobs.deletes path ≡ w = cc in e) (has_name path has, none, λ e. absurd (let f : ⊥ = cc in f))
   deletes path w false has is = absurd (let f : ⊥ = cc in f)
 
+  makes : (path : Route) (w : Work) (b : Bool) → is_some (parent_of path) ≡ b → (let o : Option Work = if◌then◌else◌ b (Some (Rattle.copy_move.specs.Jobs.makes path)) None in o) ≡ Some w → WorkKnows told dirty marks s GoesOn w
+  makes path w true has is = subst (λ x. WorkKnows told dirty marks s GoesOn x) (let e : Rattle.copy_move.specs.Jobs.makes path ≡ w = cc in e) (has_name path has, none)
+  makes path w false has is = absurd (let f : ⊥ = cc in f)
+
   copies : (id : ℕ) (source target : Route) (w : Work) (b : Bool) → (is_some (parent_of source) && is_some (parent_of target)) ≡ b
       → (let o : Option Work = if◌then◌else◌ b (Some (Rattle.copy_move.specs.Jobs.copies id source target)) None in o) ≡ Some w → WorkKnows told dirty marks s GoesOn w
   copies id source target w true has is =
@@ -101,3 +107,4 @@ module _ (told : Said) (dirty : List Route) (marks : Marks) (s : FileSystem) (no
   first_knows id (plan.Copy []) w is = absurd (let f : ⊥ = cc in f)
   first_knows id (plan.Copy (pair ∷ [])) w is = copies id pair.source pair.target w (is_some (parent_of pair.source) && is_some (parent_of pair.target)) refl is
   first_knows id (plan.Copy (pair ∷ more ∷ pairs)) w is = absurd (let f : ⊥ = cc in f)
+  first_knows id (plan.MakeFolder path) w is = makes path w (is_some (parent_of path)) refl is

@@ -5,33 +5,37 @@ use Rattle.std.specs.Option.{option_map}
 use Rattle.mc_text.specs.Routes.{Route, parent_of}
 use Rattle.job_reports.specs.declared.job.Job.{Job}
 use Rattle.job_reports.specs.declared.job.Job.TheVariants as plan
-use Rattle.job_reports.specs.Jobs.{Item, Copies, Removes, folder_changed, item_of}
+use Rattle.job_reports.specs.Jobs.{Item, Copies, Removes, Makes, folder_changed, item_of}
 use Rattle.job_reports.specs.declared.report.Ending.{Ending}
 use Rattle.job_reports.specs.declared.report.Ending.TheVariants.{Finished, Aborted, Killed, NoMemory}
 use Rattle.job_reports.specs.declared.report.Did.{Did}
-use Rattle.job_reports.specs.declared.report.Did.TheVariants.{Began, Chunk, Placed, Removed, Kept, Skipped, Cleaned, Barrier, Troubled, Ended}
+use Rattle.job_reports.specs.declared.report.Did.TheVariants.{Began, Chunk, Placed, Removed, Made, Kept, Skipped, Cleaned, Barrier, Troubled, Ended}
 use Rattle.file_copy.specs.Copying.{Copying, Tells}
 use Rattle.file_copy.specs.LastSteps.{Winds}
 use Rattle.job_reports.specs.declared.answer.Answer.{Answer}
 use Rattle.job_reports.specs.declared.answer.Answer.TheVariants.{Retry, Skip, SkipAll, Abort}
 use Rattle.copy_move.specs.declared.work.Work.{Work}
-use Rattle.copy_move.specs.declared.work.Work.TheVariants.{Copy, Delete}
+use Rattle.copy_move.specs.declared.work.Work.TheVariants.{Copy, Delete, Make}
 use Rattle.copy_move.specs.declared.run.Course.{Course}
 use Rattle.copy_move.specs.declared.run.Course.TheVariants.{GoesOn, InTrouble, OwedSyncFailed, Skips, Ends}
 use Rattle.copy_move.specs.Deletions.{Deleting}
 use Rattle.copy_move.specs.Deletions as deletions
-use Rattle.copy_move.specs.Jobs.{PassesOver, Running, JobTells, TellsOn, WorkTells, WorkWinds, answered, answered_on, copies, deletes, first_work, taken_anew}
+use Rattle.copy_move.specs.Makings.{Making}
+use Rattle.copy_move.specs.Makings as makings
+use Rattle.copy_move.specs.Jobs.{PassesOver, Running, JobTells, TellsOn, WorkTells, WorkWinds, answered, answered_on, copies, deletes, first_work, makes, taken_anew}
 use Rattle.copy_move.specs.Settling.{changed_folder}
 
 -- what a work is at, whatever its stage
 abbrev pub item_in : Work → Item
 item_in (Copy c) = Copies c.source c.target
 item_in (Delete d) = Removes d.path
+item_in (Make m) = Makes m.path
 
 -- the folder in which it changes names is that of its item
 pub folder_is : (work : Work) → folder_changed (item_in work) ≡ changed_folder work
 folder_is (Copy c) = refl
 folder_is (Delete d) = refl
+folder_is (Make m) = refl
 
 -- works on the same item change names in the same folder
 pub folder_same : (old new : Work) → item_in old ≡ item_in new → changed_folder old ≡ changed_folder new
@@ -49,6 +53,7 @@ first_item id (plan.Delete (path ∷ more ∷ paths)) = refl
 first_item id (plan.Copy []) = refl
 first_item id (plan.Copy (pair ∷ [])) = first_if (is_some (parent_of pair.source) && is_some (parent_of pair.target)) (copies id pair.source pair.target)
 first_item id (plan.Copy (pair ∷ more ∷ pairs)) = refl
+first_item id (plan.MakeFolder path) = first_if (is_some (parent_of path)) (makes path)
 
 copy_paths : (c new : Copying) (did : Did) → Tells c did new → item_in (Copy new) ≡ item_in (Copy c)
 copy_paths c new (Began part) t = ap (λ (x : Copying). item_in (Copy x)) t.1.1
@@ -62,6 +67,7 @@ copy_paths c new (Ended Aborted part) t = absurd t
 copy_paths c new (Ended Killed part) t = absurd t
 copy_paths c new (Ended NoMemory part) t = absurd t
 copy_paths c new (Removed path) t = absurd t
+copy_paths c new (Made made) t = absurd t
 copy_paths c new (Kept path) t = absurd t
 copy_paths c new (Skipped path why) t = absurd t
 
@@ -76,9 +82,26 @@ deletion_paths d new (Ended NoMemory part) t = absurd t
 deletion_paths d new (Began part) t = absurd t
 deletion_paths d new (Chunk count) t = absurd t
 deletion_paths d new (Placed path) t = absurd t
+deletion_paths d new (Made made) t = absurd t
 deletion_paths d new (Kept path) (going, at) = ap Removes at.path_is
 deletion_paths d new (Skipped path why) t = absurd t
 deletion_paths d new (Cleaned part) t = absurd t
+
+making_paths : (m new : Making) (did : Did) → makings.Tells m did new → item_in (Make new) ≡ item_in (Make m)
+making_paths m new (Made path) (stage, path_is, new_is) = ap (λ (x : Making). item_in (Make x)) new_is
+making_paths m new Barrier (stage, new_is) = ap (λ (x : Making). item_in (Make x)) new_is
+making_paths m new (Troubled trouble) (at, new_is) = ap (λ (x : Making). item_in (Make x)) new_is
+making_paths m new (Ended Finished part) (is_done, part_is, new_is) = ap (λ (x : Making). item_in (Make x)) new_is
+making_paths m new (Ended Aborted part) t = absurd t
+making_paths m new (Ended Killed part) t = absurd t
+making_paths m new (Ended NoMemory part) t = absurd t
+making_paths m new (Began part) t = absurd t
+making_paths m new (Chunk count) t = absurd t
+making_paths m new (Placed path) t = absurd t
+making_paths m new (Removed made) t = absurd t
+making_paths m new (Kept kept) t = absurd t
+making_paths m new (Skipped path why) t = absurd t
+making_paths m new (Cleaned part) t = absurd t
 
 copy_winds : (ending : Ending) (c new : Copying) (did : Did) → Winds ending c did new → item_in (Copy new) ≡ item_in (Copy c)
 copy_winds ending c new (Cleaned part) (removable, new_is) = ap (λ (x : Copying). item_in (Copy x)) new_is
@@ -88,6 +111,7 @@ copy_winds ending c new (Began part) t = absurd t
 copy_winds ending c new (Chunk count) t = absurd t
 copy_winds ending c new (Placed path) t = absurd t
 copy_winds ending c new (Removed path) t = absurd t
+copy_winds ending c new (Made made) t = absurd t
 copy_winds ending c new (Kept kept) t = absurd t
 copy_winds ending c new (Skipped path why) t = absurd t
 copy_winds ending c new (Troubled trouble) t = absurd t
@@ -99,32 +123,62 @@ deletion_winds ending d new (Began part) t = absurd t
 deletion_winds ending d new (Chunk count) t = absurd t
 deletion_winds ending d new (Placed path) t = absurd t
 deletion_winds ending d new (Removed path) t = absurd t
+deletion_winds ending d new (Made made) t = absurd t
 deletion_winds ending d new (Kept kept) t = absurd t
 deletion_winds ending d new (Skipped path why) t = absurd t
 deletion_winds ending d new (Cleaned part) t = absurd t
 deletion_winds ending d new (Troubled trouble) t = absurd t
 
+making_winds : (ending : Ending) (m new : Making) (did : Did) → makings.Winds ending m did new → item_in (Make new) ≡ item_in (Make m)
+making_winds ending m new Barrier (stage, new_is) = ap (λ (x : Making). item_in (Make x)) new_is
+making_winds ending m new (Ended how part) (stage, how_is, part_is, new_is) = ap (λ (x : Making). item_in (Make x)) new_is
+making_winds ending m new (Began part) t = absurd t
+making_winds ending m new (Chunk count) t = absurd t
+making_winds ending m new (Placed path) t = absurd t
+making_winds ending m new (Made path) t = absurd t
+making_winds ending m new (Removed made) t = absurd t
+making_winds ending m new (Kept kept) t = absurd t
+making_winds ending m new (Skipped path why) t = absurd t
+making_winds ending m new (Cleaned part) t = absurd t
+making_winds ending m new (Troubled trouble) t = absurd t
+
 pub work_paths : (old new : Work) (did : Did) → WorkTells old did new → item_in new ≡ item_in old
 work_paths (Copy c) (Copy new) did t = copy_paths c new did t
 work_paths (Copy c) (Delete new) did t = absurd t
+work_paths (Copy c) (Make new) did t = absurd t
 work_paths (Delete d) (Copy new) did t = absurd t
+work_paths (Delete d) (Make new) did t = absurd t
+work_paths (Make m) (Copy new) did t = absurd t
+work_paths (Make m) (Delete new) did t = absurd t
 work_paths (Delete d) (Delete new) did t = deletion_paths d new did t
+work_paths (Make m) (Make new) did t = making_paths m new did t
 
 wind_paths : (ending : Ending) (old new : Work) (did : Did) → WorkWinds ending old did new → item_in new ≡ item_in old
 wind_paths ending (Copy c) (Copy new) did t = copy_winds ending c new did t
 wind_paths ending (Copy c) (Delete new) did t = absurd t
+wind_paths ending (Copy c) (Make new) did t = absurd t
 wind_paths ending (Delete d) (Copy new) did t = absurd t
+wind_paths ending (Delete d) (Make new) did t = absurd t
+wind_paths ending (Make m) (Copy new) did t = absurd t
+wind_paths ending (Make m) (Delete new) did t = absurd t
 wind_paths ending (Delete d) (Delete new) did t = deletion_winds ending d new did t
+wind_paths ending (Make m) (Make new) did t = making_winds ending m new did t
 
 skip_paths : (work new : Work) (path : Route) → PassesOver work path new → item_in new ≡ item_in work
 skip_paths (Copy c) (Copy new) path (path_is, new_is) = ap (λ (x : Copying). item_in (Copy x)) new_is
 skip_paths (Copy c) (Delete new) path h = absurd h
+skip_paths (Copy c) (Make new) path h = absurd h
 skip_paths (Delete d) (Copy new) path h = absurd h
 skip_paths (Delete d) (Delete new) path at = ap Removes at.path_is
+skip_paths (Delete d) (Make new) path h = absurd h
+skip_paths (Make m) (Copy new) path h = absurd h
+skip_paths (Make m) (Delete new) path h = absurd h
+skip_paths (Make m) (Make new) path (path_is, new_is) = ap (λ (x : Making). item_in (Make x)) new_is
 
 anew_paths : (work : Work) → item_in (taken_anew work) ≡ item_in work
 anew_paths (Copy c) = refl
 anew_paths (Delete d) = refl
+anew_paths (Make m) = refl
 
 abbrev pub IsSame : Running → Running → Type 0
 IsSame old new = (new.id ≡ old.id) × (item_in new.work ≡ item_in old.work)

@@ -12,7 +12,7 @@ use Rattle.tree_trait.proofs.Visible.{same_path-self, same_path-true}
 use Rattle.job_reports.specs.Jobs.{Item, item_of}
 use Rattle.crash_law.specs.Guarded.{Marks}
 use Rattle.job_reports.specs.declared.report.Did.{Did}
-use Rattle.job_reports.specs.declared.report.Did.TheVariants.{Began, Chunk, Placed, Removed, Kept, Skipped, Cleaned, Barrier, Troubled, Ended}
+use Rattle.job_reports.specs.declared.report.Did.TheVariants.{Began, Chunk, Placed, Removed, Made, Kept, Skipped, Cleaned, Barrier, Troubled, Ended}
 use Rattle.file_copy.specs.declared.stage.Stage.{Stage}
 use Rattle.file_copy.specs.declared.stage.Stage.TheVariants.{Begin, Fill, Clean, Left, Decided}
 use Rattle.file_copy.specs.Copying.{Copying}
@@ -22,7 +22,7 @@ use Rattle.session_history.specs.declared.history.Event.TheVariants as event
 use Rattle.session_history.specs.declared.history.Entry.{Entry}
 use Rattle.copy_move.specs.declared.run.Course.{Course}
 use Rattle.copy_move.specs.declared.work.Work.{Work}
-use Rattle.copy_move.specs.declared.work.Work.TheVariants.{Copy, Delete}
+use Rattle.copy_move.specs.declared.work.Work.TheVariants.{Copy, Delete, Make}
 use Rattle.copy_move.specs.Jobs.{Running}
 use Rattle.history_laws.specs.Doubt.{name_waits}
 use Rattle.session_history.specs.LiveJobs.{IsLivePart, LiveJob, after_event, after_report, live, live_jobs, part_after}
@@ -70,6 +70,7 @@ module _ (told : Said) (log : CallLog) where
   work_doubting : (dirty : List Route) (marks : Marks) (s : FileSystem) (course : Course) (work : Work) → WorkKnows told dirty marks s course work → WorkKnows (doubting told log) dirty marks s course work
   work_doubting dirty marks s course (Copy c) (name, listed, stage) = (name, listed, stage_doubting marks s course c c.stage stage)
   work_doubting dirty marks s course (Delete d) k = k
+  work_doubting dirty marks s course (Make w) k = k
 
   kept_doubting : (dirty : List Route) (marks : Marks) → IsKept told dirty marks log → IsKept (doubting told log) dirty marks log
   kept_doubting dirty marks kept = record {
@@ -109,6 +110,7 @@ unnamed_sure (Placed target) part before path sure unnamed other =
 unnamed_sure (Removed file) part before path sure unnamed other = untold_facts (before path) (same_path path file) sure unnamed
 unnamed_sure (Cleaned gone) part before path sure unnamed other = untold_facts (before path) (same_path path gone) sure unnamed
 unnamed_sure (Chunk count) part before path sure unnamed other = sure
+unnamed_sure (Made folder) part before path sure unnamed other = untold_facts (before path) (same_path path folder) sure unnamed
 unnamed_sure (Kept kept) part before path sure unnamed other = sure
 unnamed_sure (Skipped file cause) part before path sure unnamed other = sure
 unnamed_sure Barrier part before path sure unnamed other = sure
@@ -184,6 +186,7 @@ part_before (Placed target) part path unnamed is = absurd (let f : ⊥ = cc in f
 part_before (Cleaned gone) part path unnamed is = absurd (let f : ⊥ = cc in f)
 part_before (Chunk count) part path unnamed is = is
 part_before (Removed file) part path unnamed is = is
+part_before (Made made) part path unnamed is = is
 part_before (Kept kept) part path unnamed is = is
 part_before (Skipped file cause) part path unnamed is = is
 part_before Barrier part path unnamed is = is
@@ -210,6 +213,7 @@ module _ (path : Route) where
   report_part id (Chunk count) (job ∷ jobs) unnamed h = stepped_part (job.id == id) job (Chunk count) jobs (after_report id (Chunk count) jobs) unnamed (report_part id (Chunk count) jobs unnamed) h
   report_part id (Placed target) (job ∷ jobs) unnamed h = stepped_part (job.id == id) job (Placed target) jobs (after_report id (Placed target) jobs) unnamed (report_part id (Placed target) jobs unnamed) h
   report_part id (Removed file) (job ∷ jobs) unnamed h = stepped_part (job.id == id) job (Removed file) jobs (after_report id (Removed file) jobs) unnamed (report_part id (Removed file) jobs unnamed) h
+  report_part id (Made made) (job ∷ jobs) unnamed h = stepped_part (job.id == id) job (Made made) jobs (after_report id (Made made) jobs) unnamed (report_part id (Made made) jobs unnamed) h
   report_part id (Kept kept) (job ∷ jobs) unnamed h = stepped_part (job.id == id) job (Kept kept) jobs (after_report id (Kept kept) jobs) unnamed (report_part id (Kept kept) jobs unnamed) h
   report_part id (Skipped file cause) (job ∷ jobs) unnamed h =
       stepped_part (job.id == id) job (Skipped file cause) jobs (after_report id (Skipped file cause) jobs) unnamed (report_part id (Skipped file cause) jobs unnamed) h

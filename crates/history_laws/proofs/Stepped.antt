@@ -6,8 +6,9 @@ use Rattle.std.proofs.Math.Seq.{take-append_seam, take-length}
 use Rattle.mc_text.specs.Routes.{Route, same_path}
 use Rattle.tree_trait.specs.Change.{Change, CallLog, with_change}
 use Rattle.crash_law.specs.Guarded.{Marks}
+use Rattle.job_reports.specs.Jobs.{folder_changed}
 use Rattle.job_reports.specs.declared.report.Did.{Did}
-use Rattle.job_reports.specs.declared.report.Did.TheVariants.{Began, Chunk, Placed, Removed, Kept, Skipped, Cleaned, Barrier, Troubled, Ended}
+use Rattle.job_reports.specs.declared.report.Did.TheVariants.{Began, Chunk, Placed, Removed, Made, Kept, Skipped, Cleaned, Barrier, Troubled, Ended}
 use Rattle.copy_move.specs.declared.work.Work.{Work}
 use Rattle.history_laws.specs.Replayed.{replayed_step, keeping}
 use Rattle.session_history.specs.Named.{changed_by, named_by}
@@ -64,6 +65,7 @@ part_after (Cleaned part) before = None
 part_after (Ended ending part) before = None
 part_after (Chunk count) before = before
 part_after (Removed path) before = before
+part_after (Made made) before = before
 part_after (Kept kept) before = before
 part_after (Skipped path cause) before = before
 part_after Barrier before = before
@@ -76,24 +78,26 @@ doubt_by (Placed path) part before = λ p. (before p || same_path p path) || opt
 doubt_by (Removed path) part before = λ p. before p || same_path p path
 doubt_by (Cleaned gone) part before = λ p. before p || same_path p gone
 doubt_by (Chunk count) part before = before
+doubt_by (Made path) part before = λ p. before p || same_path p path
 doubt_by (Kept kept) part before = before
 doubt_by (Skipped path cause) part before = before
 doubt_by Barrier part before = before
 doubt_by (Troubled trouble) part before = before
 doubt_by (Ended ending left) part before = before
 
--- where folders stand then: a folder that was removed stands no more
-abbrev pub folders_by : Did → (Route → Bool) → Route → Bool
-folders_by (Removed path) before = λ p. before p && not (same_path p path)
-folders_by (Began made) before = before
-folders_by (Placed path) before = before
-folders_by (Cleaned gone) before = before
-folders_by (Chunk count) before = before
-folders_by (Kept kept) before = before
-folders_by (Skipped path cause) before = before
-folders_by Barrier before = before
-folders_by (Troubled trouble) before = before
-folders_by (Ended ending left) before = before
+-- the folder of a job's first change is on the disk from then on, until it is removed
+abbrev pub folders_by : Did → Route → (Route → Bool) → Route → Bool
+folders_by (Began made) folder before = λ p. same_path p folder || before p
+folders_by (Removed path) folder before = λ p. (same_path p folder || before p) && not (same_path p path)
+folders_by (Made path) folder before = λ p. same_path p folder || before p
+folders_by (Placed path) folder before = before
+folders_by (Cleaned gone) folder before = before
+folders_by (Chunk count) folder before = before
+folders_by (Kept kept) folder before = before
+folders_by (Skipped path cause) folder before = before
+folders_by Barrier folder before = before
+folders_by (Troubled trouble) folder before = before
+folders_by (Ended ending left) folder before = before
 
 abbrev pub said_after : CallLog → Did → Work → Said → Said
 said_after now did work told = record {
@@ -102,7 +106,7 @@ said_after now did work told = record {
   named = named_by did told.named;
   part = part_after did told.part;
   doubt = doubt_by did told.part told.doubt;
-  folders = folders_by did told.folders;
+  folders = folders_by did (folder_changed (item_in work)) told.folders;
 }
 
 -- What a step comes to.

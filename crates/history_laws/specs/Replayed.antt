@@ -2,17 +2,18 @@
 use Rattle.std.specs.Prelude.{ℕ, ◌+◌, List, [], ◌∷◌, length, take, Option, Some, None}
 use Rattle.std.specs.Option.{option_map}
 use Rattle.mc_text.specs.Routes.{Route}
-use Rattle.tree_trait.specs.FileSystem.{View, put, value_at, visible_tree}
+use Rattle.mc_text.specs.declared.kind.Kind.TheVariants.{Folder}
+use Rattle.tree_trait.specs.FileSystem.{Value, View, put, value_at, visible_tree}
 use Rattle.tree_trait.specs.Change.{CallLog, current}
 use Rattle.job_reports.specs.declared.report.Did.{Did}
-use Rattle.job_reports.specs.declared.report.Did.TheVariants.{Began, Chunk, Placed, Removed, Kept, Skipped, Cleaned, Barrier, Troubled, Ended}
+use Rattle.job_reports.specs.declared.report.Did.TheVariants.{Began, Chunk, Placed, Removed, Made, Kept, Skipped, Cleaned, Barrier, Troubled, Ended}
 use Rattle.session_history.specs.Named.{changed_by}
 use Rattle.file_copy.specs.Copied.{copied}
 use Rattle.session_history.specs.declared.history.Event.{Event}
 use Rattle.session_history.specs.declared.history.Event.TheVariants.{Key, Look, Order, Step, Closed}
 use Rattle.session_history.specs.declared.history.Event.TheVariants as event
 use Rattle.session_history.specs.declared.history.Entry.{Entry}
-use Rattle.job_reports.specs.Jobs.{Item, Copies, Removes}
+use Rattle.job_reports.specs.Jobs.{Item, Copies, Removes, Makes, new_folder_mode}
 use Rattle.session_history.specs.LiveJobs.{LiveJob, live_jobs, live_item}
 
 -- the log as it was when so many calls had been made since the opening
@@ -23,10 +24,15 @@ log_prefix opening calls now = record now { changes = take (length opening.chang
 abbrev pub placed_by : Option Item → Route → View → View
 placed_by (Some (Copies source target)) path v = put v path (option_map copied (v source).value)
 placed_by (Some (Removes file)) path v = v
+placed_by (Some (Makes folder)) path v = v
 placed_by None path v = v
 
--- What a step makes of the tree, which has this log then: a removed path has nothing any more, and a part that an end
--- names is from then on what it then is.
+-- what stands where a folder was made
+abbrev pub new_folder : Value
+new_folder = record { kind = Folder; bytes = []; mode = new_folder_mode; unnamed = 0 }
+
+-- What a step makes of the tree, which has this log then: a removed path has nothing any more, one that was made an empty
+-- folder, and a part that an end names is from then on what it then is.
 abbrev pub replayed_step : CallLog → Did → Option Item → View → View
 replayed_step log (Removed path) item v = put v path None
 replayed_step log (Placed path) item v = placed_by item path v
@@ -34,6 +40,7 @@ replayed_step log (Ended ending (Some part)) item v = put v part (value_at (curr
 replayed_step log (Ended ending None) item v = v
 replayed_step log (Began part) item v = v
 replayed_step log (Chunk count) item v = v
+replayed_step log (Made path) item v = put v path (Some new_folder)
 replayed_step log (Kept kept) item v = v
 replayed_step log (Skipped path cause) item v = v
 replayed_step log (Cleaned part) item v = v
@@ -65,7 +72,7 @@ earlier_event (event.Began id plan background) v before = before
 earlier_event (Order id order) v before = before
 earlier_event Closed v before = before
 
--- what each path showed before it was placed or removed last; what none was stays as at the opening
+-- what each path showed before it was placed, removed or made last; what none was stays as at the opening
 abbrev pub earlier_tree : CallLog → CallLog → List Entry → View
 earlier_tree opening now [] = visible_tree (current opening)
 earlier_tree opening now (e ∷ older) = earlier_event e.what (replayed_tree opening now older) (earlier_tree opening now older)

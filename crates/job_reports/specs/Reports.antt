@@ -5,7 +5,7 @@ use Rattle.job_reports.specs.declared.answer.Answer.{Answer}
 use Rattle.job_reports.specs.declared.answer.Answer.TheVariants.{Retry, Skip, SkipAll, Abort}
 use Rattle.job_reports.specs.declared.report.Cause.TheVariants.{Tree}
 use Rattle.job_reports.specs.declared.report.Did.{Did}
-use Rattle.job_reports.specs.declared.report.Did.TheVariants.{Began, Chunk, Placed, Removed, Kept, Skipped, Cleaned, Barrier, Troubled, Ended}
+use Rattle.job_reports.specs.declared.report.Did.TheVariants.{Began, Chunk, Placed, Removed, Made, Kept, Skipped, Cleaned, Barrier, Troubled, Ended}
 
 -- the report is that of an end
 abbrev pub ends : Did → Bool
@@ -14,6 +14,7 @@ ends (Began part) = false
 ends (Chunk count) = false
 ends (Placed path) = false
 ends (Removed path) = false
+ends (Made made) = false
 ends (Kept kept) = false
 ends (Skipped path cause) = false
 ends (Cleaned part) = false

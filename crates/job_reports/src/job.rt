@@ -29,4 +29,6 @@ pub enum Job {
     Copy(Pairs),
     /// Deletes these.
     Delete(Paths),
+    /// Makes a new, empty folder at this path.
+    MakeFolder(Path),
 }

@@ -81,6 +81,8 @@ pub enum Did {
     Placed(Path),
     /// The thing at this path is gone from its folder.
     Removed(Path),
+    /// A new, empty folder stands at this path.
+    Made(Path),
     /// The folder at this path stays, since something in it was left.
     Kept(Path),
     /// The source at this path was left as it is.

@@ -5,7 +5,7 @@ use Rattle.file_copy.specs.declared.stage.Stage.{Stage}
 use Rattle.file_copy.specs.declared.stage.Stage.TheVariants.{Begin, Fill, Clean, Left, Decided}
 use Rattle.file_copy.specs.Copying as copying
 use Rattle.copy_move.specs.declared.work.Work.{Work}
-use Rattle.copy_move.specs.declared.work.Work.TheVariants.{Copy, Delete}
+use Rattle.copy_move.specs.declared.work.Work.TheVariants.{Copy, Delete, Make}
 use Rattle.copy_move.specs.declared.run.Course.{Course}
 use Rattle.copy_move.specs.declared.run.Course.TheVariants.{GoesOn, InTrouble, OwedSyncFailed, Skips, Ends}
 use Rattle.job_reports.specs.declared.report.Trouble.{Trouble}
@@ -24,6 +24,7 @@ stage_barrier Decided = refl
 pub barrier_told : (work : Work) → at_barrier (work_told work) ≡ at_barrier work
 barrier_told (Copy c) = stage_barrier c.stage
 barrier_told (Delete d) = refl
+barrier_told (Make m) = refl
 
 stage_part : (stage : Stage) → copying.part_at (stage_told stage) ≡ copying.part_at stage
 stage_part Begin = refl
@@ -35,6 +36,7 @@ stage_part Decided = refl
 work_part : (work : Work) → part_of (work_told work) ≡ part_of work
 work_part (Copy c) = stage_part c.stage
 work_part (Delete d) = refl
+work_part (Make m) = refl
 
 pub part_told : (job : Running) → part_of (told job).work ≡ part_of job.work
 part_told job = work_part job.work

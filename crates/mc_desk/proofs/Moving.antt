@@ -5,7 +5,7 @@ use Rattle.mc_text.specs.Routes.{Route}
 use Rattle.tree_trait.specs.declared.calls.TreeError.{TreeError}
 use Rattle.tree_trait.specs.Change.{CallLog}
 use Rattle.job_reports.specs.declared.report.Did.{Did}
-use Rattle.job_reports.specs.declared.report.Did.TheVariants.{Began, Chunk, Placed, Removed, Kept, Skipped, Cleaned, Barrier, Troubled, Ended}
+use Rattle.job_reports.specs.declared.report.Did.TheVariants.{Began, Chunk, Placed, Removed, Made, Kept, Skipped, Cleaned, Barrier, Troubled, Ended}
 use Rattle.job_reports.specs.declared.report.Ending.{Ending}
 use Rattle.job_reports.specs.declared.report.Ending.TheVariants.{Finished, Aborted, Killed, NoMemory}
 use Rattle.file_copy.specs.Copying as copying
@@ -13,11 +13,14 @@ use Rattle.session_history.specs.declared.history.Event.TheVariants.{Step}
 use Rattle.session_history.specs.declared.history.Entry.{Entry}
 use Rattle.copy_move.specs.declared.deletion.Stage.{Stage as DeletionStage}
 use Rattle.copy_move.specs.declared.deletion.Stage.TheVariants.{Remove, Sync, Finish, PassedOver}
+use Rattle.copy_move.specs.declared.making.MakingStage.{MakingStage}
+use Rattle.copy_move.specs.declared.making.MakingStage.TheVariants as making
 use Rattle.copy_move.specs.declared.work.Work.{Work}
-use Rattle.copy_move.specs.declared.work.Work.TheVariants.{Copy, Delete}
+use Rattle.copy_move.specs.declared.work.Work.TheVariants.{Copy, Delete, Make}
 use Rattle.copy_move.specs.declared.run.Course.{Course}
 use Rattle.copy_move.specs.declared.run.Course.TheVariants.{GoesOn, InTrouble, OwedSyncFailed, Skips, Ends}
 use Rattle.copy_move.specs.Deletions as deletions
+use Rattle.copy_move.specs.Makings as makings
 use Rattle.copy_move.specs.Jobs.{Running, TellsOn, WorkTells}
 use Rattle.copy_move.specs.Settling.{after_try, changed_folder, is_dirty, with_change}
 use Rattle.job_reports.specs.Paths.{without}
@@ -39,11 +42,23 @@ done_clean Sync h = absurd (false≢true h)
 done_clean Finish h = refl
 done_clean PassedOver h = refl
 
+making_clean : (stage : MakingStage) → makings.is_done stage ≡ true → makings.is_dirty stage ≡ false
+making_clean making.Make h = absurd (false≢true h)
+making_clean making.Sync h = absurd (false≢true h)
+making_clean making.Finish h = refl
+making_clean making.PassedOver h = refl
+
 deletion_finishes : (d new : deletions.Deleting) (ending : Ending) (part : Option Route) → deletions.Tells d (Ended ending part) new → (ending ≡ Finished) × (deletions.is_dirty d.stage ≡ false)
 deletion_finishes d new Finished part t = (refl, done_clean d.stage t.0)
 deletion_finishes d new Aborted part t = absurd t
 deletion_finishes d new Killed part t = absurd t
 deletion_finishes d new NoMemory part t = absurd t
+
+making_finishes : (m new : makings.Making) (ending : Ending) (part : Option Route) → makings.Tells m (Ended ending part) new → (ending ≡ Finished) × (makings.is_dirty m.stage ≡ false)
+making_finishes m new Finished part t = (refl, making_clean m.stage t.0)
+making_finishes m new Aborted part t = absurd t
+making_finishes m new Killed part t = absurd t
+making_finishes m new NoMemory part t = absurd t
 
 -- a dirty folder is clean only after the report of its sync
 copy_synced : (c new : copying.Copying) (did : Did) → copying.Tells c did new → copying.is_dirty c.folder ≡ true → copying.is_dirty new.folder ≡ false → did ≡ Barrier
@@ -55,6 +70,7 @@ copy_synced c new (Cleaned part) (follows, at, is) was now = absurd (true≢fals
 copy_synced c new (Troubled trouble) t was now = absurd (true≢false (sym was ∙ (sym (ap (λ (n : copying.Copying). copying.is_dirty n.folder) t.1) ∙ now)))
 copy_synced c new (Ended ending part) t was now = absurd (true≢false (sym was ∙ (copy_finishes c new ending part t).1))
 copy_synced c new (Removed path) t was now = absurd t
+copy_synced c new (Made made) t was now = absurd t
 copy_synced c new (Kept path) t was now = absurd t
 copy_synced c new (Skipped path cause) t was now = absurd t
 
@@ -66,15 +82,34 @@ deletion_synced d new (Ended ending part) t was now = absurd (true≢false (sym 
 deletion_synced d new (Began part) t was now = absurd t
 deletion_synced d new (Chunk count) t was now = absurd t
 deletion_synced d new (Placed path) t was now = absurd t
+deletion_synced d new (Made made) t was now = absurd t
 deletion_synced d new (Kept kept) t was now = absurd t
 deletion_synced d new (Skipped path cause) t was now = absurd t
 deletion_synced d new (Cleaned part) t was now = absurd t
 
+making_synced : (m new : makings.Making) (did : Did) → makings.Tells m did new → makings.is_dirty m.stage ≡ true → makings.is_dirty new.stage ≡ false → did ≡ Barrier
+making_synced m new Barrier t was now = refl
+making_synced m new (Made path) t was now = absurd (true≢false (sym was ∙ ap makings.is_dirty t.0))
+making_synced m new (Troubled trouble) t was now = absurd (true≢false (sym was ∙ (sym (ap (λ (n : makings.Making). makings.is_dirty n.stage) t.1) ∙ now)))
+making_synced m new (Ended ending part) t was now = absurd (true≢false (sym was ∙ (making_finishes m new ending part t).1))
+making_synced m new (Began part) t was now = absurd t
+making_synced m new (Chunk count) t was now = absurd t
+making_synced m new (Placed path) t was now = absurd t
+making_synced m new (Removed made) t was now = absurd t
+making_synced m new (Kept kept) t was now = absurd t
+making_synced m new (Skipped path cause) t was now = absurd t
+making_synced m new (Cleaned part) t was now = absurd t
+
 clean_before : (old new : Work) (did : Did) → WorkTells old did new → is_dirty old ≡ true → is_dirty new ≡ false → did ≡ Barrier
 clean_before (Copy c) (Copy new) did t was now = copy_synced c new did t was now
 clean_before (Copy c) (Delete new) did t was now = absurd t
+clean_before (Copy c) (Make new) did t was now = absurd t
 clean_before (Delete d) (Copy new) did t was now = absurd t
+clean_before (Delete d) (Make new) did t was now = absurd t
+clean_before (Make m) (Copy new) did t was now = absurd t
+clean_before (Make m) (Delete new) did t was now = absurd t
 clean_before (Delete d) (Delete new) did t was now = deletion_synced d new did t was now
+clean_before (Make m) (Make new) did t was now = making_synced m new did t was now
 
 module _ (job : Option Running) (newest older : List Entry) (dirty dirty_after : List Route) (seat calls count shown number : ℕ) (did : Did) (more : newest ≡ entry seat calls count shown (Step number did) ∷ older) where
   abbrev Moves : Type 0
@@ -102,6 +137,7 @@ module _ (job : Option Running) (newest older : List Entry) (dirty dirty_after :
   tries folder refusal (Chunk bytes) is left = inl left
   tries folder refusal (Placed path) is left = inl left
   tries folder refusal (Removed path) is left = inl left
+  tries folder refusal (Made made) is left = inl left
   tries folder refusal (Kept kept) is left = inl left
   tries folder refusal (Skipped path cause) is left = inl left
   tries folder refusal (Cleaned part) is left = inl left

@@ -8,7 +8,7 @@ use Rattle.tree_trait.specs.Change.{CallLog}
 use Rattle.tree_trait.specs.CrashImages.{Among}
 use Rattle.tree_trait.proofs.Visible.{same_path-self}
 use Rattle.job_reports.specs.declared.report.Did.{Did}
-use Rattle.job_reports.specs.declared.report.Did.TheVariants.{Began, Chunk, Placed, Removed, Kept, Skipped, Cleaned, Barrier, Troubled, Ended}
+use Rattle.job_reports.specs.declared.report.Did.TheVariants.{Began, Chunk, Placed, Removed, Made, Kept, Skipped, Cleaned, Barrier, Troubled, Ended}
 use Rattle.file_copy.specs.declared.stage.Stage.{Stage}
 use Rattle.file_copy.specs.declared.stage.Stage.TheVariants.{Begin, Fill, Clean, Left, Decided}
 use Rattle.file_copy.specs.declared.stage.Next.TheVariants as next
@@ -17,13 +17,15 @@ use Rattle.file_copy.specs.declared.stage.FolderState.TheVariants.{Synced, Dirty
 use Rattle.file_copy.specs.LastSteps.{last_steps}
 use Rattle.copy_move.specs.declared.deletion.Stage.{Stage as DeletionStage}
 use Rattle.copy_move.specs.declared.deletion.Stage.TheVariants as deletion
+use Rattle.copy_move.specs.declared.making.MakingStage.{MakingStage}
+use Rattle.copy_move.specs.declared.making.MakingStage.TheVariants as making
 use Rattle.copy_move.specs.declared.work.Work.{Work}
-use Rattle.copy_move.specs.declared.work.Work.TheVariants.{Copy, Delete}
+use Rattle.copy_move.specs.declared.work.Work.TheVariants.{Copy, Delete, Make}
 use Rattle.copy_move.specs.declared.run.Course.{Course}
 use Rattle.copy_move.specs.declared.run.Course.TheVariants.{GoesOn, InTrouble, OwedSyncFailed, Skips, Ends}
 use Rattle.copy_move.specs.Jobs.{Running, closed_course}
 use Rattle.job_reports.specs.Reports.{ends}
-use Rattle.copy_move.specs.Ranks.{copy_rank, deletion_rank, last_deletion_steps, last_rank, rank, rank_on, rank_with, work_rank}
+use Rattle.copy_move.specs.Ranks.{copy_rank, deletion_rank, last_deletion_steps, last_making_steps, last_rank, making_rank, rank, rank_on, rank_with, work_rank}
 use Rattle.copy_move.specs.Settling.{after_try, changed_folder, is_dirty, with_change}
 use Rattle.job_reports.specs.Paths.{without}
 use Rattle.copy_move.specs.Steps.{LeavesDirty, RunStep, OwedSyncStep, SyncsFolder, step_made}
@@ -61,19 +63,33 @@ some_deletion deletion.Sync = omega arith
 some_deletion deletion.Finish = omega arith
 some_deletion deletion.PassedOver = omega arith
 
+some_making : (stage : MakingStage) → 0 < making_rank stage
+some_making making.Make = omega arith
+some_making making.Sync = omega arith
+some_making making.Finish = omega arith
+some_making making.PassedOver = omega arith
+
 some_try : (stage : DeletionStage) → 0 < last_deletion_steps stage
 some_try deletion.Remove = omega arith
 some_try deletion.Sync = omega arith
 some_try deletion.Finish = omega arith
 some_try deletion.PassedOver = omega arith
 
+some_making_try : (stage : MakingStage) → 0 < last_making_steps stage
+some_making_try making.Make = omega arith
+some_making_try making.Sync = omega arith
+some_making_try making.Finish = omega arith
+some_making_try making.PassedOver = omega arith
+
 some_end : (work : Work) → 0 < last_rank work
 some_end (Copy c) = some_last c.stage c.folder
 some_end (Delete d) = some_try d.stage
+some_end (Make m) = some_making_try m.stage
 
 some_work : (work : Work) → 0 < work_rank work
 some_work (Copy c) = some_copy c.stage c.folder
 some_work (Delete d) = some_deletion d.stage
+some_work (Make m) = some_making m.stage
 
 -- a live job has steps left
 some_steps : (course : Course) (work : Work) → 0 < rank_on course work
@@ -134,6 +150,7 @@ tried_more (Began part) left folder dirty = omega arith
 tried_more (Chunk bytes) left folder dirty = omega arith
 tried_more (Placed path) left folder dirty = omega arith
 tried_more (Removed path) left folder dirty = omega arith
+tried_more (Made made) left folder dirty = omega arith
 tried_more (Kept kept) left folder dirty = omega arith
 tried_more (Skipped path cause) left folder dirty = omega arith
 tried_more (Cleaned part) left folder dirty = omega arith

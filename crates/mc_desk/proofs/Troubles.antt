@@ -11,7 +11,7 @@ use Rattle.job_reports.specs.declared.answer.AnswerError.{AnswerError}
 use Rattle.job_reports.specs.declared.answer.AnswerError.TheVariants.{NotAsked, WrongAnswer}
 use Rattle.job_reports.specs.Reports.{passes_over}
 use Rattle.job_reports.specs.declared.report.Did.{Did}
-use Rattle.job_reports.specs.declared.report.Did.TheVariants.{Began as BeganPart, Chunk, Placed, Removed, Kept, Skipped, Cleaned, Barrier, Troubled, Ended}
+use Rattle.job_reports.specs.declared.report.Did.TheVariants.{Began as BeganPart, Chunk, Placed, Removed, Made, Kept, Skipped, Cleaned, Barrier, Troubled, Ended}
 use Rattle.job_reports.specs.declared.report.Ending.{Ending}
 use Rattle.job_reports.specs.declared.report.Trouble.{Trouble}
 use Rattle.job_reports.specs.declared.row.JobState.TheVariants as state
@@ -23,11 +23,14 @@ use Rattle.session_history.specs.declared.history.JobOrder.TheVariants.{Answered
 use Rattle.session_history.specs.Entries.{is_closed}
 use Rattle.copy_move.specs.declared.deletion.Stage.{Stage as DeletionStage}
 use Rattle.copy_move.specs.declared.deletion.Stage.TheVariants as deletion
+use Rattle.copy_move.specs.declared.making.MakingStage.{MakingStage}
+use Rattle.copy_move.specs.declared.making.MakingStage.TheVariants as making
 use Rattle.copy_move.specs.declared.work.Work.{Work}
-use Rattle.copy_move.specs.declared.work.Work.TheVariants.{Copy, Delete}
+use Rattle.copy_move.specs.declared.work.Work.TheVariants.{Copy, Delete, Make}
 use Rattle.copy_move.specs.declared.run.Course.{Course}
 use Rattle.copy_move.specs.declared.run.Course.TheVariants.{GoesOn, InTrouble, OwedSyncFailed, Skips, Ends}
 use Rattle.copy_move.specs.Deletions as deletions
+use Rattle.copy_move.specs.Makings as makings
 use Rattle.copy_move.specs.Jobs.{Running, MayAnswer, TellsOn, WorkTells, WorkWinds, answered, answered_on, at_barrier, closed_course, closed_job, first_work, is_barred, is_fresh, waits_on}
 use Rattle.copy_move.specs.Told.{IsAllowedStep, after_step, course_told, if_closed, running, told}
 use Rattle.history_laws.specs.ToldJob.{after_event, live_job}
@@ -55,17 +58,35 @@ deletion_barrier deletion.Sync (name ∷ folder) trouble (e, is) = ap (λ (t : T
 deletion_barrier deletion.Finish path trouble h = absurd h
 deletion_barrier deletion.PassedOver path trouble h = absurd h
 
+-- the trouble of a making is at a barrier where its next call is
+making_barrier : (stage : MakingStage) (path : Route) (trouble : Trouble) → makings.IsTroubleAt stage path trouble → trouble.barrier ≡ makings.at_barrier stage
+making_barrier making.Make path trouble (e, is) = ap (λ (t : Trouble). t.barrier) is
+making_barrier making.Sync [] trouble h = absurd h
+making_barrier making.Sync (name ∷ folder) trouble (e, is) = ap (λ (t : Trouble). t.barrier) is
+making_barrier making.Finish path trouble h = absurd h
+making_barrier making.PassedOver path trouble h = absurd h
+
 work_barrier : (old new : Work) (trouble : Trouble) → WorkTells old (Troubled trouble) new → trouble.barrier ≡ at_barrier old
 work_barrier (Copy c) (Copy new) trouble t = t.0
 work_barrier (Copy c) (Delete new) trouble t = absurd t
+work_barrier (Copy c) (Make new) trouble t = absurd t
 work_barrier (Delete d) (Copy new) trouble t = absurd t
+work_barrier (Delete d) (Make new) trouble t = absurd t
+work_barrier (Make m) (Copy new) trouble t = absurd t
+work_barrier (Make m) (Delete new) trouble t = absurd t
 work_barrier (Delete d) (Delete new) trouble t = deletion_barrier d.stage d.path trouble t.0
+work_barrier (Make m) (Make new) trouble t = making_barrier m.stage m.path trouble t.0
 
 no_winding : (ending : Ending) (old new : Work) (trouble : Trouble) → WorkWinds ending old (Troubled trouble) new → ⊥
 no_winding ending (Copy c) (Copy new) trouble t = t
 no_winding ending (Copy c) (Delete new) trouble t = t
+no_winding ending (Copy c) (Make new) trouble t = t
 no_winding ending (Delete d) (Copy new) trouble t = t
+no_winding ending (Delete d) (Make new) trouble t = t
+no_winding ending (Make m) (Copy new) trouble t = t
+no_winding ending (Make m) (Delete new) trouble t = t
 no_winding ending (Delete d) (Delete new) trouble t = t
+no_winding ending (Make m) (Make new) trouble t = t
 
 tells_barrier : (course : Course) (old new : Running) (trouble : Trouble) → TellsOn course old (Troubled trouble) new → trouble.barrier ≡ at_barrier old.work
 tells_barrier GoesOn old new trouble (work, tells, is) = work_barrier old.work work trouble tells
@@ -118,6 +139,7 @@ step_waits id live (BeganPart part) allowed = λ waits. absurd (not_ready live (
 step_waits id live (Chunk count) allowed = λ waits. absurd (not_ready live (Chunk count) allowed waits)
 step_waits id live (Placed path) allowed = λ waits. absurd (not_ready live (Placed path) allowed waits)
 step_waits id live (Removed path) allowed = λ waits. absurd (not_ready live (Removed path) allowed waits)
+step_waits id live (Made made) allowed = λ waits. absurd (not_ready live (Made made) allowed waits)
 step_waits id live (Kept kept) allowed = λ waits. absurd (not_ready live (Kept kept) allowed waits)
 step_waits id live (Skipped path cause) allowed = λ waits. absurd (false≢true waits)
 step_waits id live (Cleaned part) allowed = λ waits. absurd (not_ready live (Cleaned part) allowed waits)

@@ -5,7 +5,7 @@ use Rattle.std.specs.Option.{option_map_or}
 use Rattle.mc_text.specs.Routes.{Route}
 use Rattle.tree_trait.specs.CrashImages.{Among}
 use Rattle.job_reports.specs.declared.report.Did.{Did}
-use Rattle.job_reports.specs.declared.report.Did.TheVariants.{Began, Chunk, Placed, Removed, Kept, Skipped, Cleaned, Barrier, Troubled, Ended}
+use Rattle.job_reports.specs.declared.report.Did.TheVariants.{Began, Chunk, Placed, Removed, Made, Kept, Skipped, Cleaned, Barrier, Troubled, Ended}
 use Rattle.session_history.specs.declared.history.Event.{Event}
 use Rattle.session_history.specs.declared.history.Event.TheVariants.{Key, Look, Order, Step, Closed}
 use Rattle.session_history.specs.declared.history.Event.TheVariants as event
@@ -31,6 +31,7 @@ part_after (Placed path) before = None
 part_after (Cleaned part) before = None
 part_after (Chunk count) before = before
 part_after (Removed path) before = before
+part_after (Made made) before = before
 part_after (Kept kept) before = before
 part_after (Skipped path cause) before = before
 part_after Barrier before = before

@@ -3,14 +3,14 @@ use Rattle.std.specs.Prelude.{◌≡◌, ◌⊎◌, ℕ, ◌==◌, Bool, true, f
 use Rattle.std.specs.Option.{option_map_or}
 use Rattle.mc_text.specs.Routes.{Route, same_path}
 use Rattle.job_reports.specs.declared.report.Did.{Did}
-use Rattle.job_reports.specs.declared.report.Did.TheVariants.{Began, Chunk, Placed, Removed, Kept, Skipped, Cleaned, Barrier, Troubled, Ended}
+use Rattle.job_reports.specs.declared.report.Did.TheVariants.{Began, Chunk, Placed, Removed, Made, Kept, Skipped, Cleaned, Barrier, Troubled, Ended}
 use Rattle.job_reports.specs.Paths.{without}
 use Rattle.session_history.specs.declared.history.Event.{Event}
 use Rattle.session_history.specs.declared.history.Event.TheVariants.{Key, Look, Order, Step, Closed}
 use Rattle.session_history.specs.declared.history.Event.TheVariants as event
 use Rattle.session_history.specs.declared.history.Entry.{Entry}
 
--- a report names this path: as a part that was made, is gone, or is left, or as what was placed or removed
+-- a report names this path: as a part that was made, is gone, or is left, or as what was placed, removed or made
 abbrev pub names : Did → Route → Bool
 names (Began part) path = same_path path part
 names (Placed target) path = same_path path target
@@ -18,6 +18,7 @@ names (Removed file) path = same_path path file
 names (Cleaned part) path = same_path path part
 names (Ended ending part) path = option_map_or (same_path path) part false
 names (Chunk count) path = false
+names (Made folder) path = same_path path folder
 names (Kept kept) path = false
 names (Skipped file cause) path = false
 names Barrier path = false
@@ -36,12 +37,13 @@ abbrev pub IsUnnamedSince : List Entry → Route → List Entry → Type 0
 IsUnnamedSince older path [] = older ≡ []
 IsUnnamedSince older path (e ∷ entries) = (older ≡ e ∷ entries) ⊎ ((names_path e.what path ≡ false) × IsUnnamedSince older path entries)
 
--- the path that a report says was placed or removed
+-- the path that a report says was placed, removed or made
 abbrev pub changed_by : Did → Option Route
 changed_by (Placed path) = Some path
 changed_by (Removed path) = Some path
 changed_by (Began part) = None
 changed_by (Chunk count) = None
+changed_by (Made path) = Some path
 changed_by (Kept kept) = None
 changed_by (Skipped path cause) = None
 changed_by (Cleaned part) = None
@@ -49,12 +51,13 @@ changed_by Barrier = None
 changed_by (Troubled trouble) = None
 changed_by (Ended ending part) = None
 
--- a path that is placed is a part no more
+-- a path that is placed or made is a part no more
 abbrev pub named_by : Did → List Route → List Route
 named_by (Began part) before = part ∷ before
 named_by (Placed path) before = without path before
 named_by (Chunk count) before = before
 named_by (Removed path) before = before
+named_by (Made path) before = without path before
 named_by (Kept kept) before = before
 named_by (Skipped path cause) before = before
 named_by (Cleaned part) before = before
@@ -75,12 +78,13 @@ abbrev pub named_parts : List Entry → List Route
 named_parts [] = []
 named_parts (e ∷ older) = named_after e.what (named_parts older)
 
--- a report of the first change that work makes: a part is made, or a file is removed
+-- a report of the first change that work makes: a part or a folder is made, or a file is removed
 abbrev pub begins_change : Did → Bool
 begins_change (Began part) = true
 begins_change (Removed path) = true
 begins_change (Chunk count) = false
 begins_change (Placed path) = false
+begins_change (Made path) = true
 begins_change (Kept kept) = false
 begins_change (Skipped path cause) = false
 begins_change (Cleaned part) = false

@@ -77,6 +77,7 @@ fn word_of(did: &Did) -> &'static str {
         Did::Chunk(_) => " chunk",
         Did::Placed(_) => " placed",
         Did::Removed(_) => " removed",
+        Did::Made(_) => " made",
         Did::Kept(_) => " kept",
         Did::Skipped(_, _) => " skipped",
         Did::Cleaned(_) => " cleaned",

@@ -4,7 +4,7 @@ use Rattle.std.proofs.lemmas.Bool.{true≢false, false≢true}
 use Rattle.mc_text.specs.Routes.{Route}
 use Rattle.tree_trait.specs.Change.{CallLog}
 use Rattle.job_reports.specs.declared.report.Did.{Did}
-use Rattle.job_reports.specs.declared.report.Did.TheVariants.{Began, Chunk, Placed, Removed, Kept, Skipped, Cleaned, Barrier, Troubled, Ended}
+use Rattle.job_reports.specs.declared.report.Did.TheVariants.{Began, Chunk, Placed, Removed, Made, Kept, Skipped, Cleaned, Barrier, Troubled, Ended}
 use Rattle.job_reports.proofs.Runs.{risen_before}
 use Rattle.subtree_walk.specs.Places.{Place}
 use Rattle.tree_deletion.specs.declared.deletion.Depth.{Depth}
@@ -67,6 +67,7 @@ descends_at contents old mid new (folder ∷ before) d a = (d.0, d.1, enters_at 
 
 progress_falls : (old new : Deletion) (did : Did) → at_barrier old.stage ≡ false → Works old did new → IsProgress did ≡ true → things_left new < things_left old
 progress_falls old new (Removed path) going w h = decided_falls old new false path Going going refl w.0 w.2
+progress_falls old new (Made made) going w h = absurd (false≢true h)
 progress_falls old new (Kept path) going w h = decided_falls old new true path old.stage going going w.0 w.2
 progress_falls old new (Began part) going w h = absurd (false≢true h)
 progress_falls old new (Chunk count) going w h = absurd (false≢true h)

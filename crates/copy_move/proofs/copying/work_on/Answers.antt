@@ -1,7 +1,7 @@
 -- The folder leaves the dirty ones with its sync.
 use Rattle.std.proofs.Common.{◌≡◌, true, ap, ◌∙◌, ◌&&◌, not}
 use Rattle.job_reports.specs.Paths.{folder_of}
-use Rattle.file_copy.specs.Copying.{Copying, is_dirty}
+use Rattle.file_copy.specs.Copying.{is_dirty}
 use Rattle.copy_move.specs.Settling.{with_change}
 use Rattle.copy_move.proofs.FolderSteps.{clean_copy, copy_stays, copy_steps, synced_only}
 use Rattle.copy_move.proofs.copying.work_on.Goals as goal
