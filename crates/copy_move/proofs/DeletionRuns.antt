@@ -256,7 +256,7 @@ module _ (m new : Deletion) (tried : ℕ) (holds : parent_of m.path ≡ Some m.f
             m.walk.spare,
             new.walk.spare,
             subst (λ (x : Deletion). WorkSteps x (machine_of (seen new tried) new.walk.spare) did calls dirty dirty_after before after f0 f1) (machine_is m tried holds)
-            (subst (λ (x : Deletion). WorkSteps m x did calls dirty dirty_after before after f0 f1) (machine_is new tried still_holds) s),
+                (subst (λ (x : Deletion). WorkSteps m x did calls dirty dirty_after before after f0 f1) (machine_is new tried still_holds) s),
           );
           tells = work_tells s.mid on_stage within did w.works;
           called = λ log known. work_calls s.mid on_stage within did log after w.works (w.called log known);

@@ -47,12 +47,7 @@ impl TreeDeletion {
     }
 
     /// Does the next piece of work, which is at most one changing call of the tree.
-    pub fn step<T: Tree>(
-        &mut self,
-        alloc: Global,
-        tree: &mut T,
-        dirty: &mut Dirty,
-    ) -> StepResult
+    pub fn step<T: Tree>(&mut self, alloc: Global, tree: &mut T, dirty: &mut Dirty) -> StepResult
         ensures { DeletionStep self.old self.new result.did result.calls dirty.old dirty.new (T.contents tree.old)
             (T.contents tree.new) (T.fault_count tree.old) (T.fault_count tree.new) }
     {

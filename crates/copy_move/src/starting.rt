@@ -41,9 +41,5 @@ pub(crate) fn deletion_of(alloc: Global, paths: &Paths) -> Result<Work, NoMemory
     let Some(folder) = path.parent(alloc)? else {
         unreachable!()
     };
-    Ok(Work::Delete(TreeDeletion::new(
-        alloc,
-        path.copy(alloc)?,
-        folder,
-    )))
+    Ok(Work::Delete(TreeDeletion::new(alloc, path.copy(alloc)?, folder)))
 }

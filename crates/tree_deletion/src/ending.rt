@@ -4,8 +4,8 @@ ghost use Rattle.job_reports.specs.Stops.{calls_made_for};
 ghost use Rattle.tree_deletion.specs.Steps.{LastSteps, SyncSteps};
 
 use crate::deletion::Deletion;
-use crate::reports::{ended, refused, with_call, without_call};
 use crate::dirty::Dirty;
+use crate::reports::{ended, refused, with_call, without_call};
 use job_reports::{Did, Ending, LastStepResult, StepResult, calls_made, out_of_memory};
 use std::alloc::Global;
 use tree_trait::{Tree, TreeError};

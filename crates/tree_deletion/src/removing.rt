@@ -7,8 +7,8 @@ ghost use Rattle.tree_deletion.specs.Standing.{Decides, End, Leaves, Thing, at_b
 ghost use Rattle.tree_deletion.specs.Steps.{IsThing, KeepsRest, Passes, Working};
 
 use crate::deletion::{Deletion, Depth, Stage, stage_after};
-use crate::reports::{refused, with_call, without_call};
 use crate::dirty::Dirty;
+use crate::reports::{refused, with_call, without_call};
 use job_reports::{Did, StepResult, out_of_memory};
 use mc_text::{NoMemory, Path};
 use std::alloc::Global;

@@ -5,21 +5,16 @@ ghost use Rattle.tree_deletion.specs.Descending.{Enters, Meets};
 ghost use Rattle.tree_deletion.specs.Steps.{Advances, WorkSteps};
 
 use crate::deletion::Deletion;
+use crate::dirty::Dirty;
 use crate::meeting::Met;
 use crate::reports::without_call;
-use crate::dirty::Dirty;
 use job_reports::{Did, StepResult};
 use std::alloc::Global;
 use tree_trait::Tree;
 
 impl Deletion {
     /// Goes on up to something that is to be reported.
-    pub fn work<T: Tree>(
-        &mut self,
-        alloc: Global,
-        tree: &mut T,
-        dirty: &mut Dirty,
-    ) -> StepResult
+    pub fn work<T: Tree>(&mut self, alloc: Global, tree: &mut T, dirty: &mut Dirty) -> StepResult
         requires going { at_barrier self.old.stage ≡ false }
         ensures { WorkSteps self.old self.new result.did result.calls dirty.old dirty.new
             (T.contents tree.old) (T.contents tree.new) (T.fault_count tree.old) (T.fault_count tree.new) }
