@@ -72,8 +72,9 @@ const COPYING: &[u8] = b"\x1b[B\x1b[15~\r\r\x1b[21~";
 /// Down, F8, Enter, b in the box of the refused sync, F8, Enter, F10.
 const DELETING_BOTH: &[u8] = b"\x1b[B\x1b[19~\rb\x1b[19~\r\x1b[21~";
 
-/// The calls that are the first sync, after two listings, a look and the removal, and the one of the last steps.
-const REFUSED_SYNCS: &[u64] = &[5, 6];
+/// The calls that are the first sync, after two listings, a look of the key and one of the job, and the removal, and the one of the last
+/// steps.
+const REFUSED_SYNCS: &[u64] = &[6, 7];
 
 /// Down, F5, Enter, Enter, b in the box of the refused sync, F8, Enter, F10.
 const COPYING_AND_DELETING: &[u8] = b"\x1b[B\x1b[15~\r\rb\x1b[19~\r\x1b[21~";
