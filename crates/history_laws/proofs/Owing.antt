@@ -84,7 +84,7 @@ changed_or_before false false up q dirty among = inr among
 changed_or_before true true up q dirty among = inr among
 
 -- the folder of what a deletion removes is its own
-own_folder : (d : Deleting) (path q : Route) → is_prefix d.path path ≡ true → q ≡ folder_of path → is_own (Delete d) q ≡ true
+pub own_folder : (d : Deleting) (path q : Route) → is_prefix d.path path ≡ true → q ≡ folder_of path → is_own (Delete d) q ≡ true
 own_folder d path q within same = let w = prefix_way d.path path within in by w.0 (same ∙ ap folder_of w.1)
   where
     by : (rest : Route) → q ≡ folder_of (rest ++ d.path) → is_own (Delete d) q ≡ true

@@ -57,14 +57,13 @@ pub fn choose<T: Tree>(
     }
 }
 
-/// Whether a box may ask of a thing of this kind: a file may be copied, and all but a folder deleted.
+/// Whether a box may ask of a thing of this kind: a file may be copied, and anything deleted.
 fn may_ask_of(opens: Opens, kind: Kind) -> bool
     ensures { result ≡ may_open opens kind }
 {
     match (opens, kind) {
         (Opens::SourceMask, Kind::File) => true,
         (Opens::SourceMask, Kind::Folder | Kind::Link | Kind::Other) => false,
-        (Opens::Delete, Kind::Folder) => false,
-        (Opens::Delete, Kind::File | Kind::Link | Kind::Other) => true,
+        (Opens::Delete, _) => true,
     }
 }
