@@ -2,7 +2,7 @@
 use Rattle.std.proofs.Common.{◌≡◌, ◌⊎◌, ℕ, ◌<◌, Bool, true, false, List, [], ◌∷◌, ◌++◌, length, refl, sym, ◌∙◌, ap, subst, inl, inr, Option, Some, None, arith, cond, length-append}
 use Rattle.std.specs.Prelude.{is_some, option_and_then}
 use Rattle.std.specs.Option.{option_map, option_map_or}
-use Rattle.std.proofs.lemmas.Bool.{false≢true, true≢false, both_ways, false_from_ne_true}
+use Rattle.std.proofs.lemmas.Bool.{false≢true, both_ways, false_from_ne_true}
 use Rattle.mc_text.specs.Routes.{Route, same_path}
 use Rattle.tree_trait.specs.declared.file_system.FileSystem.{FileSystem}
 use Rattle.tree_trait.specs.FileSystem.{lookup, find, node, value, visible_tree, starts_mount}
@@ -21,7 +21,7 @@ use Rattle.crash_law.proofs.Removing.{removal_law}
 use Rattle.crash_law.proofs.Syncing.{unaltered_law}
 use Rattle.crash_law.proofs.Tops.{under_removed, none_below}
 use Rattle.history_laws.specs.Doubt.{is_pending, is_unsettled, name_waits}
-use Rattle.history_laws.proofs.Pending.{pending_less, says_at, within_more}
+use Rattle.history_laws.proofs.Pending.{pending_less, within_more}
 use Rattle.history_laws.proofs.Knowing.{Said, IsKnown, IsUnreached, held, nowhere}
 use Rattle.history_laws.proofs.Quiet.{folder_same, held_same, kind_same, mount_same, shows_same, was_bare}
 use Rattle.history_laws.proofs.Resting.{IsSureFolder, mounted, stands_at, sure_still, unborn_more}

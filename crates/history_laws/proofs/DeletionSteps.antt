@@ -32,7 +32,7 @@ use Rattle.history_laws.proofs.Knowing.{Said, IsKnown, IsKept}
 use Rattle.history_laws.proofs.JobKnows.{HasName, KnowsAfter, WorkKnows, none_waits, way_sure, work_settled}
 use Rattle.history_laws.proofs.Stepped.{Comes, comes_none, comes_one, said_after}
 use Rattle.history_laws.proofs.Deleted.{comes_refused, removal_done, removes_file}
-use Rattle.history_laws.proofs.Resting.{IsSureFolder, folder_at, folder_at_of}
+use Rattle.history_laws.proofs.Resting.{IsSureFolder, folder_at_of}
 
 pub last_among : (up : Route) (dirty : List Route) → Among (dirty ++ up ∷ []) up
 last_among up [] = inl refl

@@ -1,8 +1,8 @@
 -- The making of an empty folder.
-use Rattle.std.proofs.Common.{◌≡◌, ◌⊎◌, ℕ, ◌<◌, ◌≤◌, Bool, true, false, not, ◌&&◌, List, [], ◌∷◌, ◌++◌, length, refl, sym, ◌∙◌, ap, subst, inl, inr, Option, Some, None, arith, cond, length-append}
+use Rattle.std.proofs.Common.{◌≡◌, ◌⊎◌, ℕ, ◌<◌, Bool, true, false, not, ◌&&◌, List, [], ◌∷◌, ◌++◌, length, refl, sym, ◌∙◌, ap, subst, inl, inr, Option, Some, None, arith, cond, length-append}
 use Rattle.std.specs.Prelude.{is_some, option_and_then, ◌==◌}
 use Rattle.std.specs.Option.{option_map, option_map_or}
-use Rattle.std.proofs.lemmas.Bool.{true≢false, false≢true, both_ways, false_from_ne_true, eqb-true, eq-eqb, cases_lt}
+use Rattle.std.proofs.lemmas.Bool.{false≢true, both_ways, false_from_ne_true, eqb-true, eq-eqb, cases_lt}
 use Rattle.mc_text.specs.Routes.{Route, same_path}
 use Rattle.tree_trait.specs.declared.file_system.FileSystem.{FileSystem}
 use Rattle.tree_trait.specs.declared.file_system.Mount.{Mount}
@@ -14,7 +14,7 @@ use Rattle.tree_trait.specs.CrashImages.{says, same_name, Among}
 use Rattle.tree_trait.proofs.Kept.{folder_there}
 use Rattle.tree_trait.proofs.Finding.{find-once, same_name-true, same_name-self}
 use Rattle.tree_trait.proofs.Names.{count_after, count-after_change}
-use Rattle.tree_trait.proofs.Visible.{same_path-true, same_path-self}
+use Rattle.tree_trait.proofs.Visible.{same_path-true}
 use Rattle.tree_trait.proofs.Steady.{at}
 use Rattle.crash_law.specs.Guarded.{Marks, IsNaming}
 use Rattle.crash_law.proofs.Guarding.{settle_law, find_same, found_at, naming_law}
@@ -25,7 +25,7 @@ use Rattle.crash_law.proofs.Tops.{under_made, none_below}
 use Rattle.history_laws.specs.Doubt.{is_pending, is_unsettled, name_waits}
 use Rattle.history_laws.proofs.Pending.{pending_less, within_more}
 use Rattle.history_laws.proofs.Knowing.{Said, IsKnown, IsUnreached, held}
-use Rattle.history_laws.proofs.Quiet.{folder_same, held_same, kind_same, mount_same, mounts_same, shows_same, was_bare}
+use Rattle.history_laws.proofs.Quiet.{held_same, kind_same, mount_same, mounts_same, shows_same, was_bare}
 use Rattle.history_laws.proofs.Resting.{IsSureFolder, folder_at_of, mounted, stands_at, sure_still, unborn_more}
 use Rattle.history_laws.proofs.Changing.{folder_anchored, off_itself, said_one, some_none, some_is}
 

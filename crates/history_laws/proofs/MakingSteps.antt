@@ -33,7 +33,6 @@ use Rattle.copy_move.specs.Makings.{LastMakingCalls, Making, MakingCalls, Making
 use Rattle.copy_move.specs.Makings as makings
 use Rattle.copy_move.specs.Jobs.{course_after}
 use Rattle.copy_move.specs.Settling.{NoneOwed, after_try, with_change as moves_dirty}
-use Rattle.history_laws.specs.Doubt.{name_waits}
 use Rattle.history_laws.specs.Replayed.{new_folder}
 use Rattle.history_laws.proofs.Calming.{refused_is, still_listed}
 use Rattle.history_laws.proofs.Changing.{seen_nowhere}

@@ -1,6 +1,6 @@
 -- A path leads only where it leads, of which no name waits, nor that of a folder above it; and a path that is not in doubt stays
 -- so, as long as no name on its way is changed.
-use Rattle.std.proofs.Common.{◌≡◌, ◌⊎◌, ℕ, ◌≤◌, Bool, true, false, ◌||◌, List, [], ◌∷◌, length, refl, sym, ◌∙◌, ap, subst, inl, inr, Option, Some, None, arith}
+use Rattle.std.proofs.Common.{◌≡◌, ℕ, ◌≤◌, Bool, true, false, ◌||◌, List, [], ◌∷◌, length, refl, sym, ◌∙◌, ap, subst, inl, inr, Option, Some, None, arith}
 use Rattle.std.specs.Prelude.{is_some, option_and_then}
 use Rattle.std.specs.Option.{option_map_or}
 use Rattle.std.proofs.lemmas.Bool.{true≢false, false≢true, both_ways, false_from_ne_true}
@@ -38,9 +38,6 @@ stands_at s p h = by (find s p) refl h
     by : (o : Option ℕ) → find s p ≡ o → option_map_or (λ i. is_folder (node s i)) o false ≡ true → IsFolderAt s p
     by None is h = absurd (false≢true h)
     by (Some i) is h = record { i = i; at = is; folder = h }
-
-pub no_folder_at : (s : FileSystem) (p : Route) → ((i : ℕ) → find s p ≡ Some i → is_folder (node s i) ≡ true → ⊥) → folder_at s p ≡ false
-no_folder_at s p none = false_from_ne_true _ (λ h. let stands = stands_at s p h in none stands.i stands.at stands.folder)
 
 -- Names change within their folder, only folders hold names, and where a mount begins nothing is in doubt.
 pub record IsOfFiles (log : CallLog) : Type 0 where
