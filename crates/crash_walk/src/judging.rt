@@ -9,7 +9,7 @@ use tree_trait::{Meta, Tree, TreeError};
 /// What stands at a path.
 #[derive(Clone, Copy)]
 enum Standing {
-    /// The file as it was put.
+    /// The file as it was put, or an empty folder as it was made.
     Whole,
     Missing,
     /// Anything else.
@@ -24,6 +24,8 @@ pub fn left_in<T: Tree>(alloc: Global, image: &mut T, scene: Scene) -> Result<St
         Scene::Copy => left_of_copy(alloc, image),
         Scene::LeftFolder => left_of_deletion(alloc, image),
         Scene::LeftTarget => left_of_copy(alloc, image),
+        Scene::NewFolder => left_of_making(alloc, image),
+        Scene::LeftNewFolder => left_of_makings(alloc, image),
     }
 }
 
@@ -60,6 +62,44 @@ fn left_of_copy<T: Tree>(alloc: Global, image: &mut T) -> Result<String> {
     let target = word_of(target, "missing");
     let source = word_of(source, "missing");
     Ok(format!(in alloc; "{target}, the source {source}, beside it {beside}")?)
+}
+
+fn left_of_making<T: Tree>(alloc: Global, image: &mut T) -> Result<String> {
+    let made = word_of(what_folder_stands(alloc, image, "/a/n")?, "missing");
+    Ok(String::from_str(alloc, made)?)
+}
+
+fn left_of_makings<T: Tree>(alloc: Global, image: &mut T) -> Result<String> {
+    let first = word_of(what_folder_stands(alloc, image, "/a/n")?, "missing");
+    let second = word_of(what_folder_stands(alloc, image, "/a/m")?, "missing");
+    Ok(format!(in alloc; "{first}, the second {second}")?)
+}
+
+/// What stands where a folder is made.
+fn what_folder_stands<T: Tree>(alloc: Global, image: &mut T, path: &str) -> Result<Standing> {
+    let path = Path::parse(alloc, path)?;
+    match image.stat(alloc, &path) {
+        Err(TreeError::Missing) => Ok(Standing::Missing),
+        Err(error) => bail!("{error}"),
+        Ok(meta) => folder_compared(alloc, image, &path, meta),
+    }
+}
+
+fn folder_compared<T: Tree>(
+    alloc: Global,
+    image: &mut T,
+    path: &Path,
+    meta: Meta,
+) -> Result<Standing> {
+    if meta.kind != Kind::Folder || meta.mode != 0o755 {
+        return Ok(Standing::Torn);
+    }
+    let children = image.list(alloc, path)?;
+    if children.unnamed == 0 && children.names.as_slice().is_empty() {
+        Ok(Standing::Whole)
+    } else {
+        Ok(Standing::Torn)
+    }
 }
 
 /// What stands, in a word; the word for nothing is given.

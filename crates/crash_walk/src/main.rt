@@ -1,10 +1,11 @@
 //! Walks through every moment of five sessions, of which one deletes a file, one a folder, one copies a file, one deletes two files of which
-//! the first is left unsynced, and one copies a file whose target is left so, and deletes the source; and through the crash
-//! images of each: what is left then? The expected lines stand in `stdout`.
+//! the first is left unsynced, and one copies a file whose target is left so, and deletes the source; and of two in which
+//! folders are made. It walks through the crash images of each: what is left then? The expected lines stand in `stdout`.
 #![tactic(auto)]
 
 mod images;
 mod judging;
+mod makings;
 mod scenes;
 mod sessions;
 
@@ -18,6 +19,8 @@ fn main(rt: HostRuntime) -> Result<()> {
     let copy = scene_lines(alloc, Scene::Copy)?;
     let left = scene_lines(alloc, Scene::LeftFolder)?;
     let left_target = scene_lines(alloc, Scene::LeftTarget)?;
+    let new_folder = scene_lines(alloc, Scene::NewFolder)?;
+    let left_new_folder = scene_lines(alloc, Scene::LeftNewFolder)?;
     for line in deletion.iter() {
         println!(rt; "{line}")?;
     }
@@ -31,6 +34,12 @@ fn main(rt: HostRuntime) -> Result<()> {
         println!(rt; "{line}")?;
     }
     for line in left_target.iter() {
+        println!(rt; "{line}")?;
+    }
+    for line in new_folder.iter() {
+        println!(rt; "{line}")?;
+    }
+    for line in left_new_folder.iter() {
         println!(rt; "{line}")?;
     }
     Ok(())

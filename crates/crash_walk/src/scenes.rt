@@ -1,7 +1,8 @@
-//! The four sessions: the trees that they begin with, and their keys.
+//! The sessions: the trees that they begin with, and their keys, or the folders that they make.
 ghost use Rattle.std.specs.Prelude.{◌≡◌, []};
 
 use crate::images::walk;
+use crate::makings::after_makings;
 use crate::sessions::after_keys;
 use anyhow::{Result, bail};
 use mc_text::Path;
@@ -22,6 +23,10 @@ pub enum Scene {
     /// A file is copied. The sync after it came to its name is refused, and so is that of the last steps. The second job, which
     /// deletes the source, makes it before that.
     LeftTarget,
+    /// A folder is made.
+    NewFolder,
+    /// Two folders are made. The sync after the first is refused, and so is that of its last steps; the second job makes it.
+    LeftNewFolder,
 }
 
 impl Scene {
@@ -33,6 +38,8 @@ impl Scene {
             Scene::Copy => "/s/e is copied into /t",
             Scene::LeftFolder => "/a/x is deleted and /a not synced, then /a/y is deleted",
             Scene::LeftTarget => "/s/e is copied and /t not synced, then /s/e is deleted",
+            Scene::NewFolder => "/a/n is made",
+            Scene::LeftNewFolder => "/a/n is made and /a not synced, then /a/m is made",
         }
     }
 
@@ -44,6 +51,8 @@ impl Scene {
             Scene::Copy => true,
             Scene::LeftFolder => false,
             Scene::LeftTarget => true,
+            Scene::NewFolder => false,
+            Scene::LeftNewFolder => false,
         }
     }
 }
@@ -87,6 +96,9 @@ const COPYING_AND_DELETING: &[u8] = b"\x1b[B\x1b[15~\r\rb\x1b[19~\r\x1b[21~";
 /// the keys, five of the copy, and the part made, filled from what is read, synced and renamed.
 const REFUSED_TARGET_SYNCS: &[u64] = &[15, 16];
 
+/// The calls that are the first sync, after the making, and the one of the last steps.
+const REFUSED_FOLDER_SYNCS: &[u64] = &[2, 3];
+
 /// The lines of a session: its title, and what is left at each moment.
 pub fn scene_lines(alloc: Global, scene: Scene) -> Result<Vec<String>> {
     let tree = played(alloc, scene)?;
@@ -101,6 +113,8 @@ fn played(alloc: Global, scene: Scene) -> Result<MemTree> {
         Scene::Copy => copy(alloc),
         Scene::LeftFolder => left_folder(alloc),
         Scene::LeftTarget => left_target(alloc),
+        Scene::NewFolder => new_folder(alloc),
+        Scene::LeftNewFolder => left_new_folder(alloc),
     }
 }
 
@@ -129,6 +143,24 @@ fn left_target(alloc: Global) -> Result<MemTree> {
     let mut tree = file_and_folder(alloc)?;
     tree.fail_calls(alloc, REFUSED_TARGET_SYNCS)?;
     after_keys(alloc, tree, "/s", "/t", COPYING_AND_DELETING)
+}
+
+fn new_folder(alloc: Global) -> Result<MemTree> {
+    let tree = empty_folder(alloc)?;
+    after_makings(alloc, tree, &["/a/n"])
+}
+
+fn left_new_folder(alloc: Global) -> Result<MemTree> {
+    let mut tree = empty_folder(alloc)?;
+    tree.fail_calls(alloc, REFUSED_FOLDER_SYNCS)?;
+    after_makings(alloc, tree, &["/a/n", "/a/m"])
+}
+
+/// The empty folder `/a`.
+fn empty_folder(alloc: Global) -> Result<MemTree> {
+    let mut tree = MemTree::new(alloc, 0)?;
+    put_folder(alloc, &mut tree, "/a")?;
+    Ok(tree)
 }
 
 /// The folder `/a` with two files.

@@ -39,9 +39,6 @@ stands_at s p h = by (find s p) refl h
     by None is h = absurd (false≢true h)
     by (Some i) is h = record { i = i; at = is; folder = h }
 
-pub no_folder_at : (s : FileSystem) (p : Route) → ((i : ℕ) → find s p ≡ Some i → is_folder (node s i) ≡ true → ⊥) → folder_at s p ≡ false
-no_folder_at s p none = false_from_ne_true _ (λ h. let stands = stands_at s p h in none stands.i stands.at stands.folder)
-
 -- Names change within their folder, only folders hold names, and where a mount begins nothing is in doubt.
 pub record IsOfFiles (log : CallLog) : Type 0 where
   pub within : all_within log.changes ≡ true
