@@ -85,16 +85,17 @@ const COPYING: &[u8] = b"\x1b[B\x1b[15~\r\r\x1b[21~";
 /// Down, F8, Enter, b in the box of the refused sync, F8, Enter, F10.
 const DELETING_BOTH: &[u8] = b"\x1b[B\x1b[19~\rb\x1b[19~\r\x1b[21~";
 
-/// The calls that are the first sync, after two listings, a look of the key and one of the job, and the removal, and the one of the last
-/// steps.
-const REFUSED_SYNCS: &[u64] = &[6, 7];
+/// The calls that are the first sync, and the one of the last steps. Before them comes the opening: for each panel a look at its
+/// path, a listing, and a look at each of two files; then a look of the key and one of the job, and the removal.
+const REFUSED_SYNCS: &[u64] = &[12, 13];
 
 /// Down, F5, Enter, Enter, b in the box of the refused sync, F8, Enter, F10.
 const COPYING_AND_DELETING: &[u8] = b"\x1b[B\x1b[15~\r\rb\x1b[19~\r\x1b[21~";
 
-/// The calls that are the sync after the renaming, and the one of the last steps. Before them come two listings, two looks of
-/// the keys, five of the copy, and the part made, filled from what is read, synced and renamed.
-const REFUSED_TARGET_SYNCS: &[u64] = &[15, 16];
+/// The calls that are the sync after the renaming, and the one of the last steps. Before them comes the opening: for each panel a
+/// look at its path and a listing, and a look at the file; then two looks of the keys, five of the copy, and the part made, filled
+/// from what is read, synced and renamed.
+const REFUSED_TARGET_SYNCS: &[u64] = &[18, 19];
 
 /// The calls that are the first sync, after the making, and the one of the last steps.
 const REFUSED_FOLDER_SYNCS: &[u64] = &[2, 3];

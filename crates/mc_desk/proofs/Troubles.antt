@@ -32,7 +32,7 @@ use Rattle.copy_move.specs.Jobs.{Running, MayAnswer, TellsOn, WorkTells, WorkWin
 use Rattle.copy_move.specs.Told.{IsAllowedStep, after_step, course_told, if_closed, running, told}
 use Rattle.history_laws.specs.ToldJob.{after_event, live_job}
 use Rattle.mc_ui.specs.LiveJobs.{fits, is_troubled, takes_answer}
-use Rattle.mc_ui.specs.Screens.{Screen, sight}
+use Rattle.mc_ui.specs.Screens.{Screen}
 use Rattle.mc_desk.specs.declared.starts.Start.{Start}
 use Rattle.mc_desk.specs.LiveRows.{is_report, reported_trouble, row_of, trouble_told}
 use Rattle.mc_desk.specs.Shown.{Put}
@@ -185,7 +185,7 @@ pub session_waits : (start : Option Start) (opening : Option CallLog) (faults : 
 session_waits start opening faults [] now begins = tt
 session_waits start opening faults (e ∷ older) now (was, session, enters) =
     closed_waits (is_closed (e ∷ older)) (after_event e.what (live_job older)) (trouble_told (e ∷ older))
-    (event_waits (before_entry (sight was.contents) older was.screen) e.what now.screen (live_job older) (trouble_told older) refl enters.leads
+    (event_waits (before_entry was.contents older was.screen) e.what now.screen (live_job older) (trouble_told older) refl enters.leads
     (session_waits start opening faults older was session))
 
 not_true : (b : Bool) → not b ≡ true → b ≡ false

@@ -10,7 +10,7 @@ use Rattle.job_reports.specs.declared.job.Job.{Job}
 use Rattle.job_reports.specs.declared.job.Job.TheVariants as plan
 use Rattle.session_history.specs.declared.refusal.PlanError.TheVariants.{NoSelection, TargetThere, TargetTooLong, BadMask}
 use Rattle.session_history.specs.declared.refusal.Refusal.{Refusal}
-use Rattle.session_history.specs.declared.refusal.Refusal.TheVariants.{Tree, Plan, Begin}
+use Rattle.session_history.specs.declared.refusal.Refusal.TheVariants.{Tree, Resolve, Plan, Begin}
 use Rattle.mc_ui.specs.declared.panel_command.Opens.{Opens}
 use Rattle.mc_ui.specs.declared.panel_command.Opens.TheVariants as opens
 
@@ -55,4 +55,5 @@ CopyRefused tree target (Plan TargetTooLong) = 4096 < length (spelled target)
 CopyRefused tree target (Plan NoSelection) = ⊥
 CopyRefused tree target (Plan BadMask) = ⊥
 CopyRefused tree target (Tree path e) = (path ≡ target) × (e ≢ Missing)
+CopyRefused tree target (Resolve e) = ⊥
 CopyRefused tree target (Begin error) = ⊥
