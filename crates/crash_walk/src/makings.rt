@@ -1,6 +1,4 @@
 //! Jobs that make folders, over a tree in memory that tells nothing, step by step: no key begins one yet.
-ghost use Rattle.std.specs.Prelude.{true};
-
 use anyhow::{Result, bail};
 use copy_move::{Dirty, PartTest, Run};
 use job_reports::{Job, is_end};
@@ -35,7 +33,7 @@ fn make_all<T: Tree>(alloc: Global, tree: &mut T, paths: &[&str]) -> Result<()> 
     let mut id = 0u32;
     for path in paths.iter() {
         id = id.saturating_add(1);
-        work_off(alloc, tree, &mut dirty, path, id)?;
+        work_off(alloc, tree, &mut dirty, *path, id)?;
     }
     Ok(())
 }
@@ -54,7 +52,10 @@ fn work_off<T: Tree>(
     };
     let mut run = Run::start(alloc, &Job::MakeFolder(path), id)?;
     for _ in 0..8 {
-        run.close();
+        if run.waits() {
+            run.abort();
+            continue;
+        }
         let stepped = run.step(alloc, tree, &NoClaims, dirty);
         if is_end(&stepped.did) {
             return Ok(());
