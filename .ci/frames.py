@@ -1,8 +1,8 @@
 """What stands on the screen, written by hand from the rules of the screen, and compared cell by cell.
 
 Two panels: the left has half of the columns, the right the rest. The first row of a panel is its folder filled with `-`, the
-second its heading, then come the items, the current name, and a line below. The last row but one tells of live jobs, the last
-one names the ten keys.
+second its heading, then come the items, the current name, and a line below. An item is a letter for its kind, its name, its
+size and its time. The last row but one tells of live jobs, the last one names the ten keys.
 """
 
 KEY_BAR = "1Help  2Menu  3View  4Edit  5Copy  6RenMov7Mkdir 8Delete9PullDn10Quit  "
@@ -13,13 +13,32 @@ def cut(text, columns):
     return text.ljust(columns) if len(text) <= columns else text[: columns - 1] + "~"
 
 
+# The heading of the columns; the first row of a folder that isn't the root; and a time that is told by its year.
+HEADING = (" ", "Name", "Size   ", "Modify time ")
+PARENT = ("/", "..", "UP--DIR", " " * 12)
+LONG_AGO = 981158400
+YEAR = "Feb  3  2001"
+
+
+def file_row(name, size):
+    """A file that may not be executed, and that was changed long ago."""
+    return " ", name, f"{size:7}", YEAR
+
+
+def row(inside, letter, name, size, time):
+    """A row of a panel. The name has the columns that the letter, two bars, seven for the size and twelve for the time leave,
+    and one at least; what doesn't fit then is cut off."""
+    text = letter + cut(name, max(inside - 22, 1)) + "|" + size + "|" + time
+    return text[:inside].ljust(inside)
+
+
 def pane(lines, columns, folder, items, current):
     """The rows of a panel down to its lower edge."""
     inside = columns - 2
     title = folder if len(folder) <= inside else cut(folder, inside)
-    shown = [cut(item, inside) for item in items[: lines - 6]]
+    shown = [row(inside, *item) for item in items[: lines - 6]]
     shown += [" " * inside] * (lines - 6 - len(shown))
-    rows = ["+" + title.ljust(inside, "-") + "+", "|" + " " * inside + "|"]
+    rows = ["+" + title.ljust(inside, "-") + "+", "|" + row(inside, *HEADING) + "|"]
     rows += ["|" + item + "|" for item in shown]
     return rows + ["|" + cut(current, inside) + "|", "+" + "-" * inside + "+"]
 
@@ -47,13 +66,14 @@ def with_box(rows, box):
 
 
 # Written out whole once, so that the functions above are compared with what a person sees: 10 lines of 40 columns, the folder
-# `/f` with the files `a` and `b.txt` in both panels, the cursor of the left one on the first row.
+# `/f` with the files `a` and `b.txt` of three bytes in both panels, the cursor of the left one on the first row. A name has one
+# column there, and of a time seven are left.
 SMALL = [
     "+/f----------------++/f----------------+",
-    "|                  ||                  |",
-    "|..                ||..                |",
-    "|a                 ||a                 |",
-    "|b.txt             ||b.txt             |",
+    "| ~|Size   |Modify || ~|Size   |Modify |",
+    "|/~|UP--DIR|       ||/~|UP--DIR|       |",
+    "| a|      3|Feb  3 || a|      3|Feb  3 |",
+    "| ~|      3|Feb  3 || ~|      3|Feb  3 |",
     "|                  ||                  |",
     "|..                ||..                |",
     "+------------------++------------------+",

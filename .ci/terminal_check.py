@@ -18,10 +18,11 @@ import tempfile
 import termios
 import time
 
-from frames import SMALL, SMALL_LOOKS, frame, with_box
+from frames import LONG_AGO, PARENT, SMALL, SMALL_LOOKS, file_row, frame, with_box
 from terminal_screen import Screen
 
-UP, DOWN, END, TAB = b"\x1b[A", b"\x1b[B", b"\x1b[F", b"\t"
+UP, DOWN, HOME, END, TAB, INSERT = b"\x1b[A", b"\x1b[B", b"\x1b[H", b"\x1b[F", b"\t", b"\x1b[2~"
+BACK, FORWARD, AGAIN, SWAP = b"\x1by", b"\x1bu", b"\x12", b"\x15"
 F1, F5, F8, F10, ENTER, ESCAPE = b"\x1bOP", b"\x1b[15~", b"\x1b[19~", b"\x1b[21~", b"\r", b"\x1b\x1b"
 COPY = [DOWN, F5, ENTER, ENTER]
 USAGE = b"usage: mc [-b] [-V] [-h] [-P FILE] [-v FILE | -e FILE | --drill N | DIR1 [DIR2]]"
@@ -140,6 +141,7 @@ def make_file(path, size, mode):
     with open(path, "wb") as file:
         file.write(bytes(i % 251 for i in range(size)))
     os.chmod(path, mode)
+    os.utime(path, (LONG_AGO, LONG_AGO))
 
 
 def facts(path):
@@ -225,7 +227,7 @@ def check_frames(program, base, check):
     os.mkdir(folder)
     for name in ("a", "b.txt"):
         make_file(os.path.join(folder, name), 3, 0o644)
-    items = ["..", "a", "b.txt"]
+    items = [PARENT, file_row("a", 3), file_row("b.txt", 3)]
     check("the frame of ten lines is as written out", frame(10, 40, ("/f", items, ".."), ("/f", items, "..")) == SMALL)
     check("and so are its looks", half_reverse(10, 3, 40) == SMALL_LOOKS)
 
@@ -260,7 +262,7 @@ def check_cursor(program, base, check):
     names = [f"{number:02}" for number in range(40)]
     for name in names:
         make_file(os.path.join(folder, name), 0, 0o644)
-    items = [".."] + names
+    items = [PARENT] + [file_row(name, 0) for name in names]
     size = (24, 80)
     _, told, _ = run(program, [folder, base], [END, UP, TAB, TAB, F10], size)
     opening, end, up, other, back = told.screens[:5]
@@ -276,6 +278,71 @@ def check_cursor(program, base, check):
     _, first, second, nothing, begun, third = (after - before for before, after in zip([0] + told.counts, told.counts))
     check("Down puts at most 200 bytes", all(0 < count <= 200 for count in (first, second, third)))
     check("a key that changes nothing puts none, and neither does half a key", nothing == 0 and begun == 0)
+
+
+def left_panel(screen):
+    """What stands on the screen of the left panel: its folder, its rows without blanks at the end, and the current name."""
+    rows = [row[1:39].rstrip() for row in screen.rows()]
+    return rows[0].rstrip("-"), [row for row in rows[2:20] if row], rows[20]
+
+
+def check_panels(program, base, check):
+    """Through folders and back, tags, and a folder that can't be entered."""
+    top = os.path.join(base, "w")
+    os.makedirs(os.path.join(top, "one", "two", "three"))
+    make_file(os.path.join(top, "one", "two", "f"), 3, 0o644)
+    os.symlink("one/two", os.path.join(top, "to"))
+    os.symlink("round", os.path.join(top, "round"))
+    path = lambda *names: os.path.join(top, *names)
+
+    keys = [DOWN, ENTER, DOWN, ENTER, DOWN, ENTER, ENTER, HOME, ENTER, HOME, ENTER, BACK, BACK, FORWARD]
+    status, told, same = run(program, [top, base], keys + [F10])
+    seen = [left_panel(screen) for screen in told.screens]
+    check("a walk through folders ends well", status == 0 and same and len(seen) == len(keys) + 1)
+    seen += [("", [], "")] * (len(keys) + 1 - len(seen))
+    places = [(folder, current) for folder, _, current in seen]
+    check("Enter goes down three folders", [places[2], places[4], places[6]] == [(path("one"), ".."), (path("one", "two"), ".."), (path("one", "two", "three"), "..")])
+    up = [(path("one", "two"), "three"), (path("one"), "two"), (top, "one")]
+    check("and up again, onto the folder that was left", [places[7], places[9], places[11]] == up)
+    check("M-y goes back, M-u forward", [folder for folder, _ in places[12:]] == [path("one"), path("one", "two"), path("one")])
+
+    _, told, _ = run(program, [top, base], [DOWN, DOWN, ENTER, HOME, ENTER, F10])
+    along = left_panel(told.screens[3])
+    check("a link to a folder is entered", along[0] == path("one", "two") and [row[1:3] for row in along[1]] == ["..", "th", "f "])
+    check("and `..` leads to the folder above", left_panel(told.screens[5])[0] == path("one"))
+    rows = left_panel(told.screens[0])[1]
+    check("folders come first, and links to them are among them", [row[0] for row in rows] == ["/", "/", "~", "!"])
+
+    inside = path("one", "two")
+    make_file(os.path.join(inside, "g"), 3, 0o644)
+    remove = lambda _: os.remove(os.path.join(inside, "g"))
+    _, told, _ = run(program, [inside, base], [END, UP, INSERT, remove, AGAIN, UP, SWAP, F10])
+    look = lambda screen, name: next(screen.looks(row + 1) for row in range(24) if screen.rows()[row][2:4] == name)
+    tagged, kept, swapped = told.screens[3], told.screens[6], told.screens[7]
+    check("Insert tags a name and moves down", "b" in look(tagged, "f ") and left_panel(tagged)[2] == "g")
+    check("C-r reads the folder again, and keeps the tag", len(left_panel(kept)[1]) == 3 and "b" in look(kept, "f "))
+    check("C-u swaps the panels", left_panel(swapped)[0] == base and swapped.rows()[0][41:].startswith(inside))
+    make_file(os.path.join(inside, "g"), 3, 0o644)
+    status, _, _ = run(program, [inside, base], [END, INSERT, UP, F8, ENTER, F10])
+    check("the tagged name is deleted, and not the current one", status == 0 and sorted(os.listdir(inside)) == ["f", "three"])
+
+
+def check_closed_folder(program, base, check):
+    """A folder that may not be read is refused, over the panel as it was."""
+    user = None
+    if os.geteuid() == 0:  # root may read all
+        user = SOMEBODY
+        program = for_somebody(program, base)
+    top = os.path.join(base, "closed")
+    os.makedirs(os.path.join(top, "in"))
+    os.chmod(os.path.join(top, "in"), 0o700)
+    if user is None:
+        os.chmod(os.path.join(top, "in"), 0o000)
+    _, told, _ = run(program, [top, top], [DOWN, ENTER, ENTER, F10], user=user)
+    before, refused, after = told.screens[1:4]
+    box = ["permission denied", os.path.join(top, "in")]
+    check("a folder that may not be read is refused", refused.rows() == with_box(before.rows(), box))
+    check("and the panel stays as it was", after.rows() == before.rows())
 
 
 def check_long_path(program, base, check):
@@ -417,7 +484,7 @@ def check_words(program, starter, base, check):
     inner = os.path.join(folder, "below")
     for words, there in [([], folder), (["below"], inner), (["./below/../below//"], inner), (["-b", "--", "below"], inner), (["../words"], folder)]:
         make_file(os.path.join(there, "!first"), 1, 0o644)
-        status, _, same = run(starter, words, [DOWN, F8, ENTER, F10], inside=folder)
+        status, _, same = run(starter, words, [END, F8, ENTER, F10], inside=folder)
         check(f"{words} start in {os.path.basename(there)}", status == 0 and same and not os.path.exists(os.path.join(there, "!first")))
     status, told, same = run(starter, ["nowhere"], [], inside=folder)
     check("a relative folder is named as it was typed", status == 2 and same and b"mc: nowhere: no such file or folder" in told)
@@ -486,6 +553,8 @@ def main():
 
         check_copies(program, base, check)
         check_frames(program, base, check)
+        check_panels(program, base, check)
+        check_closed_folder(program, base, check)
         check_long_path(program, base, check)
         check_dirty_folder(program, base, check)
         check_part_left(program, base, check)

@@ -3,17 +3,29 @@ use Rattle.std.specs.Prelude.{ℕ, Bool, true, false, List, [], ◌∷◌, ◌++
 use Rattle.std.specs.Option.{option_map_or}
 use Rattle.mc_text.specs.Routes.{Route, path_text, spelled}
 use Rattle.job_reports.specs.declared.report.Trouble.{Trouble}
+use Rattle.resolving.specs.declared.error.ResolveError.{ResolveError}
+use Rattle.resolving.specs.declared.error.ResolveError.TheVariants as resolve
 use Rattle.session_history.specs.declared.refusal.PlanError.TheVariants.{NoSelection, TargetThere, TargetTooLong, BadMask}
 use Rattle.session_history.specs.declared.refusal.Refusal.{Refusal}
-use Rattle.session_history.specs.declared.refusal.Refusal.TheVariants.{Tree, Plan, Begin}
+use Rattle.session_history.specs.declared.refusal.Refusal.TheVariants.{Tree, Resolve, Plan, Begin}
 use Rattle.mc_dialogs.specs.InputKeys.{InputState}
 use Rattle.box_words.specs.declared.message.Message.{Message}
 use Rattle.box_words.specs.declared.message.Message.TheVariants.{Refused, PartLeft, OutOfMemory, Help}
 use Rattle.box_words.specs.Causes.{refusal_words, trouble_words}
 
+-- the path that can't be read, if one is to blame
+abbrev pub resolve_path : ResolveError → Option Route
+resolve_path (resolve.Tree path e) = Some path
+resolve_path resolve.TooManyLinks = None
+resolve_path resolve.TooLong = None
+resolve_path resolve.BadName = None
+resolve_path resolve.Fault = None
+resolve_path resolve.Memory = None
+
 -- the path that a refusal speaks of, if it speaks of one
 abbrev pub refusal_path : Refusal → Option Route
 refusal_path (Tree path e) = Some path
+refusal_path (Resolve e) = resolve_path e
 refusal_path (Plan NoSelection) = None
 refusal_path (Plan (TargetThere path)) = Some path
 refusal_path (Plan TargetTooLong) = None

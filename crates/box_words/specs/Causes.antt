@@ -3,6 +3,8 @@ use Rattle.std.specs.Prelude.{ℕ, List, ◌++◌, codes}
 use Rattle.std.specs.Fmt.{decimal}
 use Rattle.tree_trait.specs.declared.calls.TreeError.{TreeError}
 use Rattle.tree_trait.specs.declared.calls.TreeError.TheVariants.{Missing, NotFolder, Denied, Exists, IsFolder, NotEmpty, IntoItself, Mounted, CrossMount, NoSpace, Special, Fault, Memory}
+use Rattle.resolving.specs.declared.error.ResolveError.{ResolveError}
+use Rattle.resolving.specs.declared.error.ResolveError.TheVariants as resolve
 use Rattle.job_reports.specs.declared.report.Cause.{Cause}
 use Rattle.job_reports.specs.declared.report.Cause.TheVariants as cause
 use Rattle.session_history.specs.declared.refusal.PlanError.{PlanError}
@@ -10,7 +12,7 @@ use Rattle.session_history.specs.declared.refusal.PlanError.TheVariants.{NoSelec
 use Rattle.session_history.specs.declared.refusal.BeginError.{BeginError}
 use Rattle.session_history.specs.declared.refusal.BeginError.TheVariants.{NoMoreIds}
 use Rattle.session_history.specs.declared.refusal.Refusal.{Refusal}
-use Rattle.session_history.specs.declared.refusal.Refusal.TheVariants.{Tree, Plan, Begin}
+use Rattle.session_history.specs.declared.refusal.Refusal.TheVariants.{Tree, Resolve, Plan, Begin}
 
 -- what is said of a refused call
 abbrev pub cause_words : TreeError → List ℕ
@@ -28,6 +30,15 @@ cause_words Special = codes "special file"
 cause_words Fault = codes "device fault"
 cause_words Memory = codes "out of memory"
 
+-- what is said of a folder that can't be read, or to which no way leads
+abbrev pub resolve_words : ResolveError → List ℕ
+resolve_words (resolve.Tree path e) = cause_words e
+resolve_words resolve.TooManyLinks = codes "too many links"
+resolve_words resolve.TooLong = codes "path too long"
+resolve_words resolve.BadName = codes "bad name"
+resolve_words resolve.Fault = codes "device fault"
+resolve_words resolve.Memory = codes "out of memory"
+
 -- what is said of a plan that can't be made
 abbrev pub plan_words : PlanError → List ℕ
 plan_words NoSelection = codes "nothing selected"
@@ -42,6 +53,7 @@ begin_words NoMoreIds = codes "too many jobs"
 -- what is said of a refusal
 abbrev pub refusal_words : Refusal → List ℕ
 refusal_words (Tree path e) = cause_words e
+refusal_words (Resolve e) = resolve_words e
 refusal_words (Plan error) = plan_words error
 refusal_words (Begin error) = begin_words error
 

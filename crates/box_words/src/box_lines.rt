@@ -2,13 +2,14 @@
 ghost use Rattle.std.specs.Prelude.{◌≡◌, ◌∷◌, ◌++◌, [], IfOk};
 ghost use Rattle.std.specs.Option.{option_map_or};
 ghost use Rattle.mc_text.specs.Routes.{path_text as path_text_of};
-ghost use Rattle.box_words.specs.BoxLines.{delete_lines as lines_of_deletion, mask_line as line_of_mask, message_lines as lines_of_message, target_line as line_of_target, target_text as text_of_target, trouble_letter_words, trouble_lines as lines_of_trouble};
+ghost use Rattle.box_words.specs.BoxLines.{delete_lines as lines_of_deletion, mask_line as line_of_mask, message_lines as lines_of_message, path_lines, resolve_path, target_line as line_of_target, target_text as text_of_target, trouble_letter_words, trouble_lines as lines_of_trouble};
 
 use crate::causes::{refusal_text, trouble_text};
 use crate::message::Message;
 use job_reports::Trouble;
 use mc_dialogs::InputLine;
 use mc_text::{NoMemory, Path, Rows, Text};
+use resolving::ResolveError;
 use session_history::{PlanError, Refusal};
 use std::alloc::Global;
 use std::convert::AsStr;
@@ -82,11 +83,26 @@ fn refusal_lines(alloc: Global, refusal: &Refusal) -> Result<Rows, NoMemory>
     let words = Text::from_str(alloc, refusal_text(refusal))?;
     match refusal {
         Refusal::Tree(path, _) => words_and_path(alloc, words, path),
+        Refusal::Resolve(error) => resolve_lines(alloc, words, error),
         Refusal::Plan(PlanError::NoSelection) => words_alone(alloc, words),
         Refusal::Plan(PlanError::TargetThere(path)) => words_and_path(alloc, words, path),
         Refusal::Plan(PlanError::TargetTooLong) => words_alone(alloc, words),
         Refusal::Plan(PlanError::BadMask) => words_alone(alloc, words),
         Refusal::Begin(_) => words_alone(alloc, words),
+    }
+}
+
+/// Words, and the path that can't be read, where one is to blame.
+fn resolve_lines(alloc: Global, words: Text, error: &ResolveError) -> Result<Rows, NoMemory>
+    ensures { IfOk result (λ lines. lines ≡ words ∷ path_lines (resolve_path error.now)) }
+{
+    match error {
+        ResolveError::Tree(path, _) => words_and_path(alloc, words, path),
+        ResolveError::TooManyLinks => words_alone(alloc, words),
+        ResolveError::TooLong => words_alone(alloc, words),
+        ResolveError::BadName => words_alone(alloc, words),
+        ResolveError::Fault => words_alone(alloc, words),
+        ResolveError::Memory => words_alone(alloc, words),
     }
 }
 

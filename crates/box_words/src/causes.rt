@@ -1,9 +1,10 @@
 //! The texts of causes, as they are shown and printed.
 ghost use Rattle.std.specs.Prelude.{◌≡◌, IfOk};
-ghost use Rattle.box_words.specs.Causes.{begin_words, cause_words, plan_words, refusal_words, trouble_words};
+ghost use Rattle.box_words.specs.Causes.{begin_words, cause_words, plan_words, refusal_words, resolve_words, trouble_words};
 
 use job_reports::Cause;
 use mc_text::{NoMemory, Text};
+use resolving::ResolveError;
 use session_history::{BeginError, PlanError, Refusal};
 use std::alloc::Global;
 use tree_trait::TreeError;
@@ -26,6 +27,20 @@ pub fn cause_text(error: TreeError) -> &'static str
         TreeError::Special => "special file",
         TreeError::Fault => "device fault",
         TreeError::Memory => "out of memory",
+    }
+}
+
+/// What is said of a folder that can't be read, or to which no way leads.
+pub fn resolve_text(error: &ResolveError) -> &'static str
+    ensures { result.now ≡ resolve_words error.now }
+{
+    match error {
+        ResolveError::Tree(_, cause) => cause_text(*cause),
+        ResolveError::TooManyLinks => "too many links",
+        ResolveError::TooLong => "path too long",
+        ResolveError::BadName => "bad name",
+        ResolveError::Fault => "device fault",
+        ResolveError::Memory => "out of memory",
     }
 }
 
@@ -56,6 +71,7 @@ pub fn refusal_text(refusal: &Refusal) -> &'static str
 {
     match refusal {
         Refusal::Tree(_, error) => cause_text(*error),
+        Refusal::Resolve(error) => resolve_text(error),
         Refusal::Plan(error) => plan_text(error),
         Refusal::Begin(error) => begin_text(*error),
     }

@@ -10,7 +10,7 @@ mod replies;
 pub use box_lines::{
     delete_lines, mask_line, message_lines, target_line, target_text, trouble_lines,
 };
-pub use causes::cause_text;
+pub use causes::{cause_text, resolve_text};
 pub use dialog::{Chosen, Dialog};
 pub use message::Message;
 pub use replies::{

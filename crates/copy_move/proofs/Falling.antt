@@ -14,19 +14,15 @@ use Rattle.file_copy.specs.declared.stage.FolderState.TheVariants.{Synced, Dirty
 use Rattle.file_copy.specs.Copying.{Copying, IsSound, Tells, after_clean}
 use Rattle.file_copy.specs.Copying as copying
 use Rattle.file_copy.specs.LastSteps.{GoesDown, Winds, last_steps}
-use Rattle.copy_move.specs.declared.deletion.Stage.{Stage as DeletionStage}
-use Rattle.copy_move.specs.declared.deletion.Stage.TheVariants as deletion
 use Rattle.copy_move.specs.declared.making.MakingStage.{MakingStage}
 use Rattle.copy_move.specs.declared.making.MakingStage.TheVariants as making
 use Rattle.copy_move.specs.declared.work.Work.{Work}
 use Rattle.copy_move.specs.declared.work.Work.TheVariants.{Copy, Delete, Make}
-use Rattle.copy_move.specs.Deletions.{Deleting}
-use Rattle.copy_move.specs.Deletions as deletions
 use Rattle.copy_move.specs.Makings.{Making}
 use Rattle.copy_move.specs.Makings as makings
-use Rattle.copy_move.specs.Jobs.{course_after, skipped}
+use Rattle.copy_move.specs.Jobs.{course_after}
 use Rattle.job_reports.specs.Reports.{ends}
-use Rattle.copy_move.specs.Ranks.{copy_rank, deletion_rank, last_deletion_steps, last_making_steps, last_rank, making_rank, rank_on, work_rank}
+use Rattle.copy_move.specs.Ranks.{copy_rank, last_making_steps, last_rank, making_rank, rank_on, skip_rank, work_rank}
 
 begins_below : (most size : ℕ) → size ≤ most → (size - 0) + 7 < most + 8
 begins_below most size fits = omega (arith, fits)
@@ -102,42 +98,17 @@ copy_falls old new (Made made) t sound h = absurd t
 copy_falls old new (Kept path) t sound h = absurd t
 copy_falls old new (Skipped path cause) t sound h = absurd t
 
-tried_low : (stage : DeletionStage) → last_deletion_steps stage < deletion_rank stage
-tried_low deletion.Remove = omega arith
-tried_low deletion.Sync = omega arith
-tried_low deletion.Finish = omega arith
-tried_low deletion.PassedOver = omega arith
-
-tried_low_making : (stage : MakingStage) → last_making_steps stage < making_rank stage
-tried_low_making making.Make = omega arith
-tried_low_making making.Sync = omega arith
-tried_low_making making.Finish = omega arith
-tried_low_making making.PassedOver = omega arith
+tried_low : (stage : MakingStage) → last_making_steps stage < making_rank stage
+tried_low making.Make = omega arith
+tried_low making.Sync = omega arith
+tried_low making.Finish = omega arith
+tried_low making.PassedOver = omega arith
 
 -- a job in trouble has fewer steps left than one that goes on
 pub trouble_falls : (work : Work) → last_rank work < work_rank work
 trouble_falls (Copy c) = let few = few_last c.stage c.folder in let more = more_left c.stage c.folder in omega (arith, few, more)
-trouble_falls (Delete d) = tried_low d.stage
-trouble_falls (Make m) = tried_low_making m.stage
-
-pub deletion_falls : (old new : Deleting) (did : Did) → deletions.Tells old did new → ends did ≡ false → rank_on (course_after did) (Delete new) < work_rank (Delete old)
-deletion_falls old new (Removed path) (at, gone, is) h =
-    subst (λ (n : Deleting). deletion_rank n.stage < deletion_rank old.stage) (sym is) (subst (λ s. 5 < deletion_rank s) (sym at) (omega arith))
-deletion_falls old new Barrier (at, is) h =
-    subst (λ (n : Deleting). deletion_rank n.stage < deletion_rank old.stage) (sym is) (subst (λ s. 4 < deletion_rank s) (sym at) (omega arith))
-deletion_falls old new (Troubled trouble) (at, is) h =
-    subst (λ (n : Deleting). last_deletion_steps n.stage < deletion_rank old.stage) (sym is) (tried_low old.stage)
-deletion_falls old new (Ended Finished part) t h = absurd cc
-deletion_falls old new (Ended Aborted part) t h = absurd t
-deletion_falls old new (Ended Killed part) t h = absurd t
-deletion_falls old new (Ended NoMemory part) t h = absurd t
-deletion_falls old new (Began part) t h = absurd t
-deletion_falls old new (Chunk count) t h = absurd t
-deletion_falls old new (Placed path) t h = absurd t
-deletion_falls old new (Made made) t h = absurd t
-deletion_falls old new (Kept kept) t h = absurd t
-deletion_falls old new (Skipped path cause) t h = absurd t
-deletion_falls old new (Cleaned part) t h = absurd t
+trouble_falls (Delete d) = omega arith
+trouble_falls (Make m) = tried_low m.stage
 
 pub making_falls : (old new : Making) (did : Did) → makings.Tells old did new → ends did ≡ false → rank_on (course_after did) (Make new) < work_rank (Make old)
 making_falls old new (Made path) (at, path_is, is) h =
@@ -145,7 +116,7 @@ making_falls old new (Made path) (at, path_is, is) h =
 making_falls old new Barrier (at, is) h =
     subst (λ (n : Making). making_rank n.stage < making_rank old.stage) (sym is) (subst (λ s. 4 < making_rank s) (sym at) (omega arith))
 making_falls old new (Troubled trouble) (at, is) h =
-    subst (λ (n : Making). last_making_steps n.stage < making_rank old.stage) (sym is) (tried_low_making old.stage)
+    subst (λ (n : Making). last_making_steps n.stage < making_rank old.stage) (sym is) (tried_low old.stage)
 making_falls old new (Ended Finished part) t h = absurd cc
 making_falls old new (Ended Aborted part) t h = absurd t
 making_falls old new (Ended Killed part) t h = absurd t
@@ -172,20 +143,6 @@ last_copy_falls ending old new (Kept kept) w falls h = absurd w
 last_copy_falls ending old new (Skipped path cause) w falls h = absurd w
 last_copy_falls ending old new (Troubled trouble) w falls h = absurd w
 
-pub last_deletion_falls : (ending : Ending) (old new : Deleting) (did : Did) → deletions.Winds ending old did new → ends did ≡ false → last_rank (Delete new) < last_rank (Delete old)
-last_deletion_falls ending old new Barrier (at, is) h =
-    subst (λ (n : Deleting). last_deletion_steps n.stage < last_deletion_steps old.stage) (sym is) (subst (λ s. 1 < last_deletion_steps s) (sym at) (omega arith))
-last_deletion_falls ending old new (Ended how part) w h = absurd cc
-last_deletion_falls ending old new (Began part) w h = absurd w
-last_deletion_falls ending old new (Chunk count) w h = absurd w
-last_deletion_falls ending old new (Placed path) w h = absurd w
-last_deletion_falls ending old new (Removed path) w h = absurd w
-last_deletion_falls ending old new (Made made) w h = absurd w
-last_deletion_falls ending old new (Kept kept) w h = absurd w
-last_deletion_falls ending old new (Skipped path cause) w h = absurd w
-last_deletion_falls ending old new (Cleaned part) w h = absurd w
-last_deletion_falls ending old new (Troubled trouble) w h = absurd w
-
 pub last_making_falls : (ending : Ending) (old new : Making) (did : Did) → makings.Winds ending old did new → ends did ≡ false → last_rank (Make new) < last_rank (Make old)
 last_making_falls ending old new Barrier (at, is) h =
     subst (λ (n : Making). last_making_steps n.stage < last_making_steps old.stage) (sym is) (subst (λ s. 1 < last_making_steps s) (sym at) (omega arith))
@@ -200,44 +157,28 @@ last_making_falls ending old new (Skipped path cause) w h = absurd w
 last_making_falls ending old new (Cleaned part) w h = absurd w
 last_making_falls ending old new (Troubled trouble) w h = absurd w
 
--- a job that passed over its file has few steps left
-pub passing_falls : (work : Work) → work_rank (skipped work) < 10
-passing_falls (Copy c) = few_skipped c.stage c.folder
-  where
-    few_skipped : (stage : Stage) (folder : FolderState) → copy_rank (copying.skipped stage) folder < 10
-    few_skipped Begin folder = let low = decided_low folder in omega (arith, low)
-    few_skipped (Fill part facts done) folder = omega arith
-    few_skipped (Clean part follows) folder = omega arith
-    few_skipped (Left part) folder = omega arith
-    few_skipped Decided folder = let low = decided_low folder in omega (arith, low)
-passing_falls (Delete d) = few_passed d.stage
-  where
-    few_passed : (stage : DeletionStage) → deletion_rank (deletions.skipped stage) < 10
-    few_passed deletion.Remove = omega arith
-    few_passed deletion.Sync = omega arith
-    few_passed deletion.Finish = omega arith
-    few_passed deletion.PassedOver = omega arith
-passing_falls (Make m) = few_passed m.stage
-  where
-    few_passed : (stage : MakingStage) → making_rank (makings.skipped stage) < 10
-    few_passed making.Make = omega arith
-    few_passed making.Sync = omega arith
-    few_passed making.Finish = omega arith
-    few_passed making.PassedOver = omega arith
+-- a copy that passed over its file has few steps left
+pub passing_falls : (stage : Stage) (folder : FolderState) → copy_rank (copying.skipped stage) folder < 10
+passing_falls Begin folder = let low = decided_low folder in omega (arith, low)
+passing_falls (Fill part facts done) folder = omega arith
+passing_falls (Clean part follows) folder = omega arith
+passing_falls (Left part) folder = omega arith
+passing_falls Decided folder = let low = decided_low folder in omega (arith, low)
 
-pub waiting_falls : (work : Work) → last_rank work < 10
+-- so has the making of a folder that is not made
+pub unmade_falls : (stage : MakingStage) → making_rank (makings.skipped stage) < 10
+unmade_falls making.Make = omega arith
+unmade_falls making.Sync = omega arith
+unmade_falls making.Finish = omega arith
+unmade_falls making.PassedOver = omega arith
+
+pub waiting_falls : (work : Work) → last_rank work < skip_rank work
 waiting_falls (Copy c) = let few = few_last c.stage c.folder in omega (arith, few)
-waiting_falls (Delete d) = few_tries d.stage
+waiting_falls (Delete d) = omega arith
+waiting_falls (Make m) = by m.stage
   where
-    few_tries : (stage : DeletionStage) → last_deletion_steps stage < 10
-    few_tries deletion.Remove = omega arith
-    few_tries deletion.Sync = omega arith
-    few_tries deletion.Finish = omega arith
-    few_tries deletion.PassedOver = omega arith
-waiting_falls (Make m) = few_tries m.stage
-  where
-    few_tries : (stage : MakingStage) → last_making_steps stage < 10
-    few_tries making.Make = omega arith
-    few_tries making.Sync = omega arith
-    few_tries making.Finish = omega arith
-    few_tries making.PassedOver = omega arith
+    by : (stage : MakingStage) → last_making_steps stage < 10
+    by making.Make = omega arith
+    by making.Sync = omega arith
+    by making.Finish = omega arith
+    by making.PassedOver = omega arith

@@ -1,8 +1,7 @@
 -- What the steps of a job make of the dirty folders.
-use Rattle.std.proofs.Common.{◌≡◌, ℕ, ◌+◌, ◌-◌, ◌<◌, ◌≤◌, ◌&&◌, not, Bool, true, false, List, [], ◌∷◌, ◌++◌, length, take, refl, sym, ◌∙◌, ap, subst, inl, inr, Option, Some, None, Result, Ok, Err, arith}
+use Rattle.std.proofs.Common.{◌≡◌, ◌⊎◌, ℕ, ◌+◌, ◌-◌, ◌*◌, ◌<◌, ◌≤◌, ◌&&◌, not, Bool, true, false, List, [], ◌∷◌, ◌++◌, length, take, refl, sym, ◌∙◌, ap, subst, inl, inr, Option, Some, None, Result, Ok, Err, arith}
 use Rattle.std.proofs.lemmas.Bool.{true≢false, false≢true}
 use Rattle.std.proofs.lemmas.List.{length-append}
-use Rattle.std.proofs.Math.Seq.{take-append_seam}
 use Rattle.std.specs.Prelude.{if◌then◌else◌}
 use Rattle.mc_text.specs.Routes.{Route}
 use Rattle.tree_trait.specs.declared.calls.TreeError.{TreeError}
@@ -11,8 +10,9 @@ use Rattle.tree_trait.specs.Calls.{SyncFolder}
 use Rattle.tree_trait.specs.Change.{CallLog, current}
 use Rattle.tree_trait.specs.Answers.{IfKnown, HasRisen, Performs}
 use Rattle.tree_trait.specs.CrashImages.{Among}
+use Rattle.tree_trait.proofs.Visible.{same_path-self}
 use Rattle.job_reports.specs.declared.report.Cause.{Cause}
-use Rattle.job_reports.specs.declared.report.Cause.TheVariants.{Memory}
+use Rattle.job_reports.specs.declared.report.Cause.TheVariants.{Memory, Tree}
 use Rattle.job_reports.specs.declared.report.Ending.{Ending}
 use Rattle.job_reports.specs.declared.report.Ending.TheVariants.{Finished, Aborted, Killed, NoMemory}
 use Rattle.job_reports.specs.declared.report.Did.{Did}
@@ -24,35 +24,42 @@ use Rattle.file_copy.specs.declared.stage.FolderState.TheVariants.{Synced, Dirty
 use Rattle.job_reports.specs.CallRuns.{HasMore}
 use Rattle.file_copy.specs.CopyCalls.{CopyCalls}
 use Rattle.job_reports.specs.Reports.{IsFault, ends}
-use Rattle.file_copy.specs.Copying.{Copying, Tells}
+use Rattle.file_copy.specs.Copying.{Copying, IsSound, Tells}
 use Rattle.job_reports.specs.Paths.{folder_of, without}
 use Rattle.file_copy.specs.Copying as copying
-use Rattle.file_copy.specs.LastSteps.{Winds}
+use Rattle.file_copy.specs.CopySteps.{StepsOn as CopyStepsOn}
+use Rattle.file_copy.specs.LastSteps.{Winds, WindsOn}
 use Rattle.job_reports.specs.Stops.{out_of_memory_at, calls_made_for, cause_of, trouble_at}
-use Rattle.copy_move.specs.declared.deletion.Stage.TheVariants as deletion
-use Rattle.copy_move.specs.declared.deletion.Stage.{Stage as DeletionStage}
-use Rattle.copy_move.specs.declared.making.MakingStage.{MakingStage}
-use Rattle.copy_move.specs.declared.making.MakingStage.TheVariants as making
+use Rattle.tree_deletion.specs.Folders.{is_one_of, joined}
+use Rattle.tree_deletion.specs.Standing.{at_barrier as deletion_barrier}
+use Rattle.tree_deletion.specs.Steps.{IsProgress}
 use Rattle.copy_move.specs.declared.work.Work.{Work}
 use Rattle.copy_move.specs.declared.work.Work.TheVariants.{Copy, Delete, Make}
 use Rattle.copy_move.specs.declared.run.Course.{Course}
 use Rattle.copy_move.specs.declared.run.Course.TheVariants.{GoesOn, InTrouble, OwedSyncFailed, Skips, Ends}
-use Rattle.copy_move.specs.Deletions.{Deleting, DeletionCalls}
+use Rattle.copy_move.specs.Deletions.{Deleting, left_in}
 use Rattle.copy_move.specs.Deletions as deletions
-use Rattle.copy_move.specs.Makings.{Making, MakingCalls}
-use Rattle.copy_move.specs.Makings as makings
-use Rattle.copy_move.specs.Jobs.{Running, CallsOn, TellsOn, WorkTells, WorkWinds, WorkCalls, course_after, is_fresh, skipped}
-use Rattle.copy_move.specs.Ranks.{rank_on}
-use Rattle.copy_move.specs.Settling.{NoneOwed, after_try, changed_folder, is_dirty, with_change}
-use Rattle.copy_move.specs.Steps.{LeavesDirty, OwnStep, OwedSyncStep, SkipSteps, WindingStep, WorkSteps, WorkWindsUp, step_made}
+use Rattle.copy_move.specs.DeletionSteps.{DeletionSkips, DeletionStep, LastDeletionStep, after_try}
+use Rattle.copy_move.specs.Jobs.{Running, CallsOn, PassesOver, TellsOn, course_after, is_fresh}
+use Rattle.copy_move.specs.Ranks.{copy_rank, rank_at, rank_on, tries_left}
+use Rattle.copy_move.specs.Settling.{NoneOwed, with_change}
+use Rattle.copy_move.specs.Steps.{LeavesDirty, OwnStep, OwedSyncStep, SkipSteps, Walks, WindingStep, WorkSkips, WorkSteps, WorkWindsUp, step_made}
 use Rattle.job_reports.proofs.Runs.{risen_before}
 use Rattle.job_reports.proofs.Tried.{counts_try, tries_few}
-use Rattle.copy_move.proofs.DeletionRuns.{fault-cause}
-use Rattle.copy_move.proofs.Falling.{passing_falls, trouble_falls, waiting_falls}
+use Rattle.copy_move.proofs.DeletionRuns.{fewer, one_fewer}
+use Rattle.copy_move.proofs.Falling.{copy_falls, last_copy_falls, passing_falls, trouble_falls, waiting_falls}
 use Rattle.copy_move.proofs.RunSteps.{run_ends, run_goes}
 
+-- only a fault is called one
+pub fault-cause : (e : TreeError) → cause_of e ≡ Tree refused.Fault → e ≡ refused.Fault
+fault-cause refused.Memory h = cc
+fault-cause e h = cc
+
+pub err_is : {T : Type 0} (e : TreeError) → e ≡ refused.Fault → (let r : Result T TreeError = Err e in r) ≡ Err refused.Fault
+err_is e h = ap Err h
+
 -- a copy stays at its target
-copy_stays : (c new : Copying) (did : Did) → Tells c did new → new.target ≡ c.target
+pub copy_stays : (c new : Copying) (did : Did) → Tells c did new → new.target ≡ c.target
 copy_stays c new (Began part) t = ap (λ (n : Copying). n.target) t.1.1
 copy_stays c new (Chunk count) (part, facts, done, at, some, few, within, is) = ap (λ (n : Copying). n.target) is
 copy_stays c new (Placed path) (part, facts, at, target, is) = ap (λ (n : Copying). n.target) is
@@ -68,53 +75,7 @@ copy_stays c new (Made made) t = absurd t
 copy_stays c new (Kept path) t = absurd t
 copy_stays c new (Skipped path cause) t = absurd t
 
--- a deletion stays at its path
-deletion_stays : (d new : Deleting) (did : Did) → deletions.Tells d did new → new.path ≡ d.path
-deletion_stays d new (Removed path) (at, gone, is) = ap (λ (n : Deleting). n.path) is
-deletion_stays d new Barrier (at, is) = ap (λ (n : Deleting). n.path) is
-deletion_stays d new (Troubled trouble) t = ap (λ (n : Deleting). n.path) t.1
-deletion_stays d new (Ended Finished part) (at, none, is) = ap (λ (n : Deleting). n.path) is
-deletion_stays d new (Ended Aborted part) t = absurd t
-deletion_stays d new (Ended Killed part) t = absurd t
-deletion_stays d new (Ended NoMemory part) t = absurd t
-deletion_stays d new (Began part) t = absurd t
-deletion_stays d new (Chunk count) t = absurd t
-deletion_stays d new (Placed path) t = absurd t
-deletion_stays d new (Made made) t = absurd t
-deletion_stays d new (Kept kept) t = absurd t
-deletion_stays d new (Skipped path cause) t = absurd t
-deletion_stays d new (Cleaned part) t = absurd t
-
--- a making stays at its path
-making_stays : (m new : Making) (did : Did) → makings.Tells m did new → new.path ≡ m.path
-making_stays m new (Made path) (at, path_is, is) = ap (λ (n : Making). n.path) is
-making_stays m new Barrier (at, is) = ap (λ (n : Making). n.path) is
-making_stays m new (Troubled trouble) t = ap (λ (n : Making). n.path) t.1
-making_stays m new (Ended Finished part) (at, none, is) = ap (λ (n : Making). n.path) is
-making_stays m new (Ended Aborted part) t = absurd t
-making_stays m new (Ended Killed part) t = absurd t
-making_stays m new (Ended NoMemory part) t = absurd t
-making_stays m new (Began part) t = absurd t
-making_stays m new (Chunk count) t = absurd t
-making_stays m new (Placed path) t = absurd t
-making_stays m new (Removed made) t = absurd t
-making_stays m new (Kept kept) t = absurd t
-making_stays m new (Skipped path cause) t = absurd t
-making_stays m new (Cleaned part) t = absurd t
-
--- a job changes names in one folder
-pub same_folder : (old new : Work) (did : Did) → WorkTells old did new → changed_folder new ≡ changed_folder old
-same_folder (Copy c) (Copy new) did t = ap folder_of (copy_stays c new did t)
-same_folder (Copy c) (Delete new) did t = absurd t
-same_folder (Copy c) (Make new) did t = absurd t
-same_folder (Delete d) (Copy new) did t = absurd t
-same_folder (Delete d) (Make new) did t = absurd t
-same_folder (Make m) (Copy new) did t = absurd t
-same_folder (Make m) (Delete new) did t = absurd t
-same_folder (Delete d) (Delete new) did t = ap folder_of (deletion_stays d new did t)
-same_folder (Make m) (Make new) did t = ap folder_of (making_stays m new did t)
-
-copy_winds_there : (ending : Ending) (c new : Copying) (did : Did) → Winds ending c did new → new.target ≡ c.target
+pub copy_winds_there : (ending : Ending) (c new : Copying) (did : Did) → Winds ending c did new → new.target ≡ c.target
 copy_winds_there ending c new (Cleaned part) w = ap (λ (n : Copying). n.target) w.1
 copy_winds_there ending c new Barrier w = ap (λ (n : Copying). n.target) w.1
 copy_winds_there ending c new (Ended how part) w = ap (λ (n : Copying). n.target) w.4
@@ -127,45 +88,8 @@ copy_winds_there ending c new (Kept kept) w = absurd w
 copy_winds_there ending c new (Skipped path cause) w = absurd w
 copy_winds_there ending c new (Troubled trouble) w = absurd w
 
-deletion_winds_there : (ending : Ending) (d new : Deleting) (did : Did) → deletions.Winds ending d did new → new.path ≡ d.path
-deletion_winds_there ending d new Barrier w = ap (λ (n : Deleting). n.path) w.1
-deletion_winds_there ending d new (Ended how part) w = ap (λ (n : Deleting). n.path) w.3
-deletion_winds_there ending d new (Began part) w = absurd w
-deletion_winds_there ending d new (Chunk count) w = absurd w
-deletion_winds_there ending d new (Placed path) w = absurd w
-deletion_winds_there ending d new (Removed path) w = absurd w
-deletion_winds_there ending d new (Made made) w = absurd w
-deletion_winds_there ending d new (Kept kept) w = absurd w
-deletion_winds_there ending d new (Skipped path cause) w = absurd w
-deletion_winds_there ending d new (Cleaned part) w = absurd w
-deletion_winds_there ending d new (Troubled trouble) w = absurd w
-
-making_winds_there : (ending : Ending) (m new : Making) (did : Did) → makings.Winds ending m did new → new.path ≡ m.path
-making_winds_there ending m new Barrier w = ap (λ (n : Making). n.path) w.1
-making_winds_there ending m new (Ended how part) w = ap (λ (n : Making). n.path) w.3
-making_winds_there ending m new (Began part) w = absurd w
-making_winds_there ending m new (Chunk count) w = absurd w
-making_winds_there ending m new (Placed path) w = absurd w
-making_winds_there ending m new (Made path) w = absurd w
-making_winds_there ending m new (Removed made) w = absurd w
-making_winds_there ending m new (Kept kept) w = absurd w
-making_winds_there ending m new (Skipped path cause) w = absurd w
-making_winds_there ending m new (Cleaned part) w = absurd w
-making_winds_there ending m new (Troubled trouble) w = absurd w
-
-pub winds_there : (ending : Ending) (old new : Work) (did : Did) → WorkWinds ending old did new → changed_folder new ≡ changed_folder old
-winds_there ending (Copy c) (Copy new) did w = ap folder_of (copy_winds_there ending c new did w)
-winds_there ending (Copy c) (Delete new) did w = absurd w
-winds_there ending (Copy c) (Make new) did w = absurd w
-winds_there ending (Delete d) (Copy new) did w = absurd w
-winds_there ending (Delete d) (Make new) did w = absurd w
-winds_there ending (Make m) (Copy new) did w = absurd w
-winds_there ending (Make m) (Delete new) did w = absurd w
-winds_there ending (Delete d) (Delete new) did w = ap folder_of (deletion_winds_there ending d new did w)
-winds_there ending (Make m) (Make new) did w = ap folder_of (making_winds_there ending m new did w)
-
 -- a folder that a job changed before, and that is synced, isn't changed again
-clean_copy : (c new : Copying) (did : Did) → Tells c did new → copying.is_fresh c.stage c.folder ≡ false → copying.is_dirty c.folder ≡ false → copying.is_dirty new.folder ≡ false
+pub clean_copy : (c new : Copying) (did : Did) → Tells c did new → copying.is_fresh c.stage c.folder ≡ false → copying.is_dirty c.folder ≡ false → copying.is_dirty new.folder ≡ false
 clean_copy c new (Began part) t changed clean = absurd (true≢false (sym (ap not clean) ∙ (sym (ap (λ s. copying.is_fresh s c.folder) t.0) ∙ changed)))
 clean_copy c new (Chunk count) (part, facts, done, at, some, few, within, is) changed clean = ap (λ (n : Copying). copying.is_dirty n.folder) is ∙ clean
 clean_copy c new (Placed path) (part, facts, at, target, is) changed clean = ap (λ (n : Copying). copying.is_dirty n.folder) is ∙ clean
@@ -181,51 +105,8 @@ clean_copy c new (Made made) t changed clean = absurd t
 clean_copy c new (Kept path) t changed clean = absurd t
 clean_copy c new (Skipped path cause) t changed clean = absurd t
 
-clean_deletion : (d new : Deleting) (did : Did) → deletions.Tells d did new → deletions.is_fresh d.stage ≡ false → deletions.is_dirty d.stage ≡ false → deletions.is_dirty new.stage ≡ false
-clean_deletion d new (Removed path) (at, gone, is) changed clean = absurd (true≢false (sym (ap deletions.is_fresh at) ∙ changed))
-clean_deletion d new Barrier (at, is) changed clean = ap (λ (n : Deleting). deletions.is_dirty n.stage) is
-clean_deletion d new (Troubled trouble) t changed clean = ap (λ (n : Deleting). deletions.is_dirty n.stage) t.1 ∙ clean
-clean_deletion d new (Ended Finished part) (at, none, is) changed clean = ap (λ (n : Deleting). deletions.is_dirty n.stage) is ∙ clean
-clean_deletion d new (Ended Aborted part) t changed clean = absurd t
-clean_deletion d new (Ended Killed part) t changed clean = absurd t
-clean_deletion d new (Ended NoMemory part) t changed clean = absurd t
-clean_deletion d new (Began part) t changed clean = absurd t
-clean_deletion d new (Chunk count) t changed clean = absurd t
-clean_deletion d new (Placed path) t changed clean = absurd t
-clean_deletion d new (Made made) t changed clean = absurd t
-clean_deletion d new (Kept kept) t changed clean = absurd t
-clean_deletion d new (Skipped path cause) t changed clean = absurd t
-clean_deletion d new (Cleaned part) t changed clean = absurd t
-
-clean_making : (m new : Making) (did : Did) → makings.Tells m did new → makings.is_fresh m.stage ≡ false → makings.is_dirty m.stage ≡ false → makings.is_dirty new.stage ≡ false
-clean_making m new (Made path) (at, path_is, is) changed clean = absurd (true≢false (sym (ap makings.is_fresh at) ∙ changed))
-clean_making m new Barrier (at, is) changed clean = ap (λ (n : Making). makings.is_dirty n.stage) is
-clean_making m new (Troubled trouble) t changed clean = ap (λ (n : Making). makings.is_dirty n.stage) t.1 ∙ clean
-clean_making m new (Ended Finished part) (at, none, is) changed clean = ap (λ (n : Making). makings.is_dirty n.stage) is ∙ clean
-clean_making m new (Ended Aborted part) t changed clean = absurd t
-clean_making m new (Ended Killed part) t changed clean = absurd t
-clean_making m new (Ended NoMemory part) t changed clean = absurd t
-clean_making m new (Began part) t changed clean = absurd t
-clean_making m new (Chunk count) t changed clean = absurd t
-clean_making m new (Placed path) t changed clean = absurd t
-clean_making m new (Removed made) t changed clean = absurd t
-clean_making m new (Kept kept) t changed clean = absurd t
-clean_making m new (Skipped path cause) t changed clean = absurd t
-clean_making m new (Cleaned part) t changed clean = absurd t
-
-stays_clean : (old new : Work) (did : Did) → WorkTells old did new → is_fresh old ≡ false → is_dirty old ≡ false → is_dirty new ≡ false
-stays_clean (Copy c) (Copy new) did t changed clean = clean_copy c new did t changed clean
-stays_clean (Copy c) (Delete new) did t changed clean = absurd t
-stays_clean (Copy c) (Make new) did t changed clean = absurd t
-stays_clean (Delete d) (Copy new) did t changed clean = absurd t
-stays_clean (Delete d) (Make new) did t changed clean = absurd t
-stays_clean (Make m) (Copy new) did t changed clean = absurd t
-stays_clean (Make m) (Delete new) did t changed clean = absurd t
-stays_clean (Delete d) (Delete new) did t changed clean = clean_deletion d new did t changed clean
-stays_clean (Make m) (Make new) did t changed clean = clean_making m new did t changed clean
-
--- a job that has changed nothing has no dirty folder
-fresh_copy : (stage : Stage) (folder : FolderState) → copying.is_fresh stage folder ≡ true → copying.is_dirty folder ≡ false
+-- a copy that has changed nothing has no dirty folder
+pub fresh_copy : (stage : Stage) (folder : FolderState) → copying.is_fresh stage folder ≡ true → copying.is_dirty folder ≡ false
 fresh_copy at.Begin Dirty h = absurd (false≢true h)
 fresh_copy at.Begin Synced h = refl
 fresh_copy (at.Fill part facts done) folder h = absurd (false≢true h)
@@ -233,68 +114,229 @@ fresh_copy (at.Clean part follows) folder h = absurd (false≢true h)
 fresh_copy (at.Left part) folder h = absurd (false≢true h)
 fresh_copy at.Decided folder h = absurd (false≢true h)
 
-fresh_deletion : (stage : DeletionStage) → deletions.is_fresh stage ≡ true → deletions.is_dirty stage ≡ false
-fresh_deletion deletion.Remove h = refl
-fresh_deletion deletion.Sync h = absurd (false≢true h)
-fresh_deletion deletion.Finish h = absurd (false≢true h)
-fresh_deletion deletion.PassedOver h = absurd (false≢true h)
-
-fresh_making : (stage : MakingStage) → makings.is_fresh stage ≡ true → makings.is_dirty stage ≡ false
-fresh_making making.Make h = refl
-fresh_making making.Sync h = absurd (false≢true h)
-fresh_making making.Finish h = absurd (false≢true h)
-fresh_making making.PassedOver h = absurd (false≢true h)
-
-pub fresh_clean : (work : Work) → is_fresh work ≡ true → is_dirty work ≡ false
-fresh_clean (Copy c) h = fresh_copy c.stage c.folder h
-fresh_clean (Delete d) h = fresh_deletion d.stage h
-fresh_clean (Make m) h = fresh_making m.stage h
-
--- a skip changes nothing in the folder
-skipped_stage : (stage : DeletionStage) → deletions.is_dirty (deletions.skipped stage) ≡ deletions.is_dirty stage
-skipped_stage deletion.Remove = refl
-skipped_stage deletion.Sync = refl
-skipped_stage deletion.Finish = refl
-skipped_stage deletion.PassedOver = refl
-
-skipped_making : (stage : MakingStage) → makings.is_dirty (makings.skipped stage) ≡ makings.is_dirty stage
-skipped_making making.Make = refl
-skipped_making making.Sync = refl
-skipped_making making.Finish = refl
-skipped_making making.PassedOver = refl
-
-pub skipped_dirty : (work : Work) → is_dirty (skipped work) ≡ is_dirty work
-skipped_dirty (Copy c) = refl
-skipped_dirty (Delete d) = skipped_stage d.stage
-skipped_dirty (Make m) = skipped_making m.stage
-
--- where the folder is as it was, the dirty ones are too
-unchanged : (was now : Bool) (folder : Route) (dirty : List Route) → now ≡ was → dirty ≡ with_change was now folder dirty
-unchanged true true folder dirty h = refl
-unchanged false false folder dirty h = refl
-unchanged true false folder dirty h = absurd (false≢true h)
-unchanged false true folder dirty h = absurd (true≢false h)
-
 -- once synced, it is no longer one of them
-synced_only : (was now synced : Bool) (folder : Route) (dirty dirty_after : List Route) → (was ≡ false → now ≡ false) → synced ≡ (was && not now) → dirty_after ≡ (if synced then without folder dirty else dirty)
+pub synced_only : (was now synced : Bool) (folder : Route) (dirty dirty_after : List Route) → (was ≡ false → now ≡ false) → synced ≡ (was && not now) → dirty_after ≡ (if synced then without folder dirty else dirty)
     → dirty_after ≡ with_change was now folder dirty
 synced_only true true synced folder dirty dirty_after stays is h = h ∙ ap (λ b. if b then without folder dirty else dirty) is
 synced_only true false synced folder dirty dirty_after stays is h = h ∙ ap (λ b. if b then without folder dirty else dirty) is
 synced_only false true synced folder dirty dirty_after stays is h = absurd (true≢false (stays refl))
 synced_only false false synced folder dirty dirty_after stays is h = h ∙ ap (λ b. if b then without folder dirty else dirty) is
 
-drop_seam : (dirty : List Route) (folder : Route) → take (length (dirty ++ folder ∷ []) - 1) (dirty ++ folder ∷ []) ≡ dirty
-drop_seam dirty folder =
-    let one : length (dirty ++ folder ∷ []) ≡ length dirty + 1 = length-append dirty (folder ∷ []) in
-    let less : length (dirty ++ folder ∷ []) - 1 ≡ length dirty = omega (arith, one) in
-    ap (λ n. take n (dirty ++ folder ∷ [])) less ∙ take-append_seam dirty (folder ∷ [])
-
 -- it joins them where it was changed
-joined : (was now : Bool) (folder : Route) (dirty more dirty_after : List Route) → was ≡ false → more ≡ dirty ++ folder ∷ [] → dirty_after ≡ (if now then more else take (length more - 1) more)
-    → dirty_after ≡ with_change was now folder dirty
-joined false true folder dirty more dirty_after clean is h = h ∙ is
-joined false false folder dirty more dirty_after clean is h = h ∙ (ap (λ xs. take (length xs - 1) xs) is ∙ drop_seam dirty folder)
-joined true now folder dirty more dirty_after clean is h = absurd (true≢false clean)
+pub joins : (was now new dropped : Bool) (folder : Route) (dirty more dirty_after : List Route) → was ≡ false → more ≡ joined folder dirty → (if new then take (length more - 1) more else more) ≡ dirty
+    → dropped ≡ (new && not now) → dirty_after ≡ (if dropped then take (length more - 1) more else more) → dirty_after ≡ with_change was now folder dirty
+joins true now new dropped folder dirty more dirty_after clean is back off h = absurd (true≢false clean)
+joins false true true dropped folder dirty more dirty_after clean is back off h = h ∙ (ap (λ b. if b then take (length more - 1) more else more) off ∙ is)
+joins false true false dropped folder dirty more dirty_after clean is back off h = h ∙ (ap (λ b. if b then take (length more - 1) more else more) off ∙ is)
+joins false false true dropped folder dirty more dirty_after clean is back off h = h ∙ (ap (λ b. if b then take (length more - 1) more else more) off ∙ back)
+joins false false false dropped folder dirty more dirty_after clean is back off h = h ∙ (ap (λ b. if b then take (length more - 1) more else more) off ∙ back)
+
+-- a change adds a folder at most
+pub joined_more : (folder : Route) (dirty : List Route) → length (joined folder dirty) ≤ length dirty + 1
+joined_more folder dirty = go (is_one_of folder dirty)
+  where
+    go : (b : Bool) → length (if b then dirty else dirty ++ folder ∷ []) ≤ length dirty + 1
+    go true = omega arith
+    go false = let more = length-append dirty (folder ∷ []) in omega (arith, more)
+
+pub one_more : (was now : Bool) (folder : Route) (dirty : List Route) → length (with_change was now folder dirty) ≤ length dirty + 1
+one_more false true folder dirty = joined_more folder dirty
+one_more true false folder dirty = let less = fewer folder dirty in omega (arith, less)
+one_more false false folder dirty = omega arith
+one_more true true folder dirty = omega arith
+
+pub tries_after : (did : Did) (work : Work) (dirty : List Route) → tries_left (course_after did) work dirty ≡ length dirty
+tries_after (Troubled trouble) work dirty = refl
+tries_after (Began part) work dirty = refl
+tries_after (Chunk count) work dirty = refl
+tries_after (Placed path) work dirty = refl
+tries_after (Removed path) work dirty = refl
+tries_after (Made made) work dirty = refl
+tries_after (Kept path) work dirty = refl
+tries_after (Skipped path cause) work dirty = refl
+tries_after (Cleaned part) work dirty = refl
+tries_after Barrier work dirty = refl
+tries_after (Ended ending part) work dirty = refl
+
+pub weighs_less : (low high few many tries : ℕ) → low < high → few ≤ many + 1 → tries ≡ few → 3 * low + (few + tries) < 3 * high + (many + many)
+weighs_less low high few many tries less more is = omega (arith, less, more, is)
+
+-- the step of a copy
+module _ (unclaimed : Route → Type 0) (c new : Copying) (did : Did) (calls : ℕ) (dirty dirty_after : List Route) (before after : Option CallLog) (f0 f1 : ℕ) where
+  pub copy_steps : CopyStepsOn unclaimed c new did calls before after f0 f1 → IsSound new.stage new.folder
+      → dirty_after ≡ with_change (copying.is_dirty c.folder) (copying.is_dirty new.folder) (folder_of c.target) dirty
+      → WorkSteps unclaimed (Copy c) (Copy new) did calls dirty dirty_after before after f0 f1
+  copy_steps s sound leaves = record {
+    tells = s.tells;
+    walks = tt;
+    called = s.called;
+    leaves = leaves;
+    counted = s.counted;
+    few = s.few;
+    unknown = s.unknown;
+    later = s.later;
+    fault = s.fault;
+    falls = λ going.
+        let low = copy_falls c new did s.tells sound going in
+        let more = subst (λ xs. length xs ≤ length dirty + 1) (sym leaves) (one_more (copying.is_dirty c.folder) (copying.is_dirty new.folder) (folder_of c.target) dirty) in
+        weighs_less (rank_on (course_after did) (Copy new)) (copy_rank c.stage c.folder) (length dirty_after) (length dirty) (tries_left (course_after did) (Copy new) dirty_after) low more (tries_after did (Copy new) dirty_after);
+  }
+
+pub same_log : (log now : CallLog) (contents : Option CallLog) → contents ≡ Some log → contents ≡ Some now → HasMore log 0 now
+same_log log now contents known is =
+    let same : log ≡ now = cc in
+    let lengths = ap (λ (l : CallLog). length l.changes) (sym same) in
+    omega (arith, lengths)
+
+-- there was no memory for the first change of a copy: no call was made
+pub no_first : (unclaimed : Route → Type 0) (c : Copying) (did : Did) (calls : ℕ) (dirty dirty_after : List Route) (contents : Option CallLog) (f : ℕ) → copying.is_fresh c.stage c.folder ≡ true → did ≡ Troubled (out_of_memory_at false) → calls ≡ 0
+    → dirty_after ≡ dirty → WorkSteps unclaimed (Copy c) (Copy c) did calls dirty dirty_after contents contents f f
+no_first unclaimed c did calls dirty dirty_after contents f fresh is count same =
+    subst (λ d. WorkSteps unclaimed (Copy c) (Copy c) d calls dirty dirty_after contents contents f f) (sym is)
+    (subst (λ n. WorkSteps unclaimed (Copy c) (Copy c) (Troubled (out_of_memory_at false)) n dirty dirty_after contents contents f f) (sym count) (record {
+      tells = tells c.stage c.folder refl fresh;
+      walks = tt;
+      called = λ log known. subst (CopyCalls unclaimed c (Troubled (out_of_memory_at false)) c log) (sym known) (none_called log c.stage c.folder refl fresh);
+      leaves = same ∙ unchanged (copying.is_dirty c.folder);
+      counted = λ log known now has. same_log log now contents known has;
+      few = omega arith;
+      unknown = λ h. h;
+      later = omega arith;
+      fault = λ h. absurd cc;
+      falls = λ going. let low = trouble_falls (Copy c) in let count = ap length same in omega (arith, low, count);
+    }))
+  where
+    unchanged : (b : Bool) → dirty ≡ with_change b b (folder_of c.target) dirty
+    unchanged true = refl
+    unchanged false = refl
+
+    tells : (stage : Stage) (folder : FolderState) → c.stage ≡ stage → copying.is_fresh stage folder ≡ true → Tells c (Troubled (out_of_memory_at false)) c
+    tells at.Begin folder is h = rw is (refl, refl)
+    tells (at.Fill part facts done) folder is h = absurd (false≢true h)
+    tells (at.Clean part follows) folder is h = absurd (false≢true h)
+    tells (at.Left part) folder is h = absurd (false≢true h)
+    tells at.Decided folder is h = absurd (false≢true h)
+
+    none_called : (log : CallLog) (stage : Stage) (folder : FolderState) → c.stage ≡ stage → copying.is_fresh stage folder ≡ true → CopyCalls unclaimed c (Troubled (out_of_memory_at false)) c log (Some log)
+    none_called log at.Begin folder is h = rw is (inl (refl, refl))
+    none_called log (at.Fill part facts done) folder is h = absurd (false≢true h)
+    none_called log (at.Clean part follows) folder is h = absurd (false≢true h)
+    none_called log (at.Left part) folder is h = absurd (false≢true h)
+    none_called log at.Decided folder is h = absurd (false≢true h)
+
+-- the last steps of a copy
+pub tried_more : (did : Did) (left : Option TreeError) (folder : Route) (dirty : List Route) → length (after_try did left folder dirty) ≤ length dirty + 1
+tried_more Barrier None folder dirty = let less = fewer folder dirty in omega (arith, less)
+tried_more Barrier (Some e) folder dirty = omega arith
+tried_more (Began part) left folder dirty = omega arith
+tried_more (Chunk bytes) left folder dirty = omega arith
+tried_more (Placed path) left folder dirty = omega arith
+tried_more (Removed path) left folder dirty = omega arith
+tried_more (Made made) left folder dirty = omega arith
+tried_more (Kept kept) left folder dirty = omega arith
+tried_more (Skipped path cause) left folder dirty = omega arith
+tried_more (Cleaned part) left folder dirty = omega arith
+tried_more (Troubled trouble) left folder dirty = omega arith
+tried_more (Ended ending part) left folder dirty = omega arith
+
+pub copy_winds_up : (ending : Ending) (c new : Copying) (did : Did) (calls : ℕ) (left : Option TreeError) (folder : Route) (dirty dirty_after : List Route) (before after : Option CallLog) (f0 f1 : ℕ) → WindsOn ending c new did calls left before after f0 f1
+    → folder ≡ folder_of new.target → dirty_after ≡ after_try did left folder dirty → WorkWindsUp ending (Copy c) (Copy new) did calls left dirty dirty_after before after f0 f1
+copy_winds_up ending c new did calls left folder dirty dirty_after before after f0 f1 w folder_is leaves = record {
+  tells = w.tells;
+  called = w.called;
+  folder = folder;
+  own = subst (λ f. Rattle.mc_text.specs.Routes.same_path f (folder_of c.target) ≡ true) (sym (folder_is ∙ ap folder_of (copy_winds_there ending c new did w.tells))) (same_path-self (folder_of c.target));
+  dirty_is = leaves;
+  synced = w.synced;
+  counted = w.counted;
+  few = w.few;
+  unknown = w.unknown;
+  later = w.later;
+  fault = w.fault;
+  falls = λ going.
+      let low = last_copy_falls ending c new did w.tells w.falls going in
+      let more = subst (λ xs. length xs ≤ length dirty + 1) (sym leaves) (tried_more did left folder dirty) in
+      omega (arith, low, more);
+}
+
+-- the step of a deletion
+module _ (unclaimed : Route → Type 0) (d new : Deleting) (did : Did) (calls : ℕ) (dirty dirty_after : List Route) (before after : Option CallLog) (f0 f1 : ℕ) where
+  removal_more : (path : Route) → length (without path (joined (folder_of path) dirty)) ≤ length dirty + 1
+  removal_more path = let less = fewer path (joined (folder_of path) dirty) in let more = joined_more (folder_of path) dirty in omega (arith, less, more)
+
+  falls_by : (x : Did) → deletions.Tells d x new → deletions.DeletionLeaves d x dirty dirty_after before after → (IsProgress x ≡ true → left_in new < left_in d) → ends x ≡ false
+      → rank_at dirty_after (course_after x) (Delete new) < rank_at dirty GoesOn (Delete d)
+  falls_by (Removed path) t (inl h) less going = let low = less refl in let more = subst (λ xs. length xs ≤ length dirty + 1) (sym h.0) (joined_more (folder_of path) dirty) in omega (arith, low, more)
+  falls_by (Removed path) t (inr h) less going = let low = less refl in let more = subst (λ xs. length xs ≤ length dirty + 1) (sym h.0) (removal_more path) in omega (arith, low, more)
+  falls_by (Kept path) t h less going = let low = less refl in let same = ap length h in omega (arith, low, same)
+  falls_by Barrier (stage, a) (folder, own, left, called) less going =
+      let few = one_fewer folder dirty own.dirty in
+      let count : length dirty_after ≡ length (without folder dirty) = ap length left in
+      let rest : left_in new ≡ 0 = ap (λ s. Rattle.tree_deletion.specs.Standing.rank_of s new.depth new.place) (a.stage_is ∙ stage) in
+      omega (arith, few, count, rest)
+  falls_by (Troubled trouble) t h less going = let same = ap length h in omega (arith, same)
+  falls_by (Ended ending part) t h less going = absurd (true≢false going)
+  falls_by (Began part) t h less going = absurd t
+  falls_by (Chunk count) t h less going = absurd t
+  falls_by (Placed path) t h less going = absurd t
+  falls_by (Made made) t h less going = absurd t
+  falls_by (Skipped path cause) t h less going = absurd t
+  falls_by (Cleaned part) t h less going = absurd t
+
+  pub deletion_steps : DeletionStep d new did calls dirty dirty_after before after f0 f1 → WorkSteps unclaimed (Delete d) (Delete new) did calls dirty dirty_after before after f0 f1
+  deletion_steps s = record {
+    tells = s.tells;
+    walks = s.goes;
+    called = s.called;
+    leaves = s.leaves;
+    counted = s.counted;
+    few = let few = s.few in omega (arith, few);
+    unknown = s.unknown;
+    later = s.later;
+    fault = s.fault;
+    falls = λ going. falls_by did s.tells s.leaves s.fewer going;
+  }
+
+pub deletion_winds_up : (ending : Ending) (d new : Deleting) (did : Did) (calls : ℕ) (left : Option TreeError) (dirty dirty_after : List Route) (before after : Option CallLog) (f0 f1 : ℕ) → LastDeletionStep ending d new did calls left dirty dirty_after before after f0 f1
+    → WorkWindsUp ending (Delete d) (Delete new) did calls left dirty dirty_after before after f0 f1
+deletion_winds_up ending d new did calls left dirty dirty_after before after f0 f1 s = record {
+  tells = s.tells;
+  called = s.called;
+  folder = s.folder;
+  own = s.own;
+  dirty_is = s.dirty_is;
+  synced = s.synced;
+  counted = s.counted;
+  few = let few = s.few in omega (arith, few);
+  unknown = s.unknown;
+  later = s.later;
+  fault = s.fault;
+  falls = λ going. let near = s.nearer going in omega (arith, near);
+}
+
+-- a skip
+pub copy_skips : (cause : Cause) (c new : Copying) (did : Did) → Rattle.file_copy.specs.CopySteps.Skips cause c did new → WorkSkips cause (Copy c) did (Copy new)
+copy_skips cause c new did (inl (did_is, new_is)) = record {
+  skips = inl (c.source, did_is, (refl, new_is));
+  falls = subst (λ d. rank_on (course_after d) (Copy new) < 10) (sym did_is) (subst (λ (n : Copying). copy_rank n.stage n.folder < 10) (sym new_is) (passing_falls c.stage c.folder));
+}
+copy_skips cause c new did (inr (did_is, new_is)) = record {
+  skips = inr (did_is, ap Copy new_is);
+  falls = subst (λ d. rank_on (course_after d) (Copy new) < 10) (sym did_is) (subst (λ (n : Copying). rank_on (InTrouble Memory) (Copy n) < 10) (sym new_is) (waiting_falls (Copy c)));
+}
+
+pub deletion_skips : (cause : Cause) (d new : Deleting) (did : Did) → DeletionSkips cause d did new → WorkSkips cause (Delete d) did (Delete new)
+deletion_skips cause d new did s = by s.skips
+  where
+    by : ((path : Route) × (did ≡ Skipped path cause) × deletions.IsAtStage d (Rattle.tree_deletion.specs.Standing.after_item d.path path d.stage) new) ⊎ ((did ≡ Troubled (out_of_memory_at (deletion_barrier d.stage))) × (new ≡ d)) → WorkSkips cause (Delete d) did (Delete new)
+    by (inl (path, did_is, a)) = record {
+      skips = inl (path, did_is, a);
+      falls = subst (λ x. rank_on (course_after x) (Delete new) < rank_on (Skips cause) (Delete d)) (sym did_is) (let most = s.no_more in omega (arith, most));
+    }
+    by (inr (did_is, new_is)) = record {
+      skips = inr (did_is, ap Delete new_is);
+      falls = subst (λ x. rank_on (course_after x) (Delete new) < rank_on (Skips cause) (Delete d)) (sym did_is) (omega arith);
+    }
 
 ends_not : (ending : Ending) → Ends ending ≡ GoesOn → ⊥
 ends_not ending h = cc
@@ -308,159 +350,49 @@ skips_no_end cause ending h = cc
 same_ending : (ending how : Ending) → Ends ending ≡ Ends how → ending ≡ how
 same_ending ending how h = cc
 
--- there was no memory for the first change: no call was made
-no_first : (work : Work) → is_fresh work ≡ true → WorkTells work (Troubled (out_of_memory_at false)) work
-no_first (Copy c) h = go c.stage c.folder refl h
-  where
-    go : (stage : Stage) (folder : FolderState) → c.stage ≡ stage → copying.is_fresh stage folder ≡ true → Tells c (Troubled (out_of_memory_at false)) c
-    go at.Begin folder is h = rw is (refl, refl)
-    go (at.Fill part facts done) folder is h = absurd (false≢true h)
-    go (at.Clean part follows) folder is h = absurd (false≢true h)
-    go (at.Left part) folder is h = absurd (false≢true h)
-    go at.Decided folder is h = absurd (false≢true h)
-no_first (Delete d) h = go d.stage refl h
-  where
-    go : (stage : DeletionStage) → d.stage ≡ stage → deletions.is_fresh stage ≡ true → deletions.Tells d (Troubled (out_of_memory_at false)) d
-    go deletion.Remove is h = rw is ((refused.Memory, refl), refl)
-    go deletion.Sync is h = absurd (false≢true h)
-    go deletion.Finish is h = absurd (false≢true h)
-    go deletion.PassedOver is h = absurd (false≢true h)
-no_first (Make m) h = go m.stage refl h
-  where
-    go : (stage : MakingStage) → m.stage ≡ stage → makings.is_fresh stage ≡ true → makings.Tells m (Troubled (out_of_memory_at false)) m
-    go making.Make is h = rw is ((refused.Memory, refl), refl)
-    go making.Sync is h = absurd (false≢true h)
-    go making.Finish is h = absurd (false≢true h)
-    go making.PassedOver is h = absurd (false≢true h)
-
-none_called : (unclaimed : Route → Type 0) (work : Work) (log : CallLog) → is_fresh work ≡ true → WorkCalls unclaimed work (Troubled (out_of_memory_at false)) work log (Some log)
-none_called unclaimed (Copy c) log h = go c.stage c.folder refl h
-  where
-    go : (stage : Stage) (folder : FolderState) → c.stage ≡ stage → copying.is_fresh stage folder ≡ true → CopyCalls unclaimed c (Troubled (out_of_memory_at false)) c log (Some log)
-    go at.Begin folder is h = rw is (inl (refl, refl))
-    go (at.Fill part facts done) folder is h = absurd (false≢true h)
-    go (at.Clean part follows) folder is h = absurd (false≢true h)
-    go (at.Left part) folder is h = absurd (false≢true h)
-    go at.Decided folder is h = absurd (false≢true h)
-none_called unclaimed (Delete d) log h = go d.stage refl h
-  where
-    go : (stage : DeletionStage) → d.stage ≡ stage → deletions.is_fresh stage ≡ true → DeletionCalls d (Troubled (out_of_memory_at false)) log (Some log)
-    go deletion.Remove is h = rw is (refused.Memory, refl, refl)
-    go deletion.Sync is h = absurd (false≢true h)
-    go deletion.Finish is h = absurd (false≢true h)
-    go deletion.PassedOver is h = absurd (false≢true h)
-none_called unclaimed (Make m) log h = go m.stage refl h
-  where
-    go : (stage : MakingStage) → m.stage ≡ stage → makings.is_fresh stage ≡ true → MakingCalls m (Troubled (out_of_memory_at false)) log (Some log)
-    go making.Make is h = rw is (refused.Memory, refl, refl)
-    go making.Sync is h = absurd (false≢true h)
-    go making.Finish is h = absurd (false≢true h)
-    go making.PassedOver is h = absurd (false≢true h)
-
-same_log : (log now : CallLog) (contents : Option CallLog) → contents ≡ Some log → contents ≡ Some now → HasMore log 0 now
-same_log log now contents known is =
-    let same : log ≡ now = cc in
-    let lengths = ap (λ (l : CallLog). length l.changes) (sym same) in
-    omega (arith, lengths)
-
 module _ (unclaimed : Route → Type 0) (did : Did) (calls : ℕ) (dirty dirty_after : List Route) (before after : Option CallLog) (f0 f1 : ℕ) where
   abbrev IsOwn : Running → Running → Type 0
   IsOwn job new = OwnStep unclaimed (step_made job new did calls dirty dirty_after before after f0 f1)
 
-  -- a step after the first change
-  pub worked_on : (id : ℕ) (old work : Work) (was course : Course) (job : Running) (folder : Route) (synced : Bool) → (let r : Running = record { id = id; work = old; course = was } in r) ≡ job → job.course ≡ GoesOn
-      → is_fresh job.work ≡ false → WorkSteps unclaimed old work did calls before after f0 f1 → course ≡ course_after did → folder ≡ changed_folder work
-      → synced ≡ (is_dirty old && not (is_dirty work)) → dirty_after ≡ (if synced then without folder dirty else dirty) → IsOwn job (record { id = id; work = work; course = course })
-  worked_on id old work was course job folder synced is goes changed steps course_is folder_is synced_is after_is =
+  -- a step of the work
+  pub worked_on : (id : ℕ) (old work : Work) (was course : Course) (job : Running) → (let r : Running = record { id = id; work = old; course = was } in r) ≡ job → job.course ≡ GoesOn
+      → (is_fresh job.work ≡ true → IfKnown before (λ log. NoneOwed (current log) job.work dirty)) → WorkSteps unclaimed old work did calls dirty dirty_after before after f0 f1 → course ≡ course_after did
+      → IsOwn job (record { id = id; work = work; course = course })
+  worked_on id old work was course job is goes settled steps course_is =
       let same : old ≡ job.work = ap (λ (j : Running). j.work) is in
       let number : id ≡ job.id = ap (λ (j : Running). j.id) is in
-      let stays : is_dirty old ≡ false → is_dirty work ≡ false = λ clean. stays_clean old work did steps.tells (ap is_fresh same ∙ changed) clean in
-      let there : folder ≡ changed_folder old = folder_is ∙ same_folder old work did steps.tells in
-      let leaves = synced_only (is_dirty old) (is_dirty work) synced folder dirty dirty_after stays synced_is after_is
-      ∙ ap (λ f. with_change (is_dirty old) (is_dirty work) f dirty) there in
+      let s = subst (λ w. WorkSteps unclaimed w work did calls dirty dirty_after before after f0 f1) same steps in
       record {
-        own = run_goes unclaimed job (record { id = id; work = work; course = course }) did calls before after f0 f1 old work same goes steps
+        own = run_goes unclaimed job (record { id = id; work = work; course = course }) did calls dirty dirty_after before after f0 f1 old work same goes steps
             (ap (λ n. let r : Running = record { id = n; work = work; course = course } in r) number ∙ ap (λ c. let r : Running = record job { work = work; course = c } in r) course_is);
-        settled = λ now fresh. absurd (true≢false (sym fresh ∙ changed));
-        leaves = subst (λ c. LeavesDirty c job.work did work dirty dirty_after before after) (sym goes)
-            (leaves ∙ ap (λ w. with_change (is_dirty w) (is_dirty work) (changed_folder w) dirty) same);
+        settled = λ now fresh. settled fresh;
+        leaves = subst (λ c. LeavesDirty c job.work did work dirty dirty_after before after) (sym goes) s.leaves;
+        walks = λ now. s.walks;
         winds = λ ending ends. absurd (ends_not ending (sym ends ∙ goes));
-      }
-
-  -- the step that may make the first change
-  pub changed_first : (id : ℕ) (old work : Work) (was course : Course) (job : Running) (folder : Route) (more : List Route) → (let r : Running = record { id = id; work = old; course = was } in r) ≡ job → job.course ≡ GoesOn
-      → is_fresh job.work ≡ true → IfKnown before (λ log. NoneOwed (current log) (changed_folder job.work) dirty) → WorkSteps unclaimed old work did calls before after f0 f1 → course ≡ course_after did
-      → folder ≡ changed_folder old → more ≡ dirty ++ folder ∷ [] → dirty_after ≡ (if is_dirty work then more else take (length more - 1) more) → IsOwn job (record { id = id; work = work; course = course })
-  changed_first id old work was course job folder more is goes fresh settled steps course_is folder_is more_is after_is =
-      let same : old ≡ job.work = ap (λ (j : Running). j.work) is in
-      let number : id ≡ job.id = ap (λ (j : Running). j.id) is in
-      let leaves = joined (is_dirty old) (is_dirty work) folder dirty more dirty_after (fresh_clean old (ap is_fresh same ∙ fresh)) more_is after_is
-      ∙ ap (λ f. with_change (is_dirty old) (is_dirty work) f dirty) folder_is in
-      record {
-        own = run_goes unclaimed job (record { id = id; work = work; course = course }) did calls before after f0 f1 old work same goes steps
-            (ap (λ n. let r : Running = record { id = n; work = work; course = course } in r) number ∙ ap (λ c. let r : Running = record job { work = work; course = c } in r) course_is);
-        settled = λ now still. settled;
-        leaves = subst (λ c. LeavesDirty c job.work did work dirty dirty_after before after) (sym goes)
-            (leaves ∙ ap (λ w. with_change (is_dirty w) (is_dirty work) (changed_folder w) dirty) same);
-        winds = λ ending ends. absurd (ends_not ending (sym ends ∙ goes));
+        falls = λ going. subst (λ c. rank_at dirty_after c work < rank_at dirty job.course job.work) (sym course_is) (subst (λ c. rank_at dirty_after (course_after did) work < rank_at dirty c job.work) (sym goes) (s.falls going));
       }
 
   -- a last step
   pub wound_up : (ending : Ending) (job new : Running) → job.course ≡ Ends ending → WindingStep ending (step_made job new did calls dirty dirty_after before after f0 f1) → IsOwn job new
   wound_up ending job new ends w = record {
-    own = run_ends unclaimed job new did calls before after f0 f1 ending job.work new.work w.left refl ends w.winds w.new_is;
+    own = run_ends unclaimed job new did calls dirty dirty_after before after f0 f1 ending job.work new.work w.left refl ends w.winds w.new_is;
     settled = λ goes fresh. absurd (ends_not ending (sym ends ∙ goes));
-    leaves = subst (λ c. LeavesDirty c job.work did new.work dirty dirty_after before after) (sym ends) (record { refusal = w.left; dirty_is = w.leaves; tried = w.winds.synced });
+    leaves = subst (λ c. LeavesDirty c job.work did new.work dirty dirty_after before after) (sym ends)
+        (record { refusal = w.left; folder = w.winds.folder; own = w.winds.own; dirty_is = w.winds.dirty_is; tried = w.winds.synced });
+    walks = λ goes. absurd (ends_not ending (sym ends ∙ goes));
     winds = λ how is. subst (λ e. WindingStep e (step_made job new did calls dirty dirty_after before after f0 f1)) (same_ending ending how (sym ends ∙ is)) w;
+    falls = λ going.
+        subst (λ c. rank_at dirty_after c new.work < rank_at dirty job.course job.work) (sym (ap (λ (r : Running). r.course) w.new_is ∙ ends))
+        (subst (λ c. rank_at dirty_after (Ends ending) new.work < rank_at dirty c job.work) (sym ends) (w.winds.falls going));
   }
 
--- there was no memory for the first change
-no_first_steps : (unclaimed : Route → Type 0) (work : Work) (contents : Option CallLog) (f : ℕ) → is_fresh work ≡ true → WorkSteps unclaimed work work (Troubled (out_of_memory_at false)) 0 contents contents f f
-no_first_steps unclaimed work contents f fresh = record {
-  tells = no_first work fresh;
-  called = λ log known. subst (WorkCalls unclaimed work (Troubled (out_of_memory_at false)) work log) (sym known) (none_called unclaimed work log fresh);
-  counted = λ log known now is. same_log log now contents known is;
-  few = omega arith;
-  unknown = λ h. h;
-  later = omega arith;
-  fault = λ h. absurd cc;
-  falls = λ going. trouble_falls work;
-}
-
-module _ (unclaimed : Route → Type 0) (dirty : List Route) (contents : Option CallLog) (f : ℕ) where
-  pub unmade_first : (id : ℕ) (old : Work) (was : Course) (job : Running) (did : Did) (calls : ℕ) (dirty_after : List Route) → (let r : Running = record { id = id; work = old; course = was } in r) ≡ job → job.course ≡ GoesOn → is_fresh job.work ≡ true
-      → IfKnown contents (λ log. NoneOwed (current log) (changed_folder job.work) dirty) → did ≡ Troubled (out_of_memory_at false) → calls ≡ 0 → dirty_after ≡ dirty
-      → OwnStep unclaimed (step_made job (record { id = id; work = old; course = InTrouble Memory }) did calls dirty dirty_after contents contents f f)
-  unmade_first id old was job did calls dirty_after is goes fresh settled did_is calls_is same_dirty =
-      let same : old ≡ job.work = ap (λ (j : Running). j.work) is in
-      let number : id ≡ job.id = ap (λ (j : Running). j.id) is in
-      let steps = subst (λ d. WorkSteps unclaimed old old d calls contents contents f f) (sym did_is)
-      (subst (λ n. WorkSteps unclaimed old old (Troubled (out_of_memory_at false)) n contents contents f f) (sym calls_is) (no_first_steps unclaimed old contents f (ap is_fresh same ∙ fresh))) in
-      record {
-        own = run_goes unclaimed job (record { id = id; work = old; course = InTrouble Memory }) did calls contents contents f f old old same goes steps
-            (ap (λ n. let r : Running = record { id = n; work = old; course = InTrouble Memory } in r) number ∙ ap (λ d. let r : Running = record job { work = old; course = course_after d } in r) (sym did_is));
-        settled = λ now still. settled;
-        leaves = subst (λ c. LeavesDirty c job.work did old dirty dirty_after contents contents) (sym goes)
-            (same_dirty ∙ (unchanged (is_dirty old) (is_dirty old) (changed_folder old) dirty refl ∙ ap (λ w. with_change (is_dirty w) (is_dirty old) (changed_folder w) dirty) same));
-        winds = λ ending ends. absurd (ends_not ending (sym ends ∙ goes));
-      }
-
+module _ (unclaimed : Route → Type 0) (contents : Option CallLog) (dirty : List Route) (f : ℕ) where
   -- the report of a skip, or that there is no memory for it
   pub skipped_step : (cause : Cause) (job new : Running) (did : Did) (calls : ℕ) → job.course ≡ Skips cause → SkipSteps cause job new did calls → OwnStep unclaimed (step_made job new did calls dirty dirty contents contents f f)
-  skipped_step cause job new did calls skips s = elim s.skips [
-    | inl passed ↦
-        let work_is : s.work ≡ skipped job.work = passed.1 in
-        let new_is : new ≡ record job { work = skipped job.work; course = GoesOn } = s.new_is ∙ (ap (λ w. let r : Running = record job { work = w; course = course_after did } in r) work_is
-        ∙ ap (λ d. let r : Running = record job { work = skipped job.work; course = course_after d } in r) passed.0) in
-        built new_is (inl (passed.0, new_is)) (passing_falls job.work) (skipped_dirty job.work) (λ fault. subst (λ d. IsFault d → ⊥) (sym passed.0) (λ h. h) fault)
-    | inr waits ↦
-        let new_is : new ≡ record job { course = InTrouble Memory } = s.new_is ∙ (ap (λ w. let r : Running = record job { work = w; course = course_after did } in r) waits.1
-        ∙ ap (λ d. let r : Running = record job { course = course_after d } in r) waits.0) in
-        built new_is (inr (waits.0, new_is)) (waiting_falls job.work) refl (λ fault. subst (λ d. IsFault d → ⊥) (sym waits.0) (λ h. absurd cc) fault)
-  ]
+  skipped_step cause job new did calls skips s = by (let k = s.skips in k.skips)
     where
-      built : {to : Running} → new ≡ to → TellsOn (Skips cause) job did new → rank_on to.course to.work < 10 → is_dirty to.work ≡ is_dirty job.work → (IsFault did → ⊥) → OwnStep unclaimed (step_made job new did calls dirty dirty contents contents f f)
-      built {to} is tells low clean quiet = record {
+      built : TellsOn (Skips cause) job did new → (IsFault did → ⊥) → OwnStep unclaimed (step_made job new did calls dirty dirty contents contents f f)
+      built tells quiet = record {
         own = record {
           tells = subst (λ c. TellsOn c job did new) (sym skips) tells;
           called = λ log known. subst (λ c. CallsOn unclaimed c job did new log contents) (sym skips) known;
@@ -469,25 +401,32 @@ module _ (unclaimed : Route → Type 0) (dirty : List Route) (contents : Option 
           unknown = λ h. h;
           later = omega arith;
           fault = λ h. absurd (quiet h);
-          falls = λ going. subst (λ (n : Running). rank_on n.course n.work < rank_on job.course job.work) (sym is) (subst (λ c. rank_on to.course to.work < rank_on c job.work) (sym skips) low);
         };
         settled = λ goes fresh. absurd (skips_not cause (sym skips ∙ goes));
-        leaves = subst (λ c. LeavesDirty c job.work did new.work dirty dirty contents contents) (sym skips)
-            (unchanged (is_dirty job.work) (is_dirty new.work) (changed_folder job.work) dirty (ap (λ (n : Running). is_dirty n.work) is ∙ clean));
+        leaves = subst (λ c. LeavesDirty c job.work did new.work dirty dirty contents contents) (sym skips) refl;
+        walks = λ goes. absurd (skips_not cause (sym skips ∙ goes));
         winds = λ ending ends. absurd (skips_no_end cause ending (sym skips ∙ ends));
+        falls = λ going.
+            let low = (let k = s.skips in k.falls) in
+            let tries = tries_after did s.work dirty in
+            let less = weighs_less (rank_on (course_after did) s.work) (rank_on (Skips cause) job.work) (length dirty) (length dirty) (tries_left (course_after did) s.work dirty) low (omega arith) tries in
+            subst (λ (r : Running). rank_at dirty r.course r.work < rank_at dirty job.course job.work) (sym s.new_is) (subst (λ c. rank_at dirty (course_after did) s.work < rank_at dirty c job.work) (sym skips) less);
       }
 
+      by : ((path : Route) × (did ≡ Skipped path cause) × PassesOver job.work path s.work) ⊎ ((did ≡ Troubled (out_of_memory_at (Rattle.copy_move.specs.Jobs.at_barrier job.work))) × (s.work ≡ job.work)) → OwnStep unclaimed (step_made job new did calls dirty dirty contents contents f f)
+      by (inl (path, did_is, passes)) =
+          built (inl (path, s.work, did_is, passes, s.new_is ∙ ap (λ d. let r : Running = record job { work = s.work; course = course_after d } in r) did_is))
+          (λ fault. subst (λ d. IsFault d → ⊥) (sym did_is) (λ h. h) fault)
+      by (inr (did_is, same)) =
+          built (inr (did_is, s.new_is ∙ (ap (λ w. let r : Running = record job { work = w; course = course_after did } in r) same ∙ ap (λ d. let r : Running = record job { course = course_after d } in r) did_is)))
+          (λ fault. subst (λ d. IsFault d → ⊥) (sym did_is) (λ h. absurd cc) fault)
+
 -- a last step of the work
-pub winding_step : (ending : Ending) (id : ℕ) (old work : Work) (course : Course) (job : Running) (did : Did) (calls : ℕ) (left : Option TreeError) (folder : Route) (dirty dirty_after : List Route) (before after : Option CallLog) (f0 f1 : ℕ)
-    → (let r : Running = record { id = id; work = old; course = course } in r) ≡ job → WorkWindsUp ending old work did calls left before after f0 f1 → folder ≡ changed_folder work → dirty_after ≡ after_try did left folder dirty
+pub winding_step : (ending : Ending) (id : ℕ) (old work : Work) (course : Course) (job : Running) (did : Did) (calls : ℕ) (left : Option TreeError) (dirty dirty_after : List Route) (before after : Option CallLog) (f0 f1 : ℕ)
+    → (let r : Running = record { id = id; work = old; course = course } in r) ≡ job → WorkWindsUp ending old work did calls left dirty dirty_after before after f0 f1
     → WindingStep ending (step_made job (record { id = id; work = work; course = course }) did calls dirty dirty_after before after f0 f1)
-winding_step ending id old work course job did calls left folder dirty dirty_after before after f0 f1 is winds folder_is after_is =
-    subst (λ j. WindingStep ending (step_made j (record { id = id; work = work; course = course }) did calls dirty dirty_after before after f0 f1)) is record {
-      left = left;
-      winds = winds;
-      new_is = refl;
-      leaves = after_is ∙ ap (λ f. after_try did left f dirty) (folder_is ∙ winds_there ending old work did winds.tells);
-    }
+winding_step ending id old work course job did calls left dirty dirty_after before after f0 f1 is winds =
+    subst (λ j. WindingStep ending (step_made j (record { id = id; work = work; course = course }) did calls dirty dirty_after before after f0 f1)) is record { left = left; winds = winds; new_is = refl }
 
 -- The sync of a folder that an ended job left.
 module _ (folder : Route) (dirty dirty_after : List Route) (job : Running) (goes : job.course ≡ GoesOn) (fresh : is_fresh job.work ≡ true) (owed : Among dirty folder) (before after : Option CallLog) (f0 f1 : ℕ)
@@ -526,6 +465,44 @@ module _ (folder : Route) (dirty dirty_after : List Route) (job : Running) (goes
   }
 
 -- a step after looks at the tree, which may have met faults
+walks_later : (old new : Work) (did : Did) (calls : ℕ) (dirty dirty_after : List Route) (before after : Option CallLog) (f0 f1 f2 : ℕ) → f0 ≤ f1 → Walks old new did calls dirty dirty_after before after f1 f2 → Walks old new did calls dirty dirty_after before after f0 f2
+walks_later (Copy c) new did calls dirty dirty_after before after f0 f1 f2 later w = tt
+walks_later (Make m) new did calls dirty dirty_after before after f0 f1 f2 later w = tt
+walks_later (Delete d) (Copy new) did calls dirty dirty_after before after f0 f1 f2 later w = absurd w
+walks_later (Delete d) (Make new) did calls dirty dirty_after before after f0 f1 f2 later w = absurd w
+walks_later (Delete d) (Delete new) did calls dirty dirty_after before after f0 f1 f2 later (inl (spare, spare_after, s)) = inl (
+  spare,
+  spare_after,
+  record {
+    entered = s.entered;
+    mid = s.mid;
+    descends = s.descends;
+    working = let w = s.working in record {
+      works = w.works;
+      called = w.called;
+      leaves = w.leaves;
+      counted = w.counted;
+      few = w.few;
+      unknown = w.unknown;
+      later = let more = w.later in omega (arith, later, more);
+      fault = λ h. risen_before f0 f1 f2 later (w.fault h);
+    };
+    falls = s.falls;
+  },
+)
+walks_later (Delete d) (Delete new) did calls dirty dirty_after before after f0 f1 f2 later (inr (spare, s, same)) = inr (
+  spare,
+  record {
+    syncs = s.syncs;
+    counted = s.counted;
+    few = s.few;
+    unknown = s.unknown;
+    later = let more = s.later in omega (arith, later, more);
+    fault = λ h. risen_before f0 f1 f2 later (s.fault h);
+  },
+  same,
+)
+
 winding_later : (ending : Ending) (job new : Running) (did : Did) (calls : ℕ) (dirty dirty_after : List Route) (before after : Option CallLog) (f0 f1 f2 : ℕ) → f0 ≤ f1
     → WindingStep ending (step_made job new did calls dirty dirty_after before after f1 f2) → WindingStep ending (step_made job new did calls dirty dirty_after before after f0 f2)
 winding_later ending job new did calls dirty dirty_after before after f0 f1 f2 later w = record {
@@ -533,6 +510,9 @@ winding_later ending job new did calls dirty dirty_after before after f0 f1 f2 l
   winds = record {
     tells = w.winds.tells;
     called = w.winds.called;
+    folder = w.winds.folder;
+    own = w.winds.own;
+    dirty_is = w.winds.dirty_is;
     synced = w.winds.synced;
     counted = w.winds.counted;
     few = w.winds.few;
@@ -542,7 +522,6 @@ winding_later ending job new did calls dirty dirty_after before after f0 f1 f2 l
     falls = w.winds.falls;
   };
   new_is = w.new_is;
-  leaves = w.leaves;
 }
 
 pub own_later : (unclaimed : Route → Type 0) (job new : Running) (did : Did) (calls : ℕ) (dirty dirty_after : List Route) (first before after : Option CallLog) (f0 f1 f2 : ℕ) → before ≡ first → f0 ≤ f1
@@ -556,11 +535,12 @@ own_later unclaimed job new did calls dirty dirty_after first before after f0 f1
     unknown = o.own.unknown;
     later = let more = o.own.later in omega (arith, later, more);
     fault = λ h. risen_before f0 f1 f2 later (o.own.fault h);
-    falls = o.own.falls;
   };
   settled = o.settled;
   leaves = o.leaves;
+  walks = λ goes. walks_later job.work new.work did calls dirty dirty_after before after f0 f1 f2 later (o.walks goes);
   winds = λ ending ends. winding_later ending job new did calls dirty dirty_after before after f0 f1 f2 later (o.winds ending ends);
+  falls = o.falls;
 }
 
 pub settling_later : (job new : Running) (did : Did) (calls : ℕ) (dirty dirty_after : List Route) (first before after : Option CallLog) (f0 f1 f2 : ℕ) → before ≡ first → f0 ≤ f1

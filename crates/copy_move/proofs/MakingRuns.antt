@@ -17,8 +17,7 @@ use Rattle.job_reports.specs.Stops.{refusal_in, calls_made_for, cause_of, troubl
 use Rattle.job_reports.proofs.Runs.{no_more}
 use Rattle.job_reports.proofs.Tried.{answered, counts_try, fault_tried, tries_few}
 use Rattle.copy_move.specs.declared.making.MakingStage.TheVariants.{Make, Sync, Finish}
-use Rattle.copy_move.specs.Deletions.{Answers}
-use Rattle.copy_move.specs.Makings.{IsTroubleAt, Making, call_of}
+use Rattle.copy_move.specs.Makings.{Answers, IsTroubleAt, Making, call_of}
 use Rattle.copy_move.specs.MakingSteps.{LastMakingStep, MakingStep}
 
 -- the sync's trouble names the folder of the path

@@ -1,5 +1,5 @@
 -- A step of a job is a piece of its work, by its course.
-use Rattle.std.proofs.Common.{◌≡◌, ℕ, ◌<◌, sym, subst, arith, Option}
+use Rattle.std.proofs.Common.{◌≡◌, ℕ, List, sym, subst, arith, Option}
 use Rattle.mc_text.specs.Routes.{Route}
 use Rattle.tree_trait.specs.declared.calls.TreeError.{TreeError}
 use Rattle.tree_trait.specs.Change.{CallLog}
@@ -11,7 +11,6 @@ use Rattle.copy_move.specs.declared.work.Work.{Work}
 use Rattle.copy_move.specs.declared.work.Work.TheVariants.{Copy, Delete, Make}
 use Rattle.copy_move.specs.declared.run.Course.TheVariants.{GoesOn, Ends}
 use Rattle.copy_move.specs.Jobs.{Running, TellsOn, CallsOn, WorkWinds, course_after}
-use Rattle.copy_move.specs.Ranks.{rank_on}
 use Rattle.copy_move.specs.Steps.{StepsOn, WorkSteps, WorkWindsUp}
 
 -- no last step reports a fault
@@ -36,11 +35,11 @@ quiet_end ending old new (Cleaned part) w h = h
 quiet_end ending old new Barrier w h = h
 quiet_end ending old new (Ended how part) w h = h
 
-module _ (unclaimed : Route → Type 0) (job new : Running) (did : Did) (calls : ℕ) (before after : Option CallLog) (faults faults_after : ℕ) where
-  pub run_goes : (own work : Work) → own ≡ job.work → job.course ≡ GoesOn → WorkSteps unclaimed own work did calls before after faults faults_after
+module _ (unclaimed : Route → Type 0) (job new : Running) (did : Did) (calls : ℕ) (dirty dirty_after : List Route) (before after : Option CallLog) (faults faults_after : ℕ) where
+  pub run_goes : (own work : Work) → own ≡ job.work → job.course ≡ GoesOn → WorkSteps unclaimed own work did calls dirty dirty_after before after faults faults_after
       → new ≡ record job { work = work; course = course_after did } → StepsOn unclaimed job new did calls before after faults faults_after
   run_goes own work same course steps is =
-      let s = subst (λ w. WorkSteps unclaimed w work did calls before after faults faults_after) same steps in record {
+      let s = subst (λ w. WorkSteps unclaimed w work did calls dirty dirty_after before after faults faults_after) same steps in record {
         tells = subst (λ c. TellsOn c job did new) (sym course) (work, s.tells, is);
         called = λ log known.
             subst (λ c. CallsOn unclaimed c job did new log after) (sym course)
@@ -50,15 +49,12 @@ module _ (unclaimed : Route → Type 0) (job new : Running) (did : Did) (calls :
         unknown = s.unknown;
         later = s.later;
         fault = s.fault;
-        falls = λ going.
-            subst (λ (n : Running). rank_on n.course n.work < rank_on job.course job.work) (sym is)
-            (subst (λ c. rank_on (course_after did) work < rank_on c job.work) (sym course) (s.falls going));
       }
 
-  pub run_ends : (ending : Ending) (own work : Work) (left : Option TreeError) → own ≡ job.work → job.course ≡ Ends ending → WorkWindsUp ending own work did calls left before after faults faults_after
+  pub run_ends : (ending : Ending) (own work : Work) (left : Option TreeError) → own ≡ job.work → job.course ≡ Ends ending → WorkWindsUp ending own work did calls left dirty dirty_after before after faults faults_after
       → new ≡ record job { work = work } → StepsOn unclaimed job new did calls before after faults faults_after
   run_ends ending own work left same course steps is =
-      let s = subst (λ w. WorkWindsUp ending w work did calls left before after faults faults_after) same steps in record {
+      let s = subst (λ w. WorkWindsUp ending w work did calls left dirty dirty_after before after faults faults_after) same steps in record {
         tells = subst (λ c. TellsOn c job did new) (sym course) (work, s.tells, is);
         called = λ log known. subst (λ c. CallsOn unclaimed c job did new log after) (sym course) (s.called log known);
         counted = s.counted;
@@ -66,7 +62,4 @@ module _ (unclaimed : Route → Type 0) (job new : Running) (did : Did) (calls :
         unknown = s.unknown;
         later = s.later;
         fault = λ h. absurd (quiet_end ending job.work work did s.tells h);
-        falls = λ going.
-            subst (λ (n : Running). rank_on n.course n.work < rank_on job.course job.work) (sym is)
-            (subst (λ c. rank_on c work < rank_on c job.work) (sym course) (s.falls going));
       }

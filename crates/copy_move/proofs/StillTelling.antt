@@ -3,7 +3,7 @@ use Rattle.std.proofs.Common.{◌≡◌, List, [], ◌∷◌, take, inl, inr, Op
 use Rattle.mc_text.specs.Routes.{Route}
 use Rattle.tree_trait.specs.declared.calls.TreeError.{TreeError}
 use Rattle.tree_trait.specs.declared.calls.TreeError.TheVariants as refused
-use Rattle.tree_trait.specs.Calls.{Call, MakeFolder, RemoveFile, SyncFolder}
+use Rattle.tree_trait.specs.Calls.{Call, MakeFolder, RemoveFile, RemoveFolder, SyncFolder}
 use Rattle.tree_trait.specs.Change.{CallLog, current}
 use Rattle.tree_trait.specs.Answers.{Performs}
 use Rattle.job_reports.specs.declared.report.Cause.{Cause}
@@ -19,14 +19,14 @@ use Rattle.job_reports.specs.Paths.{folder_of}
 use Rattle.file_copy.specs.CopyCalls.{CopyCalls, CopyStops, making, placing, writing}
 use Rattle.file_copy.specs.LastSteps.{SyncTried, WindCalls, removable}
 use Rattle.job_reports.proofs.Runs.{all_some}
-use Rattle.copy_move.specs.declared.deletion.Stage.TheVariants.{Sync}
 use Rattle.copy_move.specs.declared.making.MakingStage.TheVariants as making
 use Rattle.copy_move.specs.declared.work.Work.{Work}
 use Rattle.copy_move.specs.declared.work.Work.TheVariants.{Copy, Delete, Make}
 use Rattle.copy_move.specs.declared.run.Course.{Course}
 use Rattle.copy_move.specs.declared.run.Course.TheVariants.{GoesOn, InTrouble, OwedSyncFailed, Skips, Ends}
-use Rattle.copy_move.specs.Deletions.{Answers, Deleting, DeletionCalls, LastCalls, call_of}
-use Rattle.copy_move.specs.Makings.{LastMakingCalls, Making, MakingCalls}
+use Rattle.copy_move.specs.Deletions.{DeletionCalls, IsRefused, LastCalls}
+use Rattle.copy_move.specs.Deletions as deletions
+use Rattle.copy_move.specs.Makings.{Answers, LastMakingCalls, Making, MakingCalls}
 use Rattle.copy_move.specs.Makings as makings
 use Rattle.copy_move.specs.Jobs.{CallsOn, JobCalls, Running, WorkCalls, WorkLastCalls}
 
@@ -39,27 +39,34 @@ performs_tells log call (Err refused.Fault) after h = (_, h.1.1)
 performs_tells log call (Err refused.Memory) after h = (log, h)
 performs_tells log call (Err e) after h = (_, h.1)
 
+refused_tells : (log : CallLog) (e : TreeError) (after : Option CallLog) → IsRefused log e after → StillTells after
+refused_tells log e after (deletions.RefusedFile path h) = performs_tells log (RemoveFile path) (Err e) after h
+refused_tells log e after (deletions.RefusedFolder path h) = performs_tells log (RemoveFolder path) (Err e) after h
+refused_tells log e after (deletions.RefusedSync folder h) = performs_tells log (SyncFolder folder) (Err e) after h
+
 call_tells : (log : CallLog) (call : Option Call) (answer : Result (Unit {0}) TreeError) (after : Option CallLog) → Answers log call answer after → StillTells after
 call_tells log None answer after h = (log, h)
 call_tells log (Some call) answer after h = performs_tells log call answer after h
 
 -- a deletion
-deletion_tells : (d : Deleting) (did : Did) (log : CallLog) (after : Option CallLog) → DeletionCalls d did log after → StillTells after
-deletion_tells d (Removed path) log after h = call_tells log (Some (RemoveFile path)) (Ok tt) after h
-deletion_tells d Barrier log after h = call_tells log (call_of Sync d.path) (Ok tt) after h
-deletion_tells d (Troubled trouble) log after h = call_tells log (call_of d.stage d.path) (Err h.0) after h.2
-deletion_tells d (Ended ending part) log after h = (log, h)
-deletion_tells d (Began part) log after h = absurd h
-deletion_tells d (Chunk count) log after h = absurd h
-deletion_tells d (Placed path) log after h = absurd h
-deletion_tells d (Made made) log after h = absurd h
-deletion_tells d (Kept kept) log after h = absurd h
-deletion_tells d (Skipped path cause) log after h = absurd h
-deletion_tells d (Cleaned part) log after h = absurd h
+deletion_tells : (did : Did) (log : CallLog) (after : Option CallLog) → DeletionCalls did log after → StillTells after
+deletion_tells (Removed path) log after (inl h) = performs_tells log (RemoveFile path) (Ok tt) after h
+deletion_tells (Removed path) log after (inr h) = performs_tells log (RemoveFolder path) (Ok tt) after h
+deletion_tells Barrier log after h = performs_tells log (SyncFolder h.0) (Ok tt) after h.1
+deletion_tells (Troubled trouble) log after (inl h) = (log, h)
+deletion_tells (Troubled trouble) log after (inr (e, cause, h)) = refused_tells log e after h
+deletion_tells (Ended ending part) log after h = (log, h)
+deletion_tells (Began part) log after h = absurd h
+deletion_tells (Chunk count) log after h = absurd h
+deletion_tells (Placed path) log after h = absurd h
+deletion_tells (Made made) log after h = absurd h
+deletion_tells (Kept kept) log after h = (log, h)
+deletion_tells (Skipped path cause) log after h = absurd h
+deletion_tells (Cleaned part) log after h = absurd h
 
 -- a making
 making_tells : (m : Making) (did : Did) (log : CallLog) (after : Option CallLog) → MakingCalls m did log after → StillTells after
-making_tells m (Made path) log after h = call_tells log (Some (MakeFolder path new_folder_mode)) (Ok tt) after h
+making_tells m (Made path) log after h = performs_tells log (MakeFolder path new_folder_mode) (Ok tt) after h
 making_tells m Barrier log after h = call_tells log (makings.call_of making.Sync m.path) (Ok tt) after h
 making_tells m (Troubled trouble) log after h = call_tells log (makings.call_of m.stage m.path) (Err h.0) after h.2
 making_tells m (Ended ending part) log after h = (log, h)
@@ -71,18 +78,18 @@ making_tells m (Kept kept) log after h = absurd h
 making_tells m (Skipped path cause) log after h = absurd h
 making_tells m (Cleaned part) log after h = absurd h
 
-last_tells : (d : Deleting) (did : Did) (log : CallLog) (after : Option CallLog) → LastCalls d did log after → StillTells after
-last_tells d Barrier log after h = call_tells log (call_of Sync d.path) h.0 after h.1
-last_tells d (Ended ending part) log after h = (log, h)
-last_tells d (Began part) log after h = absurd h
-last_tells d (Chunk count) log after h = absurd h
-last_tells d (Placed path) log after h = absurd h
-last_tells d (Removed path) log after h = absurd h
-last_tells d (Made made) log after h = absurd h
-last_tells d (Kept kept) log after h = absurd h
-last_tells d (Skipped path cause) log after h = absurd h
-last_tells d (Cleaned part) log after h = absurd h
-last_tells d (Troubled trouble) log after h = absurd h
+last_tells : (did : Did) (log : CallLog) (after : Option CallLog) → LastCalls did log after → StillTells after
+last_tells Barrier log after (folder, answer, h) = performs_tells log (SyncFolder folder) answer after h
+last_tells (Ended ending part) log after h = (log, h)
+last_tells (Began part) log after h = absurd h
+last_tells (Chunk count) log after h = absurd h
+last_tells (Placed path) log after h = absurd h
+last_tells (Removed path) log after h = absurd h
+last_tells (Made made) log after h = absurd h
+last_tells (Kept kept) log after h = absurd h
+last_tells (Skipped path cause) log after h = absurd h
+last_tells (Cleaned part) log after h = absurd h
+last_tells (Troubled trouble) log after h = absurd h
 
 last_making_tells : (m : Making) (did : Did) (log : CallLog) (after : Option CallLog) → LastMakingCalls m did log after → StillTells after
 last_making_tells m Barrier log after h = call_tells log (makings.call_of making.Sync m.path) h.0 after h.1
@@ -162,12 +169,12 @@ work_tells : (unclaimed : Route → Type 0) (work : Work) (did : Did) (new : Wor
 work_tells unclaimed (Copy c) did (Copy new) log after h = copy_tells unclaimed c did new log after h
 work_tells unclaimed (Copy c) did (Delete new) log after h = absurd h
 work_tells unclaimed (Copy c) did (Make new) log after h = absurd h
-work_tells unclaimed (Delete d) did new log after h = deletion_tells d did log after h
+work_tells unclaimed (Delete d) did new log after h = deletion_tells did log after h
 work_tells unclaimed (Make m) did new log after h = making_tells m did log after h
 
 last_work_tells : (work : Work) (did : Did) (log : CallLog) (after : Option CallLog) → WorkLastCalls work did log after → StillTells after
 last_work_tells (Copy c) did log after h = wind_tells c did log after h
-last_work_tells (Delete d) did log after h = last_tells d did log after h
+last_work_tells (Delete d) did log after h = last_tells did log after h
 last_work_tells (Make m) did log after h = last_making_tells m did log after h
 
 calls_tell : (unclaimed : Route → Type 0) (course : Course) (job : Running) (did : Did) (new : Running) (log : CallLog) (after : Option CallLog) → CallsOn unclaimed course job did new log after → StillTells after

@@ -29,17 +29,21 @@ use Rattle.copy_move.specs.declared.work.Work.{Work}
 use Rattle.copy_move.specs.declared.work.Work.TheVariants.{Copy, Delete, Make}
 use Rattle.copy_move.specs.declared.run.Course.{Course}
 use Rattle.copy_move.specs.declared.run.Course.TheVariants.{GoesOn, InTrouble, OwedSyncFailed, Skips, Ends}
-use Rattle.copy_move.specs.declared.deletion.Stage.{Stage as DeletionStage}
-use Rattle.copy_move.specs.declared.deletion.Stage.TheVariants as deletion
+use Rattle.subtree_walk.specs.Places.{unopened}
+use Rattle.tree_deletion.specs.declared.deletion.Depth.TheVariants.{Top}
+use Rattle.tree_deletion.specs.declared.deletion.Stage.{Stage as DeletionStage}
+use Rattle.tree_deletion.specs.declared.deletion.Stage.TheVariants as deletion
+use Rattle.tree_deletion.specs.Standing.{after_item}
+use Rattle.tree_deletion.specs.Standing as standing
 use Rattle.copy_move.specs.declared.making.MakingStage.{MakingStage}
 use Rattle.copy_move.specs.declared.making.MakingStage.TheVariants as making
-use Rattle.copy_move.specs.Deletions.{Deleting}
+use Rattle.copy_move.specs.Deletions.{Deleting, IsAtStage}
 use Rattle.copy_move.specs.Deletions as deletions
 use Rattle.copy_move.specs.Makings.{Making}
 use Rattle.copy_move.specs.Makings as makings
-use Rattle.copy_move.specs.Jobs.{Running, JobTells, TellsOn, WorkTells, WorkWinds, answered, answered_on, at_barrier, copies, course_after, deletes, first_work, is_fresh, makes, skipped, taken_anew}
+use Rattle.copy_move.specs.Jobs.{Running, JobTells, TellsOn, WorkTells, WorkWinds, answered, answered_on, at_barrier, copies, course_after, deletes, first_work, is_fresh, makes, PassesOver, taken_anew}
 use Rattle.job_reports.specs.Reports.{ends}
-use Rattle.copy_move.specs.Told.{after_step, course_told, if_closed, running, stage_told, synced, told, work_told}
+use Rattle.copy_move.specs.Told.{after_step, course_told, if_closed, running, skipped, stage_told, synced, told, work_told}
 
 -- a job, by its parts
 abbrev job_of : ℕ → Work → Course → Running
@@ -59,10 +63,24 @@ skipped_stage_told (at.Clean part follows) = refl
 skipped_stage_told (at.Left part) = refl
 skipped_stage_told at.Decided = refl
 
-skipped_told : (work : Work) → skipped (work_told work) ≡ work_told (skipped work)
-skipped_told (Copy c) = ap (λ stage. Copy (record c { stage = stage })) (skipped_stage_told c.stage)
-skipped_told (Delete d) = refl
-skipped_told (Make m) = refl
+-- a deletion at this stage is told so, wherever its walk stands
+abbrev told_at : Deleting → DeletionStage → Work
+told_at d stage = Delete (record { path = d.path; stage = stage; depth = Top; place = unopened; tried = 0 })
+
+stage_is_told : (d new : Deleting) (stage : DeletionStage) → IsAtStage d stage new → told_at d stage ≡ work_told (Delete new)
+stage_is_told d new stage at =
+    ap (told_at d) (sym at.stage_is) ∙ ap (λ p. Delete (record { path = p; stage = new.stage; depth = Top; place = unopened; tried = 0 })) (sym at.path_is)
+
+skipped_told : (work new : Work) (path : Route) → PassesOver work path new → skipped path (work_told work) ≡ work_told new
+skipped_told (Copy c) (Copy new) path (path_is, new_is) = ap (λ stage. Copy (record c { stage = stage })) (skipped_stage_told c.stage) ∙ ap (λ n. work_told (Copy n)) (sym new_is)
+skipped_told (Copy c) (Delete new) path h = absurd h
+skipped_told (Copy c) (Make new) path h = absurd h
+skipped_told (Delete d) (Copy new) path h = absurd h
+skipped_told (Delete d) (Delete new) path at = stage_is_told d new (after_item d.path path d.stage) at
+skipped_told (Delete d) (Make new) path h = absurd h
+skipped_told (Make m) (Copy new) path h = absurd h
+skipped_told (Make m) (Delete new) path h = absurd h
+skipped_told (Make m) (Make new) path (path_is, new_is) = ap Make (sym new_is)
 
 anew_stage_told : (stage : Stage) → copying.taken_anew (stage_told stage) ≡ stage_told (copying.taken_anew stage)
 anew_stage_told (at.Fill part facts done) = refl
@@ -85,25 +103,16 @@ copy_bars (at.Clean part follows) folder barrier h = refl
 copy_bars (at.Left part) folder barrier h = refl
 copy_bars at.Decided folder barrier h = refl
 
-deletion_bars : (stage : DeletionStage) (barrier : Bool) → barrier ≡ deletions.at_barrier stage → (deletions.is_fresh stage && barrier) ≡ false
-deletion_bars deletion.Remove barrier h = h
+deletion_bars : (stage : DeletionStage) (barrier : Bool) → barrier ≡ standing.at_barrier stage → (standing.is_fresh stage && barrier) ≡ false
+deletion_bars deletion.Begin barrier h = h
+deletion_bars deletion.Going barrier h = refl
 deletion_bars deletion.Sync barrier h = refl
-deletion_bars deletion.Finish barrier h = refl
-deletion_bars deletion.PassedOver barrier h = refl
 
 making_bars : (stage : MakingStage) (barrier : Bool) → barrier ≡ makings.at_barrier stage → (makings.is_fresh stage && barrier) ≡ false
 making_bars making.Make barrier h = h
 making_bars making.Sync barrier h = refl
 making_bars making.Finish barrier h = refl
 making_bars making.PassedOver barrier h = refl
-
--- the trouble of a deletion is at a barrier where its next call is
-trouble_bars : (stage : DeletionStage) (path : Route) (trouble : Trouble) → deletions.IsTroubleAt stage path trouble → trouble.barrier ≡ deletions.at_barrier stage
-trouble_bars deletion.Remove path trouble (e, is) = ap (λ (t : Trouble). t.barrier) is
-trouble_bars deletion.Sync [] trouble h = absurd h
-trouble_bars deletion.Sync (name ∷ folder) trouble (e, is) = ap (λ (t : Trouble). t.barrier) is
-trouble_bars deletion.Finish path trouble h = absurd h
-trouble_bars deletion.PassedOver path trouble h = absurd h
 
 -- the trouble of a making is at a barrier where its next call is
 making_trouble_bars : (stage : MakingStage) (path : Route) (trouble : Trouble) → makings.IsTroubleAt stage path trouble → trouble.barrier ≡ makings.at_barrier stage
@@ -130,15 +139,12 @@ in_trouble : (work : Work) (trouble : Trouble) → (is_fresh work && trouble.bar
 in_trouble work trouble h = ap (λ b. if b && trouble.barrier then OwedSyncFailed trouble.cause else InTrouble trouble.cause) (fresh_told work)
     ∙ ap (λ b. if b then OwedSyncFailed trouble.cause else InTrouble trouble.cause) h
 
-pub deletion_in_trouble : (d : Deleting) (trouble : Trouble) → deletions.IsTroubleAt d.stage d.path trouble → course_told (Delete d) trouble ≡ InTrouble trouble.cause
-deletion_in_trouble d trouble h = in_trouble (Delete d) trouble (deletion_bars d.stage trouble.barrier (trouble_bars d.stage d.path trouble h))
-
 pub making_in_trouble : (m : Making) (trouble : Trouble) → makings.IsTroubleAt m.stage m.path trouble → course_told (Make m) trouble ≡ InTrouble trouble.cause
 making_in_trouble m trouble h = in_trouble (Make m) trouble (making_bars m.stage trouble.barrier (making_trouble_bars m.stage m.path trouble h))
 
 skip_bars : (work : Work) → (is_fresh work && at_barrier work) ≡ false
 skip_bars (Copy c) = copy_bars c.stage c.folder (copying.at_barrier c.stage) refl
-skip_bars (Delete d) = deletion_bars d.stage (deletions.at_barrier d.stage) refl
+skip_bars (Delete d) = deletion_bars d.stage (standing.at_barrier d.stage) refl
 skip_bars (Make m) = making_bars m.stage (makings.at_barrier m.stage) refl
 
 pub skip_in_trouble : (work : Work) → course_told (work_told work) (out_of_memory_at (at_barrier work)) ≡ InTrouble Memory
@@ -171,9 +177,12 @@ copy_told id old new (Skipped path cause) t h = absurd t
 -- a deletion that goes on
 deletion_told : (id : ℕ) (old new : Deleting) (did : Did) → deletions.Tells old did new → ends did ≡ false
     → after_step did (told (job_of id (Delete old) GoesOn)) ≡ Some (told (job_of id (Delete new) (course_after did)))
-deletion_told id old new (Removed path) (from, gone, is) h = rw is refl
-deletion_told id old new Barrier (from, is) h = rw is (ap (λ stage. Some (job_of id (Delete (record old { stage = deletions.after_sync stage })) GoesOn)) from)
-deletion_told id old new (Troubled trouble) (where_is, is) h = rw is (ap (λ course. Some (job_of id (Delete old) course)) (deletion_in_trouble old trouble where_is))
+deletion_told id old new (Removed path) (going, within, at) h = ap (λ w. Some (job_of id w GoesOn)) (stage_is_told old new (after_item old.path path deletion.Going) at)
+deletion_told id old new (Kept path) (going, at) h = ap (λ w. Some (job_of id w GoesOn)) (stage_is_told old new (after_item old.path path old.stage) at)
+deletion_told id old new Barrier (from, at) h = ap (λ w. Some (job_of id w GoesOn)) (stage_is_told old new old.stage at)
+deletion_told id old new (Troubled trouble) (barrier, at) h =
+    ap (λ course. Some (job_of id (work_told (Delete old)) course)) (in_trouble (Delete old) trouble (deletion_bars old.stage trouble.barrier barrier))
+    ∙ ap (λ w. Some (job_of id w (InTrouble trouble.cause))) (stage_is_told old new old.stage at)
 deletion_told id old new (Ended Finished part) t h = absurd cc
 deletion_told id old new (Ended Aborted part) t h = absurd t
 deletion_told id old new (Ended Killed part) t h = absurd t
@@ -182,7 +191,6 @@ deletion_told id old new (Began part) t h = absurd t
 deletion_told id old new (Chunk count) t h = absurd t
 deletion_told id old new (Placed path) t h = absurd t
 deletion_told id old new (Made made) t h = absurd t
-deletion_told id old new (Kept kept) t h = absurd t
 deletion_told id old new (Skipped path cause) t h = absurd t
 deletion_told id old new (Cleaned part) t h = absurd t
 
@@ -221,7 +229,8 @@ copy_winds id ending old new (Troubled trouble) t h = absurd t
 
 deletion_winds : (id : ℕ) (ending : Ending) (old new : Deleting) (did : Did) → deletions.Winds ending old did new → ends did ≡ false
     → after_step did (told (job_of id (Delete old) (Ends ending))) ≡ Some (told (job_of id (Delete new) (Ends ending)))
-deletion_winds id ending old new Barrier (from, is) h = rw is (ap (λ stage. Some (job_of id (Delete (record old { stage = deletions.after_sync stage })) (Ends ending))) from)
+deletion_winds id ending old new Barrier (path_is, stage_is) h = ap (λ w. Some (job_of id w (Ends ending)))
+    (ap (told_at old) (sym stage_is) ∙ ap (λ p. Delete (record { path = p; stage = new.stage; depth = Top; place = unopened; tried = 0 })) (sym path_is))
 deletion_winds id ending old new (Ended how part) t h = absurd cc
 deletion_winds id ending old new (Began part) t h = absurd t
 deletion_winds id ending old new (Chunk count) t h = absurd t
@@ -276,7 +285,7 @@ told_on : (course : Course) (id : ℕ) (work : Work) (new : Running) (did : Did)
 told_on GoesOn id work new did (after, tells, is) h = rw is (goes_told id work after did tells h)
 told_on (InTrouble cause) id work new did t h = absurd t
 told_on (OwedSyncFailed cause) id work new did t h = absurd t
-told_on (Skips cause) id work new did (inl skips) h = rw (skips.0, skips.1) (ap (λ w. Some (job_of id w GoesOn)) (skipped_told work))
+told_on (Skips cause) id work new did (inl (path, after, did_is, passes, new_is)) h = rw (did_is, new_is) (ap (λ w. Some (job_of id w GoesOn)) (skipped_told work after path passes))
 told_on (Skips cause) id work new did (inr waits) h = rw (waits.0, waits.1) (ap (λ course. Some (job_of id (work_told work) course)) (skip_in_trouble work))
 told_on (Ends ending) id work new did (after, tells, is) h = rw is (winds_told id ending work after did tells h)
 
@@ -337,12 +346,6 @@ synced_copy c (at.Clean part follows) folder h = absurd (false≢true h)
 synced_copy c (at.Left part) folder h = absurd (false≢true h)
 synced_copy c at.Decided folder h = absurd (false≢true h)
 
-synced_deletion : (d : Deleting) (stage : DeletionStage) → deletions.is_fresh stage ≡ true → synced (Delete (record d { stage = stage })) ≡ Delete (record d { stage = stage })
-synced_deletion d deletion.Remove h = refl
-synced_deletion d deletion.Sync h = absurd (false≢true h)
-synced_deletion d deletion.Finish h = absurd (false≢true h)
-synced_deletion d deletion.PassedOver h = absurd (false≢true h)
-
 synced_making : (m : Making) (stage : MakingStage) → makings.is_fresh stage ≡ true → synced (Make (record m { stage = stage })) ≡ Make (record m { stage = stage })
 synced_making m making.Make h = refl
 synced_making m making.Sync h = absurd (false≢true h)
@@ -351,7 +354,7 @@ synced_making m making.PassedOver h = absurd (false≢true h)
 
 fresh_synced : (work : Work) → is_fresh work ≡ true → synced (work_told work) ≡ work_told work
 fresh_synced (Copy c) h = synced_copy c c.stage c.folder h
-fresh_synced (Delete d) h = synced_deletion d d.stage h
+fresh_synced (Delete d) h = refl
 fresh_synced (Make m) h = synced_making m m.stage h
 
 fresh_unsettled : (work : Work) (trouble : Trouble) → is_fresh work ≡ true → trouble.barrier ≡ true → course_told (work_told work) trouble ≡ OwedSyncFailed trouble.cause

@@ -1,6 +1,7 @@
--- What a step of a deletion does: its report, the deletion after it, its call of the tree, and how many changing calls that
--- was.
-use Rattle.std.specs.Prelude.{◌≡◌, ◌⊎◌, ℕ, ◌≤◌, Option, Some, None}
+-- What a step of a deletion does: its report, the deletion after it, its call of the tree, what it makes of the dirty folders, and how
+-- many changing calls that was.
+use Rattle.std.specs.Prelude.{◌≡◌, ◌⊎◌, ℕ, ◌+◌, ◌-◌, ◌<◌, ◌≤◌, true, false, List, length, Option, Some, None}
+use Rattle.mc_text.specs.Routes.{Route}
 use Rattle.tree_trait.specs.declared.calls.TreeError.{TreeError}
 use Rattle.tree_trait.specs.declared.calls.TreeError.TheVariants.{Fault}
 use Rattle.tree_trait.specs.Change.{CallLog}
@@ -8,36 +9,60 @@ use Rattle.tree_trait.specs.Answers.{IfKnown, HasRisen}
 use Rattle.job_reports.specs.declared.report.Cause.{Cause}
 use Rattle.job_reports.specs.declared.report.Ending.{Ending}
 use Rattle.job_reports.specs.declared.report.Did.{Did}
-use Rattle.job_reports.specs.declared.report.Did.TheVariants.{Skipped, Troubled}
+use Rattle.job_reports.specs.declared.report.Did.TheVariants.{Barrier, Skipped, Troubled}
 use Rattle.job_reports.specs.CallRuns.{HasMore}
-use Rattle.job_reports.specs.Reports.{IsFault}
+use Rattle.job_reports.specs.Paths.{folder_of, without}
+use Rattle.job_reports.specs.Reports.{IsFault, ends}
 use Rattle.job_reports.specs.Stops.{out_of_memory_at}
-use Rattle.copy_move.specs.Deletions.{Deleting, Tells, Winds, DeletionCalls, DeletionLeaves, LastCalls, at_barrier, skipped}
+use Rattle.tree_deletion.specs.Folders.{is_of}
+use Rattle.tree_deletion.specs.Standing.{after_item, at_barrier}
+use Rattle.tree_deletion.specs.Steps.{IsProgress, SyncSteps, WorkSteps}
+use Rattle.copy_move.specs.Deletions.{Deleting, DeletionCalls, DeletionLeaves, IsAtStage, LastCalls, Tells, TellsTried, Winds, left_in, machine_of}
 
--- A step: what it reports is allowed, the deletion is then as it says, it is the call of the tree that it says, and it
--- reports a fault only where the tree's count has risen. It counts the changing calls that it made.
-pub record DeletionStep (old new : Deleting) (did : Did) (calls : ℕ) (before after : Option CallLog) (faults faults_after : ℕ) : Type 0 where
+-- what the machine does in a step: it works on what it comes to, or syncs a folder
+abbrev pub Goes : Deleting → Deleting → Did → ℕ → List Route → List Route → Option CallLog → Option CallLog → ℕ → ℕ → Type 0
+Goes old new did calls dirty dirty_after before after faults faults_after =
+    ((spare : ℕ) × (spare_after : ℕ) × WorkSteps (machine_of old spare) (machine_of new spare_after) did calls dirty dirty_after before after faults faults_after)
+    ⊎ ((spare : ℕ) × SyncSteps (machine_of old spare) did calls dirty dirty_after before after faults faults_after × (new ≡ old))
+
+-- A step: it is one of the machine; what it reports is allowed, the deletion is then as it says, it is the call of the tree that it
+-- says, and it reports a fault only where the tree's count has risen. Where it decides a thing fewer are left. It counts the changing
+-- calls that it made.
+pub record DeletionStep (old new : Deleting) (did : Did) (calls : ℕ) (dirty dirty_after : List Route) (before after : Option CallLog) (faults faults_after : ℕ) : Type 0 where
+  pub goes : Goes old new did calls dirty dirty_after before after faults faults_after
   pub tells : Tells old did new
-  pub called : IfKnown before (λ log. DeletionCalls old did log after)
+  pub called : IfKnown before (λ log. DeletionCalls did log after)
+  pub leaves : DeletionLeaves old did dirty dirty_after before after
+  pub fewer : IsProgress did ≡ true → left_in new < left_in old
   pub counted : IfKnown before (λ log. IfKnown after (HasMore log calls))
   pub few : calls ≤ 1
   pub unknown : before ≡ None → after ≡ None
   pub later : faults ≤ faults_after
   pub fault : IsFault did → HasRisen faults faults_after
 
--- A last step, likewise. It tells the refusal of a sync that was tried in vain, a fault only where the count has risen.
-pub record LastDeletionStep (ending : Ending) (old new : Deleting) (did : Did) (calls : ℕ) (left : Option TreeError) (before after : Option CallLog) (faults faults_after : ℕ) : Type 0 where
+-- the dirty folders once this one was tried
+abbrev pub after_try : Did → Option TreeError → Route → List Route → List Route
+after_try Barrier None folder dirty = without folder dirty
+after_try Barrier (Some e) folder dirty = dirty
+after_try did left folder dirty = dirty
+
+-- A last step, likewise. It tells the refusal of a sync that was tried in vain, a fault only where the count has risen. The folder that is
+-- tried is the deletion's own, and then fewer are left to be tried.
+pub record LastDeletionStep (ending : Ending) (old new : Deleting) (did : Did) (calls : ℕ) (left : Option TreeError) (dirty dirty_after : List Route) (before after : Option CallLog) (faults faults_after : ℕ) : Type 0 where
+  pub folder : Route
   pub tells : Winds ending old did new
-  pub called : IfKnown before (λ log. LastCalls old did log after)
-  pub synced : IfKnown before (λ log. DeletionLeaves old did left log after)
+  pub called : IfKnown before (λ log. LastCalls did log after)
+  pub own : is_of (folder_of old.path) old.path folder ≡ true
+  pub dirty_is : dirty_after ≡ after_try did left folder dirty
+  pub synced : IfKnown before (λ log. TellsTried did left folder log after)
+  pub nearer : ends did ≡ false → length dirty_after + (length dirty_after - new.tried) < length dirty + (length dirty - old.tried)
   pub counted : IfKnown before (λ log. IfKnown after (HasMore log calls))
   pub few : calls ≤ 1
   pub unknown : before ≡ None → after ≡ None
   pub later : faults ≤ faults_after
   pub fault : left ≡ Some Fault → HasRisen faults faults_after
 
--- a skip reports the file as skipped, or that there is no memory for the report, and then it changes nothing
-abbrev pub DeletionSkips : Cause → Deleting → Did → Deleting → Type 0
-DeletionSkips cause old did new =
-    ((did ≡ Skipped old.path cause) × (new ≡ record old { stage = skipped old.stage }))
-    ⊎ ((did ≡ Troubled (out_of_memory_at (at_barrier old.stage))) × (new ≡ old))
+-- A skip reports what was left, or that there is no memory for the report, and then it changes nothing. No more things are left then.
+pub record DeletionSkips (cause : Cause) (old : Deleting) (did : Did) (new : Deleting) : Type 0 where
+  pub skips : ((path : Route) × (did ≡ Skipped path cause) × IsAtStage old (after_item old.path path old.stage) new) ⊎ ((did ≡ Troubled (out_of_memory_at (at_barrier old.stage))) × (new ≡ old))
+  pub no_more : left_in new ≤ left_in old

@@ -1,147 +1,103 @@
--- The order in which a file is deleted: what a step may report where the deletion stands, and where it stands then; and
--- what a report says of the tree's calls. Its name is removed, its folder is synced, and only then is it finished.
-use Rattle.std.specs.Prelude.{◌≡◌, ◌≢◌, Bool, true, false, [], ◌∷◌, Option, Some, None, Result, Ok, Err}
-use Rattle.mc_text.specs.Routes.{Route}
-use Rattle.tree_trait.specs.Calls.{Call, RemoveFile, SyncFolder}
+-- The deletion of a thing with all that lies in it, as the history of its job tells of it: what a step may report where the
+-- deletion stands, and where it stands then; and what a report says of the tree's calls. What it is to remove next is said in
+-- tree_deletion.
+use Rattle.std.specs.Prelude.{◌≡◌, ◌⊎◌, ℕ, true, false, List, Option, Some, None, Result, Ok, Err}
+use Rattle.mc_text.specs.Routes.{Route, is_prefix}
+use Rattle.tree_trait.specs.Calls.{RemoveFile, RemoveFolder, SyncFolder}
 use Rattle.tree_trait.specs.Change.{CallLog}
-use Rattle.tree_trait.specs.Answers.{Performs}
+use Rattle.tree_trait.specs.Answers.{IfKnown, Performs}
 use Rattle.tree_trait.specs.declared.calls.TreeError.{TreeError}
-use Rattle.job_reports.specs.declared.report.Trouble.{Trouble}
 use Rattle.job_reports.specs.declared.report.Ending.{Ending}
 use Rattle.job_reports.specs.declared.report.Ending.TheVariants.{Finished}
 use Rattle.job_reports.specs.declared.report.Did.{Did}
-use Rattle.job_reports.specs.declared.report.Did.TheVariants.{Began, Chunk, Placed, Removed, Made, Kept, Skipped, Cleaned, Barrier, Troubled, Ended}
-use Rattle.job_reports.specs.Stops.{sync_answer, cause_of, trouble_at}
-use Rattle.copy_move.specs.declared.deletion.Stage.{Stage}
-use Rattle.copy_move.specs.declared.deletion.Stage.TheVariants.{Remove, Sync, Finish, PassedOver}
+use Rattle.job_reports.specs.declared.report.Did.TheVariants.{Removed, Kept, Barrier, Troubled, Ended}
+use Rattle.job_reports.specs.Paths.{folder_of, without}
+use Rattle.job_reports.specs.Stops.{cause_of, sync_answer}
+use Rattle.subtree_walk.specs.Places.{Place, unopened}
+use Rattle.tree_deletion.specs.declared.deletion.Depth.{Depth}
+use Rattle.tree_deletion.specs.declared.deletion.Depth.TheVariants.{Top}
+use Rattle.tree_deletion.specs.declared.deletion.Stage.{Stage}
+use Rattle.tree_deletion.specs.declared.deletion.Stage.TheVariants.{Begin, Going, Sync}
+use Rattle.tree_deletion.specs.declared.deletion.Deletion.{Deletion}
+use Rattle.tree_deletion.specs.Folders.{IsOwn, NoneOf, joined}
+use Rattle.tree_deletion.specs.Standing.{after_item, at_barrier, rank_of}
 
--- the deletion of a file, as it stands: what is to be done next
+-- a deletion as it stands
 pub record Deleting : Type 0 where
   pub path : Route
   pub stage : Stage
+  pub depth : Depth
+  pub place : Place
+  -- in last steps those dirty folders were tried that stand before this place
+  pub tried : ℕ
 
--- the next call is at a barrier: the sync of the folder
-abbrev pub at_barrier : Stage → Bool
-at_barrier Remove = false
-at_barrier Sync = true
-at_barrier Finish = true
-at_barrier PassedOver = true
+-- a deletion just begun
+abbrev pub started : Route → Deleting
+started path = record { path = path; stage = Begin; depth = Top; place = unopened; tried = 0 }
 
--- a file that is skipped is not deleted
-abbrev pub skipped : Stage → Stage
-skipped Remove = PassedOver
-skipped Sync = Sync
-skipped Finish = Finish
-skipped PassedOver = PassedOver
+-- the machine of it, with room for so many folders more
+abbrev pub machine_of : Deleting → ℕ → Deletion
+machine_of d spare = record { path = d.path; folder = folder_of d.path; stage = d.stage; depth = d.depth; walk = record { place = d.place; spare = spare } }
 
--- nothing is left to be done
-abbrev pub is_done : Stage → Bool
-is_done Remove = false
-is_done Sync = false
-is_done Finish = true
-is_done PassedOver = true
+-- how many things are left at most
+abbrev pub left_in : Deleting → ℕ
+left_in d = rank_of d.stage d.depth d.place
 
--- the folder has a name less, and no sync has brought that onto the disk
-abbrev pub is_dirty : Stage → Bool
-is_dirty Remove = false
-is_dirty Sync = true
-is_dirty Finish = false
-is_dirty PassedOver = false
+-- the same deletion at this stage, wherever its walk stands
+pub record IsAtStage (d : Deleting) (stage : Stage) (new : Deleting) : Type 0 where
+  pub path_is : new.path ≡ d.path
+  pub stage_is : new.stage ≡ stage
+  pub tried_is : new.tried ≡ d.tried
 
--- a deletion that has changed nothing yet
-abbrev pub is_fresh : Stage → Bool
-is_fresh Remove = true
-is_fresh Sync = false
-is_fresh Finish = false
-is_fresh PassedOver = false
-
--- where a deletion stands once its folder was synced
-abbrev pub after_sync : Stage → Stage
-after_sync Remove = Remove
-after_sync Sync = Finish
-after_sync Finish = Finish
-after_sync PassedOver = PassedOver
-
--- the call that a deletion makes next; one that has all done makes none
-abbrev pub call_of : Stage → Route → Option Call
-call_of Remove path = Some (RemoveFile path)
-call_of Sync [] = None
-call_of Sync (name ∷ folder) = Some (SyncFolder folder)
-call_of Finish path = None
-call_of PassedOver path = None
-
--- Trouble is at the path of the stage's call. That of the sync stands at a barrier.
-abbrev pub IsTroubleAt : Stage → Route → Trouble → Type 0
-IsTroubleAt Remove path t = (e : TreeError) × (t ≡ trouble_at e path false)
-IsTroubleAt Sync [] t = ⊥
-IsTroubleAt Sync (name ∷ folder) t = (e : TreeError) × (t ≡ trouble_at e folder true)
-IsTroubleAt Finish path t = ⊥
-IsTroubleAt PassedOver path t = ⊥
-
--- What a step may report that goes on, and where the deletion stands then.
+-- What a step may report that goes on, and where the deletion stands then. What is removed is the thing, or lies in it.
 abbrev pub Tells : Deleting → Did → Deleting → Type 0
-Tells d (Removed path) new = (d.stage ≡ Remove) × (path ≡ d.path) × (new ≡ record d { stage = Sync })
-Tells d Barrier new = (d.stage ≡ Sync) × (new ≡ record d { stage = Finish })
-Tells d (Troubled trouble) new = IsTroubleAt d.stage d.path trouble × (new ≡ d)
-Tells d (Ended Finished part) new = (is_done d.stage ≡ true) × (part ≡ None) × (new ≡ d)
-Tells d (Ended ending part) new = ⊥
-Tells d (Began part) new = ⊥
-Tells d (Chunk count) new = ⊥
-Tells d (Placed path) new = ⊥
-Tells d (Made made) new = ⊥
-Tells d (Kept kept) new = ⊥
-Tells d (Skipped path cause) new = ⊥
-Tells d (Cleaned part) new = ⊥
+Tells d (Removed path) new = (at_barrier d.stage ≡ false) × (is_prefix d.path path ≡ true) × IsAtStage d (after_item d.path path Going) new
+Tells d (Kept path) new = (at_barrier d.stage ≡ false) × IsAtStage d (after_item d.path path d.stage) new
+Tells d (Troubled trouble) new = (trouble.barrier ≡ at_barrier d.stage) × IsAtStage d d.stage new
+Tells d Barrier new = (d.stage ≡ Sync) × IsAtStage d d.stage new
+Tells d (Ended Finished part) new = (d.stage ≡ Sync) × (part ≡ None) × IsAtStage d d.stage new
+Tells d did new = ⊥
 
 -- What a last step may report: a sync that is owed is tried once, and the job ends as it was ordered.
 abbrev pub Winds : Ending → Deleting → Did → Deleting → Type 0
-Winds ending d Barrier new = (d.stage ≡ Sync) × (new ≡ record d { stage = Finish })
-Winds ending d (Ended how part) new = (d.stage ≢ Sync) × (how ≡ ending) × (part ≡ None) × (new ≡ d)
-Winds ending d (Began part) new = ⊥
-Winds ending d (Chunk count) new = ⊥
-Winds ending d (Placed path) new = ⊥
-Winds ending d (Removed path) new = ⊥
-Winds ending d (Made made) new = ⊥
-Winds ending d (Kept kept) new = ⊥
-Winds ending d (Skipped path cause) new = ⊥
-Winds ending d (Cleaned part) new = ⊥
-Winds ending d (Troubled trouble) new = ⊥
+Winds ending d Barrier new = (new.path ≡ d.path) × (new.stage ≡ d.stage)
+Winds ending d (Ended how part) new = (how ≡ ending) × (part ≡ None) × (new.path ≡ d.path) × (new.stage ≡ d.stage)
+Winds ending d did new = ⊥
 
--- a call that changes trees, and its answer; where there is none, the tree's log stays
-abbrev pub Answers : CallLog → Option Call → Result (Unit {0}) TreeError → Option CallLog → Type 0
-Answers log None answer after = after ≡ Some log
-Answers log (Some call) answer after = Performs log call answer after
+-- a removal, or a sync, was refused
+pub data IsRefused (log : CallLog) (e : TreeError) (after : Option CallLog) : Type 0 where
+  RefusedFile : (path : Route) → Performs {A = Unit {0}} log (RemoveFile path) (Err e) after → IsRefused log e after
+  RefusedFolder : (path : Route) → Performs {A = Unit {0}} log (RemoveFolder path) (Err e) after → IsRefused log e after
+  RefusedSync : (folder : Route) → Performs {A = Unit {0}} log (SyncFolder folder) (Err e) after → IsRefused log e after
 
--- What a step says of the tree's calls. A removal and a sync were done; a trouble is the refusal of the next call, with the
--- cause that the tree gives; an end makes no call.
-abbrev pub DeletionCalls : Deleting → Did → CallLog → Option CallLog → Type 0
-DeletionCalls d (Removed path) log after = Performs {A = Unit {0}} log (RemoveFile path) (Ok tt) after
-DeletionCalls d Barrier log after = Answers log (call_of Sync d.path) (Ok tt) after
-DeletionCalls d (Troubled trouble) log after = (e : TreeError) × (trouble.cause ≡ cause_of e) × Answers log (call_of d.stage d.path) (Err e) after
-DeletionCalls d (Ended ending part) log after = after ≡ Some log
-DeletionCalls d (Began part) log after = ⊥
-DeletionCalls d (Chunk count) log after = ⊥
-DeletionCalls d (Placed path) log after = ⊥
-DeletionCalls d (Made made) log after = ⊥
-DeletionCalls d (Kept kept) log after = ⊥
-DeletionCalls d (Skipped path cause) log after = ⊥
-DeletionCalls d (Cleaned part) log after = ⊥
+-- What a step says of the tree's calls. A removal and a sync were done; a trouble is the refusal of a call, or comes before it; an
+-- end makes no call.
+abbrev pub DeletionCalls : Did → CallLog → Option CallLog → Type 0
+DeletionCalls (Removed path) log after = Performs {A = Unit {0}} log (RemoveFile path) (Ok tt) after ⊎ Performs {A = Unit {0}} log (RemoveFolder path) (Ok tt) after
+DeletionCalls (Kept path) log after = after ≡ Some log
+DeletionCalls (Troubled trouble) log after = (after ≡ Some log) ⊎ ((e : TreeError) × (trouble.cause ≡ cause_of e) × IsRefused log e after)
+DeletionCalls Barrier log after = (folder : Route) × Performs {A = Unit {0}} log (SyncFolder folder) (Ok tt) after
+DeletionCalls (Ended ending part) log after = after ≡ Some log
+DeletionCalls did log after = ⊥
 
 -- What a last step says of the tree's calls: the sync was tried, whatever it answered.
-abbrev pub LastCalls : Deleting → Did → CallLog → Option CallLog → Type 0
-LastCalls d Barrier log after = (answer : Result (Unit {0}) TreeError) × Answers log (call_of Sync d.path) answer after
-LastCalls d (Ended ending part) log after = after ≡ Some log
-LastCalls d (Began part) log after = ⊥
-LastCalls d (Chunk count) log after = ⊥
-LastCalls d (Placed path) log after = ⊥
-LastCalls d (Removed path) log after = ⊥
-LastCalls d (Made made) log after = ⊥
-LastCalls d (Kept kept) log after = ⊥
-LastCalls d (Skipped path cause) log after = ⊥
-LastCalls d (Cleaned part) log after = ⊥
-LastCalls d (Troubled trouble) log after = ⊥
+abbrev pub LastCalls : Did → CallLog → Option CallLog → Type 0
+LastCalls Barrier log after = (folder : Route) × (answer : Result (Unit {0}) TreeError) × Performs {A = Unit {0}} log (SyncFolder folder) answer after
+LastCalls (Ended ending part) log after = after ≡ Some log
+LastCalls did log after = ⊥
 
--- what a last step tells of the folder: the refusal of its sync, if that was tried in vain
-abbrev pub DeletionLeaves : Deleting → Did → Option TreeError → CallLog → Option CallLog → Type 0
-DeletionLeaves d Barrier left log after = Answers log (call_of Sync d.path) (sync_answer left) after
-DeletionLeaves d did left log after = left ≡ None
+-- What a step makes of the dirty folders. That of a removed name joins them, and a folder that is gone itself leaves them; one that
+-- was synced leaves them; and a deletion is finished only where none is left that it may have changed.
+abbrev pub DeletionLeaves : Deleting → Did → List Route → List Route → Option CallLog → Option CallLog → Type 0
+DeletionLeaves d (Removed path) dirty dirty_after before after =
+    ((dirty_after ≡ joined (folder_of path) dirty) × IfKnown before (λ log. Performs {A = Unit {0}} log (RemoveFile path) (Ok tt) after))
+    ⊎ ((dirty_after ≡ without path (joined (folder_of path) dirty)) × IfKnown before (λ log. Performs {A = Unit {0}} log (RemoveFolder path) (Ok tt) after))
+DeletionLeaves d Barrier dirty dirty_after before after =
+    (folder : Route) × IsOwn (folder_of d.path) d.path dirty folder × (dirty_after ≡ without folder dirty) × IfKnown before (λ log. Performs {A = Unit {0}} log (SyncFolder folder) (Ok tt) after)
+DeletionLeaves d (Ended ending part) dirty dirty_after before after = NoneOf (folder_of d.path) d.path dirty × (dirty_after ≡ dirty)
+DeletionLeaves d did dirty dirty_after before after = dirty_after ≡ dirty
+
+-- what a last step tells of the folder that it tried: the refusal of its sync, if that was in vain
+abbrev pub TellsTried : Did → Option TreeError → Route → CallLog → Option CallLog → Type 0
+TellsTried Barrier left folder log after = Performs {A = Unit {0}} log (SyncFolder folder) (sync_answer left) after
+TellsTried did left folder log after = left ≡ None

@@ -18,13 +18,14 @@ use Rattle.job_reports.specs.declared.job.Job.{Job}
 use Rattle.job_reports.specs.declared.job.Job.TheVariants as plan
 use Rattle.job_reports.specs.declared.answer.Answer.{Answer}
 use Rattle.job_reports.specs.declared.answer.Answer.TheVariants.{Retry, Skip, SkipAll, Abort}
-use Rattle.copy_move.specs.declared.deletion.Stage.TheVariants.{Remove}
 use Rattle.copy_move.specs.declared.making.MakingStage.TheVariants as making
 use Rattle.copy_move.specs.declared.work.Work.{Work}
 use Rattle.copy_move.specs.declared.work.Work.TheVariants.{Copy, Delete, Make}
 use Rattle.copy_move.specs.declared.run.Course.{Course}
 use Rattle.copy_move.specs.declared.run.Course.TheVariants.{GoesOn, InTrouble, OwedSyncFailed, Skips, Ends}
-use Rattle.copy_move.specs.Deletions.{DeletionCalls, LastCalls}
+use Rattle.tree_deletion.specs.Standing.{after_item}
+use Rattle.tree_deletion.specs.Standing as standing
+use Rattle.copy_move.specs.Deletions.{DeletionCalls, IsAtStage, LastCalls, started}
 use Rattle.copy_move.specs.Deletions as deletions
 use Rattle.copy_move.specs.Makings.{LastMakingCalls, MakingCalls}
 use Rattle.copy_move.specs.Makings as makings
@@ -39,16 +40,16 @@ pub record Running : Type 0 where
 abbrev pub copies : ℕ → Route → Route → Work
 copies id source target = Copy (begun id source target)
 
--- the deletion of a file, just begun
+-- the deletion of a thing with all that lies in it, just begun
 abbrev pub deletes : Route → Work
-deletes path = Delete (record { path = path; stage = Remove })
+deletes path = Delete (started path)
 
 -- the making of a folder, just begun
 abbrev pub makes : Route → Work
 makes path = Make (record { path = path; stage = making.Make })
 
--- The work of a job of one path or pair. Other plans aren't worked yet; and the root, which no folder holds, is neither copied,
--- deleted nor made.
+-- The work of a job of one item. Other plans aren't worked yet; and the root, which no folder holds, is neither copied, deleted nor
+-- made.
 abbrev pub first_work : ℕ → Job → Option Work
 first_work id (plan.Delete []) = None
 first_work id (plan.Delete (path ∷ [])) = if is_some (parent_of path) then Some (deletes path) else None
@@ -59,22 +60,16 @@ first_work id (plan.Copy (pair ∷ [])) =
 first_work id (plan.Copy (pair ∷ more ∷ pairs)) = None
 first_work id (plan.MakeFolder path) = if is_some (parent_of path) then Some (makes path) else None
 
--- what a job works on: the file that is copied or deleted, or the folder that is made
-abbrev pub file_of : Work → Route
-file_of (Copy c) = c.source
-file_of (Delete d) = d.path
-file_of (Make m) = m.path
-
 -- the next call is at a barrier, where nothing can be skipped
 abbrev pub at_barrier : Work → Bool
 at_barrier (Copy c) = copying.at_barrier c.stage
-at_barrier (Delete d) = deletions.at_barrier d.stage
+at_barrier (Delete d) = standing.at_barrier d.stage
 at_barrier (Make m) = makings.at_barrier m.stage
 
 -- the work of a job that has changed nothing yet
 abbrev pub is_fresh : Work → Bool
 is_fresh (Copy c) = copying.is_fresh c.stage c.folder
-is_fresh (Delete d) = deletions.is_fresh d.stage
+is_fresh (Delete d) = standing.is_fresh d.stage
 is_fresh (Make m) = makings.is_fresh m.stage
 
 -- nothing can be skipped: the next call is at a barrier, or the trouble is a folder that an ended job left
@@ -85,11 +80,18 @@ is_barred (InTrouble cause) work = at_barrier work
 is_barred (Skips cause) work = at_barrier work
 is_barred (Ends ending) work = at_barrier work
 
--- the work without the file
-abbrev pub skipped : Work → Work
-skipped (Copy c) = Copy (record c { stage = copying.skipped c.stage })
-skipped (Delete d) = Delete (record d { stage = deletions.skipped d.stage })
-skipped (Make m) = Make (record m { stage = makings.skipped m.stage })
+-- the work once what stands at this path was left as it is: the file that is copied, something that is deleted, or the folder that
+-- is not made
+abbrev pub PassesOver : Work → Route → Work → Type 0
+PassesOver (Copy c) path (Copy new) = (path ≡ c.source) × (new ≡ record c { stage = copying.skipped c.stage })
+PassesOver (Copy c) path (Delete new) = ⊥
+PassesOver (Copy c) path (Make new) = ⊥
+PassesOver (Delete d) path (Copy new) = ⊥
+PassesOver (Delete d) path (Delete new) = IsAtStage d (after_item d.path path d.stage) new
+PassesOver (Delete d) path (Make new) = ⊥
+PassesOver (Make m) path (Copy new) = ⊥
+PassesOver (Make m) path (Delete new) = ⊥
+PassesOver (Make m) path (Make new) = (path ≡ m.path) × (new ≡ record m { stage = makings.skipped m.stage })
 
 -- the work taken up once more after a trouble; a deletion and a making try their call again
 abbrev pub taken_anew : Work → Work
@@ -155,14 +157,14 @@ course_after (Cleaned part) = GoesOn
 course_after Barrier = GoesOn
 course_after (Ended ending part) = GoesOn
 
--- What a step may report of a job that goes so, and what the job is then. A file that is to be skipped is reported with the
+-- What a step may report of a job that goes so, and what the job is then. What is to be skipped is reported with the
 -- cause of its trouble, or there is no memory for the report.
 abbrev pub TellsOn : Course → Running → Did → Running → Type 0
 TellsOn GoesOn job did new = (work : Work) × WorkTells job.work did work × (new ≡ record job { work = work; course = course_after did })
 TellsOn (InTrouble cause) job did new = ⊥
 TellsOn (OwedSyncFailed cause) job did new = ⊥
 TellsOn (Skips cause) job did new =
-    ((did ≡ Skipped (file_of job.work) cause) × (new ≡ record job { work = skipped job.work; course = GoesOn }))
+    ((path : Route) × (work : Work) × (did ≡ Skipped path cause) × PassesOver job.work path work × (new ≡ record job { work = work; course = GoesOn }))
     ⊎ ((did ≡ Troubled (out_of_memory_at (at_barrier job.work))) × (new ≡ record job { course = InTrouble Memory }))
 TellsOn (Ends ending) job did new = (work : Work) × WorkWinds ending job.work did work × (new ≡ record job { work = work })
 
@@ -174,13 +176,13 @@ abbrev pub WorkCalls : (Route → Type 0) → Work → Did → Work → CallLog 
 WorkCalls unclaimed (Copy c) did (Copy new) log after = CopyCalls unclaimed c did new log after
 WorkCalls unclaimed (Copy c) did (Delete new) log after = ⊥
 WorkCalls unclaimed (Copy c) did (Make new) log after = ⊥
-WorkCalls unclaimed (Delete d) did new log after = DeletionCalls d did log after
+WorkCalls unclaimed (Delete d) did new log after = DeletionCalls did log after
 WorkCalls unclaimed (Make m) did new log after = MakingCalls m did log after
 
 -- the same of a last step
 abbrev pub WorkLastCalls : Work → Did → CallLog → Option CallLog → Type 0
 WorkLastCalls (Copy c) did log after = last.WindCalls c did log after
-WorkLastCalls (Delete d) did log after = LastCalls d did log after
+WorkLastCalls (Delete d) did log after = LastCalls did log after
 WorkLastCalls (Make m) did log after = LastMakingCalls m did log after
 
 -- What a step of a job says of the tree's calls. The report of a skip makes none.

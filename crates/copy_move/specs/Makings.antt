@@ -15,7 +15,6 @@ use Rattle.job_reports.specs.Jobs.{new_folder_mode}
 use Rattle.job_reports.specs.Stops.{sync_answer, cause_of, trouble_at}
 use Rattle.copy_move.specs.declared.making.MakingStage.{MakingStage}
 use Rattle.copy_move.specs.declared.making.MakingStage.TheVariants.{Make, Sync, Finish, PassedOver}
-use Rattle.copy_move.specs.Deletions.{Answers}
 
 -- the making of a folder, as it stands: what is to be done next
 pub record Making : Type 0 where
@@ -108,6 +107,11 @@ Winds ending m (Kept kept) new = ⊥
 Winds ending m (Skipped path cause) new = ⊥
 Winds ending m (Cleaned part) new = ⊥
 Winds ending m (Troubled trouble) new = ⊥
+
+-- a call that changes trees, and its answer; where there is none, the tree's log stays
+abbrev pub Answers : CallLog → Option Call → Result (Unit {0}) TreeError → Option CallLog → Type 0
+Answers log None answer after = after ≡ Some log
+Answers log (Some call) answer after = Performs log call answer after
 
 -- What a step says of the tree's calls. A making and a sync were done; a trouble is the refusal of the next call, with the
 -- cause that the tree gives; an end makes no call.

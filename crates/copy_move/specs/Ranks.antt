@@ -7,10 +7,9 @@ use Rattle.file_copy.specs.declared.stage.Next.TheVariants as next
 use Rattle.file_copy.specs.declared.stage.FolderState.{FolderState}
 use Rattle.file_copy.specs.declared.stage.FolderState.TheVariants.{Synced, Dirty}
 use Rattle.file_copy.specs.LastSteps.{last_steps}
-use Rattle.copy_move.specs.declared.deletion.Stage.{Stage as DeletionStage}
-use Rattle.copy_move.specs.declared.deletion.Stage.TheVariants as deletion
 use Rattle.copy_move.specs.declared.making.MakingStage.{MakingStage}
 use Rattle.copy_move.specs.declared.making.MakingStage.TheVariants as making
+use Rattle.copy_move.specs.Deletions.{Deleting, left_in}
 use Rattle.copy_move.specs.declared.work.Work.{Work}
 use Rattle.copy_move.specs.declared.work.Work.TheVariants.{Copy, Delete, Make}
 use Rattle.copy_move.specs.declared.run.Course.{Course}
@@ -28,12 +27,9 @@ copy_rank (Left part) folder = 4
 copy_rank Decided Dirty = 5
 copy_rank Decided Synced = 4
 
--- of a deletion that goes on
-abbrev pub deletion_rank : DeletionStage → ℕ
-deletion_rank deletion.Remove = 6
-deletion_rank deletion.Sync = 5
-deletion_rank deletion.Finish = 4
-deletion_rank deletion.PassedOver = 4
+-- of a deletion that goes on: the things that are left, and its end; the folders that are to be synced are counted apart
+abbrev pub deletion_rank : Deleting → ℕ
+deletion_rank d = left_in d + 2
 
 -- of a making that goes on
 abbrev pub making_rank : MakingStage → ℕ
@@ -41,13 +37,6 @@ making_rank making.Make = 6
 making_rank making.Sync = 5
 making_rank making.Finish = 4
 making_rank making.PassedOver = 4
-
--- the last steps of a deletion
-abbrev pub last_deletion_steps : DeletionStage → ℕ
-last_deletion_steps deletion.Remove = 1
-last_deletion_steps deletion.Sync = 2
-last_deletion_steps deletion.Finish = 1
-last_deletion_steps deletion.PassedOver = 1
 
 -- the last steps of a making
 abbrev pub last_making_steps : MakingStage → ℕ
@@ -58,26 +47,42 @@ last_making_steps making.PassedOver = 1
 
 abbrev pub work_rank : Work → ℕ
 work_rank (Copy c) = copy_rank c.stage c.folder
-work_rank (Delete d) = deletion_rank d.stage
+work_rank (Delete d) = deletion_rank d
 work_rank (Make m) = making_rank m.stage
 
 abbrev pub last_rank : Work → ℕ
 last_rank (Copy c) = last_steps c.stage c.folder
-last_rank (Delete d) = last_deletion_steps d.stage
+last_rank (Delete d) = 1
 last_rank (Make m) = last_making_steps m.stage
+
+-- where something is to be skipped
+abbrev pub skip_rank : Work → ℕ
+skip_rank (Copy c) = 10
+skip_rank (Delete d) = deletion_rank d + 1
+skip_rank (Make m) = 10
 
 -- a job that waits counts as one that is aborted
 abbrev pub rank_on : Course → Work → ℕ
 rank_on GoesOn work = work_rank work
 rank_on (InTrouble cause) work = last_rank work
 rank_on (OwedSyncFailed cause) work = last_rank work
-rank_on (Skips cause) work = 10
+rank_on (Skips cause) work = skip_rank work
 rank_on (Ends ending) work = last_rank work
 
-abbrev pub rank : Option Running → ℕ
-rank None = 0
-rank (Some job) = rank_on job.course job.work
+-- how many dirty folders the last steps of a job may try yet
+abbrev pub tries_left : Course → Work → List Route → ℕ
+tries_left (Ends ending) (Delete d) dirty = length dirty - d.tried
+tries_left (Ends ending) (Copy c) dirty = length dirty
+tries_left (Ends ending) (Make m) dirty = length dirty
+tries_left GoesOn work dirty = length dirty
+tries_left (InTrouble cause) work dirty = length dirty
+tries_left (OwedSyncFailed cause) work dirty = length dirty
+tries_left (Skips cause) work dirty = length dirty
 
--- the same where folders are dirty, each of which a job may have to sync before its first change; a change adds one
+-- The same where folders are dirty: a job may have to sync each of them, and to try each in its last steps. A change adds one.
+abbrev pub rank_at : List Route → Course → Work → ℕ
+rank_at dirty course work = 3 * rank_on course work + (length dirty + tries_left course work dirty)
+
 abbrev pub rank_with : List Route → Option Running → ℕ
-rank_with dirty job = 2 * rank job + length dirty
+rank_with dirty None = length dirty
+rank_with dirty (Some job) = rank_at dirty job.course job.work

@@ -1,7 +1,7 @@
 -- Folders in which jobs changed names and that no sync has brought onto the disk yet: what jobs leave there, and how a later
 -- job syncs them before it changes anything on that mount.
-use Rattle.std.specs.Prelude.{◌≡◌, ◌⊎◌, ℕ, Bool, true, false, List, [], ◌∷◌, ◌++◌, Option, Some, None}
-use Rattle.mc_text.specs.Routes.{Route}
+use Rattle.std.specs.Prelude.{◌≡◌, ◌⊎◌, ℕ, Bool, true, false, List, Option, Some}
+use Rattle.mc_text.specs.Routes.{Route, is_prefix, same_path}
 use Rattle.tree_trait.specs.declared.file_system.FileSystem.{FileSystem}
 use Rattle.tree_trait.specs.declared.calls.TreeError.{TreeError}
 use Rattle.tree_trait.specs.declared.calls.TreeError.TheVariants.{Missing}
@@ -11,56 +11,76 @@ use Rattle.tree_trait.specs.Answers.{mount_number}
 use Rattle.tree_trait.specs.Refusals.{refusal_of, mount_of}
 use Rattle.tree_trait.specs.CrashImages.{Among}
 use Rattle.job_reports.specs.declared.report.Did.{Did}
-use Rattle.job_reports.specs.declared.report.Did.TheVariants.{Barrier}
 use Rattle.job_reports.specs.Paths.{folder_of, without}
 use Rattle.file_copy.specs.Copying as copying
 use Rattle.file_copy.specs.LastSteps as last
 use Rattle.copy_move.specs.declared.work.Work.{Work}
 use Rattle.copy_move.specs.declared.work.Work.TheVariants.{Copy, Delete, Make}
-use Rattle.copy_move.specs.Deletions.{DeletionLeaves}
-use Rattle.copy_move.specs.Deletions as deletions
+use Rattle.tree_deletion.specs.Folders.{is_of, joined}
+use Rattle.copy_move.specs.Deletions.{DeletionLeaves, TellsTried}
 use Rattle.copy_move.specs.Makings.{MakingLeaves}
 use Rattle.copy_move.specs.Makings as makings
 
--- the folder in which a job changes names
+-- the folder that holds what a job places or removes
 abbrev pub changed_folder : Work → Route
 changed_folder (Copy c) = folder_of c.target
 changed_folder (Delete d) = folder_of d.path
 changed_folder (Make m) = folder_of m.path
 
--- it has a change of names that no sync has brought onto the disk, as far as the job's own work goes
-abbrev pub is_dirty : Work → Bool
-is_dirty (Copy c) = copying.is_dirty c.folder
-is_dirty (Delete d) = deletions.is_dirty d.stage
-is_dirty (Make m) = makings.is_dirty m.stage
+-- a folder in which a job may change names: of a deletion also the thing itself, and what lies in it
+abbrev pub is_own : Work → Route → Bool
+is_own (Copy c) kept = same_path kept (folder_of c.target)
+is_own (Delete d) kept = is_of (folder_of d.path) d.path kept
+is_own (Make m) kept = same_path kept (folder_of m.path)
 
--- a job's folder joins the dirty ones with its first change, and leaves them with its sync
+-- the thing that is deleted, or what lies in it
+abbrev pub is_within : Work → Route → Bool
+is_within (Copy c) kept = false
+is_within (Delete d) kept = is_prefix d.path kept
+is_within (Make m) kept = false
+
+-- the folder of a copy, or of a new folder, joins the dirty ones with its first change, and leaves them with its sync
 abbrev pub with_change : Bool → Bool → Route → List Route → List Route
-with_change false true folder dirty = dirty ++ folder ∷ []
+with_change false true folder dirty = joined folder dirty
 with_change true false folder dirty = without folder dirty
 with_change false false folder dirty = dirty
 with_change true true folder dirty = dirty
 
--- in last steps it leaves them only where the one try of its sync wasn't refused
-abbrev pub after_try : Did → Option TreeError → Route → List Route → List Route
-after_try Barrier None folder dirty = without folder dirty
-after_try Barrier (Some e) folder dirty = dirty
-after_try did left folder dirty = dirty
+-- what a step of a job's own work makes of the dirty folders
+abbrev pub WorkLeaves : Work → Did → Work → List Route → List Route → Option CallLog → Option CallLog → Type 0
+WorkLeaves (Copy c) did (Copy new) dirty dirty_after before after =
+    dirty_after ≡ with_change (copying.is_dirty c.folder) (copying.is_dirty new.folder) (folder_of c.target) dirty
+WorkLeaves (Copy c) did (Delete new) dirty dirty_after before after = ⊥
+WorkLeaves (Copy c) did (Make new) dirty dirty_after before after = ⊥
+WorkLeaves (Delete d) did (Copy new) dirty dirty_after before after = ⊥
+WorkLeaves (Delete d) did (Delete new) dirty dirty_after before after = DeletionLeaves d did dirty dirty_after before after
+WorkLeaves (Delete d) did (Make new) dirty dirty_after before after = ⊥
+WorkLeaves (Make m) did (Copy new) dirty dirty_after before after = ⊥
+WorkLeaves (Make m) did (Delete new) dirty dirty_after before after = ⊥
+WorkLeaves (Make m) did (Make new) dirty dirty_after before after =
+    dirty_after ≡ with_change (makings.is_dirty m.stage) (makings.is_dirty new.stage) (folder_of m.path) dirty
 
--- what a last step tells of the folder: the refusal of its sync, if that was tried in vain
-abbrev pub TellsFolder : Work → Did → Option TreeError → CallLog → Option CallLog → Type 0
-TellsFolder (Copy c) did left log after = last.TellsFolder c did left log after
-TellsFolder (Delete d) did left log after = DeletionLeaves d did left log after
-TellsFolder (Make m) did left log after = MakingLeaves m did left log after
+-- what a last step tells of the folder that it tried: the refusal of its sync, if that was in vain
+abbrev pub TellsFolder : Work → Did → Option TreeError → Route → CallLog → Option CallLog → Type 0
+TellsFolder (Copy c) did left folder log after = last.TellsFolder c did left log after
+TellsFolder (Delete d) did left folder log after = TellsTried did left folder log after
+TellsFolder (Make m) did left folder log after = MakingLeaves m did left log after
 
 -- the number of the mount on which a folder lies
 abbrev pub IsMountOf : FileSystem → Route → ℕ → Type 0
 IsMountOf s folder number = number ≡ mount_number s.mounts (mount_of s folder)
 
--- a folder lies on another mount than this one, or it was removed
-abbrev pub IsElsewhere : FileSystem → Route → Option ℕ → Type 0
-IsElsewhere s folder mount = (refusal_of s (Stat folder) ≡ Some Missing) ⊎ ((number : ℕ) × (mount ≡ Some number) × (IsMountOf s folder number → ⊥))
+-- a folder lies on another mount than this one
+abbrev pub LiesApart : FileSystem → Route → Route → Type 0
+LiesApart s folder kept = (number : ℕ) × IsMountOf s folder number × (IsMountOf s kept number → ⊥)
 
--- none of the dirty folders lies on the mount of this one, but for those that were removed
-abbrev pub NoneOwed : FileSystem → Route → List Route → Type 0
-NoneOwed s folder dirty = (kept : Route) → Among dirty kept → (refusal_of s (Stat kept) ≡ Some Missing) ⊎ ((number : ℕ) × IsMountOf s folder number × (IsMountOf s kept number → ⊥))
+-- a folder was removed, or a job that changes something on this mount, if that is known, has nothing to do with it
+abbrev pub IsElsewhere : FileSystem → Work → Route → Option ℕ → Type 0
+IsElsewhere s work folder mount =
+    (refusal_of s (Stat folder) ≡ Some Missing) ⊎ ((is_within work folder ≡ false) × ((number : ℕ) × (mount ≡ Some number) × (IsMountOf s folder number → ⊥)))
+
+-- None of the dirty folders is owed by a job before its first change: each lies on another mount than the folder that holds what the
+-- job places or removes, and not in what it deletes; or it was removed.
+abbrev pub NoneOwed : FileSystem → Work → List Route → Type 0
+NoneOwed s work dirty = (kept : Route) → Among dirty kept
+    → (refusal_of s (Stat kept) ≡ Some Missing) ⊎ ((is_within work kept ≡ false) × LiesApart s (changed_folder work) kept)

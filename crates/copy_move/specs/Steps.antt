@@ -1,5 +1,5 @@
 -- What a step of a job does: its report, the job after it, its calls of the tree, and how many changing calls that was.
-use Rattle.std.specs.Prelude.{◌≡◌, ◌⊎◌, ℕ, ◌<◌, ◌≤◌, true, false, List, Option, Some, None, Ok, Err}
+use Rattle.std.specs.Prelude.{◌≡◌, ◌⊎◌, ℕ, ⊤, ◌<◌, ◌≤◌, true, false, List, Option, Some, None, Ok, Err}
 use Rattle.mc_text.specs.Routes.{Route}
 use Rattle.tree_trait.specs.declared.calls.TreeError.{TreeError}
 use Rattle.tree_trait.specs.declared.calls.TreeError.TheVariants.{Fault}
@@ -16,15 +16,16 @@ use Rattle.job_reports.specs.declared.report.Did.TheVariants.{Barrier, Skipped, 
 use Rattle.job_reports.specs.Stops.{out_of_memory_at, cause_of, trouble_at}
 use Rattle.copy_move.specs.declared.work.Work.{Work}
 use Rattle.copy_move.specs.declared.run.Course.{Course}
-use Rattle.copy_move.specs.declared.run.Course.TheVariants.{GoesOn, OwedSyncFailed, Ends}
-use Rattle.copy_move.specs.Jobs.{Running, JobTells, JobCalls, WorkTells, WorkCalls, WorkWinds, WorkLastCalls, at_barrier, course_after, file_of, is_fresh, skipped}
-use Rattle.copy_move.specs.Settling.{NoneOwed, TellsFolder, after_try, changed_folder, is_dirty, with_change}
+use Rattle.copy_move.specs.declared.work.Work.TheVariants.{Copy, Delete, Make}
+use Rattle.copy_move.specs.declared.run.Course.TheVariants.{GoesOn, InTrouble, OwedSyncFailed, Skips, Ends}
+use Rattle.copy_move.specs.DeletionSteps.{Goes, after_try}
+use Rattle.copy_move.specs.Jobs.{Running, JobTells, JobCalls, PassesOver, WorkTells, WorkCalls, WorkWinds, WorkLastCalls, at_barrier, course_after, is_fresh}
+use Rattle.copy_move.specs.Settling.{NoneOwed, TellsFolder, WorkLeaves, is_own}
 use Rattle.job_reports.specs.Paths.{without}
-use Rattle.copy_move.specs.Ranks.{rank, rank_on, work_rank, last_rank}
+use Rattle.copy_move.specs.Ranks.{rank_at, rank_on, rank_with}
 
 -- A step of a job: what it reports is allowed, the job is then as it says, it made the calls of the tree that it says, at
--- most three of which change the tree, and it reports a fault only where the tree's count has risen. But for an end fewer
--- steps are left.
+-- most three of which change the tree, and it reports a fault only where the tree's count has risen.
 pub record StepsOn (unclaimed : Route → Type 0) (old new : Running) (did : Did) (calls : ℕ) (before after : Option CallLog) (faults faults_after : ℕ) : Type 0 where
   pub tells : JobTells old did new
   pub called : IfKnown before (λ log. JobCalls unclaimed old did new log after)
@@ -33,19 +34,23 @@ pub record StepsOn (unclaimed : Route → Type 0) (old new : Running) (did : Did
   pub unknown : before ≡ None → after ≡ None
   pub later : faults ≤ faults_after
   pub fault : IsFault did → HasRisen faults faults_after
-  pub falls : ends did ≡ false → rank (Some new) < rank (Some old)
 
--- a last step leaves the folder dirty where the one try of its sync was refused
+-- A last step tries one folder that the job may have changed, and leaves it dirty where that one try of its sync was refused.
 pub record LastLeaves (old : Work) (did : Did) (dirty dirty_after : List Route) (before after : Option CallLog) : Type 0 where
   pub refusal : Option TreeError
-  pub dirty_is : dirty_after ≡ after_try did refusal (changed_folder old) dirty
-  pub tried : IfKnown before (λ log. TellsFolder old did refusal log after)
+  pub folder : Route
+  pub own : is_own old folder ≡ true
+  pub dirty_is : dirty_after ≡ after_try did refusal folder dirty
+  pub tried : IfKnown before (λ log. TellsFolder old did refusal folder log after)
 
--- What a step of a job's own makes of the dirty folders. Its folder joins them before the first change there and leaves them
--- with its sync. In last steps it leaves them only where the one try of its sync wasn't refused.
+-- What a step of a job's own makes of the dirty folders. A folder joins them before a change of names there and leaves them with its
+-- sync. In last steps it leaves them only where the one try of its sync wasn't refused.
 abbrev pub LeavesDirty : Course → Work → Did → Work → List Route → List Route → Option CallLog → Option CallLog → Type 0
+LeavesDirty GoesOn old did new dirty dirty_after before after = WorkLeaves old did new dirty dirty_after before after
+LeavesDirty (InTrouble cause) old did new dirty dirty_after before after = ⊥
+LeavesDirty (OwedSyncFailed cause) old did new dirty dirty_after before after = ⊥
+LeavesDirty (Skips cause) old did new dirty dirty_after before after = dirty_after ≡ dirty
 LeavesDirty (Ends ending) old did new dirty dirty_after before after = LastLeaves old did dirty dirty_after before after
-LeavesDirty course old did new dirty dirty_after before after = dirty_after ≡ with_change (is_dirty old) (is_dirty new) (changed_folder old) dirty
 
 -- A step of a job as it was made: the job before and after it, its report, and how many changing calls it made; and how the
 -- dirty folders, the tree's log and its count of faults stood before and after.
@@ -65,57 +70,70 @@ abbrev pub step_made : Running → Running → Did → ℕ → List Route → Li
 step_made old new did calls dirty dirty_after before after faults faults_after =
     record { old = old; new = new; did = did; calls = calls; dirty = dirty; dirty_after = dirty_after; before = before; after = after; faults = faults; faults_after = faults_after }
 
+-- what the machine of a deletion does in a step of the work
+abbrev pub Walks : Work → Work → Did → ℕ → List Route → List Route → Option CallLog → Option CallLog → ℕ → ℕ → Type 0
+Walks (Copy c) new did calls dirty dirty_after before after faults faults_after = ⊤
+Walks (Delete d) (Copy new) did calls dirty dirty_after before after faults faults_after = ⊥
+Walks (Delete d) (Make new) did calls dirty dirty_after before after faults faults_after = ⊥
+Walks (Make m) new did calls dirty dirty_after before after faults faults_after = ⊤
+Walks (Delete d) (Delete new) did calls dirty dirty_after before after faults faults_after = Goes d new did calls dirty dirty_after before after faults faults_after
+
 -- A piece of work, likewise. Fewer steps are left then, and at most three where it is refused.
-pub record WorkSteps (unclaimed : Route → Type 0) (old new : Work) (did : Did) (calls : ℕ) (before after : Option CallLog) (faults faults_after : ℕ) : Type 0 where
+pub record WorkSteps (unclaimed : Route → Type 0) (old new : Work) (did : Did) (calls : ℕ) (dirty dirty_after : List Route) (before after : Option CallLog) (faults faults_after : ℕ) : Type 0 where
   pub tells : WorkTells old did new
+  pub walks : Walks old new did calls dirty dirty_after before after faults faults_after
   pub called : IfKnown before (λ log. WorkCalls unclaimed old did new log after)
+  pub leaves : WorkLeaves old did new dirty dirty_after before after
   pub counted : IfKnown before (λ log. IfKnown after (HasMore log calls))
   pub few : calls ≤ 3
   pub unknown : before ≡ None → after ≡ None
   pub later : faults ≤ faults_after
   pub fault : IsFault did → HasRisen faults faults_after
-  pub falls : ends did ≡ false → rank_on (course_after did) new < work_rank old
+  pub falls : ends did ≡ false → rank_at dirty_after (course_after did) new < rank_at dirty GoesOn old
 
 -- One of the last pieces of work. It tells the refusal of a sync that was tried in vain, a fault only where the count of faults
 -- has risen.
-pub record WorkWindsUp (ending : Ending) (old new : Work) (did : Did) (calls : ℕ) (left : Option TreeError) (before after : Option CallLog) (faults faults_after : ℕ) : Type 0 where
+pub record WorkWindsUp (ending : Ending) (old new : Work) (did : Did) (calls : ℕ) (left : Option TreeError) (dirty dirty_after : List Route) (before after : Option CallLog) (faults faults_after : ℕ) : Type 0 where
   pub tells : WorkWinds ending old did new
   pub called : IfKnown before (λ log. WorkLastCalls old did log after)
-  pub synced : IfKnown before (λ log. TellsFolder old did left log after)
+  pub folder : Route
+  pub own : is_own old folder ≡ true
+  pub dirty_is : dirty_after ≡ after_try did left folder dirty
+  pub synced : IfKnown before (λ log. TellsFolder old did left folder log after)
   pub counted : IfKnown before (λ log. IfKnown after (HasMore log calls))
   pub few : calls ≤ 2
   pub unknown : before ≡ None → after ≡ None
   pub later : faults ≤ faults_after
   pub fault : left ≡ Some Fault → HasRisen faults faults_after
-  pub falls : ends did ≡ false → last_rank new < last_rank old
+  pub falls : ends did ≡ false → rank_at dirty_after (Ends ending) new < rank_at dirty (Ends ending) old
 
--- a skip reports the file as skipped, or that there is no memory for the report, and then it changes nothing
-abbrev pub WorkSkips : Cause → Work → Did → Work → Type 0
-WorkSkips cause old did new =
-    ((did ≡ Skipped (file_of old) cause) × (new ≡ skipped old))
-    ⊎ ((did ≡ Troubled (out_of_memory_at (at_barrier old))) × (new ≡ old))
+-- A skip reports what was left, or that there is no memory for the report, and then it changes nothing. Fewer steps are left then.
+pub record WorkSkips (cause : Cause) (old : Work) (did : Did) (new : Work) : Type 0 where
+  pub skips : ((path : Route) × (did ≡ Skipped path cause) × PassesOver old path new) ⊎ ((did ≡ Troubled (out_of_memory_at (at_barrier old))) × (new ≡ old))
+  pub falls : rank_on (course_after did) new < rank_on (Skips cause) old
 
--- the step of a job that passes over its file: it makes no call
+-- the step of a job that passes over something: it makes no call
 pub record SkipSteps (cause : Cause) (old new : Running) (did : Did) (calls : ℕ) : Type 0 where
   pub work : Work
   pub skips : WorkSkips cause old.work did work
   pub new_is : new ≡ record old { work = work; course = course_after did }
   pub none : calls ≡ 0
 
--- a last step of a job: one of its work, which leaves the folder among the dirty ones where the one try of its sync was refused
+-- a last step of a job: one of its work
 pub record WindingStep (ending : Ending) (step : StepMade) : Type 0 where
   pub left : Option TreeError
-  pub winds : WorkWindsUp ending step.old.work step.new.work step.did step.calls left step.before step.after step.faults step.faults_after
+  pub winds : WorkWindsUp ending step.old.work step.new.work step.did step.calls left step.dirty step.dirty_after step.before step.after step.faults step.faults_after
   pub new_is : step.new ≡ record step.old { work = step.new.work }
-  pub leaves : step.dirty_after ≡ after_try step.did left (changed_folder step.old.work) step.dirty
 
--- A step of the job's own: one that may make its first change is made only where no dirty folder lies on that mount, and a job
--- that is to end makes one of its last steps.
+-- A step of the job's own: one that may make its first change is made only where no dirty folder is owed, a deletion goes on as its
+-- machine does, and a job that is to end makes one of its last steps. But for an end fewer steps are left.
 pub record OwnStep (unclaimed : Route → Type 0) (step : StepMade) : Type 0 where
   pub own : StepsOn unclaimed step.old step.new step.did step.calls step.before step.after step.faults step.faults_after
-  pub settled : step.old.course ≡ GoesOn → is_fresh step.old.work ≡ true → IfKnown step.before (λ log. NoneOwed (current log) (changed_folder step.old.work) step.dirty)
+  pub settled : step.old.course ≡ GoesOn → is_fresh step.old.work ≡ true → IfKnown step.before (λ log. NoneOwed (current log) step.old.work step.dirty)
   pub leaves : LeavesDirty step.old.course step.old.work step.did step.new.work step.dirty step.dirty_after step.before step.after
+  pub walks : step.old.course ≡ GoesOn → Walks step.old.work step.new.work step.did step.calls step.dirty step.dirty_after step.before step.after step.faults step.faults_after
   pub winds : (ending : Ending) → step.old.course ≡ Ends ending → WindingStep ending step
+  pub falls : ends step.did ≡ false → rank_with step.dirty_after (Some step.new) < rank_with step.dirty (Some step.old)
 
 -- a dirty folder was synced, and the job stands where it stood
 pub record FolderSynced (old : Running) (folder : Route) (did : Did) (new : Running) (dirty dirty_after : List Route) (before after : Option CallLog) : Type 0 where

@@ -1,5 +1,5 @@
 -- What a history tells of its jobs: the live one, but for the size and the mode that a copy's source was said to have and
--- how many of its bytes were copied. Histories stand newest first here.
+-- how many of its bytes were copied, and for where the walk of a deletion stands. Histories stand newest first here.
 use Rattle.std.specs.Prelude.{◌≡◌, ◌⊎◌, ℕ, Bool, true, false, ◌&&◌, Option, Some, None, if◌then◌else◌}
 use Rattle.std.specs.Option.{option_map}
 use Rattle.mc_text.specs.Routes.{Route}
@@ -12,16 +12,19 @@ use Rattle.file_copy.specs.declared.stage.Stage.{Stage}
 use Rattle.file_copy.specs.declared.stage.Stage.TheVariants as at
 use Rattle.file_copy.specs.declared.stage.FolderState.TheVariants.{Synced, Dirty}
 use Rattle.file_copy.specs.Copying.{after_clean}
+use Rattle.file_copy.specs.Copying as copying
 use Rattle.file_copy.specs.LastSteps.{given_up}
-use Rattle.copy_move.specs.declared.deletion.Stage.TheVariants as deletion
+use Rattle.subtree_walk.specs.Places.{unopened}
+use Rattle.tree_deletion.specs.declared.deletion.Depth.TheVariants.{Top}
+use Rattle.tree_deletion.specs.declared.deletion.Stage.TheVariants.{Going}
+use Rattle.tree_deletion.specs.Standing.{after_item}
 use Rattle.copy_move.specs.declared.making.MakingStage.TheVariants as making
 use Rattle.copy_move.specs.declared.work.Work.{Work}
 use Rattle.copy_move.specs.declared.work.Work.TheVariants.{Copy, Delete, Make}
 use Rattle.copy_move.specs.declared.run.Course.{Course}
 use Rattle.copy_move.specs.declared.run.Course.TheVariants.{GoesOn, InTrouble, OwedSyncFailed}
-use Rattle.copy_move.specs.Deletions.{after_sync}
 use Rattle.copy_move.specs.Makings as makings
-use Rattle.copy_move.specs.Jobs.{Running, JobTells, closed_job, is_fresh, part_of, skipped, waits_on}
+use Rattle.copy_move.specs.Jobs.{Running, JobTells, closed_job, is_fresh, part_of, waits_on}
 
 -- what no history tells
 abbrev pub untold_facts : SourceFacts
@@ -37,7 +40,7 @@ stage_told at.Decided = at.Decided
 
 abbrev pub work_told : Work → Work
 work_told (Copy c) = Copy (record c { stage = stage_told c.stage })
-work_told (Delete d) = Delete d
+work_told (Delete d) = Delete (record d { depth = Top; place = unopened; tried = 0 })
 work_told (Make m) = Make m
 
 -- a job as its history tells it
@@ -56,17 +59,29 @@ placed (Copy c) = Copy (record c { stage = at.Decided })
 placed (Delete d) = Delete d
 placed (Make m) = Make m
 
--- the work once its file was removed
-abbrev pub removed : Work → Work
-removed (Copy c) = Copy c
-removed (Delete d) = Delete (record d { stage = deletion.Sync })
-removed (Make m) = Make m
+-- the work once this was removed
+abbrev pub removed : Route → Work → Work
+removed path (Copy c) = Copy c
+removed path (Delete d) = Delete (record d { stage = after_item d.path path Going })
+removed path (Make m) = Make m
 
 -- the work once its folder was made
 abbrev pub made : Work → Work
 made (Copy c) = Copy c
 made (Delete d) = Delete d
 made (Make m) = Make (record m { stage = making.Sync })
+
+-- the work once this folder was kept
+abbrev pub spared : Route → Work → Work
+spared path (Copy c) = Copy c
+spared path (Delete d) = Delete (record d { stage = after_item d.path path d.stage })
+spared path (Make m) = Make m
+
+-- the work once this was left as it is
+abbrev pub skipped : Route → Work → Work
+skipped path (Copy c) = Copy (record c { stage = copying.skipped c.stage })
+skipped path (Delete d) = Delete (record d { stage = after_item d.path path d.stage })
+skipped path (Make m) = Make (record m { stage = makings.skipped m.stage })
 
 -- where a copy stands once its part was removed; in its last steps it is done then
 abbrev pub cleaned_stage : Course → Stage → Stage
@@ -78,11 +93,11 @@ cleaned course (Copy c) = Copy (record c { stage = cleaned_stage course c.stage 
 cleaned course (Delete d) = Delete d
 cleaned course (Make m) = Make m
 
--- the work once its folder was synced, or its sync was tried; a part that stands then has had its try. The sync of a folder
--- that an ended job left comes before the first change, and leaves the work as it is.
+-- The work once a folder was synced, or its sync was tried; a part that stands then has had its try. A deletion stands where it stood.
+-- The sync of a folder that an ended job left comes before the first change, and leaves the work as it is.
 abbrev pub synced : Work → Work
 synced (Copy c) = Copy (record c { stage = given_up c.stage; folder = Synced })
-synced (Delete d) = Delete (record d { stage = after_sync d.stage })
+synced (Delete d) = Delete d
 synced (Make m) = Make (record m { stage = makings.after_sync m.stage })
 
 -- a trouble at a barrier before the first change is that of a folder which an ended job left
@@ -94,10 +109,10 @@ abbrev pub after_step : Did → Running → Option Running
 after_step (Began part) job = Some (record job { work = with_part part job.work })
 after_step (Chunk count) job = Some job
 after_step (Placed path) job = Some (record job { work = placed job.work })
-after_step (Removed path) job = Some (record job { work = removed job.work })
+after_step (Removed path) job = Some (record job { work = removed path job.work })
 after_step (Made path) job = Some (record job { work = made job.work })
-after_step (Kept kept) job = Some job
-after_step (Skipped path cause) job = Some (record job { work = skipped job.work; course = GoesOn })
+after_step (Kept path) job = Some (record job { work = spared path job.work })
+after_step (Skipped path cause) job = Some (record job { work = skipped path job.work; course = GoesOn })
 after_step (Cleaned part) job = Some (record job { work = cleaned job.course job.work })
 after_step Barrier job = Some (record job { work = synced job.work })
 after_step (Troubled trouble) job = Some (record job { course = course_told job.work trouble })

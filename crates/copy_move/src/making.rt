@@ -6,7 +6,7 @@ ghost use Rattle.job_reports.specs.Paths.{folder_of};
 ghost use Rattle.copy_move.specs.Makings.{at_barrier, is_dirty, is_fresh, skipped as skipped_to};
 ghost use Rattle.copy_move.specs.MakingSteps.{LastMakingStep, MakingSkips, MakingStep};
 
-use crate::deletion::{ended, last, refused, tried, with_call, without_call};
+use crate::reports::{ended, last, refused, tried, with_call, without_call};
 use job_reports::{Cause, Did, Ending, LastStepResult, StepResult, out_of_memory};
 use mc_text::Path;
 use std::alloc::Global;

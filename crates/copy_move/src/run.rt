@@ -9,7 +9,6 @@ ghost use Rattle.copy_move.specs.Told.{running};
 mod answering;
 mod stepping;
 
-use crate::dirty::Dirty;
 use crate::starting::{copy_of, deletion_of, making_of};
 use crate::work::Work;
 use file_copy::PartTest;
@@ -17,6 +16,7 @@ use job_reports::{Cause, Ending, Job, StepResult};
 use mc_text::{NoMemory, Path};
 use std::alloc::Global;
 use std::marker::Model;
+use tree_deletion::Dirty;
 use tree_trait::Tree;
 
 /// Whether a job goes on.
@@ -27,7 +27,7 @@ pub enum Course {
     InTrouble(Cause),
     /// A folder that an ended job left could not be synced. The job has changed nothing yet, and waits for an answer.
     OwedSyncFailed(Cause),
-    /// Its file is to be left as it is, since this stood in the way.
+    /// What stands next is to be left as it is, since this stood in the way.
     Skips(Cause),
     /// It makes its last steps, and then it ends so.
     Ends(Ending),
@@ -53,7 +53,7 @@ impl Model for Run {
 }
 
 impl Run {
-    /// Starts a job of one path or pair, which isn't the root.
+    /// Starts a job of one item, which isn't the root.
     pub fn start(alloc: Global, job: &Job, id: u32) -> Result<Run, NoMemory>
         requires sound { is_workable job.now ≡ true }
         ensures id { IfOk result (λ run. run.id ≡ id) }
@@ -95,9 +95,9 @@ impl Run {
         self.work.part()
     }
 
-    /// Makes the job's next step. Where an ended job left a dirty folder on the mount on which this job is to change names,
-    /// that is synced first, a folder a step. After an end the job is to be let go. The job's own folder is among the dirty
-    /// ones from its first change there until it was synced.
+    /// Makes the job's next step. Where an ended job left a dirty folder on the mount on which this job is to change names, or in what
+    /// it is to delete, that is synced first, a folder a step. After an end the job is to be let go. A folder is among the dirty
+    /// ones from the job's first change there until it was synced.
     pub fn step<T: Tree, P: PartTest>(
         &mut self,
         alloc: Global,

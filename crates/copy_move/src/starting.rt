@@ -4,7 +4,7 @@ ghost use Rattle.job_reports.specs.declared.job.Job.{Job};
 ghost use Rattle.job_reports.specs.Jobs.{is_workable};
 ghost use Rattle.copy_move.specs.Jobs.{IsGoing, first_work};
 
-use crate::deletion::Deletion;
+use crate::deletion::TreeDeletion;
 use crate::making::FolderMaking;
 use crate::work::Work;
 use file_copy::FileCopy;
@@ -31,7 +31,7 @@ pub(crate) fn copy_of(alloc: Global, pairs: &Pairs, id: u32) -> Result<Work, NoM
     Ok(Work::Copy(FileCopy::new(id, source, source_folder, target, folder)))
 }
 
-/// The deletion of one file.
+/// The deletion of one thing.
 pub(crate) fn deletion_of(alloc: Global, paths: &Paths) -> Result<Work, NoMemory>
     requires { is_workable (Job.Delete paths.now) ≡ true }
     ensures { IfOk result (λ work. (first_work 0 (Job.Delete paths.now) ≡ Some work) × IsGoing work) }
@@ -42,7 +42,7 @@ pub(crate) fn deletion_of(alloc: Global, paths: &Paths) -> Result<Work, NoMemory
     let Some(folder) = path.parent(alloc)? else {
         unreachable!()
     };
-    Ok(Work::Delete(Deletion::new(path.copy(alloc)?, folder)))
+    Ok(Work::Delete(TreeDeletion::new(alloc, path.copy(alloc)?, folder)))
 }
 
 /// The making of one folder.

@@ -1,22 +1,25 @@
-//! What a job does: it copies a file, deletes one, or makes a folder. One machine for each.
+//! What a job does: it copies a file, deletes a thing with all that lies in it, or makes a folder. One machine for each.
 ghost use Rattle.std.specs.Prelude.{◌≡◌, option_map, true};
 ghost use Rattle.copy_move.specs.Jobs.{IsGoing, at_barrier, is_fresh, part_of, taken_anew as anew};
-ghost use Rattle.copy_move.specs.Settling.{changed_folder, is_dirty};
+ghost use Rattle.copy_move.specs.Settling.{changed_folder, is_within};
 ghost use Rattle.copy_move.specs.Steps.{WorkSkips, WorkSteps, WorkWindsUp};
 
-use crate::deletion::Deletion;
+use crate::copying::{step_copy, wind_up_copy};
+use crate::deletion::TreeDeletion;
 use crate::making::FolderMaking;
+use crate::new_folder::{step_making, wind_up_making};
 use file_copy::{FileCopy, PartTest};
 use job_reports::{Cause, Did, Ending, LastStepResult, StepResult};
 use mc_text::Path;
 use std::alloc::Global;
+use tree_deletion::Dirty;
 use tree_trait::Tree;
 
 /// The work of a job.
 #[derive(Debug, Drop)]
 pub enum Work {
     Copy(FileCopy),
-    Delete(Deletion),
+    Delete(TreeDeletion),
     Make(FolderMaking),
 }
 
@@ -27,20 +30,21 @@ impl Work {
         alloc: Global,
         tree: &mut T,
         parts: &P,
+        dirty: &mut Dirty,
     ) -> StepResult
         requires going { IsGoing self.old }
         ensures steps { WorkSteps (λ path. P.is_free parts.now path ≡ true) self.old self.new result.did result.calls
-            (T.contents tree.old) (T.contents tree.new) (T.fault_count tree.old) (T.fault_count tree.new) }
+            dirty.old dirty.new (T.contents tree.old) (T.contents tree.new) (T.fault_count tree.old) (T.fault_count tree.new) }
         ensures going { IsGoing self.new }
     {
         match self {
-            Work::Copy(copy) => copy.step(alloc, tree, parts),
-            Work::Delete(deletion) => deletion.step(alloc, tree),
-            Work::Make(making) => making.step(alloc, tree),
+            Work::Copy(copy) => step_copy(copy, alloc, tree, parts, dirty),
+            Work::Delete(deletion) => deletion.step(alloc, tree, dirty),
+            Work::Make(making) => step_making(making, alloc, tree, dirty),
         }
     }
 
-    /// The file is left as it is.
+    /// What is in trouble is left as it is.
     pub(crate) fn skip(&mut self, alloc: Global, cause: Cause) -> Did
         requires going { IsGoing self.old }
         ensures skips { WorkSkips cause self.old result self.new }
@@ -72,14 +76,15 @@ impl Work {
         alloc: Global,
         tree: &mut T,
         ending: Ending,
+        dirty: &mut Dirty,
     ) -> LastStepResult
-        ensures { WorkWindsUp ending self.old self.new result.did result.calls result.left
+        ensures { WorkWindsUp ending self.old self.new result.did result.calls result.left dirty.old dirty.new
             (T.contents tree.old) (T.contents tree.new) (T.fault_count tree.old) (T.fault_count tree.new) }
     {
         match self {
-            Work::Copy(copy) => copy.wind_up(alloc, tree, ending),
-            Work::Delete(deletion) => deletion.wind_up(alloc, tree, ending),
-            Work::Make(making) => making.wind_up(alloc, tree, ending),
+            Work::Copy(copy) => wind_up_copy(copy, alloc, tree, ending, dirty),
+            Work::Delete(deletion) => deletion.wind_up(alloc, tree, ending, dirty),
+            Work::Make(making) => wind_up_making(making, alloc, tree, ending, dirty),
         }
     }
 
@@ -116,7 +121,7 @@ impl Work {
         }
     }
 
-    /// The folder in which names are changed.
+    /// The folder that holds what is placed or removed.
     pub(crate) fn folder(&self) -> &Path
         ensures { result.now ≡ changed_folder self.now }
     {
@@ -127,14 +132,14 @@ impl Work {
         }
     }
 
-    /// Whether it has a change of names that no sync has brought onto the disk, as far as this work goes.
-    pub(crate) fn is_dirty(&self) -> bool
-        ensures { result ≡ is_dirty self.now }
+    /// Whether a folder is the thing that is deleted, or lies in it.
+    pub(crate) fn is_within(&self, folder: &Path) -> bool
+        ensures { result ≡ is_within self.now folder.now }
     {
         match self {
-            Work::Copy(copy) => copy.is_dirty(),
-            Work::Delete(deletion) => deletion.is_dirty(),
-            Work::Make(making) => making.is_dirty(),
+            Work::Copy(_) => false,
+            Work::Delete(deletion) => deletion.path().is_prefix_of(folder),
+            Work::Make(_) => false,
         }
     }
 

@@ -22,7 +22,7 @@ pub use live_jobs::{
 pub use moved_things::what_is_moved_stays_whole;
 pub use names_of_jobs::{
     what_a_making_is, what_a_placing_is, what_a_removal_is, what_a_renaming_is,
-    what_names_a_moved_thing_has,
+    what_is_known_below_a_path, what_names_a_moved_thing_has,
 };
 pub use possible_paths::{
     what_a_change_of_names_keeps, what_a_path_holds, what_a_quiet_step_keeps, where_a_path_leads,

@@ -1,9 +1,14 @@
 //! What a job has to know before it changes a name, and what its changes keep.
-ghost use Rattle.crash_law.specs.Steps.{MakingLaw, MovingLaw, NamesOfMovedLaw, PlacingLaw, RemovalLaw};
+ghost use Rattle.crash_law.specs.Steps.{MakingLaw, MovingLaw, NamesOfMovedLaw, PlacingLaw, RemovalLaw, UnworkedLaw};
 
 /// A job may remove what it found.
 pub fn what_a_removal_is()
     ensures { RemovalLaw }
+{}
+
+/// What it found below a path, or removed there, stays so while it works.
+pub fn what_is_known_below_a_path()
+    ensures { UnworkedLaw }
 {}
 
 /// It may give a part that was synced the name of its target.

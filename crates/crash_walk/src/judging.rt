@@ -20,6 +20,7 @@ enum Standing {
 pub fn left_in<T: Tree>(alloc: Global, image: &mut T, scene: Scene) -> Result<String> {
     match scene {
         Scene::Deletion => left_of_deletion(alloc, image),
+        Scene::Folder => left_of_folder(alloc, image),
         Scene::Copy => left_of_copy(alloc, image),
         Scene::LeftFolder => left_of_deletion(alloc, image),
         Scene::LeftTarget => left_of_copy(alloc, image),
@@ -34,6 +35,24 @@ fn left_of_deletion<T: Tree>(alloc: Global, image: &mut T) -> Result<String> {
     let deleted = word_of(deleted, "gone");
     let beside = word_of(beside, "gone");
     Ok(format!(in alloc; "{deleted}, the one beside it {beside}")?)
+}
+
+fn left_of_folder<T: Tree>(alloc: Global, image: &mut T) -> Result<String> {
+    let folder = word_of(what_of_folder(alloc, image, "/a/d")?, "gone");
+    let inside = word_of(what_stands(alloc, image, "/a/d/x", DELETED)?, "gone");
+    let beside = word_of(what_stands(alloc, image, "/a/y", DELETED)?, "gone");
+    Ok(format!(in alloc; "{folder}, the file in it {inside}, the one beside it {beside}")?)
+}
+
+/// What stands where a folder was put.
+fn what_of_folder<T: Tree>(alloc: Global, image: &mut T, path: &str) -> Result<Standing> {
+    let path = Path::parse(alloc, path)?;
+    match image.stat(alloc, &path) {
+        Err(TreeError::Missing) => Ok(Standing::Missing),
+        Err(error) => bail!("{error}"),
+        Ok(meta) if meta.kind == Kind::Folder && meta.mode == 0o755 => Ok(Standing::Whole),
+        Ok(_) => Ok(Standing::Torn),
+    }
 }
 
 fn left_of_copy<T: Tree>(alloc: Global, image: &mut T) -> Result<String> {

@@ -1,4 +1,4 @@
-//! Walks through every moment of four sessions, of which one deletes a file, one copies a file, one deletes two files of which
+//! Walks through every moment of five sessions, of which one deletes a file, one a folder, one copies a file, one deletes two files of which
 //! the first is left unsynced, and one copies a file whose target is left so, and deletes the source; and of two in which
 //! folders are made. It walks through the crash images of each: what is left then? The expected lines stand in `stdout`.
 #![tactic(auto)]
@@ -15,12 +15,16 @@ use anyhow::Result;
 fn main(rt: HostRuntime) -> Result<()> {
     let alloc = rt.alloc();
     let deletion = scene_lines(alloc, Scene::Deletion)?;
+    let folder = scene_lines(alloc, Scene::Folder)?;
     let copy = scene_lines(alloc, Scene::Copy)?;
     let left = scene_lines(alloc, Scene::LeftFolder)?;
     let left_target = scene_lines(alloc, Scene::LeftTarget)?;
     let new_folder = scene_lines(alloc, Scene::NewFolder)?;
     let left_new_folder = scene_lines(alloc, Scene::LeftNewFolder)?;
     for line in deletion.iter() {
+        println!(rt; "{line}")?;
+    }
+    for line in folder.iter() {
         println!(rt; "{line}")?;
     }
     for line in copy.iter() {

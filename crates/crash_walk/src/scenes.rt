@@ -14,6 +14,8 @@ use std::alloc::Global;
 pub enum Scene {
     /// Of two files one is deleted.
     Deletion,
+    /// A folder is deleted, and the file in it; the file beside it is not.
+    Folder,
     /// A file is copied from one folder into the other.
     Copy,
     /// Two files are deleted. The sync after the first is refused, and so is that of its last steps; the second job makes it.
@@ -32,6 +34,7 @@ impl Scene {
     pub fn title(self) -> &'static str {
         match self {
             Scene::Deletion => "/a/x is deleted",
+            Scene::Folder => "/a/d is deleted with /a/d/x",
             Scene::Copy => "/s/e is copied into /t",
             Scene::LeftFolder => "/a/x is deleted and /a not synced, then /a/y is deleted",
             Scene::LeftTarget => "/s/e is copied and /t not synced, then /s/e is deleted",
@@ -44,6 +47,7 @@ impl Scene {
     pub fn writes(self) -> bool {
         match self {
             Scene::Deletion => false,
+            Scene::Folder => false,
             Scene::Copy => true,
             Scene::LeftFolder => false,
             Scene::LeftTarget => true,
@@ -81,15 +85,17 @@ const COPYING: &[u8] = b"\x1b[B\x1b[15~\r\r\x1b[21~";
 /// Down, F8, Enter, b in the box of the refused sync, F8, Enter, F10.
 const DELETING_BOTH: &[u8] = b"\x1b[B\x1b[19~\rb\x1b[19~\r\x1b[21~";
 
-/// The calls that are the first sync, after two listings, a look and the removal, and the one of the last steps.
-const REFUSED_SYNCS: &[u64] = &[5, 6];
+/// The calls that are the first sync, and the one of the last steps. Before them comes the opening: for each panel a look at its
+/// path, a listing, and a look at each of two files; then a look of the key and one of the job, and the removal.
+const REFUSED_SYNCS: &[u64] = &[12, 13];
 
 /// Down, F5, Enter, Enter, b in the box of the refused sync, F8, Enter, F10.
 const COPYING_AND_DELETING: &[u8] = b"\x1b[B\x1b[15~\r\rb\x1b[19~\r\x1b[21~";
 
-/// The calls that are the sync after the renaming, and the one of the last steps. Before them come two listings, two looks of
-/// the keys, five of the copy, and the part made, filled from what is read, synced and renamed.
-const REFUSED_TARGET_SYNCS: &[u64] = &[15, 16];
+/// The calls that are the sync after the renaming, and the one of the last steps. Before them comes the opening: for each panel a
+/// look at its path and a listing, and a look at the file; then two looks of the keys, five of the copy, and the part made, filled
+/// from what is read, synced and renamed.
+const REFUSED_TARGET_SYNCS: &[u64] = &[18, 19];
 
 /// The calls that are the first sync, after the making, and the one of the last steps.
 const REFUSED_FOLDER_SYNCS: &[u64] = &[2, 3];
@@ -104,6 +110,7 @@ pub fn scene_lines(alloc: Global, scene: Scene) -> Result<Vec<String>> {
 fn played(alloc: Global, scene: Scene) -> Result<MemTree> {
     match scene {
         Scene::Deletion => deletion(alloc),
+        Scene::Folder => folder_deletion(alloc),
         Scene::Copy => copy(alloc),
         Scene::LeftFolder => left_folder(alloc),
         Scene::LeftTarget => left_target(alloc),
@@ -114,6 +121,11 @@ fn played(alloc: Global, scene: Scene) -> Result<MemTree> {
 
 fn deletion(alloc: Global) -> Result<MemTree> {
     let tree = two_files(alloc)?;
+    after_keys(alloc, tree, "/a", "/a", DELETING)
+}
+
+fn folder_deletion(alloc: Global) -> Result<MemTree> {
+    let tree = folder_and_file(alloc)?;
     after_keys(alloc, tree, "/a", "/a", DELETING)
 }
 
@@ -157,6 +169,16 @@ fn two_files(alloc: Global) -> Result<MemTree> {
     let mut tree = MemTree::new(alloc, 0)?;
     put_folder(alloc, &mut tree, "/a")?;
     put_file(alloc, &mut tree, "/a/x", DELETED)?;
+    put_file(alloc, &mut tree, "/a/y", DELETED)?;
+    Ok(tree)
+}
+
+/// The folder `/a` with the folder `/a/d`, which has one file, and a file.
+fn folder_and_file(alloc: Global) -> Result<MemTree> {
+    let mut tree = MemTree::new(alloc, 0)?;
+    put_folder(alloc, &mut tree, "/a")?;
+    put_folder(alloc, &mut tree, "/a/d")?;
+    put_file(alloc, &mut tree, "/a/d/x", DELETED)?;
     put_file(alloc, &mut tree, "/a/y", DELETED)?;
     Ok(tree)
 }

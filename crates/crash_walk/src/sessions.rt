@@ -35,6 +35,7 @@ fn begin(alloc: Global, tree: MemTree, left: &str, right: &str) -> Result<MuteDe
             lines: 24,
             columns: 80,
         },
+        0,
         Mute::new(tree),
         Mute::new(MemSink::new(alloc, None)),
         Mute::new(FakeSpawner::new(Outcomes(Vec::new(alloc)))),

@@ -1,22 +1,24 @@
--- A job's first change comes in work that goes on, and leaves its folder dirty.
-use Rattle.std.proofs.Common.{◌≡◌, true, sym, ◌∙◌, ap, inl, inr}
-use Rattle.std.proofs.lemmas.Bool.{false≢true}
+-- A job's first change comes in work that goes on, and from then on the folder that holds what it changes is on the disk.
+use Rattle.std.proofs.Common.{◌≡◌, ◌⊎◌, Bool, true, false, not, ◌||◌, List, refl, sym, ◌∙◌, ap, subst, inl, inr, Some}
+use Rattle.std.proofs.lemmas.Bool.{and_from, false≢true, or_left}
+use Rattle.mc_text.specs.Routes.{Route, same_path}
+use Rattle.tree_trait.specs.Shape.{IsTree}
+use Rattle.tree_trait.specs.Change.{CallLog, current}
+use Rattle.tree_trait.proofs.Visible.{same_path-self}
 use Rattle.job_reports.specs.declared.report.Did.{Did}
 use Rattle.job_reports.specs.declared.report.Did.TheVariants.{Began, Chunk, Placed, Removed, Made, Kept, Skipped, Cleaned, Barrier, Troubled, Ended}
 use Rattle.job_reports.specs.declared.report.Ending.{Ending}
-use Rattle.file_copy.specs.Copying.{Copying}
-use Rattle.file_copy.specs.Copying as copying
 use Rattle.session_history.specs.Named.{begins_change}
 use Rattle.copy_move.specs.declared.run.Course.{Course}
 use Rattle.copy_move.specs.declared.run.Course.TheVariants.{GoesOn, InTrouble, OwedSyncFailed, Skips, Ends}
 use Rattle.copy_move.specs.declared.work.Work.{Work}
 use Rattle.copy_move.specs.declared.work.Work.TheVariants.{Copy, Delete, Make}
-use Rattle.copy_move.specs.Deletions.{Deleting}
-use Rattle.copy_move.specs.Deletions as deletions
-use Rattle.copy_move.specs.Makings.{Making}
-use Rattle.copy_move.specs.Makings as makings
-use Rattle.copy_move.specs.Jobs.{Running, TellsOn, WorkTells, WorkWinds}
-use Rattle.copy_move.specs.Settling.{is_dirty}
+use Rattle.copy_move.specs.Jobs.{CallsOn, Running, TellsOn, WorkCalls, WorkTells, WorkWinds}
+use Rattle.copy_move.specs.Settling.{changed_folder}
+use Rattle.history_laws.specs.Traces.{IsUnclaimed, WorkLeads}
+use Rattle.history_laws.proofs.Deleted.{folder_removed, removal_done}
+use Rattle.history_laws.proofs.Intact.{folder_apart}
+use Rattle.history_laws.proofs.Stepped.{folders_by}
 
 -- a change begins only in work that goes on
 winds_none : (ending : Ending) (old new : Work) (did : Did) → WorkWinds ending old did new → begins_change did ≡ true → ⊥
@@ -48,48 +50,37 @@ pub goes_then : (job new : Running) (did : Did) (course : Course) → job.course
 goes_then job new did GoesOn is (work, tells, new_is) h = (is, (work, tells))
 goes_then job new did (InTrouble why) is t h = absurd t
 goes_then job new did (OwedSyncFailed why) is t h = absurd t
-goes_then job new did (Skips why) is (inl (did_is, new_is)) h = absurd (false≢true (sym (ap begins_change did_is) ∙ h))
+goes_then job new did (Skips why) is (inl (path, work, did_is, passes, new_is)) h = absurd (false≢true (sym (ap begins_change did_is) ∙ h))
 goes_then job new did (Skips why) is (inr (did_is, new_is)) h = absurd (false≢true (sym (ap begins_change did_is) ∙ h))
 goes_then job new did (Ends ending) is (work, winds, new_is) h = absurd (winds_none ending job.work work did winds h)
 
--- work that begins a change is dirty then
-pub dirty_then : (old new : Work) (did : Did) → WorkTells old did new → begins_change did ≡ true → is_dirty new ≡ true
-dirty_then (Copy c) (Copy new) (Began part) t h = ap (λ (x : Copying). copying.is_dirty x.folder) t.1.1
-dirty_then (Copy c) (Copy new) (Removed path) t h = absurd t
-dirty_then (Copy c) (Copy new) (Chunk count) t h = absurd (false≢true h)
-dirty_then (Copy c) (Copy new) (Placed path) t h = absurd (false≢true h)
-dirty_then (Copy c) (Copy new) (Made made) t h = absurd t
-dirty_then (Copy c) (Copy new) (Kept kept) t h = absurd (false≢true h)
-dirty_then (Copy c) (Copy new) (Skipped path why) t h = absurd (false≢true h)
-dirty_then (Copy c) (Copy new) (Cleaned part) t h = absurd (false≢true h)
-dirty_then (Copy c) (Copy new) Barrier t h = absurd (false≢true h)
-dirty_then (Copy c) (Copy new) (Troubled trouble) t h = absurd (false≢true h)
-dirty_then (Copy c) (Copy new) (Ended ending part) t h = absurd (false≢true h)
-dirty_then (Copy c) (Delete new) did t h = absurd t
-dirty_then (Copy c) (Make new) did t h = absurd t
-dirty_then (Delete d) (Copy new) did t h = absurd t
-dirty_then (Delete d) (Make new) did t h = absurd t
-dirty_then (Delete d) (Delete new) (Removed path) (stage, path_is, new_is) h = ap (λ (x : Deleting). deletions.is_dirty x.stage) new_is
-dirty_then (Delete d) (Delete new) (Began part) t h = absurd t
-dirty_then (Delete d) (Delete new) (Chunk count) t h = absurd (false≢true h)
-dirty_then (Delete d) (Delete new) (Placed path) t h = absurd (false≢true h)
-dirty_then (Delete d) (Delete new) (Made made) t h = absurd t
-dirty_then (Delete d) (Delete new) (Kept kept) t h = absurd (false≢true h)
-dirty_then (Delete d) (Delete new) (Skipped path why) t h = absurd (false≢true h)
-dirty_then (Delete d) (Delete new) (Cleaned part) t h = absurd (false≢true h)
-dirty_then (Delete d) (Delete new) Barrier t h = absurd (false≢true h)
-dirty_then (Delete d) (Delete new) (Troubled trouble) t h = absurd (false≢true h)
-dirty_then (Delete d) (Delete new) (Ended ending part) t h = absurd (false≢true h)
-dirty_then (Make m) (Copy new) did t h = absurd t
-dirty_then (Make m) (Delete new) did t h = absurd t
-dirty_then (Make m) (Make new) (Made path) (stage, path_is, new_is) h = ap (λ (x : Making). makings.is_dirty x.stage) new_is
-dirty_then (Make m) (Make new) (Began part) t h = absurd t
-dirty_then (Make m) (Make new) (Chunk count) t h = absurd (false≢true h)
-dirty_then (Make m) (Make new) (Placed path) t h = absurd (false≢true h)
-dirty_then (Make m) (Make new) (Removed made) t h = absurd t
-dirty_then (Make m) (Make new) (Kept kept) t h = absurd (false≢true h)
-dirty_then (Make m) (Make new) (Skipped path why) t h = absurd (false≢true h)
-dirty_then (Make m) (Make new) (Cleaned part) t h = absurd (false≢true h)
-dirty_then (Make m) (Make new) Barrier t h = absurd (false≢true h)
-dirty_then (Make m) (Make new) (Troubled trouble) t h = absurd (false≢true h)
-dirty_then (Make m) (Make new) (Ended ending part) t h = absurd (false≢true h)
+-- what is removed isn't the folder in which a job changes names
+stays_by : (log now : CallLog) → IsTree (current log) → (old work new : Work) (path : Route) → WorkTells old (Removed path) work → WorkCalls IsUnclaimed old (Removed path) new log (Some now) → same_path (changed_folder old) path ≡ false
+stays_by log now tree (Delete d) (Delete work) new path (going, within, at) (inl done) = folder_apart log now d.path path within (removal_done log now path tree done)
+stays_by log now tree (Delete d) (Delete work) new path (going, within, at) (inr done) = folder_apart log now d.path path within (folder_removed log now path tree done)
+stays_by log now tree (Delete d) (Copy work) new path t calls = absurd t
+stays_by log now tree (Delete d) (Make work) new path t calls = absurd t
+stays_by log now tree (Copy c) (Copy work) new path t calls = absurd t
+stays_by log now tree (Copy c) (Delete work) new path t calls = absurd t
+stays_by log now tree (Copy c) (Make work) new path t calls = absurd t
+stays_by log now tree (Make m) (Copy work) new path t calls = absurd t
+stays_by log now tree (Make m) (Delete work) new path t calls = absurd t
+stays_by log now tree (Make m) (Make work) new path t calls = absurd t
+
+-- so that is known to be on the disk from its first change on
+pub folder_stays : (job new : Running) (did : Did) (dirty dirty_after : List Route) (log now : CallLog) (folders : Route → Bool) → IsTree (current log) → WorkLeads job did new dirty dirty_after log now
+    → (folders (changed_folder job.work) ≡ true) ⊎ (begins_change did ≡ true) → folders_by did (changed_folder job.work) folders (changed_folder job.work) ≡ true
+folder_stays job new (Removed path) dirty dirty_after log now folders tree works known =
+    let goes = goes_then job new (Removed path) job.course refl works.tells refl in
+    let off = stays_by log now tree job.work goes.1.0 new.work path goes.1.1 (subst (λ c. CallsOn IsUnclaimed c job (Removed path) new log (Some now)) goes.0 works.called) in
+    and_from (same_path (changed_folder job.work) (changed_folder job.work) || folders (changed_folder job.work)) (not (same_path (changed_folder job.work) path)) (or_left _ _ (same_path-self (changed_folder job.work))) (ap not off)
+folder_stays job new (Began part) dirty dirty_after log now folders tree works known = or_left _ _ (same_path-self (changed_folder job.work))
+folder_stays job new (Made path) dirty dirty_after log now folders tree works known = or_left _ _ (same_path-self (changed_folder job.work))
+folder_stays job new (Chunk count) dirty dirty_after log now folders tree works known = elim known [ inl stands ↦ stands | inr begins ↦ absurd (false≢true begins) ]
+folder_stays job new (Placed path) dirty dirty_after log now folders tree works known = elim known [ inl stands ↦ stands | inr begins ↦ absurd (false≢true begins) ]
+folder_stays job new (Kept path) dirty dirty_after log now folders tree works known = elim known [ inl stands ↦ stands | inr begins ↦ absurd (false≢true begins) ]
+folder_stays job new (Skipped path why) dirty dirty_after log now folders tree works known = elim known [ inl stands ↦ stands | inr begins ↦ absurd (false≢true begins) ]
+folder_stays job new (Cleaned part) dirty dirty_after log now folders tree works known = elim known [ inl stands ↦ stands | inr begins ↦ absurd (false≢true begins) ]
+folder_stays job new Barrier dirty dirty_after log now folders tree works known = elim known [ inl stands ↦ stands | inr begins ↦ absurd (false≢true begins) ]
+folder_stays job new (Troubled trouble) dirty dirty_after log now folders tree works known = elim known [ inl stands ↦ stands | inr begins ↦ absurd (false≢true begins) ]
+folder_stays job new (Ended ending part) dirty dirty_after log now folders tree works known = elim known [ inl stands ↦ stands | inr begins ↦ absurd (false≢true begins) ]

@@ -17,10 +17,12 @@ use Rattle.copy_move.specs.declared.run.Course.{Course}
 use Rattle.copy_move.specs.declared.run.Course.TheVariants.{GoesOn}
 use Rattle.copy_move.specs.declared.work.Work.{Work}
 use Rattle.copy_move.specs.declared.work.Work.TheVariants.{Copy, Delete, Make}
-use Rattle.copy_move.specs.Deletions as deletions
+use Rattle.tree_deletion.specs.declared.deletion.Stage.{Stage}
+use Rattle.tree_deletion.specs.declared.deletion.Stage.TheVariants.{Begin, Going, Sync}
+use Rattle.tree_deletion.specs.Standing.{at_barrier, is_fresh as is_fresh_stage}
 use Rattle.copy_move.specs.Makings as makings
 use Rattle.copy_move.specs.Jobs.{Running, WorkTells, is_fresh}
-use Rattle.copy_move.specs.Settling.{changed_folder, is_dirty}
+use Rattle.copy_move.specs.Settling.{changed_folder}
 use Rattle.copy_move.specs.Steps.{SyncsFolder}
 use Rattle.history_laws.specs.Calmed.{CalmLaw, HasBegun}
 use Rattle.history_laws.specs.Doubt.{name_waits}
@@ -38,16 +40,22 @@ use Rattle.history_laws.proofs.Histories.{only_job, traced_reached}
 use Rattle.history_laws.proofs.JobKnows.{StageKnows, WorkKnows}
 use Rattle.history_laws.proofs.Knowing.{Said}
 use Rattle.history_laws.proofs.Moments.{prefix_is, log_of, traced_count}
-use Rattle.history_laws.proofs.Owing.{owed_law}
+use Rattle.history_laws.proofs.Owing.{apart_from, owed_law}
+use Rattle.history_laws.proofs.Unchanged.{has_begun, is_going}
 use Rattle.history_laws.proofs.Reports.{HasLive, JobsKnow}
 use Rattle.history_laws.proofs.Staying.{event_still}
 
--- work that begins a change with a clean folder has changed nothing yet, and no part of it stands
+fresh_stage : (stage : Stage) → at_barrier stage ≡ false → is_going stage ≡ false → is_fresh_stage stage ≡ true
+fresh_stage Begin going none = refl
+fresh_stage Going going none = absurd (false≢true (sym none))
+fresh_stage Sync going none = absurd (false≢true (sym going))
+
+-- work that begins a change, and has begun none, has changed nothing yet, and no part of it stands
 module _ (told : Said) (dirty : List Route) (marks : Marks) (s : FileSystem) (course : Course) where
   abbrev IsStart : Work → Type 0
   IsStart work = (is_fresh work ≡ true) × (told.part ≡ None)
 
-  fresh_then : (old new : Work) (did : Did) → WorkTells old did new → begins_change did ≡ true → is_dirty old ≡ false → WorkKnows told dirty marks s course old → IsStart old
+  fresh_then : (old new : Work) (did : Did) → WorkTells old did new → begins_change did ≡ true → has_begun old ≡ false → WorkKnows told dirty marks s course old → IsStart old
   fresh_then (Copy c) (Copy new) (Began part) t h clean (name, listed, stage) =
       (ap (λ x. copying.is_fresh x c.folder) t.0 ∙ ap not clean, let k = subst (λ x. StageKnows told marks s course c x) t.0 stage in k.0)
   fresh_then (Copy c) (Copy new) (Removed path) t h clean k = absurd t
@@ -64,7 +72,7 @@ module _ (told : Said) (dirty : List Route) (marks : Marks) (s : FileSystem) (co
   fresh_then (Copy c) (Make new) did t h clean k = absurd t
   fresh_then (Delete d) (Copy new) did t h clean k = absurd t
   fresh_then (Delete d) (Make new) did t h clean k = absurd t
-  fresh_then (Delete d) (Delete new) (Removed path) t h clean (name, none) = (ap deletions.is_fresh t.0, none)
+  fresh_then (Delete d) (Delete new) (Removed path) t h clean (name, none, intact) = (fresh_stage d.stage t.0 clean, none)
   fresh_then (Delete d) (Delete new) (Began part) t h clean k = absurd t
   fresh_then (Delete d) (Delete new) (Chunk count) t h clean k = absurd (false≢true h)
   fresh_then (Delete d) (Delete new) (Placed path) t h clean k = absurd (false≢true h)
@@ -120,7 +128,7 @@ module _ (opening : CallLog) (tree : IsTree (current opening)) (settled : all_se
       by : (named waited : Bool) → names_path e.what path ≡ named → name_waits f.before path ≡ waited → Calm
       by true waited named_is waited_is = inl named_is
       by false true named_is waited_is =
-          inr (subst (λ q. IsApart f.before q (folder_of path)) (sym folder_is) (works.settled goes.0 start.0 (folder_of path) (owed_law opening f.before older f.was path tree settled f.traced waited_is)))
+          inr (subst (λ q. IsApart f.before q (folder_of path)) (sym folder_is) (apart_from (current f.before) job.work f.was.dirty (folder_of path) (owed_law opening f.before older f.was path tree settled f.traced waited_is) (works.settled goes.0 start.0)))
       by false false named_is waited_is =
           let still = event_still opening older f.was f.before r path waited_is (no_route r.part path start.1) e.what f.after f.now f.leads named_is in
           absurd (both_ways _ still.after waits)

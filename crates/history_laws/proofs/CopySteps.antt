@@ -38,16 +38,16 @@ use Rattle.copy_move.specs.declared.work.Work.TheVariants.{Copy}
 use Rattle.copy_move.specs.declared.run.Course.{Course}
 use Rattle.copy_move.specs.declared.run.Course.TheVariants.{GoesOn, InTrouble}
 use Rattle.copy_move.specs.Jobs.{course_after}
-use Rattle.copy_move.specs.Settling.{NoneOwed, with_change as moves_dirty}
+use Rattle.copy_move.specs.Settling.{with_change as moves_dirty}
 use Rattle.history_laws.specs.Traces.{IsUnclaimed}
 use Rattle.history_laws.proofs.Calming.{written_known}
-use Rattle.history_laws.proofs.Changing.{hollow_file, off_itself, removed_known}
+use Rattle.history_laws.proofs.Changing.{off_itself, removed_known}
 use Rattle.history_laws.proofs.Deleted.{IsRemoval, comes_refused, removal_done}
 use Rattle.history_laws.proofs.DeletionSteps.{Steps, ends, same_dirty, tried}
 use Rattle.history_laws.proofs.Resting.{folder_at}
 use Rattle.history_laws.proofs.Filling.{begun, filled_more, folder_firm, listed_now, making_stands, target_free}
 use Rattle.history_laws.proofs.Knowing.{Said, IsKnown, IsKept, settled_marks}
-use Rattle.history_laws.proofs.JobKnows.{HasPart, IsUntouched, KnowsAfter, StageKnows, WorkKnows, part_settled, untouched_settled, work_course}
+use Rattle.history_laws.proofs.JobKnows.{NoneOn, HasPart, IsUntouched, KnowsAfter, StageKnows, WorkKnows, part_settled, untouched_settled, work_course}
 use Rattle.history_laws.proofs.PartNodes.{part_on, part_there, written_node}
 use Rattle.history_laws.proofs.PlacingSteps.{part_placed, part_refused, placing_stops}
 use Rattle.history_laws.proofs.Stepped.{Comes, comes_map, comes_one, said_after}
@@ -81,7 +81,7 @@ part_cleaned told dirty marks log now work target part i kept has listed done = 
 
     at : IsRemoval log now part → Comes told (said_after now (Cleaned part) work told) dirty log now (λ m. IsUntouched m (current now) target)
     at it =
-        let known = removed_known told (said_after now (Cleaned part) work told) dirty dirty marks log kept.known part (hollow_file (current log) part kept.known.guarded.tree it.r) it.k (record {
+        let known = removed_known told (said_after now (Cleaned part) work told) dirty dirty marks log kept.known part it.r it.k (record {
           named = kept.known.aside;
           off = λ p off. (refl, refl, λ is. off_itself p part (sym (some_route part p (sym has.part_is ∙ is))) off);
           gone = (kept.known.part part has.part_is).1;
@@ -191,7 +191,7 @@ module _ (told : Said) (dirty dirty_after : List Route) (marks : Marks) (log now
   cleaned_knows next.Decided after m s none untouched = none
 
   pub copy_tells : (new : Copying) (did : Did) → WorkKnows told dirty marks (current log) GoesOn (Copy c) → Tells c did new → CopyCalls IsUnclaimed c did new log (Some now)
-      → (is_fresh c.stage c.folder ≡ true → NoneOwed (current log) up dirty) → Leaves new → Steps told dirty dirty_after marks log now kept did (course_after did) (Copy c) (Copy new)
+      → (is_fresh c.stage c.folder ≡ true → NoneOn (current log) up dirty) → Leaves new → Steps told dirty dirty_after marks log now kept did (course_after did) (Copy c) (Copy new)
   copy_tells new (Began part) (name, listed, knows) (stage, (said, new_is)) (ready, began_of, (k, part_is, free, rows)) settled leaves =
       let at_begin = subst (λ x. StageKnows told marks (current log) GoesOn c x) stage knows in
       let is_said = subst (λ (x : Copying). BeganOf (current log) (places_of c) x.stage) new_is began_of in

@@ -1,13 +1,16 @@
 -- Each step of a deletion keeps what is known.
-use Rattle.std.proofs.Common.{◌≡◌, ◌⊎◌, Bool, true, false, List, [], ◌∷◌, ◌++◌, refl, sym, ◌∙◌, ap, subst, inl, inr, Option, Some, None, Ok, Err}
-use Rattle.mc_text.specs.Routes.{Route}
+use Rattle.std.proofs.Common.{◌≡◌, ◌⊎◌, Bool, true, false, List, [], ◌∷◌, ◌++◌, refl, sym, ◌∙◌, ap, subst, inl, inr, Option, Some, None, Ok, arith, ◌||◌, not}
+use Rattle.std.specs.Prelude.{if◌then◌else◌}
+use Rattle.std.proofs.lemmas.Bool.{and_from, false≢true, or_cases, or_left}
+use Rattle.mc_text.specs.Routes.{Route, is_prefix, same_path}
+use Rattle.mc_text.proofs.Prefixes.{same_path-lengths}
 use Rattle.tree_trait.specs.declared.file_system.FileSystem.{FileSystem}
 use Rattle.tree_trait.specs.declared.calls.TreeError.{TreeError}
-use Rattle.tree_trait.specs.FileSystem.{find}
-use Rattle.tree_trait.specs.Calls.{RemoveFile, SyncFolder}
+use Rattle.tree_trait.specs.Calls.{RemoveFile, RemoveFolder, SyncFolder}
 use Rattle.tree_trait.specs.Change.{Syncs, CallLog, current, with_change}
 use Rattle.tree_trait.specs.CrashImages.{Among}
 use Rattle.tree_trait.specs.Answers.{Performs}
+use Rattle.tree_trait.proofs.Visible.{same_path-self, same_path-true}
 use Rattle.crash_law.specs.Guarded.{Marks}
 use Rattle.crash_law.proofs.Leading.{current_more}
 use Rattle.job_reports.specs.declared.report.Ending.{Ending}
@@ -17,31 +20,53 @@ use Rattle.job_reports.specs.declared.report.Did.TheVariants.{Began, Chunk, Plac
 use Rattle.job_reports.specs.Paths.{folder_of, without}
 use Rattle.job_reports.specs.Stops.{sync_answer}
 use Rattle.job_reports.proofs.CallAnswers.{some_log}
-use Rattle.copy_move.specs.declared.deletion.Stage.{Stage}
-use Rattle.copy_move.specs.declared.deletion.Stage.TheVariants.{Remove, Sync, Finish, PassedOver}
+use Rattle.tree_deletion.specs.declared.deletion.Stage.{Stage}
+use Rattle.tree_deletion.specs.declared.deletion.Stage.TheVariants.{Begin, Going, Sync}
+use Rattle.tree_deletion.specs.Folders.{is_one_of, joined}
+use Rattle.tree_deletion.specs.Standing.{after_item, at_barrier, is_fresh}
 use Rattle.copy_move.specs.declared.work.Work.{Work}
 use Rattle.copy_move.specs.declared.work.Work.TheVariants.{Delete}
 use Rattle.copy_move.specs.declared.run.Course.{Course}
 use Rattle.copy_move.specs.declared.run.Course.TheVariants.{GoesOn, Ends}
-use Rattle.copy_move.specs.Deletions.{Deleting, Tells, Winds, DeletionCalls, DeletionLeaves, Answers, call_of, is_fresh}
-use Rattle.copy_move.specs.Deletions as deletions
+use Rattle.copy_move.specs.Deletions.{Deleting, DeletionCalls, DeletionLeaves, IsAtStage, IsRefused, LastCalls, RefusedFile, RefusedFolder, RefusedSync, Tells, TellsTried, Winds}
+use Rattle.copy_move.specs.DeletionSteps.{after_try}
 use Rattle.copy_move.specs.Jobs.{course_after}
-use Rattle.copy_move.specs.Settling.{NoneOwed, after_try, with_change as moves_dirty}
-use Rattle.history_laws.proofs.Calming.{folder_synced, refused_is}
-use Rattle.history_laws.proofs.Knowing.{Said, IsKnown, IsKept}
-use Rattle.history_laws.proofs.JobKnows.{HasName, KnowsAfter, WorkKnows, none_waits, way_sure, work_settled}
-use Rattle.history_laws.proofs.Stepped.{Comes, comes_none, comes_one, said_after}
-use Rattle.history_laws.proofs.Deleted.{comes_refused, removal_done, removes_file}
-use Rattle.history_laws.proofs.Resting.{IsSureFolder, folder_at_of}
+use Rattle.copy_move.specs.Settling.{NoneOwed, with_change as moves_dirty}
+use Rattle.history_laws.proofs.Calming.{folder_synced, refused_is, still_listed}
+use Rattle.history_laws.proofs.Knowing.{Said, IsKept, settled_marks}
+use Rattle.history_laws.proofs.JobKnows.{HasName, IsIntact, KnowsAfter, WorkKnows, work_settled}
+use Rattle.history_laws.proofs.Stepped.{Comes, comes_none, comes_one, folders_by, said_after}
+use Rattle.history_laws.proofs.Deleted.{IsRemoval, comes_refused, folder_removed, removal_done, removal_leads, removes_thing}
+use Rattle.history_laws.proofs.Intact.{folder_apart, folder_firm, intact_after, intact_begins, intact_was, removed_in}
+use Rattle.history_laws.proofs.Resting.{IsSureFolder}
 
-pub last_among : (up : Route) (dirty : List Route) → Among (dirty ++ up ∷ []) up
+last_among : (up : Route) (dirty : List Route) → Among (dirty ++ up ∷ []) up
 last_among up [] = inl refl
 last_among up (first ∷ dirty) = inr (last_among up dirty)
 
-pub among_more : (up q : Route) (dirty : List Route) → Among dirty q → Among (dirty ++ up ∷ []) q
+among_more : (up q : Route) (dirty : List Route) → Among dirty q → Among (dirty ++ up ∷ []) q
 among_more up q [] among = absurd among
 among_more up q (first ∷ dirty) (inl same) = inl same
 among_more up q (first ∷ dirty) (inr more) = inr (among_more up q dirty more)
+
+is_among : (up : Route) (dirty : List Route) → is_one_of up dirty ≡ true → Among dirty up
+is_among up [] h = absurd (false≢true h)
+is_among up (first ∷ dirty) h = elim (or_cases (same_path first up) (is_one_of up dirty) h) [ inl same ↦ inl (sym (same_path-true first up same)) | inr more ↦ inr (is_among up dirty more) ]
+
+-- a folder that joined is listed, and so is what was listed
+pub joined_holds : (up : Route) (dirty : List Route) → Among (joined up dirty) up
+joined_holds up dirty = by (is_one_of up dirty) refl
+  where
+    by : (b : Bool) → is_one_of up dirty ≡ b → Among (if b then dirty else dirty ++ up ∷ []) up
+    by true is = is_among up dirty is
+    by false is = last_among up dirty
+
+pub joined_more : (up q : Route) (dirty : List Route) → Among dirty q → Among (joined up dirty) q
+joined_more up q dirty among = by (is_one_of up dirty)
+  where
+    by : (b : Bool) → Among (if b then dirty else dirty ++ up ∷ []) q
+    by true = among
+    by false = among_more up q dirty among
 
 -- the sync of a folder that was done, after which the job stands so
 pub comes_synced : (told : Said) (dirty : List Route) (marks : Marks) (log now : CallLog) (up : Route) (course : Course) (work : Work) → IsKept told dirty marks log
@@ -51,18 +76,6 @@ comes_synced told dirty marks log now up course work kept knows done =
     let s = folder_synced told dirty marks log kept.known up now done in
     comes_one told told dirty (without up dirty) marks marks log now (Syncs s.0) (λ m. WorkKnows told (without up dirty) m (current now) course work) kept s.1 s.2
     (work_settled now marks told (without up dirty) course work (subst (λ (x : FileSystem). WorkKnows told (without up dirty) marks x course work) (sym (ap current s.1 ∙ current_more log (Syncs s.0))) knows))
-
--- where a file is removed its folder stands, and isn't in doubt
-sure_folder : (told : Said) (dirty : List Route) (marks : Marks) (log now : CallLog) (path up : Route) → IsKnown told dirty marks log → folder_of path ≡ up → Performs {A = Unit {0}} log (RemoveFile path) (Ok tt) (Some now)
-    → NoneOwed (current log) up dirty → IsSureFolder log up
-sure_folder told dirty marks log now path up known folder done none =
-    let it = removal_done log now path known.guarded.tree done in
-    let same : it.r.up ≡ up = sym (ap folder_of it.r.path_is) ∙ folder in
-    let at : find (current log) up ≡ Some it.r.f = subst (λ q. find (current log) q ≡ Some it.r.f) same it.r.folder in
-    record {
-      stands = folder_at_of (current log) up it.r.f at (known.guarded.tree.in_folders it.r.f it.r.name it.r.i it.r.leads);
-      sure = way_sure told dirty marks log up it.r.f known at none;
-    }
 
 pub same_dirty : (b : Bool) (up : Route) (dirty : List Route) → moves_dirty b b up dirty ≡ dirty
 same_dirty true up dirty = refl
@@ -96,43 +109,92 @@ module _ (told : Said) (dirty dirty_after : List Route) (marks : Marks) (log now
       (subst (λ o. Comes told (record told { part = o }) dirty log now (λ m. (let o : Option Route = None in o) ≡ None)) none
       (comes_none told told dirty log now (λ m. (let o : Option Route = None in o) ≡ None) marks is kept refl))
 
-  pub deletion_tells : (d new : Deleting) (did : Did) → WorkKnows told dirty marks (current log) GoesOn (Delete d) → Tells d did new → DeletionCalls d did log (Some now)
-      → (is_fresh d.stage ≡ true → NoneOwed (current log) (folder_of d.path) dirty) → dirty_after ≡ moves_dirty (deletions.is_dirty d.stage) (deletions.is_dirty new.stage) (folder_of d.path) dirty
-      → Steps did (course_after did) (Delete d) (Delete new)
-  deletion_tells d new (Removed path) (name, none) (stage, path_is, new_is) done settled leaves =
-      let routes : dirty_after ≡ dirty ++ folder_of d.path ∷ [] =
-      leaves ∙ (ap (λ x. moves_dirty (deletions.is_dirty x) (deletions.is_dirty new.stage) (folder_of d.path) dirty) stage ∙ ap (λ (x : Deleting). moves_dirty false (deletions.is_dirty x.stage) (folder_of d.path) dirty) new_is) in
-      let at_path : path ≡ name.name ∷ folder_of d.path = path_is ∙ name.is in
-      let folder : folder_of path ≡ folder_of d.path = ap folder_of path_is in
-      let none_owed = settled (ap is_fresh stage) in
-      let calm = ap (Rattle.history_laws.specs.Doubt.name_waits log) at_path ∙ none_waits told dirty marks log (folder_of d.path) kept.known none_owed name.name in
-      let firm : IsSureFolder log (folder_of path) = subst (λ q. IsSureFolder log q) (sym folder) (sure_folder told dirty marks log now path (folder_of d.path) kept.known folder done none_owed) in
-      removes_file told dirty dirty_after marks log now path (Delete d) (KnowsAfter (Removed path) (said_after now (Removed path) (Delete d) told) dirty_after (current now) GoesOn (Delete new)) kept none calm firm (sym folder)
-      (subst (λ xs. Among xs (folder_of path)) (sym routes) (subst (λ q. Among (dirty ++ folder_of d.path ∷ []) q) (sym folder) (last_among (folder_of d.path) dirty)))
-      (λ q among. subst (λ xs. Among xs q) (sym routes) (among_more (folder_of d.path) q dirty among)) done
-      (λ m. (subst (λ (x : Deleting). HasName x.path) (sym new_is) name, none))
-  deletion_tells d new Barrier (name, none) (stage, new_is) done settled leaves =
-      let routes : dirty_after ≡ without (folder_of d.path) dirty =
-      leaves ∙ (ap (λ x. moves_dirty (deletions.is_dirty x) (deletions.is_dirty new.stage) (folder_of d.path) dirty) stage ∙ ap (λ (x : Deleting). moves_dirty true (deletions.is_dirty x.stage) (folder_of d.path) dirty) new_is) in
-      tried (folder_of d.path) None GoesOn (Delete new) (λ routes. (subst (λ (x : Deleting). HasName x.path) (sym new_is) name, none))
-      (subst (λ q. Answers log (call_of Sync q) (Ok tt) (Some now)) name.is done) routes
-  deletion_tells d new (Troubled trouble) (name, none) (at, new_is) (e, cause, answer) settled leaves =
-      subst (λ (x : Deleting). Comes told told dirty_after log now (λ m. WorkKnows told dirty_after m (current now) (course_after (Troubled trouble)) (Delete x))) (sym new_is)
-      (subst (λ routes. Comes told told routes log now (λ m. WorkKnows told routes m (current now) (course_after (Troubled trouble)) (Delete d))) (sym routes)
-      (comes_refused told dirty marks log now (course_after (Troubled trouble)) (Delete d) kept (name, none) (by d.stage refl (subst (λ q. Answers log (call_of d.stage q) (Err e) (Some now)) name.is answer))))
-    where
-      routes : dirty_after ≡ dirty
-      routes = leaves ∙ (ap (λ (x : Deleting). moves_dirty (deletions.is_dirty d.stage) (deletions.is_dirty x.stage) (folder_of d.path) dirty) new_is ∙ same_dirty (deletions.is_dirty d.stage) (folder_of d.path) dirty)
+  -- what a deletion knows that goes on, of the same path
+  moved : (d new : Deleting) → new.path ≡ d.path → IsIntact marks (current log) d.path × (told.folders (folder_of d.path) ≡ true) → IsIntact marks (current log) new.path × (told.folders (folder_of new.path) ≡ true)
+  moved d new path_is (intact, stands) = (subst (IsIntact marks (current log)) (sym path_is) intact, subst (λ q. told.folders (folder_of q) ≡ true) (sym path_is) stands)
 
-      by : (stage : Stage) → d.stage ≡ stage → Answers log (call_of d.stage (name.name ∷ folder_of d.path)) (Err e) (Some now) → (now ≡ log) ⊎ (now ≡ with_change log Rattle.tree_trait.specs.Change.Nothing)
-      by Remove is h = refused_is log now (RemoveFile (name.name ∷ folder_of d.path)) e (λ s left. refl) (subst (λ x. Answers log (call_of x (name.name ∷ folder_of d.path)) (Err e) (Some now)) is h)
-      by Sync is h = refused_is log now (SyncFolder (folder_of d.path)) e (λ s left. refl) (subst (λ x. Answers log (call_of x (name.name ∷ folder_of d.path)) (Err e) (Some now)) is h)
-      by Finish is h = inl (some_log now log (subst (λ x. Answers log (call_of x (name.name ∷ folder_of d.path)) (Err e) (Some now)) is h))
-      by PassedOver is h = inl (some_log now log (subst (λ x. Answers log (call_of x (name.name ∷ folder_of d.path)) (Err e) (Some now)) is h))
-  deletion_tells d new (Ended Finished part) (name, none) (is_done, part_is, new_is) done settled leaves =
-      subst (λ o. Steps (Ended Finished o) GoesOn (Delete d) (Delete new)) (sym part_is) (ends (Delete d) none
-      (leaves ∙ (ap (λ (x : Deleting). moves_dirty (deletions.is_dirty d.stage) (deletions.is_dirty x.stage) (folder_of d.path) dirty) new_is ∙ same_dirty (deletions.is_dirty d.stage) (folder_of d.path) dirty))
-      (some_log now log done))
+  -- a deletion that stands at this stage, wherever its walk is
+  pub stays : (course other : Course) (d new : Deleting) (stage : Stage) → WorkKnows told dirty marks (current log) course (Delete d) → IsAtStage d stage new → (stage ≡ Going → d.stage ≡ Going) → (routes : List Route)
+      → WorkKnows told routes marks (current log) other (Delete new)
+  stays course other d new stage (name, none, known) at goes routes = (
+    subst HasName (sym at.path_is) name,
+    none,
+    λ is. moved d new at.path_is (known (goes (sym at.stage_is ∙ is))),
+  )
+
+  pub still_going : (path : Route) (d : Deleting) → after_item d.path path d.stage ≡ Going → d.stage ≡ Going
+  still_going path d is = by (same_path path d.path) is
+    where
+      by : (b : Bool) → (if b then Sync else d.stage) ≡ Going → d.stage ≡ Going
+      by true e = absurd (let f : ⊥ = cc in f)
+      by false e = e
+
+  -- what is known where a thing is removed
+  intact_now : (d : Deleting) → WorkKnows told dirty marks (current log) GoesOn (Delete d) → at_barrier d.stage ≡ false → (is_fresh d.stage ≡ true → NoneOwed (current log) (Delete d) dirty) → IsIntact marks (current log) d.path
+  intact_now d (name, none, known) going settled = by d.stage refl
+    where
+      by : (stage : Stage) → d.stage ≡ stage → IsIntact marks (current log) d.path
+      by Begin is = intact_begins told dirty marks log kept d name (settled (ap is_fresh is))
+      by Going is = (known is).0
+      by Sync is = absurd (false≢true (sym going ∙ ap at_barrier is))
+
+  -- the folder that holds the thing is on the disk then
+  firm_now : (d : Deleting) (path : Route) → WorkKnows told dirty marks (current log) GoesOn (Delete d) → at_barrier d.stage ≡ false → (is_fresh d.stage ≡ true → NoneOwed (current log) (Delete d) dirty)
+      → is_prefix d.path path ≡ true → IsRemoval log now path → IsSureFolder log (folder_of d.path)
+  firm_now d path (name, none, known) going settled within it = by d.stage refl
+    where
+      by : (stage : Stage) → d.stage ≡ stage → IsSureFolder log (folder_of d.path)
+      by Begin is = folder_firm told dirty marks log kept d name (settled (ap is_fresh is)) (removed_in log now d.path path kept.known.guarded.tree within it)
+      by Going is = kept.known.stand (folder_of d.path) (known is).1
+      by Sync is = absurd (false≢true (sym going ∙ ap at_barrier is))
+
+  above_it : (path : Route) → IsRemoval log now path → same_path (folder_of path) path ≡ false
+  above_it path it = subst (λ q. same_path (folder_of q) q ≡ false) (sym it.r.path_is) (same_path-lengths it.r.up (it.r.name ∷ it.r.up) (λ e. let n : ⊥ = absurd (omega (arith, e)) in n))
+
+  removes : (d new : Deleting) (path : Route) (stage : Stage) → WorkKnows told dirty marks (current log) GoesOn (Delete d) → IsIntact marks (current log) d.path → IsSureFolder log (folder_of d.path) → is_prefix d.path path ≡ true
+      → IsAtStage d stage new → Among dirty_after (folder_of path) → ((q : Route) → Among dirty q → same_path q path ≡ false → Among dirty_after q) → IsRemoval log now path → Steps (Removed path) GoesOn (Delete d) (Delete new)
+  removes d new path stage (name, none, known) intact firm within at listed more it =
+      removes_thing told dirty dirty_after marks log now path (Delete d) (KnowsAfter (Removed path) (said_after now (Removed path) (Delete d) told) dirty_after (current now) GoesOn (Delete new)) kept none
+      (λ out. intact_was marks (current log) d.path path it.r.i intact within (removal_leads log now path it) out) firm listed more it (
+        subst HasName (sym at.path_is) name,
+        none,
+        λ is. (
+          subst (IsIntact (settled_marks now marks) (current now)) (sym at.path_is) (intact_after told dirty marks log now path d.path kept.known it intact),
+          subst (λ q. folders_by (Removed path) (folder_of d.path) told.folders (folder_of q) ≡ true) (sym at.path_is) there,
+        ),
+      )
+    where
+      there : folders_by (Removed path) (folder_of d.path) told.folders (folder_of d.path) ≡ true
+      there = and_from (same_path (folder_of d.path) (folder_of d.path) || told.folders (folder_of d.path)) (not (same_path (folder_of d.path) path)) (or_left _ _ (same_path-self (folder_of d.path)))
+          (ap not (folder_apart log now d.path path within it))
+
+  refused_by : (e : TreeError) → IsRefused log e (Some now) → (now ≡ log) ⊎ (now ≡ with_change log Rattle.tree_trait.specs.Change.Nothing)
+  refused_by e (RefusedFile path h) = refused_is log now (RemoveFile path) e (λ s left. refl) h
+  refused_by e (RefusedFolder path h) = refused_is log now (RemoveFolder path) e (λ s left. refl) h
+  refused_by e (RefusedSync folder h) = refused_is log now (SyncFolder folder) e (λ s left. refl) h
+
+  pub deletion_tells : (d new : Deleting) (did : Did) → WorkKnows told dirty marks (current log) GoesOn (Delete d) → Tells d did new → DeletionCalls did log (Some now)
+      → (is_fresh d.stage ≡ true → NoneOwed (current log) (Delete d) dirty) → DeletionLeaves d did dirty dirty_after (Some log) (Some now) → Steps did (course_after did) (Delete d) (Delete new)
+  deletion_tells d new (Removed path) knows (going, within, at) done settled (inl (leaves, called)) =
+      let it = removal_done log now path kept.known.guarded.tree (called log refl) in
+      removes d new path _ knows (intact_now d knows going settled) (firm_now d path knows going settled within it) within at (subst (λ xs. Among xs (folder_of path)) (sym leaves) (joined_holds (folder_of path) dirty))
+      (λ q among off. subst (λ xs. Among xs q) (sym leaves) (joined_more (folder_of path) q dirty among)) it
+  deletion_tells d new (Removed path) knows (going, within, at) done settled (inr (leaves, called)) =
+      let it = folder_removed log now path kept.known.guarded.tree (called log refl) in
+      removes d new path _ knows (intact_now d knows going settled) (firm_now d path knows going settled within it) within at
+      (subst (λ xs. Among xs (folder_of path)) (sym leaves) (still_listed path (folder_of path) (joined (folder_of path) dirty) (joined_holds (folder_of path) dirty) (above_it path it)))
+      (λ q among off. subst (λ xs. Among xs q) (sym leaves) (still_listed path q (joined (folder_of path) dirty) (joined_more (folder_of path) q dirty among) off)) it
+  deletion_tells d new (Kept path) knows (going, at) done settled leaves = stands GoesOn (Delete new) (stays GoesOn GoesOn d new _ knows at (still_going path d) dirty) leaves (some_log now log done)
+  deletion_tells d new Barrier knows (stage, at) done settled (folder, own, left, called) = tried folder None GoesOn (Delete new) (stays GoesOn GoesOn d new d.stage knows at (λ is. is)) (called log refl) left
+  deletion_tells d new (Troubled trouble) knows (barrier, at) done settled leaves =
+      subst (λ routes. Comes told told routes log now (λ m. WorkKnows told routes m (current now) (course_after (Troubled trouble)) (Delete new))) (sym leaves)
+      (comes_refused told dirty marks log now (course_after (Troubled trouble)) (Delete new) kept (stays GoesOn (course_after (Troubled trouble)) d new d.stage knows at (λ is. is) dirty) (by done))
+    where
+      by : DeletionCalls (Troubled trouble) log (Some now) → (now ≡ log) ⊎ (now ≡ with_change log Rattle.tree_trait.specs.Change.Nothing)
+      by (inl same) = inl (some_log now log same)
+      by (inr (e, cause, refused)) = refused_by e refused
+  deletion_tells d new (Ended Finished part) knows (stage, part_is, at) done settled leaves =
+      subst (λ o. Steps (Ended Finished o) GoesOn (Delete d) (Delete new)) (sym part_is) (ends (Delete d) knows.1 leaves.1 (some_log now log done))
   deletion_tells d new (Ended Aborted part) knows tells done settled leaves = absurd tells
   deletion_tells d new (Ended Killed part) knows tells done settled leaves = absurd tells
   deletion_tells d new (Ended NoMemory part) knows tells done settled leaves = absurd tells
@@ -140,24 +202,22 @@ module _ (told : Said) (dirty dirty_after : List Route) (marks : Marks) (log now
   deletion_tells d new (Chunk count) knows tells done settled leaves = absurd tells
   deletion_tells d new (Placed path) knows tells done settled leaves = absurd tells
   deletion_tells d new (Made made) knows tells done settled leaves = absurd tells
-  deletion_tells d new (Kept kept) knows tells done settled leaves = absurd tells
   deletion_tells d new (Skipped path cause) knows tells done settled leaves = absurd tells
   deletion_tells d new (Cleaned part) knows tells done settled leaves = absurd tells
 
-  pub deletion_winds : (d new : Deleting) (ending : Ending) (did : Did) (left : Option TreeError) → WorkKnows told dirty marks (current log) (Ends ending) (Delete d) → Winds ending d did new
-      → DeletionLeaves d did left log (Some now) → deletions.LastCalls d did log (Some now) → dirty_after ≡ after_try did left (folder_of d.path) dirty
+  pub deletion_winds : (d new : Deleting) (ending : Ending) (did : Did) (left : Option TreeError) (folder : Route) → WorkKnows told dirty marks (current log) (Ends ending) (Delete d) → Winds ending d did new
+      → TellsTried did left folder log (Some now) → LastCalls did log (Some now) → dirty_after ≡ after_try did left folder dirty
       → Steps did (Ends ending) (Delete d) (Delete new)
-  deletion_winds d new ending Barrier left (name, none) (stage, new_is) answer calls leaves =
-      tried (folder_of d.path) left (Ends ending) (Delete new) (λ routes. (subst (λ (x : Deleting). HasName x.path) (sym new_is) name, none))
-      (subst (λ q. Answers log (call_of Sync q) (sync_answer left) (Some now)) name.is answer) leaves
-  deletion_winds d new ending (Ended how part) left (name, none) (off, how_is, part_is, new_is) answer calls leaves =
-      subst (λ o. Steps (Ended how o) (Ends ending) (Delete d) (Delete new)) (sym part_is) (ends (Delete d) none leaves (some_log now log calls))
-  deletion_winds d new ending (Began part) left knows tells answer calls leaves = absurd tells
-  deletion_winds d new ending (Chunk count) left knows tells answer calls leaves = absurd tells
-  deletion_winds d new ending (Placed path) left knows tells answer calls leaves = absurd tells
-  deletion_winds d new ending (Removed path) left knows tells answer calls leaves = absurd tells
-  deletion_winds d new ending (Made made) left knows tells answer calls leaves = absurd tells
-  deletion_winds d new ending (Kept kept) left knows tells answer calls leaves = absurd tells
-  deletion_winds d new ending (Skipped path cause) left knows tells answer calls leaves = absurd tells
-  deletion_winds d new ending (Cleaned part) left knows tells answer calls leaves = absurd tells
-  deletion_winds d new ending (Troubled trouble) left knows tells answer calls leaves = absurd tells
+  deletion_winds d new ending Barrier left folder (name, none, known) (path_is, stage_is) answer calls leaves =
+      tried folder left (Ends ending) (Delete new) (λ routes. (subst HasName (sym path_is) name, none, λ is. moved d new path_is (known (sym stage_is ∙ is)))) answer leaves
+  deletion_winds d new ending (Ended how part) left folder knows (how_is, part_is, path_is, stage_is) answer calls leaves =
+      subst (λ o. Steps (Ended how o) (Ends ending) (Delete d) (Delete new)) (sym part_is) (ends (Delete d) knows.1 leaves (some_log now log calls))
+  deletion_winds d new ending (Began part) left folder knows tells answer calls leaves = absurd tells
+  deletion_winds d new ending (Chunk count) left folder knows tells answer calls leaves = absurd tells
+  deletion_winds d new ending (Placed path) left folder knows tells answer calls leaves = absurd tells
+  deletion_winds d new ending (Removed path) left folder knows tells answer calls leaves = absurd tells
+  deletion_winds d new ending (Made path) left folder knows tells answer calls leaves = absurd tells
+  deletion_winds d new ending (Kept path) left folder knows tells answer calls leaves = absurd tells
+  deletion_winds d new ending (Skipped path cause) left folder knows tells answer calls leaves = absurd tells
+  deletion_winds d new ending (Cleaned part) left folder knows tells answer calls leaves = absurd tells
+  deletion_winds d new ending (Troubled trouble) left folder knows tells answer calls leaves = absurd tells

@@ -15,7 +15,7 @@ use Rattle.job_reports.specs.Paths.{folder_of}
 use Rattle.job_reports.specs.Jobs.{Item, folder_changed}
 use Rattle.session_history.specs.declared.history.Event.TheVariants.{Step}
 use Rattle.session_history.specs.declared.history.Entry.{Entry}
-use Rattle.copy_move.specs.Jobs.{JobTells, Running}
+use Rattle.copy_move.specs.Jobs.{Running}
 use Rattle.copy_move.specs.Settling.{changed_folder}
 use Rattle.copy_move.specs.Steps.{SyncsFolder}
 use Rattle.history_laws.specs.Doubt.{is_unsettled}
@@ -25,17 +25,17 @@ use Rattle.history_laws.specs.Replayed.{log_prefix, replayed_tree}
 use Rattle.session_history.specs.Entries.{IsMoment, calls_in}
 use Rattle.history_laws.specs.Safe.{IsPart, IsSafe}
 use Rattle.history_laws.specs.Staying.{DoneLaw, HasFinished}
-use Rattle.history_laws.specs.Traces.{EventLeads, IsTraced, Stand, StepLeads}
-use Rattle.history_laws.proofs.Prefixes.{folders_more, folders_since, folders_told, replayed_more, told_of}
+use Rattle.history_laws.specs.Traces.{EventLeads, IsTraced, Stand, StepLeads, WorkLeads}
+use Rattle.history_laws.proofs.Prefixes.{folders_event, folders_since, folders_told, replayed_more, told_of}
 use Rattle.history_laws.proofs.Finished.{finished_folder}
 use Rattle.history_laws.proofs.Histories.{enters, only_job, traced_reached}
-use Rattle.history_laws.proofs.Lasting.{finished_stays_law, replayed_since}
+use Rattle.history_laws.proofs.Lasting.{finished_stays, replayed_since}
 use Rattle.history_laws.proofs.Moments.{IsShown, prefix_is, log_of, replay_law, session_law, shown_moment, sure_moment, traced_count}
 use Rattle.history_laws.proofs.Reports.{HasLive}
 use Rattle.history_laws.proofs.Resting.{name_sure}
 use Rattle.history_laws.proofs.Sources.{folder_is, item_in}
 use Rattle.history_laws.proofs.Staying.{event_part, stays_law}
-use Rattle.history_laws.proofs.Stepped.{more}
+use Rattle.history_laws.proofs.Stepped.{folders_by, more}
 
 -- what is unnamed since an entry is unnamed since those before it, where the entry doesn't name it
 since_before : (e : Entry) (older g : List Entry) (path : Route) → names_path e.what path ≡ false → IsUnnamedSince (e ∷ older) path g → IsUnnamedSince older path g
@@ -108,12 +108,12 @@ module _ (opening : CallLog) (tree : IsTree (current opening)) (settled : all_se
       found_moment path g standing coming was calls before (n.made ++ rest) traced (end_is ∙ (ap (λ (l : CallLog). more l rest) n.now_is ∙ ap (log_of before) (append_assoc before.changes n.made rest))) earlier since
 
   -- the job that has ended
-  pub record IsEnder (was : Stand) (part : Option Route) (id : ℕ) (folder : Route) : Type 0 where
+  pub record IsEnder (was after : Stand) (before now : CallLog) (part : Option Route) (id : ℕ) (folder : Route) : Type 0 where
     pub job : Running
     pub new : Running
     pub jobs_is : was.jobs ≡ job ∷ []
     pub id_is : job.id ≡ id
-    pub tells : JobTells job (Ended Finished part) new
+    pub works : WorkLeads job (Ended Finished part) new was.dirty after.dirty before now
     pub within : folder ≡ changed_folder job.work
 
   -- the item that the history tells of is that of the live job
@@ -124,11 +124,11 @@ module _ (opening : CallLog) (tree : IsTree (current opening)) (settled : all_se
       let same : item_in job.work ≡ item = cc in
       sym (ap folder_changed same) ∙ folder_is job.work
 
-  ender : (folder : Route) (h : HasFinished e older folder) (f : IsFound) → IsEnder f.was h.part h.id folder
+  ender : (folder : Route) (h : HasFinished e older folder) (f : IsFound) → IsEnder f.was f.after f.before f.now h.part h.id folder
   ender folder h f = by (subst (λ w. EventLeads f.was w f.after f.before f.now) h.ended f.leads)
     where
-      of_job : (job new : Running) → JobTells job (Ended Finished h.part) new → Rattle.history_laws.specs.Traces.IsJob h.id f.was.jobs job → IsEnder f.was h.part h.id folder
-      of_job job new tells its =
+      of_job : (job new : Running) → WorkLeads job (Ended Finished h.part) new f.was.dirty f.after.dirty f.before f.now → Rattle.history_laws.specs.Traces.IsJob h.id f.was.jobs job → IsEnder f.was f.after f.before f.now h.part h.id folder
+      of_job job new works its =
           let r = traced_reached opening tree settled older f.was f.before f.traced in
           let one = only_job h.id f.was.jobs job (told_of opening f.before older r.part) f.was.dirty r.marks (current f.before) its r.knows in
           record {
@@ -136,21 +136,21 @@ module _ (opening : CallLog) (tree : IsTree (current opening)) (settled : all_se
             new = new;
             jobs_is = one.0;
             id_is = one.1;
-            tells = tells;
+            works = works;
             within = h.within ∙ same_item job (live_jobs older) r.part h.item (subst (λ js. HasLive (live_jobs older) js r.part) one.0 r.live) (subst (λ n. live_item n (live_jobs older) ≡ Some h.item) (sym one.1) h.its);
           }
 
-      none : (job new : Running) (synced : Route) → SyncsFolder job synced (Ended Finished h.part) new f.was.dirty f.after.dirty (Some f.before) (Some f.now) → IsEnder f.was h.part h.id folder
+      none : (job new : Running) (synced : Route) → SyncsFolder job synced (Ended Finished h.part) new f.was.dirty f.after.dirty (Some f.before) (Some f.now) → IsEnder f.was f.after f.before f.now h.part h.id folder
       none job new synced (inl s) = absurd (let is = s.did_is in let no : ⊥ = cc in no)
       none job new synced (inr s) = absurd (let is = s.did_is in let no : ⊥ = cc in no)
 
       of_step : (job : Running) (after : Option Running) → Rattle.history_laws.specs.Traces.IsJob h.id f.was.jobs job → StepLeads job (Ended Finished h.part) after f.was.dirty f.after.dirty f.before f.now
-          → IsEnder f.was h.part h.id folder
-      of_step job after its (inl (new, inl works, after_is)) = of_job job new works.tells its
+          → IsEnder f.was f.after f.before f.now h.part h.id folder
+      of_step job after its (inl (new, inl works, after_is)) = of_job job new works its
       of_step job after its (inl (new, inr syncs, after_is)) = none job new syncs.folder syncs.synced
       of_step job after its (inr (gives, after_is)) = absurd (let is = gives.did_is in let no : ⊥ = cc in no)
 
-      by : EventLeads f.was (Step h.id (Ended Finished h.part)) f.after f.before f.now → IsEnder f.was h.part h.id folder
+      by : EventLeads f.was (Step h.id (Ended Finished h.part)) f.after f.before f.now → IsEnder f.was f.after f.before f.now h.part h.id folder
       by s = of_step s.job s.new s.its s.leads
 
   -- where the job has ended none is live
@@ -184,12 +184,28 @@ none_stands s path v is none stands = by (find s path) stands (is ∙ none)
 
 module _ (opening now : CallLog) (newest : List Entry) (stand : Stand) (tree : IsTree (current opening)) (settled : all_settled opening.changes ≡ true) (traced : IsTraced opening newest stand now)
     (e : Entry) (older standing coming : List Entry) (calls : ℕ) (path : Route) (image : FileSystem) (h : HasFinished e older (folder_of path)) (bare : names_path e.what path ≡ false)
-    (moment : IsMoment newest standing coming calls) (since : IsUnnamedSince (e ∷ older) path standing) (later : IsUnnamedSince (e ∷ older) path coming) (left : IsCrashImage now (length opening.changes + calls) image) where
+    (moment : IsMoment newest standing coming calls) (since : IsUnnamedSince (e ∷ older) path standing) (later : IsUnnamedSince (e ∷ older) path coming)
+    (since_folder : IsUnnamedSince (e ∷ older) (folder_of path) standing) (later_folder : IsUnnamedSince (e ∷ older) (folder_of path) coming) (left : IsCrashImage now (length opening.changes + calls) image) where
   abbrev Holds : Type 0
   Holds = value_at image path ≡ (replayed_tree opening now older path).value
 
   found : IsFound opening tree settled now e older
   found = found_moment opening tree settled now e older path newest standing coming stand calls now [] traced (ap (log_of now) (sym (append-nil now.changes))) moment since
+
+  -- its folder was on the disk then
+  in_folder : folders_told opening (e ∷ older) (folder_of path) ≡ true
+  in_folder =
+      let f = found in
+      let by = ender opening tree settled now e older (folder_of path) h f in
+      ap (λ w. folders_event w (live_jobs older) (folders_told opening older) (folder_of path)) h.ended
+      ∙ (ap (λ o. Rattle.std.specs.Option.option_map_or (λ item. folders_by (Ended Finished h.part) (folder_changed item) (folders_told opening older)) o (folders_told opening older) (folder_of path)) h.its
+      ∙ (ap (folders_told opening older) by.within ∙ finished_folder opening tree settled older f.was f.before by.job f.traced by.jobs_is (subst (λ i. has_changed i older ≡ true) (sym by.id_is) h.changed)))
+
+  still_stands : folders_told opening standing (folder_of path) ≡ true
+  still_stands = folders_since opening (e ∷ older) standing (folder_of path) since_folder in_folder
+
+  still_comes : folders_told opening coming (folder_of path) ≡ true
+  still_comes = folders_since opening (e ∷ older) coming (folder_of path) later_folder in_folder
 
   -- a path that was never named as a part
   of_unnamed : (Among (named_parts older) path → ⊥) → Holds
@@ -197,9 +213,11 @@ module _ (opening now : CallLog) (newest : List Entry) (stand : Stand) (tree : I
       let f = found in
       let by = ender opening tree settled now e older (folder_of path) h f in
       let n = traced_count opening f.before older f.was f.traced in
-      finished_stays_law opening now newest older standing coming f.was stand by.job by.new h.part calls path image tree settled traced
-      (subst (λ (l : CallLog). IsTraced opening older f.was l) (sym (prefix_is opening now (calls_in older) f.before f.rest f.end_is (omega (arith, n)))) f.traced)
-      by.jobs_is by.tells (subst (λ i. has_changed i older ≡ true) (sym by.id_is) h.changed) by.within unnamed moment (since_before e older standing path bare since) (since_before e older coming path bare later) left
+      let at_start : log_prefix opening (calls_in older) now ≡ f.before = prefix_is opening now (calls_in older) f.before f.rest f.end_is (omega (arith, n)) in
+      finished_stays opening now f.now newest older standing coming f.was stand (let a : Stand = f.after in a.dirty) by.job by.new h.part calls path image tree settled traced
+      (subst (λ (l : CallLog). IsTraced opening older f.was l) (sym at_start) f.traced)
+      by.jobs_is (subst (λ (l : CallLog). WorkLeads by.job (Ended Finished h.part) by.new (let w : Stand = f.was in w.dirty) (let a : Stand = f.after in a.dirty) l f.now) (sym at_start) by.works)
+      (subst (λ i. has_changed i older ≡ true) (sym by.id_is) h.changed) by.within unnamed moment (since_before e older standing path bare since) (since_before e older coming path bare later) still_stands still_comes left
 
   -- a path at which nothing stood when the job had ended, and of which nothing waited
   abbrev at_end : CallLog
@@ -227,20 +245,12 @@ module _ (opening now : CallLog) (newest : List Entry) (stand : Stand) (tree : I
       ap (λ (l : CallLog). replayed_tree opening l (e ∷ older) path) f.later_is ∙ ap (λ v. v path) (replayed_more opening f.now f.later (e ∷ older) r.within) in
       ap (λ (s : Spot). s.value) (same ∙ sym shown) ∙ ap (λ (o : Option ℕ). option_map (λ i. value (node (current f.now) i)) o) (none_of _ (subst (λ (l : CallLog). is_some (find (current l) path) ≡ false) at none))
 
-  in_folder : folders_told opening (e ∷ older) (folder_of path) ≡ true
-  in_folder =
-      let f = found in
-      let by = ender opening tree settled now e older (folder_of path) h f in
-      folders_more e.what (live_jobs older) (folders_told opening older) (folder_of path)
-      (ap (folders_told opening older) by.within ∙ finished_folder opening tree settled older f.was f.before by.job f.traced by.jobs_is (subst (λ i. has_changed i older ≡ true) (sym by.id_is) h.changed))
-
   of_gone : is_some (find (current at_end) path) ≡ false → is_unsettled at_end path ≡ false → Holds
   of_gone none sure_then =
       elim (session_law opening now newest standing coming stand calls image tree settled traced moment left) [ inl safe ↦ by standing since safe | inr safe ↦ by coming later safe ]
     where
       sure : is_unsettled (log_prefix opening calls now) path ≡ false
-      sure = sure_moment opening now newest standing coming stand calls path tree settled traced moment
-          (folders_since opening (e ∷ older) standing path (folder_of path) since in_folder) (folders_since opening (e ∷ older) coming path (folder_of path) later in_folder)
+      sure = sure_moment opening now newest standing coming stand calls path tree settled traced moment still_stands still_comes
           (stays_law opening now newest (e ∷ older) standing coming stand calls path tree settled traced moment since later (name_sure (log_prefix opening e.calls now) path sure_then) no_live)
 
       gone_by : (g : List Entry) → IsUnnamedSince (e ∷ older) path g → IsShown opening now (log_prefix opening calls now) g → is_some (find (current (log_prefix opening calls now)) path) ≡ true → ⊥
@@ -270,6 +280,6 @@ module _ (opening now : CallLog) (newest : List Entry) (stand : Stand) (tree : I
   by_part no_part false false stands_is waits_is = of_gone stands_is waits_is
 
 pub done_law : DoneLaw
-done_law opening now newest stand tree settled traced e older standing coming calls path image h no_part bare moment since later left =
-    by_part opening now newest stand tree settled traced e older standing coming calls path image h bare moment since later left no_part (is_some (find (current (log_prefix opening e.calls now)) path)) (is_unsettled (log_prefix opening e.calls now) path)
+done_law opening now newest stand tree settled traced e older standing coming calls path image h no_part bare moment since later since_folder later_folder left =
+    by_part opening now newest stand tree settled traced e older standing coming calls path image h bare moment since later since_folder later_folder left no_part (is_some (find (current (log_prefix opening e.calls now)) path)) (is_unsettled (log_prefix opening e.calls now) path)
     refl refl

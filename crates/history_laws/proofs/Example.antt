@@ -1,13 +1,15 @@
 -- A small session, so the premises can be met: a deletion whose sync fails and that is aborted, its last sync failing too; then
 -- the file is in doubt. The next job syncs that folder first, after which no crash brings the file back; its first change leaves
 -- nothing else in doubt, and what it has finished stays done.
-use Rattle.std.proofs.Common.{◌≡◌, ◌⊎◌, ℕ, ◌+◌, pos, true, false, List, [], ◌∷◌, length, refl, sym, ◌∙◌, ap, inl, inr, true≢false, Option, Some, None, Ok, Err}
+use Rattle.std.proofs.Common.{◌≡◌, ◌⊎◌, ℕ, ◌+◌, pos, true, false, List, [], ◌∷◌, length, refl, sym, ◌∙◌, ap, subst, inl, inr, true≢false, Option, Some, None, Ok, Err}
 use Rattle.mc_text.specs.declared.kind.Kind.TheVariants.{File, Folder}
 use Rattle.mc_text.specs.Routes.{Route}
 use Rattle.tree_trait.specs.declared.file_system.Node.{Node}
 use Rattle.tree_trait.specs.declared.file_system.FileSystem.{FileSystem}
 use Rattle.tree_trait.specs.declared.calls.TreeError.TheVariants as refused
 use Rattle.tree_trait.specs.FileSystem.{value_at}
+use Rattle.tree_trait.specs.Calls.{RemoveFile, SyncFolder}
+use Rattle.tree_trait.specs.Answers.{Performs}
 use Rattle.tree_trait.specs.Shape.{IsTree}
 use Rattle.tree_trait.specs.Change.{Change, Nothing, Makes, Removes, Syncs, CallLog, after_change}
 use Rattle.tree_trait.specs.CrashImages.{IsCrashImage}
@@ -16,8 +18,11 @@ use Rattle.tree_trait.proofs.Kept.{tree_made}
 use Rattle.job_reports.specs.declared.report.Ending.TheVariants.{Aborted, Finished}
 use Rattle.job_reports.specs.declared.report.Did.{Did}
 use Rattle.job_reports.specs.declared.report.Did.TheVariants.{Removed, Barrier, Troubled, Ended}
-use Rattle.copy_move.specs.declared.deletion.Stage.{Stage}
-use Rattle.copy_move.specs.declared.deletion.Stage.TheVariants.{Remove, Sync, Finish}
+use Rattle.subtree_walk.specs.Places.{unopened}
+use Rattle.tree_deletion.specs.declared.deletion.Depth.TheVariants.{Top}
+use Rattle.tree_deletion.specs.declared.deletion.Stage.{Stage}
+use Rattle.tree_deletion.specs.declared.deletion.Stage.TheVariants.{Begin, Sync}
+use Rattle.copy_move.specs.Deletions.{Deleting, RefusedSync}
 use Rattle.session_history.specs.declared.history.Event.{Event}
 use Rattle.session_history.specs.declared.history.Event.TheVariants.{Began, Step, Closed}
 use Rattle.job_reports.specs.declared.job.Job.TheVariants as plan
@@ -75,15 +80,26 @@ entry calls what = record { seat = 0; calls = calls; faults = 0; shown = 0; what
 abbrev removal : Change
 removal = Removes 0 (1 ∷ []) 1
 
+-- the deletion of this file, which has tried so many folders in its last steps
+abbrev deletion : Route → Stage → ℕ → Deleting
+deletion path stage tried = record { path = path; stage = stage; depth = Top; place = unopened; tried = tried }
+
 -- the job with this number that deletes this file
-abbrev job : ℕ → Route → Stage → Course → Running
-job id path stage course = record { id = id; work = Delete (record { path = path; stage = stage }); course = course }
+abbrev job : ℕ → Route → Stage → ℕ → Course → Running
+job id path stage tried course = record { id = id; work = Delete (deletion path stage tried); course = course }
 
 abbrev first : Stage → Course → Running
-first stage course = job 1 the_file stage course
+first stage course = job 1 the_file stage 0 course
+
+-- the last steps have gone through the one dirty folder
+abbrev tried_once : Running
+tried_once = job 1 the_file Sync 1 (Ends Aborted)
 
 abbrev stand : List Running → List Route → Stand
 stand jobs dirty = record { jobs = jobs; dirty = dirty }
+
+some_log : (x y : CallLog) → (let o : Option CallLog = Some x in o) ≡ Some y → x ≡ y
+some_log x y h = cc
 
 -- a step of a job's own work
 own_step :
@@ -97,8 +113,8 @@ own_step id calls did older was after before now old new traced its leads jobs c
 abbrev begun_entries : List Entry
 begun_entries = entry 0 (Began 1 (plan.Delete (the_file ∷ [])) false) ∷ []
 
-begun_traced : IsTraced (log []) begun_entries (stand (first Remove GoesOn ∷ []) []) (log [])
-begun_traced = (nothing_live, log [], (refl, refl), record { after = stand (first Remove GoesOn ∷ []) []; leads = record { none_live = refl; after_is = refl; now_is = refl }; stand_is = refl; counts = refl })
+begun_traced : IsTraced (log []) begun_entries (stand (first Begin GoesOn ∷ []) []) (log [])
+begun_traced = (nothing_live, log [], (refl, refl), record { after = stand (first Begin GoesOn ∷ []) []; leads = record { none_live = refl; after_is = refl; now_is = refl }; stand_is = refl; counts = refl })
 
 -- the name is removed, and the folder is dirty
 abbrev removed_entries : List Entry
@@ -106,12 +122,12 @@ removed_entries = entry 1 (Step 1 (Removed the_file)) ∷ begun_entries
 
 removed_traced : IsTraced (log []) removed_entries (stand (first Sync GoesOn ∷ []) ([] ∷ [])) (log (removal ∷ []))
 removed_traced =
-    own_step 1 1 (Removed the_file) begun_entries (stand (first Remove GoesOn ∷ []) []) (stand (first Sync GoesOn ∷ []) ([] ∷ [])) (log []) (log (removal ∷ [])) (first Remove GoesOn) (first Sync GoesOn) begun_traced (inl (refl, refl))
+    own_step 1 1 (Removed the_file) begun_entries (stand (first Begin GoesOn ∷ []) []) (stand (first Sync GoesOn ∷ []) ([] ∷ [])) (log []) (log (removal ∷ [])) (first Begin GoesOn) (first Sync GoesOn) begun_traced (inl (refl, refl))
     (record {
-      tells = (Delete (record { path = the_file; stage = Sync }), (refl, refl, refl), refl);
-      called = (refl, (pos 0, refl));
+      tells = (Delete (deletion the_file Sync 0), (refl, refl, record { path_is = refl; stage_is = refl; tried_is = refl }), refl);
+      called = inl (refl, (pos 0, refl));
       settled = λ goes fresh kept among. absurd among;
-      leaves = refl;
+      leaves = inl (refl, λ known is. subst (λ (l : CallLog). Performs {A = Unit {0}} l (RemoveFile the_file) (Ok tt) (Some (log (removal ∷ [])))) (some_log (log []) known is) (refl, (pos 0, refl)));
     }) refl refl refl
 
 -- the sync fails, the session closes, and the last sync fails too: the job is aborted
@@ -137,8 +153,8 @@ troubled_traced : IsTraced (log []) troubled_entries (stand (waiting ∷ []) ([]
 troubled_traced =
     own_step 1 2 (Troubled (trouble_at refused.Fault [] true)) removed_entries (stand (first Sync GoesOn ∷ []) ([] ∷ [])) (stand (waiting ∷ []) ([] ∷ [])) (log (removal ∷ [])) (log (removal ∷ Nothing ∷ [])) (first Sync GoesOn) waiting removed_traced (inl (refl, refl))
     (record {
-      tells = (Delete (record { path = the_file; stage = Sync }), ((refused.Fault, refl), refl), refl);
-      called = (refused.Fault, refl, (refl, ([], refl)));
+      tells = (Delete (deletion the_file Sync 0), (refl, record { path_is = refl; stage_is = refl; tried_is = refl }), refl);
+      called = inr (refused.Fault, refl, RefusedSync [] (refl, ([], refl)));
       settled = λ goes fresh. absurd (true≢false (sym fresh));
       leaves = refl;
     }) refl refl refl
@@ -151,27 +167,24 @@ closed_traced = (
   record { after = stand (waiting ∷ []) ([] ∷ []); leads = record { after_is = refl; now_is = refl }; stand_is = refl; counts = refl },
 )
 
-some_log : (x y : CallLog) → (let o : Option CallLog = Some x in o) ≡ Some y → x ≡ y
-some_log x y h = cc
-
-tried_traced : IsTraced (log []) tried_entries (stand (first Finish (Ends Aborted) ∷ []) ([] ∷ [])) aborted_log
+tried_traced : IsTraced (log []) tried_entries (stand (tried_once ∷ []) ([] ∷ [])) aborted_log
 tried_traced =
-    own_step 1 3 Barrier closed_entries (stand (first Sync (Ends Aborted) ∷ []) ([] ∷ [])) (stand (first Finish (Ends Aborted) ∷ []) ([] ∷ [])) (log (removal ∷ Nothing ∷ [])) aborted_log (first Sync (Ends Aborted)) (first Finish (Ends Aborted)) closed_traced (inl (refl, refl))
+    own_step 1 3 Barrier closed_entries (stand (first Sync (Ends Aborted) ∷ []) ([] ∷ [])) (stand (tried_once ∷ []) ([] ∷ [])) (log (removal ∷ Nothing ∷ [])) aborted_log (first Sync (Ends Aborted)) tried_once closed_traced (inl (refl, refl))
     (record {
-      tells = (Delete (record { path = the_file; stage = Finish }), (refl, refl), refl);
-      called = (Err refused.Fault, (refl, ([], refl)));
+      tells = (Delete (deletion the_file Sync 1), (refl, refl), refl);
+      called = ([], Err refused.Fault, (refl, ([], refl)));
       settled = λ goes fresh. absurd (true≢false (sym fresh));
-      leaves = record { refusal = Some refused.Fault; dirty_is = refl; tried = λ known is. Rattle.std.proofs.Common.subst (λ (l : CallLog). Rattle.tree_trait.specs.Answers.Performs {A = Unit {0}} l (Rattle.tree_trait.specs.Calls.SyncFolder []) (Err refused.Fault) (Some aborted_log)) (some_log (log (removal ∷ Nothing ∷ [])) known is) (refl, ([], refl)) };
+      leaves = record { refusal = Some refused.Fault; folder = []; own = refl; dirty_is = refl; tried = λ known is. subst (λ (l : CallLog). Performs {A = Unit {0}} l (SyncFolder []) (Err refused.Fault) (Some aborted_log)) (some_log (log (removal ∷ Nothing ∷ [])) known is) (refl, ([], refl)) };
     }) refl refl refl
 
 aborted_traced : IsTraced (log []) aborted_entries (stand [] ([] ∷ [])) aborted_log
 aborted_traced =
-    own_step 1 3 (Ended Aborted None) tried_entries (stand (first Finish (Ends Aborted) ∷ []) ([] ∷ [])) (stand [] ([] ∷ [])) aborted_log aborted_log (first Finish (Ends Aborted)) (first Finish (Ends Aborted)) tried_traced (inl (refl, refl))
+    own_step 1 3 (Ended Aborted None) tried_entries (stand (tried_once ∷ []) ([] ∷ [])) (stand [] ([] ∷ [])) aborted_log aborted_log tried_once tried_once tried_traced (inl (refl, refl))
     (record {
-      tells = (Delete (record { path = the_file; stage = Finish }), ((λ h. cc), refl, refl, refl), refl);
+      tells = (Delete (deletion the_file Sync 1), (refl, refl, refl, refl), refl);
       called = refl;
       settled = λ goes fresh. absurd (true≢false (sym fresh));
-      leaves = record { refusal = None; dirty_is = refl; tried = λ known is. refl };
+      leaves = record { refusal = None; folder = []; own = refl; dirty_is = refl; tried = λ known is. refl };
     }) refl refl refl
 
 -- then the file is in doubt: the history tells that it is gone, and a crash may bring it back, as it was before
@@ -190,7 +203,7 @@ abbrev settled_log : CallLog
 settled_log = log (removal ∷ Nothing ∷ Nothing ∷ Syncs 0 ∷ [])
 
 abbrev second : Running
-second = job 2 another Remove GoesOn
+second = job 2 another Begin 0 GoesOn
 
 second_traced : IsTraced (log []) second_entries (stand (second ∷ []) ([] ∷ [])) aborted_log
 second_traced = (stand [] ([] ∷ []), aborted_log, aborted_traced, record { after = stand (second ∷ []) ([] ∷ []); leads = record { none_live = refl; after_is = refl; now_is = refl }; stand_is = refl; counts = refl })
@@ -217,7 +230,7 @@ settled_traced = (
             did_is = refl;
             new_is = refl;
             dirty_is = refl;
-            called = λ known is. Rattle.std.proofs.Common.subst (λ (l : CallLog). Rattle.tree_trait.specs.Answers.Performs {A = Unit {0}} l (Rattle.tree_trait.specs.Calls.SyncFolder []) (Ok tt) (Some settled_log)) (some_log aborted_log known is) (refl, (pos 0, refl));
+            called = λ known is. subst (λ (l : CallLog). Performs {A = Unit {0}} l (SyncFolder []) (Ok tt) (Some settled_log)) (some_log aborted_log known is) (refl, (pos 0, refl));
           });
         }),
         refl,
@@ -253,16 +266,16 @@ abbrev changed_log : CallLog
 changed_log = log (removal ∷ Nothing ∷ Nothing ∷ Syncs 0 ∷ Removes 0 (2 ∷ []) 2 ∷ [])
 
 abbrev changed : Running
-changed = job 2 another Sync GoesOn
+changed = job 2 another Sync 0 GoesOn
 
 changed_traced : IsTraced (log []) changed_entries (stand (changed ∷ []) ([] ∷ [])) changed_log
 changed_traced =
     own_step 2 5 (Removed another) settled_entries (stand (second ∷ []) []) (stand (changed ∷ []) ([] ∷ [])) settled_log changed_log second changed settled_traced (inl (refl, refl))
     (record {
-      tells = (Delete (record { path = another; stage = Sync }), (refl, refl, refl), refl);
-      called = (refl, (pos 0, refl));
+      tells = (Delete (deletion another Sync 0), (refl, refl, record { path_is = refl; stage_is = refl; tried_is = refl }), refl);
+      called = inl (refl, (pos 0, refl));
       settled = λ goes fresh kept among. absurd among;
-      leaves = refl;
+      leaves = inl (refl, λ known is. subst (λ (l : CallLog). Performs {A = Unit {0}} l (RemoveFile another) (Ok tt) (Some changed_log)) (some_log settled_log known is) (refl, (pos 0, refl)));
     }) refl refl refl
 
 first_change : HasBegun change settled_entries []
@@ -300,26 +313,31 @@ abbrev finished_log : CallLog
 finished_log = log (removal ∷ Nothing ∷ Nothing ∷ Syncs 0 ∷ Removes 0 (2 ∷ []) 2 ∷ Syncs 0 ∷ [])
 
 abbrev synced : Running
-synced = job 2 another Finish GoesOn
+synced = job 2 another Sync 0 GoesOn
 
 synced_traced : IsTraced (log []) synced_entries (stand (synced ∷ []) []) finished_log
 synced_traced =
     own_step 2 6 Barrier changed_entries (stand (changed ∷ []) ([] ∷ [])) (stand (synced ∷ []) []) changed_log finished_log changed synced changed_traced (inl (refl, refl))
     (record {
-      tells = (Delete (record { path = another; stage = Finish }), (refl, refl), refl);
-      called = (refl, (pos 0, refl));
+      tells = (Delete (deletion another Sync 0), (refl, record { path_is = refl; stage_is = refl; tried_is = refl }), refl);
+      called = ([], (refl, (pos 0, refl)));
       settled = λ goes fresh. absurd (true≢false (sym fresh));
-      leaves = refl;
+      leaves = (
+        [],
+        record { dirty = inl refl; is = refl },
+        refl,
+        λ known is. subst (λ (l : CallLog). Performs {A = Unit {0}} l (SyncFolder []) (Ok tt) (Some finished_log)) (some_log changed_log known is) (refl, (pos 0, refl)),
+      );
     }) refl refl refl
 
 finished_traced : IsTraced (log []) finished_entries (stand [] []) finished_log
 finished_traced =
     own_step 2 6 (Ended Finished None) synced_entries (stand (synced ∷ []) []) (stand [] []) finished_log finished_log synced synced synced_traced (inl (refl, refl))
     (record {
-      tells = (Delete (record { path = another; stage = Finish }), (refl, refl, refl), refl);
+      tells = (Delete (deletion another Sync 0), (refl, refl, record { path_is = refl; stage_is = refl; tried_is = refl }), refl);
       called = refl;
       settled = λ goes fresh. absurd (true≢false (sym fresh));
-      leaves = refl;
+      leaves = (λ kept among. absurd among, refl);
     }) refl refl refl
 
 -- The session closes. Of the first file no change waits, as the law says: it is settled since that sync.
@@ -356,7 +374,10 @@ has_finished = record {
 stays_gone : (image : FileSystem) → IsCrashImage finished_log 6 image → value_at image another ≡ None
 stays_gone image left =
     done_law (log []) finished_log ended_entries (stand [] []) small_tree refl ended_traced end synced_entries ended_entries ended_entries 6 another image has_finished (λ part. part.named) refl (inl (refl, refl, refl))
-    since since left
+    since since since_folder since_folder left
   where
     since : IsUnnamedSince finished_entries another ended_entries
     since = inr (refl, inl refl)
+
+    since_folder : IsUnnamedSince finished_entries [] ended_entries
+    since_folder = inr (refl, inl refl)

@@ -1,5 +1,5 @@
 -- A part is made, and filled.
-use Rattle.std.proofs.Common.{◌≡◌, ℕ, ◌<◌, ◌≤◌, ◌+◌, true, false, List, [], ◌∷◌, ◌++◌, length, take, drop, refl, sym, ◌∙◌, ap, subst, Some, None, arith}
+use Rattle.std.proofs.Common.{◌≡◌, ℕ, ◌<◌, ◌≤◌, ◌+◌, true, false, List, [], ◌∷◌, length, take, drop, refl, sym, ◌∙◌, ap, subst, Some, None, arith}
 use Rattle.std.specs.Prelude.{◌==◌, ◌||◌, not, unwrap_or}
 use Rattle.std.proofs.lemmas.Bool.{false_from_ne_true, or_left}
 use Rattle.mc_text.specs.declared.kind.Kind.TheVariants.{File}
@@ -28,16 +28,17 @@ use Rattle.file_copy.proofs.FilledParts.{Holds, written_on}
 use Rattle.job_reports.proofs.PermittedCalls.{IsMaking, making_passes, stat_missing}
 use Rattle.copy_move.specs.declared.work.Work.TheVariants.{Copy}
 use Rattle.copy_move.specs.declared.run.Course.TheVariants.{GoesOn}
-use Rattle.copy_move.specs.Settling.{NoneOwed, with_change as moves_dirty}
+use Rattle.tree_deletion.specs.Folders.{joined}
+use Rattle.copy_move.specs.Settling.{with_change as moves_dirty}
 use Rattle.history_laws.specs.Traces.{IsUnclaimed}
 use Rattle.history_laws.proofs.Calming.{written_known}
 use Rattle.history_laws.proofs.Knowing.{Said, IsKnown, IsKept, settled_marks}
-use Rattle.history_laws.proofs.JobKnows.{HasName, HasPart, IsFilled, IsUntouched, WorkKnows, none_waits, part_settled, untouched_free, way_sure}
+use Rattle.history_laws.proofs.JobKnows.{HasName, HasPart, IsFilled, IsUntouched, NoneOn, WorkKnows, none_waits, part_settled, untouched_free, way_sure}
 use Rattle.history_laws.proofs.MakingParts.{MakesPart, made_known, marks_new, new_node, off_part, part_leads, part_node, with_part}
 use Rattle.history_laws.proofs.Resting.{IsSureFolder, folder_at, folder_at_of, stands_at, sure_path}
 use Rattle.history_laws.proofs.PartNodes.{other_node, part_on, part_there, written_node}
 use Rattle.history_laws.proofs.Stepped.{Comes, comes_one, said_after}
-use Rattle.history_laws.proofs.DeletionSteps.{among_more, last_among}
+use Rattle.history_laws.proofs.DeletionSteps.{joined_holds, joined_more}
 
 -- the folder in which a part was made stands
 pub making_stands : (log now : CallLog) (c : Copying) (k : ℕ) → IsDoneCall log (making (current log) (places_of c) k) now → folder_at (current log) (folder_of c.target) ≡ true
@@ -56,7 +57,7 @@ module _ (told : Said) (dirty dirty_after : List Route) (marks : Marks) (log now
       (λ m. WorkKnows (said_after now (Began part) (Copy c) told) dirty_after m (current now) GoesOn (Copy (record c { stage = Fill part said 0; folder = Dirty })))
 
   -- its folder isn't in doubt
-  pub folder_firm : folder_at (current log) up ≡ true → (c.folder ≡ Dirty → told.folders up ≡ true) → (not (is_dirty c.folder) ≡ true → NoneOwed (current log) up dirty) → (f : FolderState) → c.folder ≡ f
+  pub folder_firm : folder_at (current log) up ≡ true → (c.folder ≡ Dirty → told.folders up ≡ true) → (not (is_dirty c.folder) ≡ true → NoneOn (current log) up dirty) → (f : FolderState) → c.folder ≡ f
       → IsSureFolder log up
   folder_firm stands firm settled Dirty is = kept.known.stand up (firm is)
   folder_firm stands firm settled Synced is =
@@ -65,7 +66,7 @@ module _ (told : Said) (dirty dirty_after : List Route) (marks : Marks) (log now
 
   -- the target of a copy that begins
   pub target_free : HasName c.target → IsSureFolder log up → IsReady (current log) (places_of c) → (c.folder ≡ Dirty → IsUntouched marks (current log) c.target)
-      → (not (is_dirty c.folder) ≡ true → NoneOwed (current log) up dirty) → (f : FolderState) → c.folder ≡ f → IsUntouched marks (current log) c.target
+      → (not (is_dirty c.folder) ≡ true → NoneOn (current log) up dirty) → (f : FolderState) → c.folder ≡ f → IsUntouched marks (current log) c.target
   target_free name firm ready untouched settled Dirty is = untouched is
   target_free name firm ready untouched settled Synced is =
       untouched_free told dirty marks log c.target kept
@@ -80,8 +81,8 @@ module _ (told : Said) (dirty dirty_after : List Route) (marks : Marks) (log now
       let same : dirty_after ≡ dirty = leaves ∙ ap (λ x. moves_dirty (is_dirty x) true up dirty) is in
       (subst (λ xs. Among xs up) (sym same) (listed is), λ q among. subst (λ xs. Among xs q) (sym same) among)
   listed_now listed leaves Synced is =
-      let same : dirty_after ≡ dirty ++ up ∷ [] = leaves ∙ ap (λ x. moves_dirty (is_dirty x) true up dirty) is in
-      (subst (λ xs. Among xs up) (sym same) (last_among up dirty), λ q among. subst (λ xs. Among xs q) (sym same) (among_more up q dirty among))
+      let same : dirty_after ≡ joined up dirty = leaves ∙ ap (λ x. moves_dirty (is_dirty x) true up dirty) is in
+      (subst (λ xs. Among xs up) (sym same) (joined_holds up dirty), λ q among. subst (λ xs. Among xs q) (sym same) (joined_more up q dirty among))
 
   module _ (said : SourceFacts) (k : ℕ) (target_name : HasName c.target) (ready : IsReady (current log) (places_of c)) (is_said : AreFactsOf (current log) c.source said)
       (free : IsFirstFree (current log) IsUnclaimed (places_of c) k) (none : told.part ≡ None) (untouched : IsUntouched marks (current log) c.target)

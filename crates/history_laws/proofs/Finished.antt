@@ -2,8 +2,8 @@
 use Rattle.std.proofs.Common.{◌≡◌, ◌⊎◌, ℕ, Bool, true, false, not, List, [], ◌∷◌, refl, sym, ◌∙◌, ap, subst, inl, inr, Option, Some, None}
 use Rattle.std.specs.Prelude.{◌==◌, ◌||◌, ◌&&◌, if◌then◌else◌, map}
 use Rattle.std.specs.Option.{option_map_or}
-use Rattle.std.proofs.lemmas.Bool.{true≢false, false≢true, and_from, both_ways, eq-eqb, and_parts, false_from_ne_true, or_left}
-use Rattle.mc_text.specs.Routes.{Route, same_path}
+use Rattle.std.proofs.lemmas.Bool.{true≢false, false≢true, both_ways, eq-eqb, and_parts, false_from_ne_true, or_left}
+use Rattle.mc_text.specs.Routes.{Route, is_prefix, same_path}
 use Rattle.tree_trait.specs.Shape.{IsTree}
 use Rattle.tree_trait.specs.Change.{CallLog, current}
 use Rattle.tree_trait.specs.CrashImages.{Among, all_settled}
@@ -12,16 +12,12 @@ use Rattle.job_reports.specs.declared.report.Ending.{Ending}
 use Rattle.job_reports.specs.declared.report.Ending.TheVariants.{Finished, Aborted}
 use Rattle.job_reports.specs.declared.report.Did.{Did}
 use Rattle.job_reports.specs.declared.report.Did.TheVariants.{Began, Chunk, Placed, Removed, Made, Kept, Skipped, Cleaned, Barrier, Troubled, Ended}
-use Rattle.job_reports.specs.Stops.{cause_of}
+use Rattle.job_reports.specs.Stops.{cause_of, trouble_at}
+use Rattle.job_reports.specs.Jobs.{folder_changed}
+use Rattle.file_copy.specs.Copying.{Copying}
 use Rattle.file_copy.specs.Copying as copying
-use Rattle.copy_move.specs.declared.making.MakingStage.{MakingStage}
-use Rattle.copy_move.specs.declared.making.MakingStage.TheVariants as making
-use Rattle.copy_move.specs.declared.deletion.Stage.{Stage}
-use Rattle.copy_move.specs.declared.deletion.Stage.TheVariants.{Remove, Sync, Finish, PassedOver}
 use Rattle.job_reports.specs.declared.answer.Answer.{Answer}
 use Rattle.job_reports.specs.declared.answer.Answer.TheVariants.{Retry, Skip, SkipAll, Abort}
-use Rattle.job_reports.specs.Jobs.{folder_changed}
-use Rattle.session_history.specs.LiveJobs.{live_item, live_jobs}
 use Rattle.session_history.specs.declared.history.Event.{Event}
 use Rattle.session_history.specs.declared.history.Event.TheVariants.{Key, Look, Order, Step, Closed}
 use Rattle.session_history.specs.declared.history.Event.TheVariants as event
@@ -31,29 +27,62 @@ use Rattle.session_history.specs.declared.history.Entry.{Entry}
 use Rattle.copy_move.specs.declared.run.Course.{Course}
 use Rattle.copy_move.specs.declared.run.Course.TheVariants.{GoesOn, InTrouble, OwedSyncFailed, Skips, Ends}
 use Rattle.copy_move.specs.declared.work.Work.{Work}
+use Rattle.copy_move.specs.declared.making.MakingStage.{MakingStage}
+use Rattle.copy_move.specs.declared.making.MakingStage.TheVariants as making
 use Rattle.copy_move.specs.declared.work.Work.TheVariants.{Copy, Delete, Make}
-use Rattle.copy_move.specs.Deletions as deletions
+use Rattle.copy_move.specs.Makings.{Making}
 use Rattle.copy_move.specs.Makings as makings
-use Rattle.copy_move.specs.Jobs.{Running, TellsOn, WorkTells, answered_on, closed_course, closed_job, course_after, first_work, skipped, taken_anew}
+use Rattle.copy_move.specs.Jobs.{PassesOver, Running, TellsOn, WorkTells, answered_on, closed_course, closed_job, course_after, first_work, taken_anew}
 use Rattle.job_reports.specs.Reports.{ends}
-use Rattle.copy_move.specs.Settling.{changed_folder, is_dirty, with_change}
+use Rattle.copy_move.specs.Settling.{WorkLeaves, changed_folder, with_change}
+use Rattle.copy_move.proofs.FolderSteps.{copy_stays}
+use Rattle.copy_move.proofs.MakingFolders.{making_stays}
 use Rattle.job_reports.specs.Paths.{folder_of, without}
 use Rattle.copy_move.specs.Steps.{LeavesDirty, SyncsFolder}
 use Rattle.history_laws.specs.Doubt.{name_waits}
 use Rattle.history_laws.specs.Owed.{FinishedLaw}
 use Rattle.session_history.specs.Named.{begins_change, changed_after, has_changed}
+use Rattle.session_history.specs.LiveJobs.{live_item, live_jobs}
 use Rattle.session_history.specs.Entries.{is_closed}
 use Rattle.copy_move.specs.Told.{running}
 use Rattle.history_laws.specs.Traces.{EventLeads, IsTraced, Stand, SyncLeads, WorkLeads, before_others, if_closed, ordered, with_job}
-use Rattle.history_laws.proofs.Beginnings.{dirty_then}
+use Rattle.history_laws.proofs.Beginnings.{folder_stays}
 use Rattle.history_laws.proofs.Histories.{IsReached, only_job, traced_reached}
 use Rattle.history_laws.proofs.Owing.{in_filter, owed_law}
-use Rattle.history_laws.proofs.Prefixes.{folders_event, folders_more, folders_told, told_of}
 use Rattle.history_laws.proofs.Reports.{HasLive, with_one}
 use Rattle.history_laws.proofs.Resting.{sure_path}
-use Rattle.history_laws.proofs.Sources.{folder_is, folder_same, item_in, tells_same, work_paths}
+use Rattle.history_laws.proofs.Sources.{folder_is, folder_same, item_in, tells_same}
+use Rattle.history_laws.proofs.Prefixes.{folders_event, folders_told, told_of}
 use Rattle.history_laws.proofs.Stepped.{folders_by}
-use Rattle.history_laws.proofs.Unchanged.{first_clean, step_clean}
+use Rattle.history_laws.proofs.Unchanged.{first_clean, has_begun, step_clean}
+
+-- a copy that begins a change is dirty then
+dirty_then : (c new : Copying) (did : Did) → copying.Tells c did new → begins_change did ≡ true → copying.is_dirty new.folder ≡ true
+dirty_then c new (Began part) t h = ap (λ (x : Copying). copying.is_dirty x.folder) t.1.1
+dirty_then c new (Removed path) t h = absurd t
+dirty_then c new (Chunk count) t h = absurd (false≢true h)
+dirty_then c new (Placed path) t h = absurd (false≢true h)
+dirty_then c new (Made made) t h = absurd t
+dirty_then c new (Kept kept) t h = absurd (false≢true h)
+dirty_then c new (Skipped path why) t h = absurd (false≢true h)
+dirty_then c new (Cleaned part) t h = absurd (false≢true h)
+dirty_then c new Barrier t h = absurd (false≢true h)
+dirty_then c new (Troubled trouble) t h = absurd (false≢true h)
+dirty_then c new (Ended ending part) t h = absurd (false≢true h)
+
+-- so is the making of a folder
+making_dirty : (m new : Making) (did : Did) → makings.Tells m did new → begins_change did ≡ true → makings.is_dirty new.stage ≡ true
+making_dirty m new (Made path) (stage, path_is, new_is) h = ap (λ (x : Making). makings.is_dirty x.stage) new_is
+making_dirty m new (Began part) t h = absurd t
+making_dirty m new (Removed path) t h = absurd t
+making_dirty m new (Chunk count) t h = absurd (false≢true h)
+making_dirty m new (Placed path) t h = absurd (false≢true h)
+making_dirty m new (Kept kept) t h = absurd (false≢true h)
+making_dirty m new (Skipped path why) t h = absurd (false≢true h)
+making_dirty m new (Cleaned part) t h = absurd (false≢true h)
+making_dirty m new Barrier t h = absurd (false≢true h)
+making_dirty m new (Troubled trouble) t h = absurd (false≢true h)
+making_dirty m new (Ended ending part) t h = absurd (false≢true h)
 
 -- a folder that was synced is no longer listed
 not_listed : (up : Route) (routes : List Route) → Among (without up routes) up → ⊥
@@ -76,48 +105,74 @@ IsGoing (InTrouble why) = Unit {0}
 IsGoing (OwedSyncFailed why) = Unit {0}
 IsGoing (Skips why) = Unit {0}
 
--- what is known of a job that has changed something: where its folder isn't dirty, it isn't listed
+-- where the folder of a copy, or of a new folder, isn't dirty, it isn't listed
+abbrev TidyFolder : Work → List Route → Type 0
+TidyFolder (Copy c) dirty = copying.is_dirty c.folder ≡ false → Among dirty (folder_of c.target) → ⊥
+TidyFolder (Delete d) dirty = Unit {0}
+TidyFolder (Make m) dirty = makings.is_dirty m.stage ≡ false → Among dirty (folder_of m.path) → ⊥
+
+-- what is known of a job that has changed something
 abbrev IsTidy : Bool → List Route → Running → Type 0
-IsTidy changed dirty job = changed ≡ true → IsGoing job.course → is_dirty job.work ≡ false → Among dirty (changed_folder job.work) → ⊥
+IsTidy changed dirty job = changed ≡ true → IsGoing job.course → TidyFolder job.work dirty
 
 changed_by : (before begins : Bool) → (before || begins) ≡ true → (before ≡ true) ⊎ (begins ≡ true)
 changed_by true begins h = inl refl
 changed_by false begins h = inr h
 
-skipped_folder : (work : Work) → changed_folder (skipped work) ≡ changed_folder work
-skipped_folder (Copy c) = refl
-skipped_folder (Delete d) = refl
-skipped_folder (Make m) = refl
+-- by whether the folder was dirty before
+tidy_by : (was now : Bool) (folder up : Route) (dirty dirty_after : List Route) → dirty_after ≡ with_change was now folder dirty → up ≡ folder → (was ≡ false → Among dirty folder → ⊥) → now ≡ false → Among dirty_after up → ⊥
+tidy_by true now folder up dirty dirty_after leaves same old clean among =
+    not_listed folder dirty (subst (λ q. Among (without folder dirty) q) same (subst (λ xs. Among xs up) (leaves ∙ ap (λ b. with_change true b folder dirty) clean) among))
+tidy_by false now folder up dirty dirty_after leaves same old clean among =
+    old refl (subst (λ q. Among dirty q) same (subst (λ xs. Among xs up) (leaves ∙ ap (λ b. with_change false b folder dirty) clean) among))
+
+tidy_work : (old new : Work) (did : Did) (dirty dirty_after : List Route) (before after : Option CallLog) → WorkTells old did new → WorkLeaves old did new dirty dirty_after before after
+    → ((begins_change did ≡ true → ⊥) → TidyFolder old dirty) → TidyFolder new dirty_after
+tidy_work (Copy c) (Copy new) did dirty dirty_after before after tells leaves old = λ clean among.
+    tidy_by (copying.is_dirty c.folder) (copying.is_dirty new.folder) (folder_of c.target) (folder_of new.target) dirty dirty_after leaves (ap folder_of (copy_stays c new did tells)) (old (λ h. both_ways _ clean (dirty_then c new did tells h))) clean among
+tidy_work (Copy c) (Delete new) did dirty dirty_after before after tells leaves old = absurd tells
+tidy_work (Delete d) (Copy new) did dirty dirty_after before after tells leaves old = absurd tells
+tidy_work (Delete d) (Delete new) did dirty dirty_after before after tells leaves old = tt
+tidy_work (Make m) (Make new) did dirty dirty_after before after tells leaves old = λ clean among.
+    tidy_by (makings.is_dirty m.stage) (makings.is_dirty new.stage) (folder_of m.path) (folder_of new.path) dirty dirty_after leaves (ap folder_of (making_stays m new did tells)) (old (λ h. both_ways _ clean (making_dirty m new did tells h))) clean among
+tidy_work (Copy c) (Make new) did dirty dirty_after before after tells leaves old = absurd tells
+tidy_work (Delete d) (Make new) did dirty dirty_after before after tells leaves old = absurd tells
+tidy_work (Make m) (Copy new) did dirty dirty_after before after tells leaves old = absurd tells
+tidy_work (Make m) (Delete new) did dirty dirty_after before after tells leaves old = absurd tells
+
+skipped_clean : (stage : MakingStage) → makings.is_dirty (makings.skipped stage) ≡ makings.is_dirty stage
+skipped_clean making.Make = refl
+skipped_clean making.Sync = refl
+skipped_clean making.Finish = refl
+skipped_clean making.PassedOver = refl
+
+tidy_passes : (old new : Work) (path : Route) (dirty : List Route) → PassesOver old path new → TidyFolder old dirty → TidyFolder new dirty
+tidy_passes (Copy c) (Copy new) path dirty (path_is, new_is) old = subst (λ (n : Copying). TidyFolder (Copy n) dirty) (sym new_is) old
+tidy_passes (Copy c) (Delete new) path dirty h old = absurd h
+tidy_passes (Delete d) (Copy new) path dirty h old = absurd h
+tidy_passes (Delete d) (Delete new) path dirty h old = tt
+tidy_passes (Make m) (Make new) path dirty (path_is, new_is) old = subst (λ (n : Making). TidyFolder (Make n) dirty) (sym new_is) (λ clean among. old (sym (skipped_clean m.stage) ∙ clean) among)
+tidy_passes (Copy c) (Make new) path dirty h old = absurd h
+tidy_passes (Delete d) (Make new) path dirty h old = absurd h
+tidy_passes (Make m) (Copy new) path dirty h old = absurd h
+tidy_passes (Make m) (Delete new) path dirty h old = absurd h
 
 module _ (job new : Running) (did : Did) (dirty dirty_after : List Route) (log now : CallLog) (before : Bool) where
-  -- by whether the folder was dirty before
-  tidy_by : (was : Bool) → is_dirty job.work ≡ was → dirty_after ≡ with_change was (is_dirty new.work) (changed_folder job.work) dirty → changed_folder new.work ≡ changed_folder job.work
-      → (was ≡ false → Among dirty (changed_folder job.work) → ⊥) → is_dirty new.work ≡ false → Among dirty_after (changed_folder new.work) → ⊥
-  tidy_by true is leaves folder old clean among =
-      not_listed (changed_folder job.work) dirty (subst (λ q. Among (without (changed_folder job.work) dirty) q) folder
-      (subst (λ xs. Among xs (changed_folder new.work)) (leaves ∙ ap (λ b. with_change true b (changed_folder job.work) dirty) clean) among))
-  tidy_by false is leaves folder old clean among =
-      old refl (subst (λ q. Among dirty q) folder (subst (λ xs. Among xs (changed_folder new.work)) (leaves ∙ ap (λ b. with_change false b (changed_folder job.work) dirty) clean) among))
-
   tidy_on : (course : Course) → job.course ≡ course → TellsOn course job did new → LeavesDirty course job.work did new.work dirty dirty_after (Some log) (Some now) → IsTidy before dirty job
       → IsTidy (before || begins_change did) dirty_after new
-  tidy_on GoesOn is (work, tells, new_is) leaves old changed going clean among =
-      let folder = ap (λ (x : Running). changed_folder x.work) new_is ∙ folder_same work job.work (work_paths job.work work did tells) in
-      let first : begins_change did ≡ true → ⊥ = λ h. both_ways _ clean (ap (λ (x : Running). is_dirty x.work) new_is ∙ dirty_then job.work work did tells h) in
-      tidy_by (is_dirty job.work) refl leaves folder
-      (λ not_dirty. elim (changed_by before (begins_change did) changed) [ inl b ↦ old b (subst IsGoing (sym is) tt) not_dirty | inr h ↦ absurd (first h) ]) clean among
-  tidy_on (InTrouble why) is t leaves old changed going clean among = absurd t
-  tidy_on (OwedSyncFailed why) is t leaves old changed going clean among = absurd t
-  tidy_on (Skips why) is t leaves old changed going clean among = by t
-    where
-      by : TellsOn (Skips why) job did new → ⊥
-      by (inl (did_is, new_is)) =
-          tidy_by (is_dirty job.work) refl leaves (ap (λ (x : Running). changed_folder x.work) new_is ∙ skipped_folder job.work)
-          (λ not_dirty. elim (changed_by before (begins_change did) changed) [ inl b ↦ old b (subst IsGoing (sym is) tt) not_dirty | inr h ↦ absurd (false≢true (sym (ap begins_change did_is) ∙ h)) ]) clean among
-      by (inr (did_is, new_is)) =
-          tidy_by (is_dirty job.work) refl leaves (ap (λ (x : Running). changed_folder x.work) new_is)
-          (λ not_dirty. elim (changed_by before (begins_change did) changed) [ inl b ↦ old b (subst IsGoing (sym is) tt) not_dirty | inr h ↦ absurd (false≢true (sym (ap begins_change did_is) ∙ h)) ]) clean among
-  tidy_on (Ends ending) is (work, winds, new_is) leaves old changed going clean among = absurd (subst IsGoing (ap (λ (x : Running). x.course) new_is ∙ is) going)
+  tidy_on GoesOn is (work, tells, new_is) leaves old changed going =
+      subst (λ (x : Running). TidyFolder x.work dirty_after) (sym new_is)
+      (tidy_work job.work work did dirty dirty_after (Some log) (Some now) tells (subst (λ (x : Running). WorkLeaves job.work did x.work dirty dirty_after (Some log) (Some now)) new_is leaves)
+      (λ none. elim (changed_by before (begins_change did) changed) [ inl b ↦ old b (subst IsGoing (sym is) tt) | inr h ↦ absurd (none h) ]))
+  tidy_on (InTrouble why) is t leaves old changed going = absurd t
+  tidy_on (OwedSyncFailed why) is t leaves old changed going = absurd t
+  tidy_on (Skips why) is (inl (path, work, did_is, passes, new_is)) leaves old changed going =
+      subst (λ (x : Running). TidyFolder x.work dirty_after) (sym new_is) (subst (λ xs. TidyFolder work xs) (sym leaves) (tidy_passes job.work work path dirty passes
+      (elim (changed_by before (begins_change did) changed) [ inl b ↦ old b (subst IsGoing (sym is) tt) | inr h ↦ absurd (false≢true (sym (ap begins_change did_is) ∙ h)) ])))
+  tidy_on (Skips why) is (inr (did_is, new_is)) leaves old changed going =
+      subst (λ (x : Running). TidyFolder x.work dirty_after) (sym new_is) (subst (λ xs. TidyFolder job.work xs) (sym leaves)
+      (elim (changed_by before (begins_change did) changed) [ inl b ↦ old b (subst IsGoing (sym is) tt) | inr h ↦ absurd (false≢true (sym (ap begins_change did_is) ∙ h)) ]))
+  tidy_on (Ends ending) is (work, winds, new_is) leaves old changed going = absurd (subst IsGoing (ap (λ (x : Running). x.course) new_is ∙ is) going)
 
   pub tidy_works : WorkLeads job did new dirty dirty_after log now → IsTidy before dirty job → IsTidy (before || begins_change did) dirty_after new
   tidy_works w old = tidy_on job.course refl w.tells w.leaves old
@@ -126,7 +181,7 @@ module _ (job new : Running) (did : Did) (dirty dirty_after : List Route) (log n
 pub record IsTidyJob (opening : CallLog) (g : List Entry) (dirty : List Route) (job : Running) : Type 0 where
   pub tidy : IsTidy (has_changed job.id g) dirty job
   pub aborted : (ending : Ending) → job.course ≡ Ends ending → ending ≡ Aborted
-  pub clean : has_changed job.id g ≡ false → is_dirty job.work ≡ false
+  pub clean : has_changed job.id g ≡ false → has_begun job.work ≡ false
   pub stands : has_changed job.id g ≡ true → folders_told opening g (changed_folder job.work) ≡ true
 
 abbrev pub AreTidy : CallLog → List Entry → List Route → List Running → Type 0
@@ -154,49 +209,54 @@ tells_aborted : (job new : Running) (did : Did) (course : Course) → job.course
 tells_aborted job new did GoesOn is (work, tells, new_is) old ending e = no_end (course_after did) ending (after_going did) (sym (ap (λ (x : Running). x.course) new_is) ∙ e)
 tells_aborted job new did (InTrouble why) is t old ending e = absurd t
 tells_aborted job new did (OwedSyncFailed why) is t old ending e = absurd t
-tells_aborted job new did (Skips why) is (inl (did_is, new_is)) old ending e = no_end GoesOn ending tt (sym (ap (λ (x : Running). x.course) new_is) ∙ e)
+tells_aborted job new did (Skips why) is (inl (path, work, did_is, passes, new_is)) old ending e = no_end GoesOn ending tt (sym (ap (λ (x : Running). x.course) new_is) ∙ e)
 tells_aborted job new did (Skips why) is (inr (did_is, new_is)) old ending e = no_end (InTrouble Rattle.job_reports.specs.declared.report.Cause.TheVariants.Memory) ending tt (sym (ap (λ (x : Running). x.course) new_is) ∙ e)
 tells_aborted job new did (Ends first) is (work, winds, new_is) old ending e = old ending (sym (ap (λ (x : Running). x.course) new_is) ∙ e)
 
 -- a job with the same work and number, that goes on only where it went on
-kept_tidy : (opening : CallLog) (g : List Entry) (dirty : List Route) (job new : Running) → new.id ≡ job.id → is_dirty new.work ≡ is_dirty job.work → changed_folder new.work ≡ changed_folder job.work
+kept_tidy : (opening : CallLog) (g : List Entry) (dirty : List Route) (job new : Running) → new.id ≡ job.id → has_begun new.work ≡ has_begun job.work → changed_folder new.work ≡ changed_folder job.work → (TidyFolder job.work dirty → TidyFolder new.work dirty)
     → (IsGoing new.course → IsGoing job.course) → ((ending : Ending) → new.course ≡ Ends ending → ending ≡ Aborted) → IsTidyJob opening g dirty job → IsTidyJob opening g dirty new
-kept_tidy opening g dirty job new id_is dirty_is folder_is on aborted old = record {
-  tidy = λ changed going clean among. old.tidy (ap (λ n. has_changed n g) (sym id_is) ∙ changed) (on going) (sym dirty_is ∙ clean) (subst (λ q. Among dirty q) folder_is among);
+kept_tidy opening g dirty job new id_is begun_is folder_is tidy_is on aborted old = record {
+  tidy = λ changed going. tidy_is (old.tidy (ap (λ n. has_changed n g) (sym id_is) ∙ changed) (on going));
   aborted = aborted;
-  clean = λ unchanged. dirty_is ∙ old.clean (ap (λ n. has_changed n g) (sym id_is) ∙ unchanged);
+  clean = λ unchanged. begun_is ∙ old.clean (ap (λ n. has_changed n g) (sym id_is) ∙ unchanged);
   stands = λ changed. ap (folders_told opening g) folder_is ∙ old.stands (ap (λ n. has_changed n g) (sym id_is) ∙ changed);
 }
 
-anew_dirty : (work : Work) → (is_dirty (taken_anew work) ≡ is_dirty work) × (changed_folder (taken_anew work) ≡ changed_folder work)
+anew_dirty : (work : Work) → (has_begun (taken_anew work) ≡ has_begun work) × (changed_folder (taken_anew work) ≡ changed_folder work)
 anew_dirty (Copy c) = (refl, refl)
 anew_dirty (Delete d) = (refl, refl)
 anew_dirty (Make m) = (refl, refl)
+
+anew_tidy : (work : Work) (dirty : List Route) → TidyFolder work dirty → TidyFolder (taken_anew work) dirty
+anew_tidy (Copy c) dirty t = t
+anew_tidy (Delete d) dirty t = tt
+anew_tidy (Make m) dirty t = t
 
 some_end : (a b : Ending) → (let c : Course = Ends a in c) ≡ Ends b → b ≡ a
 some_end a b h = cc
 
 answer_tidy : (opening : CallLog) (g : List Entry) (dirty : List Route) (job : Running) (course : Course) → job.course ≡ course → (answer : Answer) → IsTidyJob opening g dirty job → IsTidyJob opening g dirty (answered_on course answer job)
 answer_tidy opening g dirty job (InTrouble why) is Retry t =
-    let a = anew_dirty job.work in kept_tidy opening g dirty job (record job { work = taken_anew job.work; course = GoesOn }) refl a.0 a.1 (λ going. subst IsGoing (sym is) tt) (λ ending e. no_end GoesOn ending tt e) t
-answer_tidy opening g dirty job (InTrouble why) is Skip t = kept_tidy opening g dirty job (record job { course = Skips why }) refl refl refl (λ going. subst IsGoing (sym is) tt) (λ ending e. no_end (Skips why) ending tt e) t
-answer_tidy opening g dirty job (InTrouble why) is SkipAll t = kept_tidy opening g dirty job (record job { course = Skips why }) refl refl refl (λ going. subst IsGoing (sym is) tt) (λ ending e. no_end (Skips why) ending tt e) t
-answer_tidy opening g dirty job (InTrouble why) is Abort t = kept_tidy opening g dirty job (record job { course = Ends Aborted }) refl refl refl (λ going. absurd going) (λ ending e. some_end Aborted ending e) t
+    let a = anew_dirty job.work in kept_tidy opening g dirty job (record job { work = taken_anew job.work; course = GoesOn }) refl a.0 a.1 (anew_tidy job.work dirty) (λ going. subst IsGoing (sym is) tt) (λ ending e. no_end GoesOn ending tt e) t
+answer_tidy opening g dirty job (InTrouble why) is Skip t = kept_tidy opening g dirty job (record job { course = Skips why }) refl refl refl (λ t. t) (λ going. subst IsGoing (sym is) tt) (λ ending e. no_end (Skips why) ending tt e) t
+answer_tidy opening g dirty job (InTrouble why) is SkipAll t = kept_tidy opening g dirty job (record job { course = Skips why }) refl refl refl (λ t. t) (λ going. subst IsGoing (sym is) tt) (λ ending e. no_end (Skips why) ending tt e) t
+answer_tidy opening g dirty job (InTrouble why) is Abort t = kept_tidy opening g dirty job (record job { course = Ends Aborted }) refl refl refl (λ t. t) (λ going. absurd going) (λ ending e. some_end Aborted ending e) t
 answer_tidy opening g dirty job (OwedSyncFailed why) is Retry t =
-    let a = anew_dirty job.work in kept_tidy opening g dirty job (record job { work = taken_anew job.work; course = GoesOn }) refl a.0 a.1 (λ going. subst IsGoing (sym is) tt) (λ ending e. no_end GoesOn ending tt e) t
+    let a = anew_dirty job.work in kept_tidy opening g dirty job (record job { work = taken_anew job.work; course = GoesOn }) refl a.0 a.1 (anew_tidy job.work dirty) (λ going. subst IsGoing (sym is) tt) (λ ending e. no_end GoesOn ending tt e) t
 answer_tidy opening g dirty job (OwedSyncFailed why) is Skip t = t
 answer_tidy opening g dirty job (OwedSyncFailed why) is SkipAll t = t
-answer_tidy opening g dirty job (OwedSyncFailed why) is Abort t = kept_tidy opening g dirty job (record job { course = Ends Aborted }) refl refl refl (λ going. absurd going) (λ ending e. some_end Aborted ending e) t
+answer_tidy opening g dirty job (OwedSyncFailed why) is Abort t = kept_tidy opening g dirty job (record job { course = Ends Aborted }) refl refl refl (λ t. t) (λ going. absurd going) (λ ending e. some_end Aborted ending e) t
 answer_tidy opening g dirty job GoesOn is answer t = t
 answer_tidy opening g dirty job (Skips why) is answer t = t
 answer_tidy opening g dirty job (Ends ending) is answer t = t
 
 close_tidy : (opening : CallLog) (g : List Entry) (dirty : List Route) (job : Running) (course : Course) → job.course ≡ course → IsTidyJob opening g dirty job → IsTidyJob opening g dirty (record job { course = closed_course course })
-close_tidy opening g dirty job GoesOn is t = kept_tidy opening g dirty job (record job { course = GoesOn }) refl refl refl (λ going. subst IsGoing (sym is) tt) (λ ending e. no_end GoesOn ending tt e) t
-close_tidy opening g dirty job (InTrouble why) is t = kept_tidy opening g dirty job (record job { course = Ends Aborted }) refl refl refl (λ going. absurd going) (λ ending e. some_end Aborted ending e) t
-close_tidy opening g dirty job (OwedSyncFailed why) is t = kept_tidy opening g dirty job (record job { course = Ends Aborted }) refl refl refl (λ going. absurd going) (λ ending e. some_end Aborted ending e) t
-close_tidy opening g dirty job (Skips why) is t = kept_tidy opening g dirty job (record job { course = Skips why }) refl refl refl (λ going. subst IsGoing (sym is) tt) (λ ending e. no_end (Skips why) ending tt e) t
-close_tidy opening g dirty job (Ends first) is t = kept_tidy opening g dirty job (record job { course = Ends first }) refl refl refl (λ going. absurd going) (λ ending e. t.aborted ending (is ∙ e)) t
+close_tidy opening g dirty job GoesOn is t = kept_tidy opening g dirty job (record job { course = GoesOn }) refl refl refl (λ t. t) (λ going. subst IsGoing (sym is) tt) (λ ending e. no_end GoesOn ending tt e) t
+close_tidy opening g dirty job (InTrouble why) is t = kept_tidy opening g dirty job (record job { course = Ends Aborted }) refl refl refl (λ t. t) (λ going. absurd going) (λ ending e. some_end Aborted ending e) t
+close_tidy opening g dirty job (OwedSyncFailed why) is t = kept_tidy opening g dirty job (record job { course = Ends Aborted }) refl refl refl (λ t. t) (λ going. absurd going) (λ ending e. some_end Aborted ending e) t
+close_tidy opening g dirty job (Skips why) is t = kept_tidy opening g dirty job (record job { course = Skips why }) refl refl refl (λ t. t) (λ going. subst IsGoing (sym is) tt) (λ ending e. no_end (Skips why) ending tt e) t
+close_tidy opening g dirty job (Ends first) is t = kept_tidy opening g dirty job (record job { course = Ends first }) refl refl refl (λ t. t) (λ going. absurd going) (λ ending e. t.aborted ending (is ∙ e)) t
 
 module _ (opening : CallLog) (tree : IsTree (current opening)) (settled : all_settled opening.changes ≡ true) where
   order_tidy : (g : List Entry) (dirty : List Route) (id : ℕ) (order : JobOrder) (jobs : List Running) → AreTidy opening g dirty jobs → AreTidy opening g dirty (map (ordered id order) jobs)
@@ -216,19 +276,20 @@ module _ (opening : CallLog) (tree : IsTree (current opening)) (settled : all_se
       by (job ∷ jobs) t = close_tidy opening g stand.dirty job job.course refl t
 
   -- an event that says nothing of steps
-  same_tidy : (e : Entry) (older : List Entry) (dirty : List Route) (jobs : List Running) → ((id : ℕ) → has_changed id (e ∷ older) ≡ has_changed id older) → AreTidy opening older dirty jobs → AreTidy opening (e ∷ older) dirty jobs
-  same_tidy e older dirty [] same t = tt
-  same_tidy e older dirty (job ∷ jobs) same t = record {
-    tidy = λ changed going clean among. t.tidy (sym (same job.id) ∙ changed) going clean among;
+  same_tidy : (e : Entry) (older : List Entry) (dirty : List Route) (jobs : List Running) → ((id : ℕ) → has_changed id (e ∷ older) ≡ has_changed id older) → folders_told opening (e ∷ older) ≡ folders_told opening older
+      → AreTidy opening older dirty jobs → AreTidy opening (e ∷ older) dirty jobs
+  same_tidy e older dirty [] same still t = tt
+  same_tidy e older dirty (job ∷ jobs) same still t = record {
+    tidy = λ changed going. t.tidy (sym (same job.id) ∙ changed) going;
     aborted = t.aborted;
     clean = λ unchanged. t.clean (sym (same job.id) ∙ unchanged);
-    stands = λ changed. folders_more e.what (live_jobs older) (folders_told opening older) (changed_folder job.work) (t.stands (sym (same job.id) ∙ changed));
+    stands = λ changed. ap (λ (f : Route → Bool). f (changed_folder job.work)) still ∙ t.stands (sym (same job.id) ∙ changed);
   }
 
-  begun_tidy : (g : List Entry) (dirty : List Route) (id : ℕ) (o : Option Work) → ((w : Work) → o ≡ Some w → is_dirty w ≡ false) → has_changed id g ≡ false → AreTidy opening g dirty (option_map_or (λ w. running id w ∷ []) o [])
+  begun_tidy : (g : List Entry) (dirty : List Route) (id : ℕ) (o : Option Work) → ((w : Work) → o ≡ Some w → has_begun w ≡ false) → has_changed id g ≡ false → AreTidy opening g dirty (option_map_or (λ w. running id w ∷ []) o [])
   begun_tidy g dirty id None clean unchanged = tt
   begun_tidy g dirty id (Some w) clean unchanged = record {
-    tidy = λ changed going not_dirty among. both_ways _ unchanged changed;
+    tidy = λ changed going. absurd (both_ways _ unchanged changed);
     aborted = λ ending e. no_end GoesOn ending tt e;
     clean = λ none. clean w refl;
     stands = λ changed. absurd (both_ways _ unchanged changed);
@@ -237,33 +298,34 @@ module _ (opening : CallLog) (tree : IsTree (current opening)) (settled : all_se
   changed_same : (number id : ℕ) (before begins : Bool) → number ≡ id → (before || ((number == id) && begins)) ≡ (before || begins)
   changed_same number id before begins same = ap (λ b. before || (b && begins)) (eq-eqb number id same)
 
-  -- the folder of its first change is known to be on the disk then
-  first_told : (e : Entry) (older : List Entry) (id : ℕ) (did : Did) (work : Work) → live_item id (live_jobs older) ≡ Some (item_in work) → e.what ≡ Step id did → begins_change did ≡ true
-      → folders_told opening (e ∷ older) (changed_folder work) ≡ true
-  first_told e older id did work item_is what_is begins =
-      ap (λ w. folders_event w (live_jobs older) (folders_told opening older) (changed_folder work)) what_is
-      ∙ (ap (λ o. option_map_or (λ item. folders_by did (folder_changed item) (folders_told opening older)) o (folders_told opening older) (changed_folder work)) item_is
-      ∙ or_left _ _ (and_from _ _ begins (subst (λ q. same_path (changed_folder work) q ≡ true) (sym (folder_is work)) (same_path-self (changed_folder work)))))
+  -- the folders that are known to be on the disk after a step of a job
+  step_folders : (e : Entry) (older : List Entry) (id : ℕ) (did : Did) (work : Work) → live_item id (live_jobs older) ≡ Some (item_in work) → e.what ≡ Step id did → (p : Route)
+      → folders_told opening (e ∷ older) p ≡ folders_by did (changed_folder work) (folders_told opening older) p
+  step_folders e older id did work item_is what_is p =
+      ap (λ w. folders_event w (live_jobs older) (folders_told opening older) p) what_is
+      ∙ (ap (λ o. option_map_or (λ item. folders_by did (folder_changed item) (folders_told opening older)) o (folders_told opening older) p) item_is
+      ∙ ap (λ f. folders_by did f (folders_told opening older) p) (folder_is work))
 
   -- after a step of a job
-  step_tidy : (e : Entry) (older : List Entry) (id : ℕ) (did : Did) (job new : Running) (dirty dirty_after : List Route) (before now : CallLog) → live_item id (live_jobs older) ≡ Some (item_in job.work)
+  step_tidy : (e : Entry) (older : List Entry) (id : ℕ) (did : Did) (job new : Running) (dirty dirty_after : List Route) (before now : CallLog) → IsTree (current before) → live_item id (live_jobs older) ≡ Some (item_in job.work)
       → e.what ≡ Step id did → job.id ≡ id → ends did ≡ false → IsTidyJob opening older dirty job → WorkLeads job did new dirty dirty_after before now ⊎ SyncLeads job did new dirty dirty_after before now → IsTidyJob opening (e ∷ older) dirty_after new
-  step_tidy e older id did job new dirty dirty_after before now item_is what_is id_is on t (inl works) =
+  step_tidy e older id did job new dirty dirty_after before now shape item_is what_is id_is on t (inl works) =
       let same = tells_same job new did works.tells in
       let changed_is : (has_changed job.id older || begins_change did) ≡ has_changed new.id (e ∷ older) =
       sym (changed_same id new.id (has_changed job.id older) (begins_change did) (sym id_is ∙ sym same.0))
       ∙ (ap (λ n. has_changed n older || ((id == new.id) && begins_change did)) (sym same.0) ∙ sym (ap (λ w. changed_after new.id w (has_changed new.id older)) what_is)) in
       record {
-        tidy = λ changed going clean among.
-            tidy_works job new did dirty dirty_after before now (has_changed job.id older) works t.tidy (changed_is ∙ changed) going clean among;
+        tidy = λ changed going. tidy_works job new did dirty dirty_after before now (has_changed job.id older) works t.tidy (changed_is ∙ changed) going;
         aborted = tells_aborted job new did job.course refl works.tells t.aborted;
         clean = λ unchanged. let n = neither _ _ (changed_is ∙ unchanged) in step_clean job new did works.tells on n.1 (t.clean n.0);
-        stands = λ changed. ap (folders_told opening (e ∷ older)) (folder_same new.work job.work same.1) ∙ elim (changed_by (has_changed job.id older) (begins_change did) (changed_is ∙ changed)) [
-          | inl b ↦ folders_more e.what (live_jobs older) (folders_told opening older) (changed_folder job.work) (t.stands b)
-          | inr h ↦ first_told e older id did job.work item_is what_is h
-        ];
+        stands = λ changed. ap (folders_told opening (e ∷ older)) (folder_same new.work job.work same.1)
+            ∙ (step_folders e older id did job.work item_is what_is (changed_folder job.work)
+            ∙ folder_stays job new did dirty dirty_after before now (folders_told opening older) shape works (elim (changed_by (has_changed job.id older) (begins_change did) (changed_is ∙ changed)) [
+              | inl b ↦ inl (t.stands b)
+              | inr h ↦ inr h
+            ]));
       }
-  step_tidy e older id did job new dirty dirty_after before now item_is what_is id_is on t (inr syncs) = by syncs.synced
+  step_tidy e older id did job new dirty dirty_after before now shape item_is what_is id_is on t (inr syncs) = by syncs.synced
     where
       unchanged : (n : ℕ) → begins_change did ≡ false → has_changed n (e ∷ older) ≡ true → has_changed n older ≡ true
       unchanged n none changed = elim (changed_by (has_changed n older) ((id == n) && begins_change did) (sym (ap (λ w. changed_after n w (has_changed n older)) what_is) ∙ changed)) [
@@ -271,22 +333,32 @@ module _ (opening : CallLog) (tree : IsTree (current opening)) (settled : all_se
         | inr h ↦ absurd (both_ways _ none (and_parts (id == n) (begins_change did) h).1)
       ]
 
-      clean : has_changed job.id (e ∷ older) ≡ false → is_dirty job.work ≡ false
+      clean : has_changed job.id (e ∷ older) ≡ false → has_begun job.work ≡ false
       clean none = t.clean (neither (has_changed job.id older) _ (sym (ap (λ w. changed_after job.id w (has_changed job.id older)) what_is) ∙ none)).0
+
+      still : (d : Did) → did ≡ d → ((folder : Route) (before : Route → Bool) → folders_by d folder before ≡ before) → folders_told opening (e ∷ older) (changed_folder job.work) ≡ folders_told opening older (changed_folder job.work)
+      still d did_is same =
+          step_folders e older id did job.work item_is what_is (changed_folder job.work)
+          ∙ (ap (λ x. folders_by x (changed_folder job.work) (folders_told opening older) (changed_folder job.work)) did_is
+          ∙ ap (λ (f : Route → Bool). f (changed_folder job.work)) (same (changed_folder job.work) (folders_told opening older)))
+
+      fewer_tidy : (work : Work) → TidyFolder work dirty → TidyFolder work (without syncs.folder dirty)
+      fewer_tidy (Copy c) tidy = λ clean among. tidy clean (in_filter (λ kept. not (same_path kept syncs.folder)) (folder_of c.target) dirty among)
+      fewer_tidy (Delete d) tidy = tt
+      fewer_tidy (Make m) tidy = λ clean among. tidy clean (in_filter (λ kept. not (same_path kept syncs.folder)) (folder_of m.path) dirty among)
 
       by : SyncsFolder job syncs.folder did new dirty dirty_after (Some before) (Some now) → IsTidyJob opening (e ∷ older) dirty_after new
       by (inl s) = subst (λ (x : Running). IsTidyJob opening (e ∷ older) dirty_after x) (sym s.new_is) (record {
-        tidy = λ changed going clean among. t.tidy (unchanged job.id (ap begins_change s.did_is) changed) going clean
-            (in_filter (λ kept. not (same_path kept syncs.folder)) (changed_folder job.work) dirty (subst (λ xs. Among xs (changed_folder job.work)) s.dirty_is among));
+        tidy = λ changed going. subst (λ xs. TidyFolder job.work xs) (sym s.dirty_is) (fewer_tidy job.work (t.tidy (unchanged job.id (ap begins_change s.did_is) changed) going));
         aborted = t.aborted;
         clean = clean;
-        stands = λ changed. folders_more e.what (live_jobs older) (folders_told opening older) (changed_folder job.work) (t.stands (unchanged job.id (ap begins_change s.did_is) changed));
+        stands = λ changed. still Barrier s.did_is (λ f b. refl) ∙ t.stands (unchanged job.id (ap begins_change s.did_is) changed);
       })
       by (inr s) = subst (λ (x : Running). IsTidyJob opening (e ∷ older) dirty_after x) (sym s.new_is) (record {
-        tidy = λ changed going clean among. t.tidy (unchanged job.id (ap begins_change s.did_is) changed) (subst IsGoing (sym syncs.goes) tt) clean (subst (λ xs. Among xs (changed_folder job.work)) s.dirty_is among);
+        tidy = λ changed going. subst (λ xs. TidyFolder job.work xs) (sym s.dirty_is) (t.tidy (unchanged job.id (ap begins_change s.did_is) changed) (subst IsGoing (sym syncs.goes) tt));
         aborted = λ ending x. no_end (OwedSyncFailed (cause_of s.error)) ending tt x;
         clean = clean;
-        stands = λ changed. folders_more e.what (live_jobs older) (folders_told opening older) (changed_folder job.work) (t.stands (unchanged job.id (ap begins_change s.did_is) changed));
+        stands = λ changed. still (Troubled (trouble_at s.error syncs.folder true)) s.did_is (λ f b. refl) ∙ t.stands (unchanged job.id (ap begins_change s.did_is) changed);
       })
 
   after_tidy : (g : List Entry) (dirty : List Route) (new : Running) (b : Bool) → (b ≡ false → IsTidyJob opening g dirty new) → AreTidy opening g dirty (before_others (if◌then◌else◌ b None (Some new)) [])
@@ -310,7 +382,7 @@ module _ (opening : CallLog) (tree : IsTree (current opening)) (settled : all_se
           let jobs_then : a.jobs ≡ before_others s.new [] = s.jobs_is ∙ (ap (with_job id s.new) one.0 ∙ (ap (λ n. with_job n s.new (s.job ∷ [])) (sym one.1) ∙ with_one s.job s.new)) in
           subst (λ js. AreTidy opening (e ∷ older) a.dirty js) (sym jobs_then) (elim s.leads [
             | inl stepped ↦ subst (λ o. AreTidy opening (e ∷ older) a.dirty (before_others o [])) (sym stepped.2)
-                (after_tidy (e ∷ older) a.dirty stepped.0 (ends did) (λ on. step_tidy e older id did s.job stepped.0 was.dirty a.dirty before now item_is is one.1 on tidy stepped.1))
+                (after_tidy (e ∷ older) a.dirty stepped.0 (ends did) (λ on. step_tidy e older id did s.job stepped.0 was.dirty a.dirty before now r.kept.known.guarded.tree item_is is one.1 on tidy stepped.1))
             | inr gives ↦ subst (λ o. AreTidy opening (e ∷ older) a.dirty (before_others o [])) (sym gives.1) tt
           ])
       by (event.Began id plan background) is s t r =
@@ -318,41 +390,39 @@ module _ (opening : CallLog) (tree : IsTree (current opening)) (settled : all_se
           (begun_tidy (e ∷ older) was.dirty id (first_work id plan) (first_clean id plan) (ap (λ w. changed_after id w (has_changed id older)) is ∙ ap (λ b. if◌then◌else◌ b false (has_changed id older)) (eq-eqb id id refl)))
       by (Order id order) is s t r =
           subst (λ (x : Stand). AreTidy opening (e ∷ older) x.dirty x.jobs) (sym s.after_is)
-          (order_tidy (e ∷ older) was.dirty id order was.jobs (same_tidy e older was.dirty was.jobs (λ n. ap (λ w. changed_after n w (has_changed n older)) is) t))
+          (order_tidy (e ∷ older) was.dirty id order was.jobs (same_tidy e older was.dirty was.jobs (λ n. ap (λ w. changed_after n w (has_changed n older)) is) (ap (λ w. folders_event w (live_jobs older) (folders_told opening older)) is) t))
       by (Key key time refusals lost) is s t r =
-          subst (λ (x : Stand). AreTidy opening (e ∷ older) x.dirty x.jobs) (sym s.after_is) (same_tidy e older was.dirty was.jobs (λ n. ap (λ w. changed_after n w (has_changed n older)) is) t)
+          subst (λ (x : Stand). AreTidy opening (e ∷ older) x.dirty x.jobs) (sym s.after_is) (same_tidy e older was.dirty was.jobs (λ n. ap (λ w. changed_after n w (has_changed n older)) is) (ap (λ w. folders_event w (live_jobs older) (folders_told opening older)) is) t)
       by (Look refusals) is s t r =
-          subst (λ (x : Stand). AreTidy opening (e ∷ older) x.dirty x.jobs) (sym s.after_is) (same_tidy e older was.dirty was.jobs (λ n. ap (λ w. changed_after n w (has_changed n older)) is) t)
+          subst (λ (x : Stand). AreTidy opening (e ∷ older) x.dirty x.jobs) (sym s.after_is) (same_tidy e older was.dirty was.jobs (λ n. ap (λ w. changed_after n w (has_changed n older)) is) (ap (λ w. folders_event w (live_jobs older) (folders_told opening older)) is) t)
       by Closed is s t r =
-          subst (λ (x : Stand). AreTidy opening (e ∷ older) x.dirty x.jobs) (sym s.after_is) (same_tidy e older was.dirty was.jobs (λ n. ap (λ w. changed_after n w (has_changed n older)) is) t)
+          subst (λ (x : Stand). AreTidy opening (e ∷ older) x.dirty x.jobs) (sym s.after_is) (same_tidy e older was.dirty was.jobs (λ n. ap (λ w. changed_after n w (has_changed n older)) is) (ap (λ w. folders_event w (live_jobs older) (folders_told opening older)) is) t)
 
--- a job that may report that it is finished owes no sync
-done_deletion : (stage : Stage) → deletions.is_done stage ≡ true → deletions.is_dirty stage ≡ false
-done_deletion Remove h = absurd (false≢true h)
-done_deletion Sync h = absurd (false≢true h)
-done_deletion Finish h = refl
-done_deletion PassedOver h = refl
-
+-- a job whose step is that it is finished owes no sync
 done_making : (stage : MakingStage) → makings.is_done stage ≡ true → makings.is_dirty stage ≡ false
 done_making making.Make h = absurd (false≢true h)
 done_making making.Sync h = absurd (false≢true h)
 done_making making.Finish h = refl
 done_making making.PassedOver h = refl
 
-done_work : (old new : Work) (part : Option Route) → WorkTells old (Ended Finished part) new → is_dirty old ≡ false
-done_work (Copy c) (Copy new) part (stage, synced, part_is, new_is) = ap copying.is_dirty synced
-done_work (Copy c) (Delete new) part t = absurd t
-done_work (Copy c) (Make new) part t = absurd t
-done_work (Delete d) (Copy new) part t = absurd t
-done_work (Delete d) (Make new) part t = absurd t
-done_work (Make m) (Copy new) part t = absurd t
-done_work (Make m) (Delete new) part t = absurd t
-done_work (Delete d) (Delete new) part (is_done, part_is, new_is) = done_deletion d.stage is_done
-done_work (Make m) (Make new) part (is_done, part_is, new_is) = done_making m.stage is_done
+done_work : (old new next : Work) (part : Option Route) (dirty dirty_after : List Route) (before after : Option CallLog) → WorkTells old (Ended Finished part) new → WorkLeaves old (Ended Finished part) next dirty dirty_after before after
+    → TidyFolder old dirty → Among dirty (changed_folder old) → ⊥
+done_work (Copy c) (Copy new) next part dirty dirty_after before after (stage, synced, part_is, new_is) leaves tidy among = tidy (ap copying.is_dirty synced) among
+done_work (Copy c) (Delete new) next part dirty dirty_after before after t leaves tidy among = t
+done_work (Delete d) (Copy new) next part dirty dirty_after before after t leaves tidy among = t
+done_work (Copy c) (Make new) next part dirty dirty_after before after t leaves tidy among = t
+done_work (Delete d) (Make new) next part dirty dirty_after before after t leaves tidy among = t
+done_work (Make m) (Copy new) next part dirty dirty_after before after t leaves tidy among = t
+done_work (Make m) (Delete new) next part dirty dirty_after before after t leaves tidy among = t
+done_work (Make m) (Make new) next part dirty dirty_after before after (is_done, part_is, new_is) leaves tidy among = tidy (done_making m.stage is_done) among
+done_work (Delete d) (Delete new) (Copy next) part dirty dirty_after before after t leaves tidy among = leaves
+done_work (Delete d) (Delete new) (Make next) part dirty dirty_after before after t leaves tidy among = leaves
+done_work (Delete d) (Delete new) (Delete next) part dirty dirty_after before after t leaves tidy among =
+    both_ways _ (leaves.0 (folder_of d.path) among) (or_left (same_path (folder_of d.path) (folder_of d.path)) (is_prefix d.path (folder_of d.path)) (same_path-self (folder_of d.path)))
 
 wound_up : (ending : Ending) (old new : Work) (part : Option Route) → Rattle.copy_move.specs.Jobs.WorkWinds ending old (Ended Finished part) new → Finished ≡ ending
 wound_up ending (Copy c) (Copy new) part (none, synced, how_is, part_is, new_is) = how_is
-wound_up ending (Delete d) (Delete new) part (off, how_is, part_is, new_is) = how_is
+wound_up ending (Delete d) (Delete new) part (how_is, part_is, path_is, stage_is) = how_is
 wound_up ending (Make m) (Make new) part (off, how_is, part_is, new_is) = how_is
 wound_up ending (Copy c) (Delete new) part t = absurd t
 wound_up ending (Copy c) (Make new) part t = absurd t
@@ -361,14 +431,15 @@ wound_up ending (Delete d) (Make new) part t = absurd t
 wound_up ending (Make m) (Copy new) part t = absurd t
 wound_up ending (Make m) (Delete new) part t = absurd t
 
-finished_tidy : (opening : CallLog) (g : List Entry) (dirty : List Route) (job new : Running) (part : Option Route) (course : Course) → job.course ≡ course → TellsOn course job (Ended Finished part) new → IsTidyJob opening g dirty job
-    → has_changed job.id g ≡ true → Among dirty (changed_folder job.work) → ⊥
-finished_tidy opening g dirty job new part GoesOn is (work, tells, new_is) t changed among = t.tidy changed (subst IsGoing (sym is) tt) (done_work job.work work part tells) among
-finished_tidy opening g dirty job new part (InTrouble why) is tells t changed among = tells
-finished_tidy opening g dirty job new part (OwedSyncFailed why) is tells t changed among = tells
-finished_tidy opening g dirty job new part (Skips why) is (inl (did_is, new_is)) t changed among = let f : ⊥ = cc in f
-finished_tidy opening g dirty job new part (Skips why) is (inr (did_is, new_is)) t changed among = let f : ⊥ = cc in f
-finished_tidy opening g dirty job new part (Ends ending) is (work, winds, new_is) t changed among =
+finished_tidy : (opening : CallLog) (g : List Entry) (dirty dirty_after : List Route) (job new : Running) (part : Option Route) (before after : Option CallLog) (course : Course) → job.course ≡ course → TellsOn course job (Ended Finished part) new
+    → LeavesDirty course job.work (Ended Finished part) new.work dirty dirty_after before after → IsTidyJob opening g dirty job → has_changed job.id g ≡ true → Among dirty (changed_folder job.work) → ⊥
+finished_tidy opening g dirty dirty_after job new part before after GoesOn is (work, tells, new_is) leaves t changed among =
+    done_work job.work work new.work part dirty dirty_after before after tells leaves (t.tidy changed (subst IsGoing (sym is) tt)) among
+finished_tidy opening g dirty dirty_after job new part before after (InTrouble why) is tells leaves t changed among = tells
+finished_tidy opening g dirty dirty_after job new part before after (OwedSyncFailed why) is tells leaves t changed among = tells
+finished_tidy opening g dirty dirty_after job new part before after (Skips why) is (inl (path, work, did_is, passes, new_is)) leaves t changed among = let f : ⊥ = cc in f
+finished_tidy opening g dirty dirty_after job new part before after (Skips why) is (inr (did_is, new_is)) leaves t changed among = let f : ⊥ = cc in f
+finished_tidy opening g dirty dirty_after job new part before after (Ends ending) is (work, winds, new_is) leaves t changed among =
     let e : Finished ≡ Aborted = wound_up ending job.work work part winds ∙ t.aborted ending is in let f : ⊥ = cc in f
 
 -- so its folder is known to be on the disk
@@ -379,9 +450,9 @@ finished_folder opening tree settled newest stand now job traced jobs_is changed
     tidy.stands changed
 
 pub finished_law : FinishedLaw
-finished_law opening now newest stand job new part path tree settled traced jobs_is tells changed folder =
+finished_law opening now after newest stand dirty job new part path tree settled traced jobs_is works changed folder =
     let r = traced_reached opening tree settled newest stand now traced in
     let firm = r.kept.known.stand (folder_of path) (ap (folders_told opening newest) folder ∙ finished_folder opening tree settled newest stand now job traced jobs_is changed) in
     sure_path now path firm.sure (false_from_ne_true (name_waits now path) (λ waits.
-    finished_tidy opening newest stand.dirty job new part job.course refl tells (subst (λ js. AreTidy opening newest stand.dirty js) jobs_is (traced_tidy opening tree settled newest stand now traced)) changed
+    finished_tidy opening newest stand.dirty dirty job new part (Some now) (Some after) job.course refl works.tells works.leaves (subst (λ js. AreTidy opening newest stand.dirty js) jobs_is (traced_tidy opening tree settled newest stand now traced)) changed
     (subst (λ q. Among stand.dirty q) folder (owed_law opening now newest stand path tree settled traced waits))))

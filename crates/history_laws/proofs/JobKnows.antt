@@ -1,5 +1,5 @@
 -- What is known of a live job's part and target, by where its work stands.
-use Rattle.std.proofs.Common.{◌≡◌, ◌⊎◌, ℕ, ◌≤◌, Bool, true, false, ◌&&◌, ◌||◌, List, [], ◌∷◌, length, take, refl, sym, ◌∙◌, ap, subst, inl, inr, Option, Some, None, cond}
+use Rattle.std.proofs.Common.{◌≡◌, ◌⊎◌, ℕ, ◌≤◌, Bool, true, false, ◌&&◌, ◌||◌, List, [], ◌∷◌, ◌++◌, length, take, refl, sym, ◌∙◌, ap, subst, inl, inr, Option, Some, None, cond}
 use Rattle.std.specs.Prelude.{is_some}
 use Rattle.std.specs.Option.{option_map_or}
 use Rattle.std.proofs.lemmas.Bool.{false≢true, both_ways}
@@ -30,7 +30,9 @@ use Rattle.copy_move.specs.declared.run.Course.{Course}
 use Rattle.copy_move.specs.declared.run.Course.TheVariants.{GoesOn}
 use Rattle.copy_move.specs.declared.work.Work.{Work}
 use Rattle.copy_move.specs.declared.work.Work.TheVariants.{Copy, Delete, Make}
-use Rattle.copy_move.specs.Settling.{IsMountOf, NoneOwed}
+use Rattle.copy_move.specs.Settling.{IsMountOf, LiesApart, NoneOwed, changed_folder}
+use Rattle.tree_deletion.specs.declared.deletion.Stage.TheVariants.{Going}
+use Rattle.crash_law.proofs.Unworked.{unworked_law}
 use Rattle.history_laws.specs.Doubt.{is_pending, is_unsettled, name_waits}
 use Rattle.history_laws.proofs.Knowing.{Said, IsKnown, IsKept, settled_marks}
 
@@ -69,6 +71,10 @@ pub record HasName (path : Route) : Type 0 where
   pub name : List ℕ
   pub is : path ≡ name ∷ folder_of path
 
+-- at and below the path stands what the job found there, or nothing any more
+abbrev pub IsIntact : Marks → FileSystem → Route → Type 0
+IsIntact marks s top = (rest : Route) → marks.aside (rest ++ top) ≡ false → (find s (rest ++ top) ≡ marks.was (rest ++ top)) ⊎ (find s (rest ++ top) ≡ None)
+
 abbrev pub StageKnows : Said → Marks → FileSystem → Course → Copying → Stage → Type 0
 StageKnows told marks s course c Begin = (told.part ≡ None) × (c.folder ≡ Dirty → IsUntouched marks s c.target)
 StageKnows told marks s course c (Fill part said done) =
@@ -80,7 +86,8 @@ StageKnows told marks s course c Decided = told.part ≡ None
 abbrev pub WorkKnows : Said → List Route → Marks → FileSystem → Course → Work → Type 0
 WorkKnows told dirty marks s course (Copy c) =
     HasName c.target × (c.folder ≡ Dirty → Among dirty (folder_of c.target) × (told.folders (folder_of c.target) ≡ true)) × StageKnows told marks s course c c.stage
-WorkKnows told dirty marks s course (Delete d) = HasName d.path × (told.part ≡ None)
+WorkKnows told dirty marks s course (Delete d) =
+    HasName d.path × (told.part ≡ None) × (d.stage ≡ Going → IsIntact marks s d.path × (told.folders (folder_of d.path) ≡ true))
 WorkKnows told dirty marks s course (Make m) = HasName m.path × (told.part ≡ None)
 
 -- a path at which nothing stands, and of whose name nothing waits
@@ -96,8 +103,16 @@ untouched_free told dirty marks log p kept sure free =
       | inr stands ↦ absurd (false≢true (sym (ap is_some free) ∙ stands))
     ]
 
+-- no dirty folder lies on the mount of this one, but for those that were removed
+abbrev pub NoneOn : FileSystem → Route → List Route → Type 0
+NoneOn s up dirty = (kept : Route) → Among dirty kept → (refusal_of s (Stat kept) ≡ Some Missing) ⊎ LiesApart s up kept
+
+-- so it is where none is owed
+pub none_on : (s : FileSystem) (work : Work) (dirty : List Route) → NoneOwed s work dirty → NoneOn s (changed_folder work) dirty
+none_on s work dirty none kept among = elim (none kept among) [ inl gone ↦ inl gone | inr apart ↦ inr apart.1 ]
+
 -- Where no dirty folder lies on the mount of this one, nothing waits in it.
-pub none_waits : (told : Said) (dirty : List Route) (marks : Marks) (log : CallLog) (up : Route) → IsKnown told dirty marks log → NoneOwed (current log) up dirty → (m : List ℕ) → name_waits log (m ∷ up) ≡ false
+pub none_waits : (told : Said) (dirty : List Route) (marks : Marks) (log : CallLog) (up : Route) → IsKnown told dirty marks log → NoneOn (current log) up dirty → (m : List ℕ) → name_waits log (m ∷ up) ≡ false
 none_waits told dirty marks log up known none m = by (find (current log) up) refl
   where
     listed : (f : ℕ) → find (current log) up ≡ Some f → (q : Route) × Among dirty q × (find (current log) q ≡ Some f) → true ≡ false
@@ -117,7 +132,7 @@ none_waits told dirty marks log up known none m = by (find (current log) up) ref
     by (Some f) is = ap (λ x. option_map_or (λ f. is_pending f m log.changes) x false) is ∙ no_more f is (is_pending f m log.changes) refl
 
 -- nor is the folder itself in doubt, nor one above it: those on other mounts never are
-pub way_sure : (told : Said) (dirty : List Route) (marks : Marks) (log : CallLog) (up : Route) (i : ℕ) → IsKnown told dirty marks log → find (current log) up ≡ Some i → NoneOwed (current log) up dirty
+pub way_sure : (told : Said) (dirty : List Route) (marks : Marks) (log : CallLog) (up : Route) (i : ℕ) → IsKnown told dirty marks log → find (current log) up ≡ Some i → NoneOn (current log) up dirty
     → is_unsettled log up ≡ false
 way_sure told dirty marks log [] i known at none = refl
 way_sure told dirty marks log (name ∷ up) i known at none =
@@ -126,7 +141,7 @@ way_sure told dirty marks log (name ∷ up) i known at none =
     h : (g : ℕ) × (find (current log) up ≡ Some g) × (lookup (current log).names g name ≡ Some i)
     h = and_then-some (find (current log) up) (λ g. lookup (current log).names g name) i at
 
-    by : (b : Bool) → starts_mount (current log) i ≡ b → (NoneOwed (current log) up dirty → is_unsettled log up ≡ false) → is_unsettled log (name ∷ up) ≡ false
+    by : (b : Bool) → starts_mount (current log) i ≡ b → (NoneOn (current log) up dirty → is_unsettled log up ≡ false) → is_unsettled log (name ∷ up) ≡ false
     by true starts rest = known.files.mounts (name ∷ up) (ap (λ o. option_map_or (starts_mount (current log)) o false) at ∙ starts)
     by false starts rest =
         let same : mount_of (current log) (name ∷ up) ≡ mount_of (current log) up =
@@ -162,6 +177,19 @@ module _ (log : CallLog) (marks : Marks) where
     untouched = untouched_settled target h.untouched;
   }
 
+  -- what is taken back stands, or it is said of it what was said
+  remarked : (p : Route) → (let m = settled_marks log marks in m.aside p) ≡ false → (u : Bool) → is_unsettled log p ≡ u
+      → (find (current log) p ≡ (let m = settled_marks log marks in m.was p)) ⊎ ((find (current log) p ≡ None) ⊎ ((marks.aside p ≡ false) × ((let m = settled_marks log marks in m.was p) ≡ marks.was p)))
+  remarked p out false is = inl (sym (ap (λ b. cond b (marks.was p) (find (current log) p)) is))
+  remarked p out true is = inr (inr (by (marks.aside p) (ap (λ b. marks.aside p && (b || is_some (find (current log) p))) (sym is) ∙ out), ap (λ b. cond b (marks.was p) (find (current log) p)) is))
+    where
+      by : (a : Bool) → (a && true) ≡ false → a ≡ false
+      by true h = h
+      by false h = refl
+
+  pub intact_settled : (top : Route) → IsIntact marks (current log) top → IsIntact (settled_marks log marks) (current log) top
+  intact_settled top known = unworked_law.remarked marks (settled_marks log marks) log top (λ p out. remarked p out (is_unsettled log p) refl) known
+
   stage_settled : (told : Said) (course : Course) (c : Copying) (stage : Stage) → StageKnows told marks (current log) course c stage → StageKnows told (settled_marks log marks) (current log) course c stage
   stage_settled told course c Begin (none, untouched) = (none, λ dirty. untouched_settled c.target (untouched dirty))
   stage_settled told course c (Fill part said done) (dirty, (i, has, filled)) = (dirty, (i, part_settled told c.target part i has, filled))
@@ -171,7 +199,7 @@ module _ (log : CallLog) (marks : Marks) where
 
   pub work_settled : (told : Said) (dirty : List Route) (course : Course) (work : Work) → WorkKnows told dirty marks (current log) course work → WorkKnows told dirty (settled_marks log marks) (current log) course work
   work_settled told dirty course (Copy c) (name, listed, stage) = (name, listed, stage_settled told course c c.stage stage)
-  work_settled told dirty course (Delete d) k = k
+  work_settled told dirty course (Delete d) (name, none, intact) = (name, none, λ is. let k = intact is in (intact_settled d.path k.0, k.1))
   work_settled told dirty course (Make w) k = k
 
 -- a job that goes on only where it went on knows what it knew

@@ -6,6 +6,8 @@ use Rattle.tree_trait.specs.Calls.{SyncFolder}
 use Rattle.tree_trait.specs.Change.{CallLog, current}
 use Rattle.job_reports.specs.Stops.{cause_of, trouble_at}
 use Rattle.crash_law.specs.Guarded.{Marks}
+use Rattle.tree_trait.proofs.Visible.{same_path-true}
+use Rattle.job_reports.specs.Paths.{folder_of}
 use Rattle.job_reports.specs.declared.report.Cause.TheVariants.{Memory}
 use Rattle.job_reports.specs.declared.report.Ending.{Ending}
 use Rattle.job_reports.specs.declared.report.Did.{Did}
@@ -15,28 +17,24 @@ use Rattle.file_copy.specs.declared.stage.Stage.TheVariants.{Begin, Fill, Clean,
 use Rattle.file_copy.specs.Copying.{Copying}
 use Rattle.file_copy.specs.Copying as copying
 use Rattle.job_reports.proofs.CallAnswers.{some_log}
-use Rattle.copy_move.specs.declared.deletion.Stage.{Stage as DeletionStage}
-use Rattle.copy_move.specs.declared.deletion.Stage.TheVariants as deletion
-use Rattle.copy_move.specs.declared.making.MakingStage.{MakingStage}
-use Rattle.copy_move.specs.declared.making.MakingStage.TheVariants as making
 use Rattle.copy_move.specs.declared.work.Work.{Work}
 use Rattle.copy_move.specs.declared.work.Work.TheVariants.{Copy, Delete, Make}
 use Rattle.copy_move.specs.declared.run.Course.{Course}
 use Rattle.copy_move.specs.declared.run.Course.TheVariants.{GoesOn, InTrouble, OwedSyncFailed, Skips, Ends}
-use Rattle.copy_move.specs.Deletions as deletions
-use Rattle.copy_move.specs.Makings as makings
-use Rattle.copy_move.specs.Jobs.{Running, CallsOn, TellsOn, WorkCalls, WorkLastCalls, WorkTells, WorkWinds, course_after, is_fresh, skipped}
-use Rattle.copy_move.specs.Settling.{NoneOwed, changed_folder, is_dirty, with_change as moves_dirty}
+use Rattle.copy_move.specs.Makings.{Making}
+use Rattle.copy_move.specs.Jobs.{Running, CallsOn, TellsOn, WorkCalls, WorkLastCalls, WorkTells, PassesOver, WorkWinds, course_after, is_fresh}
+use Rattle.copy_move.specs.DeletionSteps.{after_try}
+use Rattle.copy_move.specs.Settling.{NoneOwed, WorkLeaves}
 use Rattle.copy_move.specs.Steps.{LeavesDirty}
 use Rattle.history_laws.specs.Traces.{IsUnclaimed, SyncLeads, WorkLeads}
 use Rattle.history_laws.proofs.Calming.{refused_is}
 use Rattle.history_laws.proofs.Deleted.{comes_refused}
-use Rattle.history_laws.proofs.DeletionSteps.{Steps, comes_synced, deletion_tells, deletion_winds, same_dirty, stands}
+use Rattle.history_laws.proofs.DeletionSteps.{Steps, comes_synced, deletion_tells, deletion_winds, stands, stays, still_going}
 use Rattle.history_laws.proofs.MakingSteps.{making_tells, making_winds}
 use Rattle.history_laws.proofs.CopySteps.{copy_tells}
 use Rattle.history_laws.proofs.JobSteps.{copy_winds, fresh_knows}
 use Rattle.history_laws.proofs.Knowing.{Said, IsKept}
-use Rattle.history_laws.proofs.JobKnows.{KnowsAfter, StageKnows, WorkKnows, work_course}
+use Rattle.history_laws.proofs.JobKnows.{KnowsAfter, StageKnows, WorkKnows, none_on, work_course}
 use Rattle.history_laws.proofs.Stepped.{Comes, said_after}
 
 skip_stage : (told : Said) (m : Marks) (s : FileSystem) (course : Course) (c : Copying) (stage : Stage) → StageKnows told m s course c stage
@@ -47,35 +45,25 @@ skip_stage told m s course c (Clean part follows) k = k
 skip_stage told m s course c (Left part) k = k
 skip_stage told m s course c Decided k = k
 
-skip_knows : (told : Said) (dirty : List Route) (m : Marks) (s : FileSystem) (course : Course) (work : Work) → WorkKnows told dirty m s course work → WorkKnows told dirty m s GoesOn (skipped work)
-skip_knows told dirty m s course (Copy c) (name, listed, stage) = (name, listed, skip_stage told m s course c c.stage stage)
-skip_knows told dirty m s course (Delete d) k = k
-skip_knows told dirty m s course (Make w) k = k
-
-skip_deletion : (stage : DeletionStage) → deletions.is_dirty (deletions.skipped stage) ≡ deletions.is_dirty stage
-skip_deletion deletion.Remove = refl
-skip_deletion deletion.Sync = refl
-skip_deletion deletion.Finish = refl
-skip_deletion deletion.PassedOver = refl
-
-skip_making : (stage : MakingStage) → makings.is_dirty (makings.skipped stage) ≡ makings.is_dirty stage
-skip_making making.Make = refl
-skip_making making.Sync = refl
-skip_making making.Finish = refl
-skip_making making.PassedOver = refl
-
-skip_dirty : (work : Work) → is_dirty (skipped work) ≡ is_dirty work
-skip_dirty (Copy c) = refl
-skip_dirty (Delete d) = skip_deletion d.stage
-skip_dirty (Make m) = skip_making m.stage
-
 module _ (told : Said) (dirty dirty_after : List Route) (marks : Marks) (log now : CallLog) (kept : IsKept told dirty marks log) where
+  skip_knows : (course : Course) (work new : Work) (path : Route) → PassesOver work path new → WorkKnows told dirty marks (current log) course work → WorkKnows told dirty marks (current log) GoesOn new
+  skip_knows course (Copy c) (Copy new) path (path_is, new_is) (name, listed, stage) =
+      subst (λ (n : Copying). WorkKnows told dirty marks (current log) GoesOn (Copy n)) (sym new_is) (name, listed, skip_stage told marks (current log) course c c.stage stage)
+  skip_knows course (Copy c) (Delete new) path h k = absurd h
+  skip_knows course (Copy c) (Make new) path h k = absurd h
+  skip_knows course (Delete d) (Copy new) path h k = absurd h
+  skip_knows course (Delete d) (Make new) path h k = absurd h
+  skip_knows course (Make m) (Copy new) path h k = absurd h
+  skip_knows course (Make m) (Delete new) path h k = absurd h
+  skip_knows course (Make m) (Make new) path (path_is, new_is) k = subst (λ (n : Making). WorkKnows told dirty marks (current log) GoesOn (Make n)) (sym new_is) k
+  skip_knows course (Delete d) (Delete new) path at k = stays told dirty dirty_after marks log now kept course GoesOn d new _ k at (still_going told dirty dirty_after marks log now kept path d) dirty
+
   work_tells : (old new : Work) (did : Did) → WorkKnows told dirty marks (current log) GoesOn old → WorkTells old did new → WorkCalls IsUnclaimed old did new log (Some now)
-      → (is_fresh old ≡ true → NoneOwed (current log) (changed_folder old) dirty) → dirty_after ≡ moves_dirty (is_dirty old) (is_dirty new) (changed_folder old) dirty
+      → (is_fresh old ≡ true → NoneOwed (current log) old dirty) → WorkLeaves old did new dirty dirty_after (Some log) (Some now)
       → Steps told dirty dirty_after marks log now kept did (course_after did) old new
-  work_tells (Copy c) (Copy new) did knows tells calls settled leaves = copy_tells told dirty dirty_after marks log now kept c new did knows tells calls settled leaves
+  work_tells (Copy c) (Copy new) did knows tells calls settled leaves = copy_tells told dirty dirty_after marks log now kept c new did knows tells calls (λ fresh. none_on (current log) (Copy c) dirty (settled fresh)) leaves
   work_tells (Delete d) (Delete new) did knows tells calls settled leaves = deletion_tells told dirty dirty_after marks log now kept d new did knows tells calls settled leaves
-  work_tells (Make w) (Make new) did knows tells calls settled leaves = making_tells told dirty dirty_after marks log now kept w new did knows tells calls settled leaves
+  work_tells (Make w) (Make new) did knows tells calls settled leaves = making_tells told dirty dirty_after marks log now kept w new did knows tells calls (λ fresh. none_on (current log) (Make w) dirty (settled fresh)) leaves
   work_tells (Copy c) (Delete new) did knows tells calls settled leaves = absurd tells
   work_tells (Copy c) (Make new) did knows tells calls settled leaves = absurd tells
   work_tells (Delete d) (Copy new) did knows tells calls settled leaves = absurd tells
@@ -85,9 +73,14 @@ module _ (told : Said) (dirty dirty_after : List Route) (marks : Marks) (log now
 
   work_winds : (ending : Ending) (old new : Work) (did : Did) → WorkKnows told dirty marks (current log) (Ends ending) old → WorkWinds ending old did new → WorkLastCalls old did log (Some now)
       → LeavesDirty (Ends ending) old did new dirty dirty_after (Some log) (Some now) → Steps told dirty dirty_after marks log now kept did (Ends ending) old new
-  work_winds ending (Copy c) (Copy new) did knows winds calls leaves = copy_winds told dirty dirty_after marks log now kept c new ending did leaves.refusal knows winds (leaves.tried log refl) calls leaves.dirty_is
-  work_winds ending (Delete d) (Delete new) did knows winds calls leaves = deletion_winds told dirty dirty_after marks log now kept d new ending did leaves.refusal knows winds (leaves.tried log refl) calls leaves.dirty_is
-  work_winds ending (Make m) (Make new) did knows winds calls leaves = making_winds told dirty dirty_after marks log now kept m new ending did leaves.refusal knows winds (leaves.tried log refl) calls leaves.dirty_is
+  work_winds ending (Copy c) (Copy new) did knows winds calls leaves =
+      copy_winds told dirty dirty_after marks log now kept c new ending did leaves.refusal knows winds (leaves.tried log refl) calls
+      (leaves.dirty_is ∙ ap (λ f. after_try did leaves.refusal f dirty) (same_path-true leaves.folder (folder_of c.target) leaves.own))
+  work_winds ending (Delete d) (Delete new) did knows winds calls leaves =
+      deletion_winds told dirty dirty_after marks log now kept d new ending did leaves.refusal leaves.folder knows winds (leaves.tried log refl) calls leaves.dirty_is
+  work_winds ending (Make m) (Make new) did knows winds calls leaves =
+      making_winds told dirty dirty_after marks log now kept m new ending did leaves.refusal knows winds (leaves.tried log refl) calls
+      (leaves.dirty_is ∙ ap (λ f. after_try did leaves.refusal f dirty) (same_path-true leaves.folder (folder_of m.path) leaves.own))
   work_winds ending (Copy c) (Delete new) did knows winds calls leaves = absurd winds
   work_winds ending (Copy c) (Make new) did knows winds calls leaves = absurd winds
   work_winds ending (Delete d) (Copy new) did knows winds calls leaves = absurd winds
@@ -99,26 +92,21 @@ module _ (told : Said) (dirty dirty_after : List Route) (marks : Marks) (log now
   Leads job did new = Comes told (said_after now did job.work told) dirty_after log now (KnowsAfter did (said_after now did job.work told) dirty_after (current now) new.course new.work)
 
   by_course : (job new : Running) (did : Did) (course : Course) → job.course ≡ course → WorkKnows told dirty marks (current log) course job.work → TellsOn course job did new
-      → CallsOn IsUnclaimed course job did new log (Some now) → (course ≡ GoesOn → is_fresh job.work ≡ true → NoneOwed (current log) (changed_folder job.work) dirty)
+      → CallsOn IsUnclaimed course job did new log (Some now) → (course ≡ GoesOn → is_fresh job.work ≡ true → NoneOwed (current log) job.work dirty)
       → LeavesDirty course job.work did new.work dirty dirty_after (Some log) (Some now) → Leads job did new
   by_course job new did GoesOn is knows (work, tells, new_is) calls settled leaves =
       subst (λ (x : Running). Leads job did x) (sym new_is)
       (work_tells job.work work did knows tells (subst (λ (x : Running). WorkCalls IsUnclaimed job.work did x.work log (Some now)) new_is calls) (settled refl)
-      (leaves ∙ ap (λ (x : Running). moves_dirty (is_dirty job.work) (is_dirty x.work) (changed_folder job.work) dirty) new_is))
+      (subst (λ (x : Running). WorkLeaves job.work did x.work dirty dirty_after (Some log) (Some now)) new_is leaves))
   by_course job new did (InTrouble why) is knows tells calls settled leaves = absurd tells
   by_course job new did (OwedSyncFailed why) is knows tells calls settled leaves = absurd tells
-  by_course job new did (Skips why) is knows (inl (did_is, new_is)) calls settled leaves =
-      subst (λ x. Leads job x new) (sym did_is) (subst (λ (x : Running). Leads job (Skipped (Rattle.copy_move.specs.Jobs.file_of job.work) why) x) (sym new_is)
-      (stands told dirty dirty_after marks log now kept GoesOn (skipped job.work) (skip_knows told dirty marks (current log) (Skips why) job.work knows)
-      (leaves ∙ (ap (λ (x : Running). moves_dirty (is_dirty job.work) (is_dirty x.work) (changed_folder job.work) dirty) new_is
-      ∙ (ap (λ b. moves_dirty (is_dirty job.work) b (changed_folder job.work) dirty) (skip_dirty job.work) ∙ same_dirty (is_dirty job.work) (changed_folder job.work) dirty)))
-      (some_log now log calls)))
+  by_course job new did (Skips why) is knows (inl (path, work, did_is, passes, new_is)) calls settled leaves =
+      subst (λ x. Leads job x new) (sym did_is) (subst (λ (x : Running). Leads job (Skipped path why) x) (sym new_is)
+      (stands told dirty dirty_after marks log now kept GoesOn work (skip_knows (Skips why) job.work work path passes knows) leaves (some_log now log calls)))
   by_course job new did (Skips why) is knows (inr (did_is, new_is)) calls settled leaves =
       subst (λ x. Leads job x new) (sym did_is) (subst (λ (x : Running). Leads job (Troubled (Rattle.job_reports.specs.Stops.out_of_memory_at (Rattle.copy_move.specs.Jobs.at_barrier job.work))) x) (sym new_is)
       (stands told dirty dirty_after marks log now kept (InTrouble Memory) job.work
-      (work_course told dirty marks (current log) (Skips why) (InTrouble Memory) job.work (λ e. absurd (let f : ⊥ = cc in f)) knows)
-      (leaves ∙ (ap (λ (x : Running). moves_dirty (is_dirty job.work) (is_dirty x.work) (changed_folder job.work) dirty) new_is ∙ same_dirty (is_dirty job.work) (changed_folder job.work) dirty))
-      (some_log now log calls)))
+      (work_course told dirty marks (current log) (Skips why) (InTrouble Memory) job.work (λ e. absurd (let f : ⊥ = cc in f)) knows) leaves (some_log now log calls)))
   by_course job new did (Ends ending) is knows (work, winds, new_is) calls settled leaves =
       subst (λ (x : Running). Leads job did x) (sym (new_is ∙ ap (λ c. (let x : Running = record job { work = work; course = c } in x)) is))
       (work_winds ending job.work work did knows winds calls (subst (λ (x : Running). LeavesDirty (Ends ending) job.work did x.work dirty dirty_after (Some log) (Some now)) new_is leaves))

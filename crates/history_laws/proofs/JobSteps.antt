@@ -33,7 +33,7 @@ use Rattle.copy_move.specs.declared.run.Course.{Course}
 use Rattle.copy_move.specs.declared.run.Course.TheVariants.{Ends}
 use Rattle.copy_move.specs.Jobs.{part_of}
 use Rattle.copy_move.specs.Jobs as jobs
-use Rattle.copy_move.specs.Settling.{after_try}
+use Rattle.copy_move.specs.DeletionSteps.{after_try}
 use Rattle.history_laws.proofs.Calming.{refused_is}
 use Rattle.history_laws.proofs.Deleted.{comes_refused, file_no_mount, put_at, put_off}
 use Rattle.history_laws.proofs.DeletionSteps.{Steps, ends, tried}

@@ -1,10 +1,12 @@
 -- What a finished job did stays done: no crash at a later moment brings back what was before, until an entry names the path.
-use Rattle.std.proofs.Common.{◌≡◌, true, false, List, [], ◌∷◌, refl, sym, ◌∙◌, ap, subst, inl, inr, Option, Some, None}
+use Rattle.std.proofs.Common.{◌≡◌, ℕ, ◌+◌, true, false, not, List, [], ◌∷◌, length, refl, sym, ◌∙◌, ap, subst, inl, inr, Option, Some, None}
 use Rattle.std.proofs.lemmas.Bool.{both_ways}
 use Rattle.mc_text.specs.Routes.{Route, same_path}
+use Rattle.tree_trait.specs.declared.file_system.FileSystem.{FileSystem}
 use Rattle.tree_trait.specs.FileSystem.{Spot, View, value_at}
+use Rattle.tree_trait.specs.Shape.{IsTree}
 use Rattle.tree_trait.specs.Change.{CallLog, current}
-use Rattle.tree_trait.specs.CrashImages.{Among}
+use Rattle.tree_trait.specs.CrashImages.{Among, IsCrashImage, all_settled}
 use Rattle.tree_trait.proofs.Visible.{same_path-self}
 use Rattle.job_reports.specs.declared.report.Did.{Did}
 use Rattle.job_reports.specs.declared.report.Did.TheVariants.{Began, Chunk, Placed, Removed, Made, Kept, Skipped, Cleaned, Barrier, Troubled, Ended}
@@ -14,13 +16,17 @@ use Rattle.session_history.specs.declared.history.Event.{Event}
 use Rattle.session_history.specs.declared.history.Event.TheVariants.{Key, Look, Order, Step, Closed}
 use Rattle.session_history.specs.declared.history.Event.TheVariants as event
 use Rattle.session_history.specs.declared.history.Entry.{Entry}
+use Rattle.job_reports.specs.declared.report.Ending.TheVariants.{Finished}
+use Rattle.job_reports.specs.Paths.{folder_of}
 use Rattle.copy_move.specs.Jobs.{Running}
+use Rattle.copy_move.specs.Settling.{changed_folder}
 use Rattle.history_laws.specs.Doubt.{is_unsettled}
 use Rattle.session_history.specs.LiveJobs.{IsLivePart, LiveJob, live_jobs, live_item}
 use Rattle.history_laws.specs.Replayed.{log_prefix, new_folder, placed_by, replayed_event, replayed_step, replayed_tree}
-use Rattle.session_history.specs.Named.{named_after, named_by, named_parts, IsUnnamedSince, names, names_path}
+use Rattle.history_laws.specs.Traces.{IsTraced, Stand, WorkLeads}
+use Rattle.session_history.specs.Named.{has_changed, named_after, named_by, named_parts, IsUnnamedSince, names, names_path}
 use Rattle.history_laws.specs.Safe.{IsSafe}
-use Rattle.session_history.specs.Entries.{calls_in}
+use Rattle.session_history.specs.Entries.{IsMoment, calls_in}
 use Rattle.history_laws.specs.Staying.{FinishedStaysLaw}
 use Rattle.history_laws.proofs.Deleted.{put_off}
 use Rattle.history_laws.proofs.Finished.{finished_folder, finished_law}
@@ -28,7 +34,6 @@ use Rattle.history_laws.proofs.Histories.{traced_reached}
 use Rattle.history_laws.proofs.Moments.{session_law, sure_moment}
 use Rattle.history_laws.proofs.Owing.{in_filter}
 use Rattle.history_laws.proofs.Prefixes.{folders_since, folders_told}
-use Rattle.job_reports.specs.Paths.{folder_of}
 use Rattle.history_laws.proofs.Reports.{HasLive}
 use Rattle.history_laws.proofs.Resting.{name_sure}
 use Rattle.history_laws.proofs.Staying.{stays_law}
@@ -107,8 +112,13 @@ part_known (job ∷ []) part live path is found = by (subst (λ l. IsLivePart l 
     by (one, inr none, part_is) = absurd none
 part_known (job ∷ other ∷ jobs) part live path many found = absurd many
 
-pub finished_stays_law : FinishedStaysLaw
-finished_stays_law opening now newest older standing coming was stand job new part calls path image tree settled traced before jobs_is tells changed folder unnamed moment since later left =
+-- what a finished job did stays, as long as its folder stands
+pub finished_stays : (opening now after : CallLog) (newest older standing coming : List Entry) (was stand : Stand) (dirty : List Route) (job new : Running) (part : Option Route) (calls : ℕ) (path : Route) (image : FileSystem)
+    → IsTree (current opening) → all_settled opening.changes ≡ true → IsTraced opening newest stand now → IsTraced opening older was (log_prefix opening (calls_in older) now)
+    → was.jobs ≡ job ∷ [] → WorkLeads job (Ended Finished part) new was.dirty dirty (log_prefix opening (calls_in older) now) after → has_changed job.id older ≡ true → folder_of path ≡ changed_folder job.work → (Among (named_parts older) path → ⊥)
+    → IsMoment newest standing coming calls → IsUnnamedSince older path standing → IsUnnamedSince older path coming → folders_told opening standing (folder_of path) ≡ true → folders_told opening coming (folder_of path) ≡ true
+    → IsCrashImage now (length opening.changes + calls) image → value_at image path ≡ (replayed_tree opening now older path).value
+finished_stays opening now after newest older standing coming was stand dirty job new part calls path image tree settled traced before jobs_is works changed folder unnamed moment since later stands comes left =
     elim (session_law opening now newest standing coming stand calls image tree settled traced moment left) [ inl safe ↦ by standing since safe | inr safe ↦ by coming later safe ]
   where
     no_part : IsLivePart (live_jobs older) path → ⊥
@@ -116,17 +126,21 @@ finished_stays_law opening now newest older standing coming was stand job new pa
         let r = traced_reached opening tree settled older was (log_prefix opening (calls_in older) now) before in
         unnamed (r.kept.known.aside path (r.kept.known.part path (part_known was.jobs r.part (live_jobs older) path r.live found)).0)
 
-    in_folder : folders_told opening older (folder_of path) ≡ true
-    in_folder = ap (folders_told opening older) folder ∙ finished_folder opening tree settled older was (log_prefix opening (calls_in older) now) job before jobs_is changed
-
     sure : is_unsettled (log_prefix opening calls now) path ≡ false
-    sure = sure_moment opening now newest standing coming stand calls path tree settled traced moment
-        (folders_since opening older standing path (folder_of path) since in_folder) (folders_since opening older coming path (folder_of path) later in_folder)
+    sure = sure_moment opening now newest standing coming stand calls path tree settled traced moment stands comes
         (stays_law opening now newest older standing coming stand calls path tree settled traced moment since later
-        (name_sure (log_prefix opening (calls_in older) now) path (finished_law opening (log_prefix opening (calls_in older) now) older was job new part path tree settled before jobs_is tells changed folder)) no_part)
+        (name_sure (log_prefix opening (calls_in older) now) path
+        (finished_law opening (log_prefix opening (calls_in older) now) after older was dirty job new part path tree settled before jobs_is works changed folder)) no_part)
 
     by : (g : List Entry) → IsUnnamedSince older path g → IsSafe opening now g (log_prefix opening calls now) image → value_at image path ≡ (replayed_tree opening now older path).value
     by g unnamed_since safe = elim (safe path (λ is. unnamed (named_since older g path unnamed_since is.named))) [
       | inl told ↦ told ∙ ap (λ (s : Spot). s.value) (replayed_since opening now older g path unnamed_since)
       | inr doubt ↦ absurd (both_ways _ sure doubt.0)
     ]
+
+pub finished_stays_law : FinishedStaysLaw
+finished_stays_law opening now after newest older standing coming was stand dirty job new part calls path image tree settled traced before jobs_is works changed folder unnamed moment since later since_folder later_folder left =
+    let stands : folders_told opening older (folder_of path) ≡ true =
+    ap (folders_told opening older) folder ∙ finished_folder opening tree settled older was (log_prefix opening (calls_in older) now) job before jobs_is changed in
+    finished_stays opening now after newest older standing coming was stand dirty job new part calls path image tree settled traced before jobs_is works changed folder unnamed moment since later
+    (folders_since opening older standing (folder_of path) since_folder stands) (folders_since opening older coming (folder_of path) later_folder stands) left

@@ -12,6 +12,7 @@ pub mod Filling
 pub mod Finished
 pub mod Prefixes
 pub mod Histories
+pub mod Intact
 pub mod JobKnows
 pub mod JobLeads
 pub mod JobSteps

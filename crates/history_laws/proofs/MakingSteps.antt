@@ -28,17 +28,18 @@ use Rattle.copy_move.specs.declared.work.Work.{Work}
 use Rattle.copy_move.specs.declared.work.Work.TheVariants.{Make}
 use Rattle.copy_move.specs.declared.run.Course.{Course}
 use Rattle.copy_move.specs.declared.run.Course.TheVariants.{GoesOn, Ends}
-use Rattle.copy_move.specs.Deletions.{Answers}
-use Rattle.copy_move.specs.Makings.{LastMakingCalls, Making, MakingCalls, MakingLeaves, Tells, Winds, call_of, is_fresh}
+use Rattle.copy_move.specs.DeletionSteps.{after_try}
+use Rattle.copy_move.specs.Makings.{Answers, LastMakingCalls, Making, MakingCalls, MakingLeaves, Tells, Winds, call_of, is_fresh}
 use Rattle.copy_move.specs.Makings as makings
 use Rattle.copy_move.specs.Jobs.{course_after}
-use Rattle.copy_move.specs.Settling.{NoneOwed, after_try, with_change as moves_dirty}
+use Rattle.copy_move.specs.Settling.{with_change as moves_dirty}
 use Rattle.history_laws.specs.Replayed.{new_folder}
 use Rattle.history_laws.proofs.Calming.{refused_is, still_listed}
 use Rattle.history_laws.proofs.Changing.{seen_nowhere}
 use Rattle.history_laws.proofs.Deleted.{comes_refused, either, put_at, put_off}
-use Rattle.history_laws.proofs.DeletionSteps.{Steps, among_more, ends, last_among, same_dirty, tried}
-use Rattle.history_laws.proofs.JobKnows.{HasName, IsUntouched, KnowsAfter, WorkKnows, none_waits, untouched_free, way_sure}
+use Rattle.history_laws.proofs.DeletionSteps.{Steps, ends, joined_holds, joined_more, same_dirty, tried}
+use Rattle.tree_deletion.specs.Folders.{joined}
+use Rattle.history_laws.proofs.JobKnows.{HasName, IsUntouched, KnowsAfter, NoneOn, WorkKnows, none_waits, untouched_free, way_sure}
 use Rattle.history_laws.proofs.Knowing.{IsKept, IsKnown, Said, nowhere, settled_marks}
 use Rattle.history_laws.proofs.MakingFolders.{folder_made_known, marks_born, new_node}
 use Rattle.history_laws.proofs.Resting.{IsSureFolder, folder_at_of, sure_path}
@@ -51,7 +52,7 @@ new_folder_node = record { kind = Folder; bytes = []; mode = new_folder_mode; mt
 
 -- a folder is made
 module _ (told : Said) (dirty dirty_after : List Route) (marks : Marks) (log now : CallLog) (name : List Rattle.std.proofs.Common.ℕ) (up : Route) (work : Work) (kept : IsKept told dirty marks log) (none : told.part ≡ None)
-    (owed : NoneOwed (current log) up dirty) (within : folder_changed (item_in work) ≡ up) (listed : Among dirty_after up) (more : (q : Route) → Among dirty q → Among dirty_after q)
+    (owed : NoneOn (current log) up dirty) (within : folder_changed (item_in work) ≡ up) (listed : Among dirty_after up) (more : (q : Route) → Among dirty q → Among dirty_after q)
     (done : Performs {A = Unit {0}} log (MakeFolder (name ∷ up) new_folder_mode) (Ok tt) (Some now)) where
   abbrev made_path : Route
   made_path = name ∷ up
@@ -120,19 +121,19 @@ module _ (told : Said) (dirty dirty_after : List Route) (marks : Marks) (log now
   In did course work new = Steps told dirty dirty_after marks log now kept did course work new
 
   -- the folder was made, by its last name
-  made_at : (w new : Making) (name : HasName w.path) → told.part ≡ None → new ≡ record w { stage = making.Sync } → NoneOwed (current log) (folder_of w.path) dirty → dirty_after ≡ dirty ++ folder_of w.path ∷ []
+  made_at : (w new : Making) (name : HasName w.path) → told.part ≡ None → new ≡ record w { stage = making.Sync } → NoneOn (current log) (folder_of w.path) dirty → dirty_after ≡ joined (folder_of w.path) dirty
       → Performs {A = Unit {0}} log (MakeFolder w.path new_folder_mode) (Ok tt) (Some now) → In (Made w.path) GoesOn (Make w) (Make new)
   made_at w new name none new_is owed routes done =
       let up = folder_of w.path in
       subst (λ q. Comes told (said_after now (Made q) (Make w) told) dirty_after log now (KnowsAfter (Made q) (said_after now (Made q) (Make w) told) dirty_after (current now) GoesOn (Make new))) (sym name.is)
       (folder_made told dirty dirty_after marks log now name.name up (Make w) kept none owed refl
-      (subst (λ xs. Among xs up) (sym routes) (last_among up dirty)) (λ q among. subst (λ xs. Among xs q) (sym routes) (among_more up q dirty among))
+      (subst (λ xs. Among xs up) (sym routes) (joined_holds up dirty)) (λ q among. subst (λ xs. Among xs q) (sym routes) (joined_more up q dirty among))
       (subst (λ q. Performs {A = Unit {0}} log (MakeFolder q new_folder_mode) (Ok tt) (Some now)) name.is done)
       (KnowsAfter (Made (name.name ∷ up)) (said_after now (Made (name.name ∷ up)) (Make w) told) dirty_after (current now) GoesOn (Make new))
       (λ m. (subst (λ (x : Making). HasName x.path) (sym new_is) name, none)))
 
   pub making_tells : (w new : Making) (did : Did) → WorkKnows told dirty marks (current log) GoesOn (Make w) → Tells w did new → MakingCalls w did log (Some now)
-      → (is_fresh w.stage ≡ true → NoneOwed (current log) (folder_of w.path) dirty) → dirty_after ≡ moves_dirty (makings.is_dirty w.stage) (makings.is_dirty new.stage) (folder_of w.path) dirty
+      → (is_fresh w.stage ≡ true → NoneOn (current log) (folder_of w.path) dirty) → dirty_after ≡ moves_dirty (makings.is_dirty w.stage) (makings.is_dirty new.stage) (folder_of w.path) dirty
       → In did (course_after did) (Make w) (Make new)
   making_tells w new (Made path) (name, none) (stage, path_is, new_is) done settled leaves =
       subst (λ q. In (Made q) GoesOn (Make w) (Make new)) (sym path_is) (made_at w new name none new_is (settled (ap is_fresh stage))

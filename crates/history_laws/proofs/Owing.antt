@@ -1,9 +1,9 @@
 -- What waits for a sync lies in a dirty folder.
 use Rattle.std.proofs.Common.{◌≡◌, ◌⊎◌, ℕ, Bool, true, false, List, [], ◌∷◌, ◌++◌, refl, sym, ◌∙◌, ap, subst, inl, inr, Option, Some, None}
-use Rattle.std.specs.Prelude.{filter, not}
+use Rattle.std.specs.Prelude.{filter, if◌then◌else◌, not}
 use Rattle.std.specs.Option.{option_map_or}
-use Rattle.std.proofs.lemmas.Bool.{false≢true}
-use Rattle.mc_text.specs.Routes.{Route, same_path}
+use Rattle.std.proofs.lemmas.Bool.{false≢true, or_left, or_right}
+use Rattle.mc_text.specs.Routes.{Route, is_prefix, same_path}
 use Rattle.tree_trait.specs.FileSystem.{find}
 use Rattle.tree_trait.specs.Change.{CallLog, current}
 use Rattle.tree_trait.specs.CrashImages.{Among}
@@ -11,11 +11,27 @@ use Rattle.tree_trait.proofs.Finding.{find-once}
 use Rattle.crash_law.specs.Guarded.{Marks}
 use Rattle.job_reports.specs.Paths.{folder_of}
 use Rattle.copy_move.specs.declared.run.Course.{Course}
-use Rattle.copy_move.specs.Settling.{changed_folder, is_dirty, with_change}
+use Rattle.copy_move.specs.declared.run.Course.TheVariants.{GoesOn}
+use Rattle.copy_move.specs.declared.work.Work.{Work}
+use Rattle.copy_move.specs.declared.work.Work.TheVariants.{Copy, Delete, Make}
+use Rattle.copy_move.specs.Deletions.{Deleting, DeletionLeaves, Tells}
+use Rattle.copy_move.specs.Makings as makings
+use Rattle.copy_move.specs.Jobs.{TellsOn, WorkTells}
+use Rattle.copy_move.specs.Settling.{LiesApart, NoneOwed, WorkLeaves, changed_folder, is_own, with_change}
+use Rattle.file_copy.specs.Copying as copying
+use Rattle.job_reports.specs.declared.report.Did.{Did}
+use Rattle.job_reports.specs.declared.report.Did.TheVariants.{Began, Chunk, Placed, Removed, Made, Kept, Skipped, Cleaned, Barrier, Troubled, Ended}
+use Rattle.tree_deletion.specs.Folders.{is_one_of, joined}
+use Rattle.tree_trait.specs.declared.file_system.FileSystem.{FileSystem}
+use Rattle.tree_trait.specs.declared.calls.TreeError.TheVariants.{Missing}
+use Rattle.tree_trait.specs.Calls.{Stat}
+use Rattle.tree_trait.specs.Refusals.{refusal_of}
+use Rattle.tree_trait.proofs.Visible.{same_path-self}
 use Rattle.copy_move.specs.Steps.{LeavesDirty}
 use Rattle.history_laws.specs.Doubt.{is_pending, name_waits}
 use Rattle.history_laws.specs.Owed.{FirstChangeLaw, OwedLaw, StepLaw}
 use Rattle.history_laws.proofs.Histories.{traced_reached}
+use Rattle.history_laws.proofs.Intact.{prefix_append, prefix_way}
 use Rattle.history_laws.proofs.Knowing.{IsKnown, Said}
 
 -- a path of which a change waits lies in a dirty folder
@@ -36,6 +52,10 @@ owed_law opening now newest stand path tree settled traced waits =
     let r = traced_reached opening tree settled newest stand now traced in
     listed _ stand.dirty r.marks now path r.kept.known waits
 
+-- where none is owed, each dirty folder lies on another mount, or was removed
+pub apart_from : (s : FileSystem) (work : Work) (dirty : List Route) (q : Route) → Among dirty q → NoneOwed s work dirty → (refusal_of s (Stat q) ≡ Some Missing) ⊎ LiesApart s (changed_folder work) q
+apart_from s work dirty q among none = elim (none q among) [ inl gone ↦ inl gone | inr apart ↦ inr apart.1 ]
+
 pub in_filter : (keeps : Route → Bool) (q : Route) (routes : List Route) → Among (filter keeps routes) q → Among routes q
 in_filter keeps q [] among = absurd among
 in_filter keeps q (first ∷ routes) among = by (keeps first) refl among (in_filter keeps q routes)
@@ -50,22 +70,78 @@ in_both q [] last (inr none) = absurd none
 in_both q (x ∷ xs) last (inl same) = inr (inl same)
 in_both q (x ∷ xs) last (inr later) = elim (in_both q xs last later) [ inl same ↦ inl same | inr before ↦ inr (inr before) ]
 
+in_joined : (up q : Route) (dirty : List Route) → Among (joined up dirty) q → (q ≡ up) ⊎ Among dirty q
+in_joined up q dirty = by (is_one_of up dirty)
+  where
+    by : (b : Bool) → Among (if b then dirty else dirty ++ up ∷ []) q → (q ≡ up) ⊎ Among dirty q
+    by true among = inr among
+    by false among = in_both q dirty up among
+
+changed_or_before : (a b : Bool) (up q : Route) (dirty : List Route) → Among (with_change a b up dirty) q → (q ≡ up) ⊎ Among dirty q
+changed_or_before false true up q dirty among = in_joined up q dirty among
+changed_or_before true false up q dirty among = inr (in_filter (λ kept. not (same_path kept up)) q dirty among)
+changed_or_before false false up q dirty among = inr among
+changed_or_before true true up q dirty among = inr among
+
+-- the folder of what a deletion removes is its own
+pub own_folder : (d : Deleting) (path q : Route) → is_prefix d.path path ≡ true → q ≡ folder_of path → is_own (Delete d) q ≡ true
+own_folder d path q within same = let w = prefix_way d.path path within in by w.0 (same ∙ ap folder_of w.1)
+  where
+    by : (rest : Route) → q ≡ folder_of (rest ++ d.path) → is_own (Delete d) q ≡ true
+    by [] e = or_left (same_path q (folder_of d.path)) (is_prefix d.path q) (subst (λ p. same_path p (folder_of d.path) ≡ true) (sym e) (same_path-self (folder_of d.path)))
+    by (name ∷ rest) e = or_right (same_path q (folder_of d.path)) (is_prefix d.path q) (subst (λ p. is_prefix d.path p ≡ true) (sym e) (prefix_append d.path rest))
+
 -- what is dirty after a step was dirty, or it is the job's own folder
-own_or_before : (a b : Bool) (up q : Route) (dirty : List Route) → Among (with_change a b up dirty) q → (q ≡ up) ⊎ Among dirty q
-own_or_before false true up q dirty among = in_both q dirty up among
-own_or_before true false up q dirty among = inr (in_filter (λ kept. not (same_path kept up)) q dirty among)
-own_or_before false false up q dirty among = inr among
-own_or_before true true up q dirty among = inr among
+own_or_before : (old next new : Work) (did : Did) (q : Route) (dirty dirty_after : List Route) (before after : Option CallLog) → WorkTells old did next → WorkLeaves old did new dirty dirty_after before after → Among dirty_after q
+    → (is_own old q ≡ true) ⊎ Among dirty q
+own_or_before (Copy c) next (Delete new) did q dirty dirty_after before after t leaves among = absurd leaves
+own_or_before (Copy c) next (Make new) did q dirty dirty_after before after t leaves among = absurd leaves
+own_or_before (Make m) next (Copy new) did q dirty dirty_after before after t leaves among = absurd leaves
+own_or_before (Make m) next (Delete new) did q dirty dirty_after before after t leaves among = absurd leaves
+own_or_before (Make m) next (Make new) did q dirty dirty_after before after t leaves among =
+    elim (changed_or_before (makings.is_dirty m.stage) (makings.is_dirty new.stage) (folder_of m.path) q dirty (subst (λ xs. Among xs q) leaves among)) [
+      | inl same ↦ inl (subst (λ p. same_path p (folder_of m.path) ≡ true) (sym same) (same_path-self (folder_of m.path)))
+      | inr old ↦ inr old
+    ]
+own_or_before (Delete d) (Make next) new did q dirty dirty_after before after t leaves among = absurd t
+own_or_before (Delete d) (Delete next) (Make new) did q dirty dirty_after before after t leaves among = absurd leaves
+own_or_before (Copy c) next (Copy new) did q dirty dirty_after before after t leaves among =
+    elim (changed_or_before (copying.is_dirty c.folder) (copying.is_dirty new.folder) (folder_of c.target) q dirty (subst (λ xs. Among xs q) leaves among)) [
+      | inl same ↦ inl (subst (λ p. same_path p (folder_of c.target) ≡ true) (sym same) (same_path-self (folder_of c.target)))
+      | inr old ↦ inr old
+    ]
+own_or_before (Delete d) (Copy next) new did q dirty dirty_after before after t leaves among = absurd t
+own_or_before (Delete d) (Delete next) (Copy new) did q dirty dirty_after before after t leaves among = absurd leaves
+own_or_before (Delete d) (Delete next) (Delete new) did q dirty dirty_after before after t leaves among = by did t leaves
+  where
+    by : (did : Did) → Tells d did next → DeletionLeaves d did dirty dirty_after before after → (is_own (Delete d) q ≡ true) ⊎ Among dirty q
+    by (Removed path) (going, within, at) (inl h) = elim (in_joined (folder_of path) q dirty (subst (λ xs. Among xs q) h.0 among)) [ inl same ↦ inl (own_folder d path q within same) | inr old ↦ inr old ]
+    by (Removed path) (going, within, at) (inr h) =
+        elim (in_joined (folder_of path) q dirty (in_filter (λ kept. not (same_path kept path)) q (joined (folder_of path) dirty) (subst (λ xs. Among xs q) h.0 among))) [
+          | inl same ↦ inl (own_folder d path q within same)
+          | inr old ↦ inr old
+        ]
+    by Barrier t (folder, own, left, called) = inr (in_filter (λ kept. not (same_path kept folder)) q dirty (subst (λ xs. Among xs q) left among))
+    by (Kept path) t h = inr (subst (λ xs. Among xs q) h among)
+    by (Troubled trouble) t h = inr (subst (λ xs. Among xs q) h among)
+    by (Ended ending part) t h = inr (subst (λ xs. Among xs q) h.1 among)
+    by (Began part) t h = absurd t
+    by (Chunk count) t h = absurd t
+    by (Placed path) t h = absurd t
+    by (Made path) t h = absurd t
+    by (Skipped path why) t h = absurd t
+    by (Cleaned part) t h = absurd t
 
 pub first_change_law : FirstChangeLaw
 first_change_law opening log now older newest was stand job new did path tree settled before traced works goes fresh waits =
     let r = traced_reached opening tree settled newest stand now traced in
     let among = listed _ stand.dirty r.marks now path r.kept.known waits in
-    let leaves : stand.dirty ≡ with_change (is_dirty job.work) (is_dirty new.work) (changed_folder job.work) was.dirty =
+    let tells : TellsOn GoesOn job did new = subst (λ (course : Course). TellsOn course job did new) goes works.tells in
+    let leaves : WorkLeaves job.work did new.work was.dirty stand.dirty (Some log) (Some now) =
     subst (λ (course : Course). LeavesDirty course job.work did new.work was.dirty stand.dirty (Some log) (Some now)) goes works.leaves in
-    elim (own_or_before (is_dirty job.work) (is_dirty new.work) (changed_folder job.work) (folder_of path) was.dirty (subst (λ xs. Among xs (folder_of path)) leaves among)) [
+    elim (own_or_before job.work tells.0 new.work did (folder_of path) was.dirty stand.dirty (Some log) (Some now) tells.1 leaves among) [
       | inl own ↦ inl own
-      | inr old ↦ inr (works.settled goes fresh (folder_of path) old)
+      | inr old ↦ inr (apart_from (current log) job.work was.dirty (folder_of path) old (works.settled goes fresh))
     ]
 
 pub step_law : StepLaw

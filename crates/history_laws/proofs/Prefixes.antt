@@ -1,10 +1,11 @@
 -- What a history says of its first calls doesn't hang on those that come later.
-use Rattle.std.proofs.Common.{◌≡◌, ℕ, ◌+◌, ◌≤◌, Bool, true, List, [], ◌∷◌, length, length-append, refl, ◌∙◌, ap, subst, inl, inr, Option, Some, None, arith}
-use Rattle.std.proofs.lemmas.Bool.{or_right}
+use Rattle.std.proofs.Common.{◌≡◌, ℕ, ◌+◌, ◌≤◌, ◌||◌, not, Bool, true, false, List, [], ◌∷◌, length, length-append, refl, ◌∙◌, ap, subst, inl, inr, Option, Some, None, arith}
+use Rattle.std.proofs.lemmas.Bool.{and_from, or_right}
 use Rattle.std.proofs.lemmas.List.{take-append-le}
 use Rattle.std.specs.Option.{option_map_or}
-use Rattle.mc_text.specs.Routes.{Route}
+use Rattle.mc_text.specs.Routes.{Route, same_path}
 use Rattle.job_reports.specs.declared.report.Did.{Did}
+use Rattle.job_reports.specs.declared.report.Did.TheVariants.{Began, Chunk, Placed, Removed, Made, Kept, Skipped, Cleaned, Barrier, Troubled, Ended}
 use Rattle.job_reports.specs.Jobs.{Item, folder_changed}
 use Rattle.tree_trait.specs.FileSystem.{View}
 use Rattle.tree_trait.specs.Change.{Change, CallLog, current}
@@ -14,12 +15,13 @@ use Rattle.session_history.specs.declared.history.Event.TheVariants as event
 use Rattle.session_history.specs.declared.history.Entry.{Entry}
 use Rattle.session_history.specs.LiveJobs.{LiveJob, live_item, live_jobs}
 use Rattle.history_laws.specs.Replayed.{earlier_event, earlier_tree, log_prefix, replayed_event, replayed_tree}
-use Rattle.session_history.specs.Named.{IsUnnamedSince, named_after, named_parts}
+use Rattle.session_history.specs.Named.{IsUnnamedSince, named_after, named_parts, names, names_path}
 use Rattle.history_laws.proofs.Knowing.{Said, anywhere}
 use Rattle.history_laws.proofs.Resting.{folder_at}
 use Rattle.history_laws.proofs.Stepped.{folders_by, more}
 
--- the folders that are known to be on the disk after an event: the one in which a step made a job's first change is
+-- the folders that are known to be on the disk after an event: the one in which a step made a job's first change is, and none that
+-- was removed
 abbrev pub folders_event : Event → List LiveJob → (Route → Bool) → Route → Bool
 folders_event (Step id did) jobs before = option_map_or (λ item. folders_by did (folder_changed item) before) (live_item id jobs) before
 folders_event (Key key now refusals lost) jobs before = before
@@ -80,20 +82,33 @@ told_more opening now cs g part w =
     ap (λ v. said_by (folders_told opening g) v (earlier_tree opening (more now cs) g) (named_parts g) part) (replayed_more opening now cs g w)
     ∙ ap (λ v. said_by (folders_told opening g) (replayed_tree opening now g) v (named_parts g) part) (earlier_more opening now cs g w)
 
--- a folder that is known to be on the disk stays known
-known_still : (did : Did) (item : Option Item) (before : Route → Bool) (p : Route) → before p ≡ true → option_map_or (λ i. folders_by did (folder_changed i) before) item before p ≡ true
-known_still did None before p h = h
-known_still did (Some item) before p h = or_right _ _ h
+-- a folder that is known to be on the disk stays known until a report names it
+known_by : (did : Did) (folder : Route) (before : Route → Bool) (p : Route) → names did p ≡ false → before p ≡ true → folders_by did folder before p ≡ true
+known_by (Began part) folder before p unnamed h = or_right _ _ h
+known_by (Removed path) folder before p unnamed h = and_from (same_path p folder || before p) (not (same_path p path)) (or_right _ _ h) (ap not unnamed)
+known_by (Made path) folder before p unnamed h = or_right _ _ h
+known_by (Chunk count) folder before p unnamed h = h
+known_by (Placed path) folder before p unnamed h = h
+known_by (Kept kept) folder before p unnamed h = h
+known_by (Skipped path cause) folder before p unnamed h = h
+known_by (Cleaned part) folder before p unnamed h = h
+known_by Barrier folder before p unnamed h = h
+known_by (Troubled trouble) folder before p unnamed h = h
+known_by (Ended ending part) folder before p unnamed h = h
 
-pub folders_more : (what : Event) (jobs : List LiveJob) (before : Route → Bool) (p : Route) → before p ≡ true → folders_event what jobs before p ≡ true
-folders_more (Step id did) jobs before p h = known_still did (live_item id jobs) before p h
-folders_more (Key key now refusals lost) jobs before p h = h
-folders_more (Look refusals) jobs before p h = h
-folders_more (event.Began id plan background) jobs before p h = h
-folders_more (Order id order) jobs before p h = h
-folders_more Closed jobs before p h = h
+known_still : (did : Did) (item : Option Item) (before : Route → Bool) (p : Route) → names did p ≡ false → before p ≡ true → option_map_or (λ i. folders_by did (folder_changed i) before) item before p ≡ true
+known_still did None before p unnamed h = h
+known_still did (Some item) before p unnamed h = known_by did (folder_changed item) before p unnamed h
 
-pub folders_since : (opening : CallLog) (older g : List Entry) (path p : Route) → IsUnnamedSince older path g → folders_told opening older p ≡ true → folders_told opening g p ≡ true
-folders_since opening older [] path p same h = subst (λ x. folders_told opening x p ≡ true) same h
-folders_since opening older (e ∷ g) path p (inl same) h = subst (λ x. folders_told opening x p ≡ true) same h
-folders_since opening older (e ∷ g) path p (inr (unnamed, since)) h = folders_more e.what (live_jobs g) (folders_told opening g) p (folders_since opening older g path p since h)
+pub folders_more : (what : Event) (jobs : List LiveJob) (before : Route → Bool) (p : Route) → names_path what p ≡ false → before p ≡ true → folders_event what jobs before p ≡ true
+folders_more (Step id did) jobs before p unnamed h = known_still did (live_item id jobs) before p unnamed h
+folders_more (Key key now refusals lost) jobs before p unnamed h = h
+folders_more (Look refusals) jobs before p unnamed h = h
+folders_more (event.Began id plan background) jobs before p unnamed h = h
+folders_more (Order id order) jobs before p unnamed h = h
+folders_more Closed jobs before p unnamed h = h
+
+pub folders_since : (opening : CallLog) (older g : List Entry) (p : Route) → IsUnnamedSince older p g → folders_told opening older p ≡ true → folders_told opening g p ≡ true
+folders_since opening older [] p same h = subst (λ x. folders_told opening x p ≡ true) same h
+folders_since opening older (e ∷ g) p (inl same) h = subst (λ x. folders_told opening x p ≡ true) same h
+folders_since opening older (e ∷ g) p (inr (unnamed, since)) h = folders_more e.what (live_jobs g) (folders_told opening g) p unnamed (folders_since opening older g p since h)

@@ -86,7 +86,7 @@ has_name (name ∷ folder) h = record { name = name; is = refl }
 -- the work of a plan knows its target
 module _ (told : Said) (dirty : List Route) (marks : Marks) (s : FileSystem) (none : told.part ≡ None) where
   deletes : (path : Route) (w : Work) (b : Bool) → is_some (parent_of path) ≡ b → (let o : Option Work = if◌then◌else◌ b (Some (Rattle.copy_move.specs.Jobs.deletes path)) None in o) ≡ Some w → WorkKnows told dirty marks s GoesOn w
-  deletes path w true has is = subst (λ x. WorkKnows told dirty marks s GoesOn x) (let e : Rattle.copy_move.specs.Jobs.deletes path ≡ w = cc in e) (has_name path has, none)
+  deletes path w true has is = subst (λ x. WorkKnows told dirty marks s GoesOn x) (let e : Rattle.copy_move.specs.Jobs.deletes path ≡ w = cc in e) (has_name path has, none, λ e. absurd (let f : ⊥ = cc in f))
   deletes path w false has is = absurd (let f : ⊥ = cc in f)
 
   makes : (path : Route) (w : Work) (b : Bool) → is_some (parent_of path) ≡ b → (let o : Option Work = if◌then◌else◌ b (Some (Rattle.copy_move.specs.Jobs.makes path)) None in o) ≡ Some w → WorkKnows told dirty marks s GoesOn w

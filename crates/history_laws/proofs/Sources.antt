@@ -2,7 +2,7 @@
 use Rattle.std.proofs.Common.{◌≡◌, ℕ, Bool, true, false, [], ◌∷◌, refl, sym, ◌∙◌, ap, inl, inr, Some, None}
 use Rattle.std.specs.Prelude.{if◌then◌else◌, is_some, ◌&&◌}
 use Rattle.std.specs.Option.{option_map}
-use Rattle.mc_text.specs.Routes.{parent_of}
+use Rattle.mc_text.specs.Routes.{Route, parent_of}
 use Rattle.job_reports.specs.declared.job.Job.{Job}
 use Rattle.job_reports.specs.declared.job.Job.TheVariants as plan
 use Rattle.job_reports.specs.Jobs.{Item, Copies, Removes, Makes, folder_changed, item_of}
@@ -22,7 +22,7 @@ use Rattle.copy_move.specs.Deletions.{Deleting}
 use Rattle.copy_move.specs.Deletions as deletions
 use Rattle.copy_move.specs.Makings.{Making}
 use Rattle.copy_move.specs.Makings as makings
-use Rattle.copy_move.specs.Jobs.{Running, JobTells, TellsOn, WorkTells, WorkWinds, answered, answered_on, copies, deletes, first_work, makes, skipped, taken_anew}
+use Rattle.copy_move.specs.Jobs.{PassesOver, Running, JobTells, TellsOn, WorkTells, WorkWinds, answered, answered_on, copies, deletes, first_work, makes, taken_anew}
 use Rattle.copy_move.specs.Settling.{changed_folder}
 
 -- what a work is at, whatever its stage
@@ -72,10 +72,10 @@ copy_paths c new (Kept path) t = absurd t
 copy_paths c new (Skipped path why) t = absurd t
 
 deletion_paths : (d new : Deleting) (did : Did) → deletions.Tells d did new → item_in (Delete new) ≡ item_in (Delete d)
-deletion_paths d new (Removed path) (stage, path_is, new_is) = ap (λ (x : Deleting). item_in (Delete x)) new_is
-deletion_paths d new Barrier (stage, new_is) = ap (λ (x : Deleting). item_in (Delete x)) new_is
-deletion_paths d new (Troubled trouble) (at, new_is) = ap (λ (x : Deleting). item_in (Delete x)) new_is
-deletion_paths d new (Ended Finished part) (is_done, part_is, new_is) = ap (λ (x : Deleting). item_in (Delete x)) new_is
+deletion_paths d new (Removed path) (going, within, at) = ap Removes at.path_is
+deletion_paths d new Barrier (stage, at) = ap Removes at.path_is
+deletion_paths d new (Troubled trouble) (barrier, at) = ap Removes at.path_is
+deletion_paths d new (Ended Finished part) (stage, part_is, at) = ap Removes at.path_is
 deletion_paths d new (Ended Aborted part) t = absurd t
 deletion_paths d new (Ended Killed part) t = absurd t
 deletion_paths d new (Ended NoMemory part) t = absurd t
@@ -83,7 +83,7 @@ deletion_paths d new (Began part) t = absurd t
 deletion_paths d new (Chunk count) t = absurd t
 deletion_paths d new (Placed path) t = absurd t
 deletion_paths d new (Made made) t = absurd t
-deletion_paths d new (Kept kept) t = absurd t
+deletion_paths d new (Kept path) (going, at) = ap Removes at.path_is
 deletion_paths d new (Skipped path why) t = absurd t
 deletion_paths d new (Cleaned part) t = absurd t
 
@@ -117,8 +117,8 @@ copy_winds ending c new (Skipped path why) t = absurd t
 copy_winds ending c new (Troubled trouble) t = absurd t
 
 deletion_winds : (ending : Ending) (d new : Deleting) (did : Did) → deletions.Winds ending d did new → item_in (Delete new) ≡ item_in (Delete d)
-deletion_winds ending d new Barrier (stage, new_is) = ap (λ (x : Deleting). item_in (Delete x)) new_is
-deletion_winds ending d new (Ended how part) (stage, how_is, part_is, new_is) = ap (λ (x : Deleting). item_in (Delete x)) new_is
+deletion_winds ending d new Barrier (path_is, stage_is) = ap Removes path_is
+deletion_winds ending d new (Ended how part) (how_is, part_is, path_is, stage_is) = ap Removes path_is
 deletion_winds ending d new (Began part) t = absurd t
 deletion_winds ending d new (Chunk count) t = absurd t
 deletion_winds ending d new (Placed path) t = absurd t
@@ -164,10 +164,16 @@ wind_paths ending (Make m) (Delete new) did t = absurd t
 wind_paths ending (Delete d) (Delete new) did t = deletion_winds ending d new did t
 wind_paths ending (Make m) (Make new) did t = making_winds ending m new did t
 
-skip_paths : (work : Work) → item_in (skipped work) ≡ item_in work
-skip_paths (Copy c) = refl
-skip_paths (Delete d) = refl
-skip_paths (Make m) = refl
+skip_paths : (work new : Work) (path : Route) → PassesOver work path new → item_in new ≡ item_in work
+skip_paths (Copy c) (Copy new) path (path_is, new_is) = ap (λ (x : Copying). item_in (Copy x)) new_is
+skip_paths (Copy c) (Delete new) path h = absurd h
+skip_paths (Copy c) (Make new) path h = absurd h
+skip_paths (Delete d) (Copy new) path h = absurd h
+skip_paths (Delete d) (Delete new) path at = ap Removes at.path_is
+skip_paths (Delete d) (Make new) path h = absurd h
+skip_paths (Make m) (Copy new) path h = absurd h
+skip_paths (Make m) (Delete new) path h = absurd h
+skip_paths (Make m) (Make new) path (path_is, new_is) = ap (λ (x : Making). item_in (Make x)) new_is
 
 anew_paths : (work : Work) → item_in (taken_anew work) ≡ item_in work
 anew_paths (Copy c) = refl
@@ -181,7 +187,7 @@ on_same : (old new : Running) (did : Did) (course : Course) → TellsOn course o
 on_same old new did GoesOn (work, tells, new_is) = (ap (λ (x : Running). x.id) new_is, ap (λ (x : Running). item_in x.work) new_is ∙ work_paths old.work work did tells)
 on_same old new did (InTrouble why) t = absurd t
 on_same old new did (OwedSyncFailed why) t = absurd t
-on_same old new did (Skips why) (inl (did_is, new_is)) = (ap (λ (x : Running). x.id) new_is, ap (λ (x : Running). item_in x.work) new_is ∙ skip_paths old.work)
+on_same old new did (Skips why) (inl (path, work, did_is, passes, new_is)) = (ap (λ (x : Running). x.id) new_is, ap (λ (x : Running). item_in x.work) new_is ∙ skip_paths old.work work path passes)
 on_same old new did (Skips why) (inr (did_is, new_is)) = (ap (λ (x : Running). x.id) new_is, ap (λ (x : Running). item_in x.work) new_is)
 on_same old new did (Ends ending) (work, winds, new_is) = (ap (λ (x : Running). x.id) new_is, ap (λ (x : Running). item_in x.work) new_is ∙ wind_paths ending old.work work did winds)
 

@@ -1,5 +1,5 @@
 -- What a step of a job comes to: at each call of it what is known holds, and at its end what the history says then.
-use Rattle.std.proofs.Common.{◌≡◌, ◌⊎◌, ℕ, ◌≤◌, Bool, false, ◌&&◌, ◌||◌, List, [], ◌∷◌, ◌++◌, length, sym, ◌∙◌, ap, subst, inl, inr, Option, Some, None, arith, take, append_assoc, append-nil, length-append}
+use Rattle.std.proofs.Common.{◌≡◌, ◌⊎◌, ℕ, ◌≤◌, Bool, false, not, ◌&&◌, ◌||◌, List, [], ◌∷◌, ◌++◌, length, sym, ◌∙◌, ap, subst, inl, inr, Option, Some, None, arith, take, append_assoc, append-nil, length-append}
 use Rattle.std.specs.Option.{option_map_or}
 use Rattle.std.proofs.lemmas.Bool.{cases_lt}
 use Rattle.std.proofs.Math.Seq.{take-append_seam, take-length}
@@ -11,7 +11,7 @@ use Rattle.job_reports.specs.declared.report.Did.{Did}
 use Rattle.job_reports.specs.declared.report.Did.TheVariants.{Began, Chunk, Placed, Removed, Made, Kept, Skipped, Cleaned, Barrier, Troubled, Ended}
 use Rattle.copy_move.specs.declared.work.Work.{Work}
 use Rattle.history_laws.specs.Replayed.{replayed_step, keeping}
-use Rattle.session_history.specs.Named.{begins_change, changed_by, named_by}
+use Rattle.session_history.specs.Named.{changed_by, named_by}
 use Rattle.history_laws.proofs.Knowing.{Said, IsKnown, IsKept, settled_kept, settled_marks}
 use Rattle.history_laws.proofs.Sources.{item_in}
 
@@ -85,9 +85,19 @@ doubt_by Barrier part before = before
 doubt_by (Troubled trouble) part before = before
 doubt_by (Ended ending left) part before = before
 
--- the folder of a job's first change is on the disk from then on
+-- the folder of a job's first change is on the disk from then on, until it is removed
 abbrev pub folders_by : Did → Route → (Route → Bool) → Route → Bool
-folders_by did folder before = λ p. (begins_change did && same_path p folder) || before p
+folders_by (Began made) folder before = λ p. same_path p folder || before p
+folders_by (Removed path) folder before = λ p. (same_path p folder || before p) && not (same_path p path)
+folders_by (Made path) folder before = λ p. same_path p folder || before p
+folders_by (Placed path) folder before = before
+folders_by (Cleaned gone) folder before = before
+folders_by (Chunk count) folder before = before
+folders_by (Kept kept) folder before = before
+folders_by (Skipped path cause) folder before = before
+folders_by Barrier folder before = before
+folders_by (Troubled trouble) folder before = before
+folders_by (Ended ending left) folder before = before
 
 abbrev pub said_after : CallLog → Did → Work → Said → Said
 said_after now did work told = record {

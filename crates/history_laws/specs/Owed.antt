@@ -14,8 +14,8 @@ use Rattle.job_reports.specs.Paths.{folder_of}
 use Rattle.session_history.specs.declared.history.Entry.{Entry}
 use Rattle.session_history.specs.Named.{has_changed}
 use Rattle.copy_move.specs.declared.run.Course.TheVariants.{GoesOn}
-use Rattle.copy_move.specs.Jobs.{JobTells, Running, is_fresh}
-use Rattle.copy_move.specs.Settling.{IsMountOf, changed_folder}
+use Rattle.copy_move.specs.Jobs.{Running, is_fresh}
+use Rattle.copy_move.specs.Settling.{IsMountOf, changed_folder, is_own}
 use Rattle.copy_move.specs.Steps.{RunStep, step_made}
 use Rattle.history_laws.specs.Traces.{IsUnclaimed, IsTraced, Stand, StepLeads, WorkLeads, unless_ended}
 use Rattle.history_laws.specs.Doubt.{is_unsettled, name_waits}
@@ -30,17 +30,18 @@ abbrev pub IsApart : CallLog → Route → Route → Type 0
 IsApart log folder other =
     (refusal_of (current log) (Stat other) ≡ Some Missing) ⊎ ((number : ℕ) × IsMountOf (current log) folder number × (IsMountOf (current log) other number → ⊥))
 
--- Once a job has made its first change, each change that isn't on the disk yet is in its own folder, or on another mount.
+-- Once a job has made its first change, each change that isn't on the disk yet is in a folder of its own, or on another mount.
 abbrev pub FirstChangeLaw : Type 0
 FirstChangeLaw = (opening log now : CallLog) (older newest : List Entry) (was stand : Stand) (job new : Running) (did : Did) (path : Route)
     → IsTree (current opening) → all_settled opening.changes ≡ true → IsTraced opening older was log → IsTraced opening newest stand now
     → WorkLeads job did new was.dirty stand.dirty log now → job.course ≡ GoesOn → is_fresh job.work ≡ true → name_waits now path ≡ true
-    → (folder_of path ≡ changed_folder job.work) ⊎ IsApart log (changed_folder job.work) (folder_of path)
+    → (is_own job.work (folder_of path) ≡ true) ⊎ IsApart log (changed_folder job.work) (folder_of path)
 
--- A job that may report that it is finished, and has changed something, has left nothing in its folder that is in doubt.
+-- A job that has changed something, and whose step is that it is finished, has left nothing that is in doubt in the folder that holds
+-- what it placed or removed.
 abbrev pub FinishedLaw : Type 0
-FinishedLaw = (opening now : CallLog) (newest : List Entry) (stand : Stand) (job new : Running) (part : Option Route) (path : Route)
-    → IsTree (current opening) → all_settled opening.changes ≡ true → IsTraced opening newest stand now → stand.jobs ≡ job ∷ [] → JobTells job (Ended Finished part) new
+FinishedLaw = (opening now after : CallLog) (newest : List Entry) (stand : Stand) (dirty : List Route) (job new : Running) (part : Option Route) (path : Route)
+    → IsTree (current opening) → all_settled opening.changes ≡ true → IsTraced opening newest stand now → stand.jobs ≡ job ∷ [] → WorkLeads job (Ended Finished part) new stand.dirty dirty now after
     → has_changed job.id newest ≡ true → folder_of path ≡ changed_folder job.work → is_unsettled now path ≡ false
 
 -- The machine's own step is one of which such a history tells.

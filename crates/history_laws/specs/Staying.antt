@@ -13,7 +13,7 @@ use Rattle.job_reports.specs.Paths.{folder_of}
 use Rattle.session_history.specs.declared.history.Event.TheVariants.{Step}
 use Rattle.session_history.specs.declared.history.Entry.{Entry}
 use Rattle.job_reports.specs.Jobs.{Item, folder_changed}
-use Rattle.copy_move.specs.Jobs.{JobTells, Running}
+use Rattle.copy_move.specs.Jobs.{Running}
 use Rattle.copy_move.specs.Settling.{changed_folder}
 use Rattle.history_laws.specs.Doubt.{name_waits}
 use Rattle.session_history.specs.LiveJobs.{IsLivePart, live_jobs, live_item}
@@ -21,7 +21,7 @@ use Rattle.session_history.specs.Named.{has_changed, named_parts, names_path, Is
 use Rattle.history_laws.specs.Replayed.{log_prefix, replayed_tree}
 use Rattle.session_history.specs.Entries.{IsMoment, calls_in}
 use Rattle.history_laws.specs.Safe.{IsPart}
-use Rattle.history_laws.specs.Traces.{IsTraced, Stand}
+use Rattle.history_laws.specs.Traces.{IsTraced, Stand, WorkLeads}
 
 -- A path of whose name no change waited for a sync where the older entries ended, and that was no live job's part, waits for none
 -- at any later moment, inside a call too, until an entry names it.
@@ -32,14 +32,15 @@ StaysLaw = (opening now : CallLog) (newest older standing coming : List Entry) (
     → name_waits (log_prefix opening (calls_in older) now) path ≡ false → (IsLivePart (live_jobs older) path → ⊥)
     → name_waits (log_prefix opening calls now) path ≡ false
 
--- Where the older entries ended a job may report that it is finished, and it has changed something. From then on, at each
+-- Where the older entries ended a job has changed something, and its step is that it is finished. From then on, at each
 -- moment, inside a call too, each path of its folder holds after any crash what the history said then, until an entry names
--- it; but for paths that were named as parts.
+-- it, or that folder; but for paths that were named as parts.
 abbrev pub FinishedStaysLaw : Type 0
-FinishedStaysLaw = (opening now : CallLog) (newest older standing coming : List Entry) (was stand : Stand) (job new : Running) (part : Option Route) (calls : ℕ) (path : Route) (image : FileSystem)
+FinishedStaysLaw = (opening now after : CallLog) (newest older standing coming : List Entry) (was stand : Stand) (dirty : List Route) (job new : Running) (part : Option Route) (calls : ℕ) (path : Route) (image : FileSystem)
     → IsTree (current opening) → all_settled opening.changes ≡ true → IsTraced opening newest stand now → IsTraced opening older was (log_prefix opening (calls_in older) now)
-    → was.jobs ≡ job ∷ [] → JobTells job (Ended Finished part) new → has_changed job.id older ≡ true → folder_of path ≡ changed_folder job.work → (Among (named_parts older) path → ⊥)
-    → IsMoment newest standing coming calls → IsUnnamedSince older path standing → IsUnnamedSince older path coming → IsCrashImage now (length opening.changes + calls) image
+    → was.jobs ≡ job ∷ [] → WorkLeads job (Ended Finished part) new was.dirty dirty (log_prefix opening (calls_in older) now) after → has_changed job.id older ≡ true → folder_of path ≡ changed_folder job.work → (Among (named_parts older) path → ⊥)
+    → IsMoment newest standing coming calls → IsUnnamedSince older path standing → IsUnnamedSince older path coming
+    → IsUnnamedSince older (folder_of path) standing → IsUnnamedSince older (folder_of path) coming → IsCrashImage now (length opening.changes + calls) image
     → value_at image path ≡ (replayed_tree opening now older path).value
 
 -- This entry, after the older ones, is the report of a job that it is finished, which has changed something in this folder.
@@ -54,13 +55,14 @@ pub record HasFinished (e : Entry) (older : List Entry) (folder : Route) : Type 
 
 -- The same in the words of the history alone: once a job that has changed something has reported that it is finished, each
 -- path of its folder holds after a crash at any later moment, inside a call too, what the history said then, until an entry
--- names it; but for a part that still stood there then or whose last change wasn't on the disk, and a part that its end names.
+-- names it, or that folder; but for a part that still stood there then or whose last change wasn't on the disk, and a part that its end names.
 -- So a finished copy leaves none of the parts that it made.
 abbrev pub StaysDone : CallLog → CallLog → List Entry → Type 0
 StaysDone opening now newest =
     (e : Entry) (older standing coming : List Entry) (calls : ℕ) (path : Route) (image : FileSystem)
     → HasFinished e older (folder_of path) → (IsPart (e ∷ older) (log_prefix opening e.calls now) path → ⊥) → names_path e.what path ≡ false
     → IsMoment newest standing coming calls → IsUnnamedSince (e ∷ older) path standing → IsUnnamedSince (e ∷ older) path coming
+    → IsUnnamedSince (e ∷ older) (folder_of path) standing → IsUnnamedSince (e ∷ older) (folder_of path) coming
     → IsCrashImage now (length opening.changes + calls) image → value_at image path ≡ (replayed_tree opening now older path).value
 
 abbrev pub DoneLaw : Type 0

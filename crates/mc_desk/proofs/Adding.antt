@@ -6,7 +6,7 @@ use Rattle.std.proofs.lemmas.Bool.{eq-eqb}
 use Rattle.key_screen.specs.declared.keys.Key.{Key as KeyType}
 use Rattle.mc_text.specs.Routes.{Route}
 use Rattle.tree_trait.specs.declared.calls.TreeError.{TreeError}
-use Rattle.tree_trait.specs.Calls.{Stat, ListFolder, SyncFolder}
+use Rattle.tree_trait.specs.Calls.{SyncFolder}
 use Rattle.tree_trait.specs.Change.{CallLog}
 use Rattle.tree_trait.specs.Answers.{IfKnown, HasRisen}
 use Rattle.job_reports.specs.CallRuns.{HasMore}
@@ -36,7 +36,7 @@ use Rattle.history_laws.proofs.Owing.{step_law}
 use Rattle.history_laws.proofs.Reports.{with_one}
 use Rattle.job_reports.specs.Jobs.{is_workable}
 use Rattle.mc_ui.specs.LiveJobs.{takes_answer}
-use Rattle.mc_ui.specs.Screens.{Begins, Answers, Ends, LookLeads, Screen, sight}
+use Rattle.mc_ui.specs.Screens.{Begins, Answers, Ends, LookLeads, Screen}
 use Rattle.mc_ui.specs.Refused.{has_fault}
 use Rattle.mc_desk.specs.Tallies.{Tally, faults_in, can_step, end_unseen_event, next_id, news_left}
 use Rattle.mc_desk.specs.Desks.{Seen, noted, stand_of, stand_with, with_end}
@@ -137,8 +137,8 @@ module _ (contents contents_after : Option CallLog) (faults : ℕ) (old new : Se
   -- a key that was worked
   pub adds_key : (key : KeyType) (now : ℕ) (refusals : List Refusal) → new.newest ≡ entry seat old.tally.calls count shown (Key key now refusals false) ∷ old.newest → new.tally ≡ old.tally → new.job ≡ old.job
       → new.tally.job ≡ option_map told new.job → old.tally.closed ≡ false → old.tally.due ≡ None → old.tally.lost ≡ false → old.screen.planned ≡ None → contents_after ≡ contents
-      → faults_in faults old.newest ≤ count → (has_fault refusals ≡ true → HasRisen (faults_in faults old.newest) count) → IfKnown contents (λ log. AreRefused Stat log refusals)
-      → KeyWorks (sight contents) (rows_told old.newest) (next_id old.tally.last) key refusals (noted old) (noted new) → old.quit ≡ false → new.dirty ≡ old.dirty
+      → faults_in faults old.newest ≤ count → (has_fault refusals ≡ true → HasRisen (faults_in faults old.newest) count) → IfKnown contents (λ log. AreRefused log refusals)
+      → KeyWorks contents (rows_told old.newest) (next_id old.tally.last) now key refusals (noted old) (noted new) → old.quit ≡ false → new.dirty ≡ old.dirty
       → DrawsFrame (none_before old.newest) (frame_due (noted new) (next_id old.tally.last) (rows_told old.newest)) shown old.out.put new.out.put
       → Adds contents contents_after faults old new (entry seat old.tally.calls count shown (Key key now refusals false))
   adds_key key now refusals more tally job tells unclosed looked unlost settled same later fault refused leads unasked dirty draws = record {
@@ -177,8 +177,8 @@ module _ (contents contents_after : Option CallLog) (faults : ℕ) (old new : Se
   pub adds_look : (refusals : List Refusal) → new.newest ≡ entry seat old.tally.calls count shown (Look refusals) ∷ old.newest
       → new.tally ≡ record old.tally { has_unseen_end = false; due = if can_step old.tally.job then old.tally.due else None } → new.job ≡ old.job → new.tally.job ≡ option_map told new.job
       → old.tally.closed ≡ false → IsSome old.tally.due → old.screen.planned ≡ None → contents_after ≡ contents
-      → faults_in faults old.newest ≤ count → (has_fault refusals ≡ true → HasRisen (faults_in faults old.newest) count) → IfKnown contents (λ log. AreRefused ListFolder log refusals)
-      → LookLeads (sight contents) (rows_told old.newest) old.tally.has_unseen_end (news_left old.newest) refusals old.screen new.screen → new.quit ≡ old.quit → old.quit ≡ false → new.dirty ≡ old.dirty
+      → faults_in faults old.newest ≤ count → (has_fault refusals ≡ true → HasRisen (faults_in faults old.newest) count) → IfKnown contents (λ log. AreRefused log refusals)
+      → LookLeads contents (rows_told old.newest) old.tally.has_unseen_end (news_left old.newest) refusals old.screen new.screen → new.quit ≡ old.quit → old.quit ≡ false → new.dirty ≡ old.dirty
       → DrawsFrame (none_before old.newest) (frame_due (noted new) (next_id old.tally.last) (rows_told old.newest)) shown old.out.put new.out.put
       → Adds contents contents_after faults old new (entry seat old.tally.calls count shown (Look refusals))
   adds_look refusals more tally job tells unclosed is_due settled same later fault refused leads quit unasked dirty draws = record {
@@ -192,8 +192,8 @@ module _ (contents contents_after : Option CallLog) (faults : ℕ) (old new : Se
     leads = (
       unclosed,
       is_due,
-      subst (λ s. LookLeads (sight contents) (rows_told old.newest) old.tally.has_unseen_end (news_left old.newest) refusals s (noted new)) (sym (unasked_screen old unasked))
-          (subst (λ s. LookLeads (sight contents) (rows_told old.newest) old.tally.has_unseen_end (news_left old.newest) refusals old.screen s) (sym (unasked_screen new (quit ∙ unasked))) leads),
+      subst (λ s. LookLeads contents (rows_told old.newest) old.tally.has_unseen_end (news_left old.newest) refusals s (noted new)) (sym (unasked_screen old unasked))
+          (subst (λ s. LookLeads contents (rows_told old.newest) old.tally.has_unseen_end (news_left old.newest) refusals old.screen s) (sym (unasked_screen new (quit ∙ unasked))) leads),
     );
     caused = refused;
     traced = leads_still contents contents_after same old new (entry seat old.tally.calls count shown (Look refusals)) refl dirty (λ log stays. record { after_is = stays; now_is = refl }) (job ∙ open_job old.tally.closed old.job unclosed);

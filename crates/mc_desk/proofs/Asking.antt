@@ -1,37 +1,31 @@
 -- What a key comes to, by what the desk decides about it.
-use Rattle.std.proofs.Common.{◌≡◌, ◌⊎◌, ℕ, Bool, true, false, List, [], sym, ◌∙◌, ap, subst, inl, inr, Option, Some, None}
-use Rattle.std.proofs.lemmas.Bool.{false≢true}
+use Rattle.std.proofs.Common.{◌≡◌, ℕ, true, List, [], sym, ◌∙◌, ap, subst, inl, inr, Option, Some, None}
 use Rattle.key_screen.specs.declared.keys.Key.{Key as KeyType}
-use Rattle.tree_trait.specs.Calls.{Stat}
-use Rattle.tree_trait.specs.FileSystem.{View}
 use Rattle.tree_trait.specs.Change.{CallLog}
-use Rattle.tree_trait.specs.Answers.{IfKnown, HasRisen}
 use Rattle.job_reports.specs.declared.row.JobRow.{JobRow}
 use Rattle.session_history.specs.declared.refusal.BeginError.TheVariants.{NoMoreIds}
 use Rattle.session_history.specs.declared.refusal.Refusal.{Refusal}
 use Rattle.session_history.specs.declared.refusal.Refusal.TheVariants as refusal
-use Rattle.session_history.specs.Refusals.{AreRefused}
 use Rattle.mc_ui.specs.declared.asks.Ask.{Ask}
 use Rattle.mc_ui.specs.declared.asks.Ask.TheVariants as ask
 use Rattle.mc_ui.specs.declared.asks.Told.{Told}
 use Rattle.mc_ui.specs.declared.asks.Told.TheVariants as told
-use Rattle.mc_ui.specs.Refused.{has_fault}
-use Rattle.mc_ui.specs.Screens.{Answers, Begins, Ends, KeyLeads, Screen, WellAsked, is_request, settled, told_refusal, with_ask}
+use Rattle.mc_ui.specs.Screens.{Answers, Begins, Ends, KeyLeads, Screen, WellAsked, at_second, is_request, settled, told_refusal, with_ask}
 use Rattle.mc_ui.specs.Screens.{HasSameSize}
 use Rattle.mc_desk.specs.declared.granting.Deed.{Deed}
 use Rattle.mc_desk.specs.declared.granting.Deed.TheVariants as deed
-use Rattle.mc_desk.specs.Granting.{CanBeDone, IsGranted, IsWorked, KeyWorks, no_more_ids, told_of, with_deed}
+use Rattle.mc_desk.specs.Granting.{CanBeDone, IsGranted, IsWorked, KeyWorks, told_of, with_deed}
 
-module _ (tree : Option View) (rows : List JobRow) (next : Option ℕ) (key : KeyType) (own : List Refusal) (asked : Ask) (before screen : Screen) (refusals : List Refusal) (now : Screen)
-    (leads : KeyLeads tree rows key own before (with_ask asked screen)) where
+module _ (contents : Option CallLog) (rows : List JobRow) (next : Option ℕ) (second : ℕ) (key : KeyType) (own : List Refusal) (asked : Ask) (before screen : Screen) (refusals : List Refusal) (now : Screen)
+    (leads : KeyLeads contents rows second key own before (with_ask asked screen)) where
   -- the key, as the screen works it
-  leads_to : (is : Ask) (said : List Refusal) (after : Screen) → asked ≡ is → said ≡ own → after ≡ with_ask is screen → KeyLeads tree rows key said before after
+  leads_to : (is : Ask) (said : List Refusal) (after : Screen) → asked ≡ is → said ≡ own → after ≡ with_ask is screen → KeyLeads contents rows second key said before after
   leads_to is said after same refused there =
-      subst (λ rs. KeyLeads tree rows key rs before after) (sym refused)
-      (subst (λ s. KeyLeads tree rows key own before s) (sym there) (subst (λ a. KeyLeads tree rows key own before (with_ask a screen)) same leads))
+      subst (λ rs. KeyLeads contents rows second key rs before after) (sym refused)
+      (subst (λ s. KeyLeads contents rows second key own before s) (sym there) (subst (λ a. KeyLeads contents rows second key own before (with_ask a screen)) same leads))
 
-  works : (done : Deed) → IsGranted next asked own done refusals → now ≡ settled (told_of done) screen → (is_request asked ≡ true → screen ≡ before) → (is_request asked ≡ true → own ≡ [])
-      → KeyWorks tree rows next key refusals before (with_deed done now)
+  works : (done : Deed) → IsGranted next asked own done refusals → now ≡ settled (told_of done) screen → (is_request asked ≡ true → screen ≡ at_second second before) → (is_request asked ≡ true → own ≡ [])
+      → KeyWorks contents rows next second key refusals before (with_deed done now)
   works deed.Nothing g is stays alone = inl (leads_to ask.Nothing refusals now g.0 g.1 is)
   works deed.End g is stays alone =
       inl (leads_to ask.End refusals (with_deed deed.End now) g.0 g.1 (ap (λ (s : Screen). let c : Screen = record s { planned = Some Ends } in c) is))
@@ -45,7 +39,7 @@ module _ (tree : Option View) (rows : List JobRow) (next : Option ℕ) (key : Ke
       inr record {
         plan = g.0;
         background = g.1;
-        asks = leads_to (ask.Begin g.0 g.1) [] (with_ask (ask.Begin g.0 g.1) before) g.2 (sym (alone request)) (ap (with_ask (ask.Begin g.0 g.1)) (sym (stays request)));
+        asks = leads_to (ask.Begin g.0 g.1) [] (with_ask (ask.Begin g.0 g.1) (at_second second before)) g.2 (sym (alone request)) (ap (with_ask (ask.Begin g.0 g.1)) (sym (stays request)));
         none_left = g.3;
         refused = g.4;
         told = is ∙ ap (told_refusal (refusal.Begin NoMoreIds)) (stays request);
@@ -61,17 +55,18 @@ module _ (tree : Option View) (rows : List JobRow) (next : Option ℕ) (key : Ke
 -- what the screen is told leaves nothing to be carried out
 settled_none : (t : Told) (screen : Screen) → screen.planned ≡ None → (settled t screen).planned ≡ None
 settled_none told.Nothing screen none = none
-settled_none told.Done screen none = none
+settled_none told.Begun screen none = none
+settled_none told.Answered screen none = none
 settled_none (told.Refused refusal) screen none = none
 settled_none told.Lost screen none = none
 
 -- a key that the screen worked, and of which the desk decided
-pub worked : (tree : Option View) (rows : List JobRow) (next : Option ℕ) (key : KeyType) (own : List Refusal) (asked : Ask) (before screen : Screen) (refusals : List Refusal) (now : Screen) (done : Deed)
-    → KeyLeads tree rows key own before (with_ask asked screen) → WellAsked rows asked → (is_request asked ≡ true → screen ≡ before) → (is_request asked ≡ true → own ≡ []) → screen.planned ≡ None
-    → IsGranted next asked own done refusals → now ≡ settled (told_of done) screen → HasSameSize before now → IsWorked tree rows next key before now done refusals
-worked tree rows next key own asked before screen refusals now done leads well stays alone none granted is size = record {
-  works = works tree rows next key own asked before screen refusals now leads done granted is stays alone;
-  can = can tree rows next key own asked before screen refusals now leads done granted well;
+pub worked : (contents : Option CallLog) (rows : List JobRow) (next : Option ℕ) (second : ℕ) (key : KeyType) (own : List Refusal) (asked : Ask) (before screen : Screen) (refusals : List Refusal) (now : Screen) (done : Deed)
+    → KeyLeads contents rows second key own before (with_ask asked screen) → WellAsked rows asked → (is_request asked ≡ true → screen ≡ at_second second before) → (is_request asked ≡ true → own ≡ []) → screen.planned ≡ None
+    → IsGranted next asked own done refusals → now ≡ settled (told_of done) screen → HasSameSize before now → IsWorked contents rows next second key before now done refusals
+worked contents rows next second key own asked before screen refusals now done leads well stays alone none granted is size = record {
+  works = works contents rows next second key own asked before screen refusals now leads done granted is stays alone;
+  can = can contents rows next second key own asked before screen refusals now leads done granted well;
   settled = ap (λ (s : Screen). s.planned) is ∙ settled_none (told_of done) screen none;
   size = size;
 }
@@ -82,6 +77,7 @@ keeps_size t before screen now size is = subst (HasSameSize before) (sym is) (go
   where
     go : (t : Told) → HasSameSize before (settled t screen)
     go told.Nothing = size
-    go told.Done = record { same_lines = size.same_lines; same_columns = size.same_columns }
+    go told.Begun = record { same_lines = size.same_lines; same_columns = size.same_columns }
+    go told.Answered = record { same_lines = size.same_lines; same_columns = size.same_columns }
     go (told.Refused refusal) = record { same_lines = size.same_lines; same_columns = size.same_columns }
     go told.Lost = size

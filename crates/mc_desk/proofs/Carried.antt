@@ -1,8 +1,8 @@
 -- A key that is none asks for nothing.
-use Rattle.std.proofs.Common.{◌≡◌, ℕ, Bool, true, false, List, [], refl, sym, ◌∙◌, ap, subst, inl, inr, Option, Some, None}
+use Rattle.std.proofs.Common.{◌≡◌, ℕ, false, List, ◌∙◌, ap, inl, inr, Option, None}
 use Rattle.key_screen.specs.declared.keys.Key.{Key as KeyType}
 use Rattle.key_screen.specs.declared.keys.Base.TheVariants.{Unknown}
-use Rattle.tree_trait.specs.FileSystem.{View}
+use Rattle.tree_trait.specs.Change.{CallLog}
 use Rattle.job_reports.specs.declared.row.JobRow.{JobRow}
 use Rattle.session_history.specs.declared.refusal.Refusal.{Refusal}
 use Rattle.mc_ui.specs.Screens.{Screen}
@@ -13,17 +13,17 @@ use Rattle.mc_desk.specs.declared.standing.Standing.{Standing}
 use Rattle.mc_desk.specs.Granting.{IsWorked, KeyWorks, with_deed}
 use Rattle.mc_desk.specs.Standings.{after_deed, awaited}
 
-plans_nothing : (tree : Option View) (rows : List JobRow) (next : Option ℕ) (key : KeyType) (before after : Screen) (done : Deed) (refusals : List Refusal) → key.base ≡ Unknown → before.planned ≡ None
-    → IsWorked tree rows next key before after done refusals → (with_deed done after).planned ≡ None
-plans_nothing tree rows next key before after done refusals unknown settled w = go w.works
+plans_nothing : (contents : Option CallLog) (rows : List JobRow) (next : Option ℕ) (now : ℕ) (key : KeyType) (before after : Screen) (done : Deed) (refusals : List Refusal) → key.base ≡ Unknown → before.planned ≡ None
+    → IsWorked contents rows next now key before after done refusals → (with_deed done after).planned ≡ None
+plans_nothing contents rows next now key before after done refusals unknown settled w = go w.works
   where
-    go : KeyWorks tree rows next key refusals before (with_deed done after) → (with_deed done after).planned ≡ None
-    go (inl leads) = ap (λ (s : Screen). s.planned) (unknown_stays tree rows key refusals before (with_deed done after) unknown leads) ∙ settled
+    go : KeyWorks contents rows next now key refusals before (with_deed done after) → (with_deed done after).planned ≡ None
+    go (inl leads) = ap (λ (s : Screen). s.planned) (unknown_stays contents rows now key refusals before (with_deed done after) unknown leads) ∙ settled
     go (inr none) = ap (λ (s : Screen). s.planned) none.told ∙ settled
 
-pub unknown_due : (tree : Option View) (rows : List JobRow) (next : Option ℕ) (key : KeyType) (before after : Screen) (done : Deed) (refusals : List Refusal) (was : Standing) → key.base ≡ Unknown → before.planned ≡ None
-    → IsWorked tree rows next key before after done refusals → awaited was.due ≡ None → was.quit ≡ false → (awaited (after_deed done was).due ≡ None) × ((after_deed done was).quit ≡ false)
-unknown_due tree rows next key before after done refusals was unknown settled w looked unasked = go done (plans_nothing tree rows next key before after done refusals unknown settled w)
+pub unknown_due : (contents : Option CallLog) (rows : List JobRow) (next : Option ℕ) (now : ℕ) (key : KeyType) (before after : Screen) (done : Deed) (refusals : List Refusal) (was : Standing) → key.base ≡ Unknown → before.planned ≡ None
+    → IsWorked contents rows next now key before after done refusals → awaited was.due ≡ None → was.quit ≡ false → (awaited (after_deed done was).due ≡ None) × ((after_deed done was).quit ≡ false)
+unknown_due contents rows next now key before after done refusals was unknown settled w looked unasked = go done (plans_nothing contents rows next now key before after done refusals unknown settled w)
   where
     go : (done : Deed) → (with_deed done after).planned ≡ None → (awaited (after_deed done was).due ≡ None) × ((after_deed done was).quit ≡ false)
     go deed.Nothing h = (looked, unasked)

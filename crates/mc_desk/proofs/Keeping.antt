@@ -13,12 +13,12 @@ use Rattle.session_history.specs.Entries.{closes, is_closed, calls_in}
 use Rattle.history_laws.specs.Traces.{IsTraced, IsTracedTo, at_rest}
 use Rattle.history_laws.specs.Traces as traces
 use Rattle.history_laws.proofs.Moments.{traced_count}
-use Rattle.mc_ui.specs.Screens.{Screen, sight}
+use Rattle.mc_ui.specs.Screens.{Screen}
 use Rattle.mc_desk.specs.declared.starts.Start.{Start}
 use Rattle.mc_desk.specs.Logs.{Logged}
 use Rattle.mc_desk.specs.Tallies.{Tally, tally, after_entry, most_calls, faults_in, next_id, news_left}
 use Rattle.mc_desk.specs.LiveRows.{rows_told}
-use Rattle.mc_desk.specs.Sessions.{Before, IsSession, SessionState, Traces, BeginsIn, EventLeads, HasCauses, IsTimely, Counts, folders_of}
+use Rattle.mc_desk.specs.Sessions.{Before, IsSession, SessionState, Traces, BeginsIn, EventLeads, HasCauses, IsTimely, Counts}
 use Rattle.mc_desk.specs.Starts.{IsOpened}
 use Rattle.mc_desk.specs.declared.standing.Standing.{Standing}
 use Rattle.mc_desk.specs.Outputs.{FitsScreen, Output}
@@ -27,14 +27,14 @@ use Rattle.mc_desk.specs.Standings.{fresh_standing}
 use Rattle.mc_desk.specs.Desks.{Seen, IsWritten, IsDesk, noted, seen_of, stand_of, stand_with, state_of}
 
 -- a desk on which nothing happened yet
-pub kept_opening : (start : Option Start) (opening contents : Option CallLog) (faults : ℕ) (folders : Start) (screen : Screen) (log : Logged) (standing : Standing) (dirty : List Route) (out : Output) (taken : ℕ) (pending : List ℕ)
-    → BeginsIn start folders → contents ≡ opening → IsOpened contents folders screen log → standing ≡ fresh_standing → dirty ≡ [] → HasPutNothing out.put → FitsScreen out.display.grid screen
+pub kept_opening : (start : Option Start) (opening contents : Option CallLog) (faults : ℕ) (named : Start) (screen : Screen) (log : Logged) (standing : Standing) (dirty : List Route) (out : Output) (taken : ℕ) (pending : List ℕ)
+    → BeginsIn start named → contents ≡ opening → IsOpened contents named screen log → standing ≡ fresh_standing → dirty ≡ [] → HasPutNothing out.put → FitsScreen out.display.grid screen
     → IsDesk start opening contents faults (seen_of log screen standing dirty out taken pending)
-kept_opening start opening contents faults folders screen log standing dirty out taken pending named same opened fresh none nothing fits =
+kept_opening start opening contents faults named screen log standing dirty out taken pending begins same opened fresh none nothing fits =
     subst (λ s. IsDesk start opening contents faults (seen_of log screen s dirty out taken pending)) (sym fresh) (record {
       written = record {
         session = subst (λ es. IsSession start opening faults es now) (sym opened.empty)
-            (subst (λ o. IsSession start o faults [] now) same (record { opened = opened.opening; folders = opened_in; idle = ap (stand_with None) none; same = refl; blank = nothing }));
+            (subst (λ o. IsSession start o faults [] now) same (record { start = named; begins = begins; opened = opened.opening; idle = ap (stand_with None) none; same = refl; blank = nothing }));
         tally = ap tally (sym opened.empty);
         told = refl;
         calls = omega arith;
@@ -55,9 +55,6 @@ kept_opening start opening contents faults folders screen log standing dirty out
     now : SessionState
     now = record { screen = screen; stand = stand_with None dirty; contents = contents; put = out.put }
 
-    opened_in : BeginsIn start (folders_of screen)
-    opened_in known is = named known is ∙ sym opened.folders
-
 -- what an entry says of the tree, of the live job and of the dirty folders, where the tree tells
 abbrev pub Leads : Option CallLog → Option CallLog → Seen → Seen → Entry → Type 0
 Leads contents contents_after old new e =
@@ -66,7 +63,7 @@ Leads contents contents_after old new e =
 
 -- how a desk stands before an entry
 abbrev pub before : Option CallLog → Seen → Before
-before contents desk = record { tree = sight contents; tally = desk.tally; rows = rows_told desk.newest; news = news_left desk.newest; screen = noted desk }
+before contents desk = record { contents = contents; tally = desk.tally; rows = rows_told desk.newest; news = news_left desk.newest; screen = noted desk }
 
 -- an entry that may follow: what it makes of the desk, of the screen and of the tree
 pub record Adds (contents contents_after : Option CallLog) (faults : ℕ) (old new : Seen) (e : Entry) : Type 0 where
@@ -147,7 +144,7 @@ module _ (faults : ℕ) (old new : Seen) (e : Entry) where
       record {
         timely = adds.timely;
         counts = subst (λ n. Counts (faults_in faults old.newest) n e) (ap (λ (t : Tally). t.calls) written.tally) adds.counts;
-        leads = subst (λ t. EventLeads (let b : Before = record { tree = sight contents; tally = t; rows = rows_told old.newest; news = news_left old.newest; screen = noted old } in b) e.what (noted new)) written.tally
+        leads = subst (λ t. EventLeads (let b : Before = record { contents = contents; tally = t; rows = rows_told old.newest; news = news_left old.newest; screen = noted old } in b) e.what (noted new)) written.tally
             adds.leads;
         caused = adds.caused;
         traced = traced_more start opening contents contents_after written adds;

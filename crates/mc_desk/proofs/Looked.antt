@@ -1,10 +1,9 @@
 -- A look leaves a whole desk.
-use Rattle.std.proofs.Common.{◌≡◌, ℕ, ◌≤◌, ◌∷◌, Bool, true, false, List, [], Result, refl, sym, ◌∙◌, ap, subst, Option, Some, None, IsSome, arith}
+use Rattle.std.proofs.Common.{◌≡◌, ℕ, ◌≤◌, ◌∷◌, Bool, true, false, List, Result, refl, sym, ◌∙◌, ap, subst, Option, Some, None, IsSome}
 use Rattle.std.specs.Prelude.{if◌then◌else◌}
 use Rattle.std.specs.Option.{option_map}
 use Rattle.tree_trait.specs.declared.devices.SinkError.{SinkError}
 use Rattle.mc_text.specs.Routes.{Route}
-use Rattle.tree_trait.specs.Calls.{ListFolder}
 use Rattle.tree_trait.specs.Change.{CallLog}
 use Rattle.tree_trait.specs.Answers.{IfKnown, HasRisen}
 use Rattle.job_reports.specs.declared.row.JobRow.{JobRow}
@@ -12,7 +11,7 @@ use Rattle.session_history.specs.declared.history.Event.TheVariants.{Look}
 use Rattle.session_history.specs.declared.refusal.Refusal.{Refusal}
 use Rattle.session_history.specs.Refusals.{AreRefused}
 use Rattle.copy_move.specs.Told.{told}
-use Rattle.mc_ui.specs.Screens.{LookLeads, Screen, sight}
+use Rattle.mc_ui.specs.Screens.{LookLeads, Screen}
 use Rattle.box_words.specs.declared.message.Message.{Message}
 use Rattle.mc_ui.specs.Refused.{has_fault}
 use Rattle.mc_desk.specs.declared.starts.Start.{Start}
@@ -53,7 +52,7 @@ module _ (start : Option Start) (opening contents contents_after : Option CallLo
     (pending : List ℕ) (count : ℕ) (desk : IsDesk start opening contents faults (seen_of log screen was dirty out taken pending)) (unclosed : was.closed ≡ false) (unasked : was.quit ≡ false) (is_due : IsSome (awaited was.due))
     (same : contents_after ≡ contents) (later : faults_in faults log.newest ≤ count) where
   pub looked_whole : (refusals : List Refusal) (rows : List JobRow) (news : Option Message) → rows ≡ rows_of was.job (trouble_told log.newest) → news ≡ news_left log.newest
-      → (has_fault refusals ≡ true → HasRisen (faults_in faults log.newest) count) → IfKnown contents (λ l. AreRefused ListFolder l refusals) → LookLeads (sight contents) rows was.has_unseen_end news refusals screen screen_after
+      → (has_fault refusals ≡ true → HasRisen (faults_in faults log.newest) count) → IfKnown contents (λ l. AreRefused l refusals) → LookLeads contents rows was.has_unseen_end news refusals screen screen_after
       → screen_after.planned ≡ None → log_after.newest ≡ entry 0 was.calls count out_after.shown (Look refusals) ∷ log.newest → 2 ≤ log_after.spare → now_is ≡ taken_up was
       → (r : Result (Unit {0}) SinkError) → FitsScreen out_after.display.grid screen_after → ShowsFrame (frame_of screen_after (rows_of was.job (trouble_told log.newest))) r out out_after
       → IsDesk start opening contents_after faults (seen_of log_after screen_after now_is dirty out_after taken pending)

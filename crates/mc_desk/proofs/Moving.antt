@@ -11,22 +11,24 @@ use Rattle.job_reports.specs.declared.report.Ending.TheVariants.{Finished, Abort
 use Rattle.file_copy.specs.Copying as copying
 use Rattle.session_history.specs.declared.history.Event.TheVariants.{Step}
 use Rattle.session_history.specs.declared.history.Entry.{Entry}
-use Rattle.copy_move.specs.declared.deletion.Stage.{Stage as DeletionStage}
-use Rattle.copy_move.specs.declared.deletion.Stage.TheVariants.{Remove, Sync, Finish, PassedOver}
-use Rattle.copy_move.specs.declared.making.MakingStage.{MakingStage}
-use Rattle.copy_move.specs.declared.making.MakingStage.TheVariants as making
 use Rattle.copy_move.specs.declared.work.Work.{Work}
 use Rattle.copy_move.specs.declared.work.Work.TheVariants.{Copy, Delete, Make}
 use Rattle.copy_move.specs.declared.run.Course.{Course}
 use Rattle.copy_move.specs.declared.run.Course.TheVariants.{GoesOn, InTrouble, OwedSyncFailed, Skips, Ends}
+use Rattle.copy_move.specs.Deletions.{Deleting, DeletionLeaves}
 use Rattle.copy_move.specs.Deletions as deletions
+use Rattle.copy_move.specs.DeletionSteps.{after_try}
+use Rattle.copy_move.specs.declared.making.MakingStage.{MakingStage}
+use Rattle.copy_move.specs.declared.making.MakingStage.TheVariants as making
 use Rattle.copy_move.specs.Makings as makings
 use Rattle.copy_move.specs.Jobs.{Running, TellsOn, WorkTells}
-use Rattle.copy_move.specs.Settling.{after_try, changed_folder, is_dirty, with_change}
-use Rattle.job_reports.specs.Paths.{without}
+use Rattle.copy_move.specs.Settling.{WorkLeaves, is_own, with_change}
+use Rattle.tree_deletion.specs.Folders.{joined}
+use Rattle.tree_trait.proofs.Visible.{same_path-self}
+use Rattle.job_reports.specs.Paths.{folder_of, without}
 use Rattle.copy_move.specs.Steps.{LeavesDirty, RunStep, step_made}
-use Rattle.copy_move.proofs.FolderSteps.{skipped_dirty}
-use Rattle.mc_desk.specs.Desks.{HasSynced, MovesDirty}
+use Rattle.history_laws.proofs.Owing.{own_folder}
+use Rattle.mc_desk.specs.Desks.{HasRemoved, HasSynced, JoinsDirty, MovesDirty, RemovesDirty}
 use Rattle.mc_desk.proofs.Adding.{entry}
 
 -- a job that is finished has synced its folder
@@ -36,23 +38,11 @@ copy_finishes c new Aborted part t = absurd t
 copy_finishes c new Killed part t = absurd t
 copy_finishes c new NoMemory part t = absurd t
 
-done_clean : (stage : DeletionStage) → deletions.is_done stage ≡ true → deletions.is_dirty stage ≡ false
-done_clean Remove h = absurd (false≢true h)
-done_clean Sync h = absurd (false≢true h)
-done_clean Finish h = refl
-done_clean PassedOver h = refl
-
 making_clean : (stage : MakingStage) → makings.is_done stage ≡ true → makings.is_dirty stage ≡ false
 making_clean making.Make h = absurd (false≢true h)
 making_clean making.Sync h = absurd (false≢true h)
 making_clean making.Finish h = refl
 making_clean making.PassedOver h = refl
-
-deletion_finishes : (d new : deletions.Deleting) (ending : Ending) (part : Option Route) → deletions.Tells d (Ended ending part) new → (ending ≡ Finished) × (deletions.is_dirty d.stage ≡ false)
-deletion_finishes d new Finished part t = (refl, done_clean d.stage t.0)
-deletion_finishes d new Aborted part t = absurd t
-deletion_finishes d new Killed part t = absurd t
-deletion_finishes d new NoMemory part t = absurd t
 
 making_finishes : (m new : makings.Making) (ending : Ending) (part : Option Route) → makings.Tells m (Ended ending part) new → (ending ≡ Finished) × (makings.is_dirty m.stage ≡ false)
 making_finishes m new Finished part t = (refl, making_clean m.stage t.0)
@@ -74,19 +64,6 @@ copy_synced c new (Made made) t was now = absurd t
 copy_synced c new (Kept path) t was now = absurd t
 copy_synced c new (Skipped path cause) t was now = absurd t
 
-deletion_synced : (d new : deletions.Deleting) (did : Did) → deletions.Tells d did new → deletions.is_dirty d.stage ≡ true → deletions.is_dirty new.stage ≡ false → did ≡ Barrier
-deletion_synced d new Barrier t was now = refl
-deletion_synced d new (Removed path) t was now = absurd (true≢false (sym was ∙ ap deletions.is_dirty t.0))
-deletion_synced d new (Troubled trouble) t was now = absurd (true≢false (sym was ∙ (sym (ap (λ (n : deletions.Deleting). deletions.is_dirty n.stage) t.1) ∙ now)))
-deletion_synced d new (Ended ending part) t was now = absurd (true≢false (sym was ∙ (deletion_finishes d new ending part t).1))
-deletion_synced d new (Began part) t was now = absurd t
-deletion_synced d new (Chunk count) t was now = absurd t
-deletion_synced d new (Placed path) t was now = absurd t
-deletion_synced d new (Made made) t was now = absurd t
-deletion_synced d new (Kept kept) t was now = absurd t
-deletion_synced d new (Skipped path cause) t was now = absurd t
-deletion_synced d new (Cleaned part) t was now = absurd t
-
 making_synced : (m new : makings.Making) (did : Did) → makings.Tells m did new → makings.is_dirty m.stage ≡ true → makings.is_dirty new.stage ≡ false → did ≡ Barrier
 making_synced m new Barrier t was now = refl
 making_synced m new (Made path) t was now = absurd (true≢false (sym was ∙ ap makings.is_dirty t.0))
@@ -100,35 +77,71 @@ making_synced m new (Kept kept) t was now = absurd t
 making_synced m new (Skipped path cause) t was now = absurd t
 making_synced m new (Cleaned part) t was now = absurd t
 
-clean_before : (old new : Work) (did : Did) → WorkTells old did new → is_dirty old ≡ true → is_dirty new ≡ false → did ≡ Barrier
-clean_before (Copy c) (Copy new) did t was now = copy_synced c new did t was now
-clean_before (Copy c) (Delete new) did t was now = absurd t
-clean_before (Copy c) (Make new) did t was now = absurd t
-clean_before (Delete d) (Copy new) did t was now = absurd t
-clean_before (Delete d) (Make new) did t was now = absurd t
-clean_before (Make m) (Copy new) did t was now = absurd t
-clean_before (Make m) (Delete new) did t was now = absurd t
-clean_before (Delete d) (Delete new) did t was now = deletion_synced d new did t was now
-clean_before (Make m) (Make new) did t was now = making_synced m new did t was now
-
 module _ (job : Option Running) (newest older : List Entry) (dirty dirty_after : List Route) (seat calls count shown number : ℕ) (did : Did) (more : newest ≡ entry seat calls count shown (Step number did) ∷ older) where
   abbrev Moves : Type 0
   Moves = MovesDirty job newest dirty dirty_after
 
   synced : (folder : Route) → did ≡ Barrier → dirty_after ≡ without folder dirty → Moves
-  synced folder is left = inr (inr (folder, left, subst HasSynced (sym more) (number, ap (Step number) is)))
+  synced folder is left = inr (inr (inr (folder, left, subst HasSynced (sym more) (number, ap (Step number) is))))
 
-  changes : (live : Running) (was now : Bool) → job ≡ Some live → (was ≡ true → now ≡ false → did ≡ Barrier) → dirty_after ≡ with_change was now (changed_folder live.work) dirty → Moves
-  changes live false true is reports left = inr (inl (live, is, left))
-  changes live true false is reports left = synced (changed_folder live.work) (reports refl refl) left
-  changes live false false is reports left = inl left
-  changes live true true is reports left = inl left
+  joins : (live : Running) (folder : Route) → job ≡ Some live → is_own live.work folder ≡ true → dirty_after ≡ joined folder dirty → Moves
+  joins live folder is own left = inr (inl (record { live = live; job_is = is; folder = folder; own = own; joins = left }))
 
-  still : (own : Route) (was now : Bool) → now ≡ was → dirty_after ≡ with_change was now own dirty → dirty_after ≡ dirty
-  still own true true same left = left
-  still own false false same left = left
-  still own true false same left = absurd (false≢true same)
-  still own false true same left = absurd (true≢false same)
+  removes : (path : Route) → did ≡ Removed path → dirty_after ≡ without path (joined (folder_of path) dirty) → Moves
+  removes path is left = inr (inr (inl (record { path = path; removed = subst (λ es. HasRemoved es path) (sym more) (number, ap (Step number) is); leaves = left })))
+
+  -- the one folder in which a copy or a making changes names
+  folder_moves : (live : Running) (folder : Route) → job ≡ Some live → is_own live.work folder ≡ true → (was now : Bool) → (was ≡ true → now ≡ false → did ≡ Barrier) → dirty_after ≡ with_change was now folder dirty → Moves
+  folder_moves live folder is own false true reports left = joins live folder is own left
+  folder_moves live folder is own true false reports left = synced folder (reports refl refl) left
+  folder_moves live folder is own false false reports left = inl left
+  folder_moves live folder is own true true reports left = inl left
+
+  deletion_moves : (live : Running) (d new : Deleting) (before after : Option CallLog) → job ≡ Some live → live.work ≡ Delete d → (x : Did) → did ≡ x → deletions.Tells d x new → DeletionLeaves d x dirty dirty_after before after → Moves
+  deletion_moves live d new before after is work (Removed path) did_is (going, within, at) (inl h) =
+      joins live (folder_of path) is (subst (λ w. is_own w (folder_of path) ≡ true) (sym work) (own_folder d path (folder_of path) within refl)) h.0
+  deletion_moves live d new before after is work (Removed path) did_is (going, within, at) (inr h) = removes path did_is h.0
+  deletion_moves live d new before after is work Barrier did_is t (folder, own, left, called) = synced folder did_is left
+  deletion_moves live d new before after is work (Kept path) did_is t h = inl h
+  deletion_moves live d new before after is work (Troubled trouble) did_is t h = inl h
+  deletion_moves live d new before after is work (Ended ending part) did_is t h = inl h.1
+  deletion_moves live d new before after is work (Began part) did_is t h = absurd t
+  deletion_moves live d new before after is work (Chunk bytes) did_is t h = absurd t
+  deletion_moves live d new before after is work (Placed path) did_is t h = absurd t
+  deletion_moves live d new before after is work (Made made) did_is t h = absurd t
+  deletion_moves live d new before after is work (Skipped path cause) did_is t h = absurd t
+  deletion_moves live d new before after is work (Cleaned part) did_is t h = absurd t
+
+  work_moves : (live : Running) (old work new : Work) (before after : Option CallLog) → job ≡ Some live → live.work ≡ old → work ≡ new → WorkTells old did work → WorkLeaves old did new dirty dirty_after before after → Moves
+  work_moves live (Copy c) (Copy w) (Copy new) before after is work same t h =
+      folder_moves live (folder_of c.target) is (subst (λ x. is_own x (folder_of c.target) ≡ true) (sym work) (same_path-self (folder_of c.target))) (copying.is_dirty c.folder) (copying.is_dirty new.folder)
+      (λ was now. copy_synced c w did t was (ap begun same ∙ now)) h
+    where
+      begun : Work → Bool
+      begun (Copy x) = copying.is_dirty x.folder
+      begun (Delete d) = false
+      begun (Make m) = false
+  work_moves live (Make m) (Make w) (Make new) before after is work same t h =
+      folder_moves live (folder_of m.path) is (subst (λ x. is_own x (folder_of m.path) ≡ true) (sym work) (same_path-self (folder_of m.path))) (makings.is_dirty m.stage) (makings.is_dirty new.stage)
+      (λ was now. making_synced m w did t was (ap begun same ∙ now)) h
+    where
+      begun : Work → Bool
+      begun (Copy x) = false
+      begun (Delete d) = false
+      begun (Make x) = makings.is_dirty x.stage
+  work_moves live (Copy c) (Copy w) (Make new) before after is work same t h = absurd h
+  work_moves live (Copy c) (Make w) new before after is work same t h = absurd t
+  work_moves live (Delete d) (Make w) new before after is work same t h = absurd t
+  work_moves live (Delete d) (Delete w) (Make new) before after is work same t h = absurd h
+  work_moves live (Make m) (Copy w) new before after is work same t h = absurd t
+  work_moves live (Make m) (Delete w) new before after is work same t h = absurd t
+  work_moves live (Make m) (Make w) (Copy new) before after is work same t h = absurd h
+  work_moves live (Make m) (Make w) (Delete new) before after is work same t h = absurd h
+  work_moves live (Copy c) (Copy w) (Delete new) before after is work same t h = absurd h
+  work_moves live (Copy c) (Delete w) new before after is work same t h = absurd t
+  work_moves live (Delete d) (Copy w) new before after is work same t h = absurd t
+  work_moves live (Delete d) (Delete w) (Copy new) before after is work same t h = absurd h
+  work_moves live (Delete d) (Delete w) (Delete new) before after is work same t h = deletion_moves live d w before after is work did refl t h
 
   tries : (folder : Route) (refusal : Option TreeError) (d : Did) → did ≡ d → dirty_after ≡ after_try d refusal folder dirty → Moves
   tries folder None Barrier is left = synced folder is left
@@ -150,12 +163,8 @@ module _ (job : Option Running) (newest older : List Entry) (dirty dirty_after :
   run_moves unclaimed live stepped made before after f0 f1 is (inl o) = by live.course o.own.tells o.leaves
     where
       by : (course : Course) → TellsOn course live did stepped → LeavesDirty course live.work did stepped.work dirty dirty_after before after → Moves
-      by GoesOn (work, tells, new_is) leaves =
-          changes live (is_dirty live.work) (is_dirty stepped.work) is
-          (λ was now. clean_before live.work work did tells was (sym (ap (λ (s : Running). is_dirty s.work) new_is) ∙ now)) leaves
+      by GoesOn (work, tells, new_is) leaves = work_moves live live.work work stepped.work before after is refl (sym (ap (λ (s : Running). s.work) new_is)) tells leaves
       by (InTrouble cause) tells leaves = absurd tells
       by (OwedSyncFailed cause) tells leaves = absurd tells
-      by (Skips cause) (inl (did_is, new_is)) leaves =
-          inl (still (changed_folder live.work) (is_dirty live.work) (is_dirty stepped.work) (ap (λ (s : Running). is_dirty s.work) new_is ∙ skipped_dirty live.work) leaves)
-      by (Skips cause) (inr (did_is, new_is)) leaves = inl (still (changed_folder live.work) (is_dirty live.work) (is_dirty stepped.work) (ap (λ (s : Running). is_dirty s.work) new_is) leaves)
-      by (Ends ending) tells leaves = tries (changed_folder live.work) leaves.refusal did refl leaves.dirty_is
+      by (Skips cause) tells leaves = inl leaves
+      by (Ends ending) tells leaves = tries leaves.folder leaves.refusal did refl leaves.dirty_is

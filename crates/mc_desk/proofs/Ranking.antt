@@ -15,22 +15,28 @@ use Rattle.file_copy.specs.declared.stage.Next.TheVariants as next
 use Rattle.file_copy.specs.declared.stage.FolderState.{FolderState}
 use Rattle.file_copy.specs.declared.stage.FolderState.TheVariants.{Synced, Dirty}
 use Rattle.file_copy.specs.LastSteps.{last_steps}
-use Rattle.copy_move.specs.declared.deletion.Stage.{Stage as DeletionStage}
-use Rattle.copy_move.specs.declared.deletion.Stage.TheVariants as deletion
-use Rattle.copy_move.specs.declared.making.MakingStage.{MakingStage}
-use Rattle.copy_move.specs.declared.making.MakingStage.TheVariants as making
 use Rattle.copy_move.specs.declared.work.Work.{Work}
 use Rattle.copy_move.specs.declared.work.Work.TheVariants.{Copy, Delete, Make}
 use Rattle.copy_move.specs.declared.run.Course.{Course}
 use Rattle.copy_move.specs.declared.run.Course.TheVariants.{GoesOn, InTrouble, OwedSyncFailed, Skips, Ends}
 use Rattle.copy_move.specs.Jobs.{Running, closed_course}
 use Rattle.job_reports.specs.Reports.{ends}
-use Rattle.copy_move.specs.Ranks.{copy_rank, deletion_rank, last_deletion_steps, last_making_steps, last_rank, making_rank, rank, rank_on, rank_with, work_rank}
-use Rattle.copy_move.specs.Settling.{after_try, changed_folder, is_dirty, with_change}
-use Rattle.job_reports.specs.Paths.{without}
+use Rattle.copy_move.specs.declared.making.MakingStage.{MakingStage}
+use Rattle.copy_move.specs.declared.making.MakingStage.TheVariants as making
+use Rattle.copy_move.specs.Deletions.{Deleting, DeletionLeaves}
+use Rattle.copy_move.specs.Makings as makings
+use Rattle.copy_move.specs.DeletionSteps.{after_try}
+use Rattle.copy_move.specs.Ranks.{copy_rank, last_making_steps, last_rank, making_rank, rank_at, rank_on, rank_with, work_rank}
+use Rattle.file_copy.specs.Copying as copying
+use Rattle.tree_deletion.specs.Folders.{joined}
+use Rattle.job_reports.specs.Stops.{cause_of}
+use Rattle.copy_move.specs.Settling.{WorkLeaves, with_change}
+use Rattle.job_reports.specs.Paths.{folder_of, without}
 use Rattle.copy_move.specs.Steps.{LeavesDirty, RunStep, OwedSyncStep, SyncsFolder, step_made}
 use Rattle.copy_move.specs.Told.{if_closed}
+use Rattle.copy_move.proofs.DeletionRuns.{fewer, one_fewer}
 use Rattle.copy_move.proofs.Falling.{trouble_falls}
+use Rattle.copy_move.proofs.FolderSteps.{joined_more, one_more, tried_more}
 
 more : (most : ℕ) → 0 < most + 8
 more most = omega arith
@@ -57,23 +63,11 @@ some_last (Left part) Synced = omega arith
 some_last Decided Dirty = omega arith
 some_last Decided Synced = omega arith
 
-some_deletion : (stage : DeletionStage) → 0 < deletion_rank stage
-some_deletion deletion.Remove = omega arith
-some_deletion deletion.Sync = omega arith
-some_deletion deletion.Finish = omega arith
-some_deletion deletion.PassedOver = omega arith
-
 some_making : (stage : MakingStage) → 0 < making_rank stage
 some_making making.Make = omega arith
 some_making making.Sync = omega arith
 some_making making.Finish = omega arith
 some_making making.PassedOver = omega arith
-
-some_try : (stage : DeletionStage) → 0 < last_deletion_steps stage
-some_try deletion.Remove = omega arith
-some_try deletion.Sync = omega arith
-some_try deletion.Finish = omega arith
-some_try deletion.PassedOver = omega arith
 
 some_making_try : (stage : MakingStage) → 0 < last_making_steps stage
 some_making_try making.Make = omega arith
@@ -83,12 +77,12 @@ some_making_try making.PassedOver = omega arith
 
 some_end : (work : Work) → 0 < last_rank work
 some_end (Copy c) = some_last c.stage c.folder
-some_end (Delete d) = some_try d.stage
+some_end (Delete d) = omega arith
 some_end (Make m) = some_making_try m.stage
 
 some_work : (work : Work) → 0 < work_rank work
 some_work (Copy c) = some_copy c.stage c.folder
-some_work (Delete d) = some_deletion d.stage
+some_work (Delete d) = omega arith
 some_work (Make m) = some_making m.stage
 
 -- a live job has steps left
@@ -96,108 +90,101 @@ some_steps : (course : Course) (work : Work) → 0 < rank_on course work
 some_steps GoesOn work = some_work work
 some_steps (InTrouble cause) work = some_end work
 some_steps (OwedSyncFailed cause) work = some_end work
-some_steps (Skips cause) work = omega arith
+some_steps (Skips cause) (Copy c) = omega arith
+some_steps (Skips cause) (Delete d) = omega arith
+some_steps (Skips cause) (Make m) = omega arith
 some_steps (Ends ending) work = some_end work
 
 -- a job that waits is counted as one that is aborted
-closed_rank : (course : Course) (work : Work) → rank_on (closed_course course) work ≡ rank_on course work
-closed_rank GoesOn work = refl
-closed_rank (InTrouble cause) work = refl
-closed_rank (OwedSyncFailed cause) work = refl
-closed_rank (Skips cause) work = refl
-closed_rank (Ends ending) work = refl
+closed_rank : (course : Course) (work : Work) (dirty : List Route) → rank_at dirty (closed_course course) work ≤ rank_at dirty course work
+closed_rank GoesOn work dirty = omega arith
+closed_rank (InTrouble cause) (Copy c) dirty = omega arith
+closed_rank (InTrouble cause) (Delete d) dirty = omega arith
+closed_rank (InTrouble cause) (Make m) dirty = omega arith
+closed_rank (OwedSyncFailed cause) (Copy c) dirty = omega arith
+closed_rank (OwedSyncFailed cause) (Delete d) dirty = omega arith
+closed_rank (OwedSyncFailed cause) (Make m) dirty = omega arith
+closed_rank (Skips cause) work dirty = omega arith
+closed_rank (Ends ending) work dirty = omega arith
 
-rank_left : (closed : Bool) (job stepped : Running) (did : Did) → (ends did ≡ false → rank (Some stepped) < rank (Some job)) → rank (if_closed closed (if ends did then None else Some stepped)) < rank (Some job)
-rank_left closed job stepped did falls = go closed (ends did) falls
+-- a job has more steps left than none
+some_left : (dirty : List Route) (job : Running) → length dirty < rank_at dirty job.course job.work
+some_left dirty job = let some = some_steps job.course job.work in omega (arith, some)
+
+-- an end leaves no more than one dirty folder more
+ends_low : (dirty dirty_after : List Route) (job : Running) → length dirty_after ≤ length dirty + 1 → length dirty_after < rank_at dirty job.course job.work
+ends_low dirty dirty_after job few = let some = some_steps job.course job.work in omega (arith, some, few)
+
+rank_left : (closed : Bool) (job stepped : Running) (did : Did) (dirty dirty_after : List Route) → length dirty_after ≤ length dirty + 1 → (ends did ≡ false → rank_with dirty_after (Some stepped) < rank_with dirty (Some job))
+    → rank_with dirty_after (if_closed closed (if ends did then None else Some stepped)) < rank_with dirty (Some job)
+rank_left closed job stepped did dirty dirty_after few falls = go closed (ends did) falls
   where
-    go : (closed ended : Bool) → (ended ≡ false → rank (Some stepped) < rank (Some job)) → rank (if_closed closed (if ended then None else Some stepped)) < rank (Some job)
-    go true true h = some_steps job.course job.work
-    go false true h = some_steps job.course job.work
-    go true false h = subst (λ n. n < rank (Some job)) (sym (closed_rank stepped.course stepped.work)) (h refl)
+    go : (closed ended : Bool) → (ended ≡ false → rank_with dirty_after (Some stepped) < rank_with dirty (Some job)) → rank_with dirty_after (if_closed closed (if ended then None else Some stepped)) < rank_with dirty (Some job)
+    go true true h = ends_low dirty dirty_after job few
+    go false true h = ends_low dirty dirty_after job few
+    go true false h = let less = h refl in let most = closed_rank stepped.course stepped.work dirty_after in omega (arith, less, most)
     go false false h = h refl
 
--- a folder the fewer, where it is one of them
-fewer : (folder : Route) (dirty : List Route) → length (without folder dirty) ≤ length dirty
-fewer folder [] = omega arith
-fewer folder (first ∷ rest) = go (fewer folder rest) (same_path first folder)
-  where
-    go : length (without folder rest) ≤ length rest → (b : Bool) → length (if not b then first ∷ without folder rest else without folder rest) ≤ length (first ∷ rest)
-    go less true = omega (arith, less)
-    go less false = omega (arith, less)
-
-one_fewer : (folder : Route) (dirty : List Route) → Among dirty folder → length (without folder dirty) < length dirty
-one_fewer folder [] among = absurd among
-one_fewer folder (first ∷ rest) (inl is) =
-    let same : same_path first folder ≡ true = subst (λ p. same_path p folder ≡ true) is (same_path-self folder) in
-    subst (λ b. length (if not b then first ∷ without folder rest else without folder rest) < length (first ∷ rest)) (sym same) (let less = fewer folder rest in omega (arith, less))
-one_fewer folder (first ∷ rest) (inr among) = go (one_fewer folder rest among) (same_path first folder)
-  where
-    go : length (without folder rest) < length rest → (b : Bool) → length (if not b then first ∷ without folder rest else without folder rest) < length (first ∷ rest)
-    go less true = omega (arith, less)
-    go less false = omega (arith, less)
-
 -- a change adds a folder at most
-one_more : (was now : Bool) (folder : Route) (dirty : List Route) → length (with_change was now folder dirty) ≤ length dirty + 1
-one_more false true folder dirty = let more = length-append dirty (folder ∷ []) in omega (arith, more)
-one_more true false folder dirty = let less = fewer folder dirty in omega (arith, less)
-one_more false false folder dirty = omega arith
-one_more true true folder dirty = omega arith
+deletion_more : (d : Deleting) (did : Did) (dirty dirty_after : List Route) (before after : Option CallLog) → DeletionLeaves d did dirty dirty_after before after → length dirty_after ≤ length dirty + 1
+deletion_more d (Removed path) dirty dirty_after before after (inl h) = subst (λ xs. length xs ≤ length dirty + 1) (sym h.0) (joined_more (folder_of path) dirty)
+deletion_more d (Removed path) dirty dirty_after before after (inr h) =
+    subst (λ xs. length xs ≤ length dirty + 1) (sym h.0) (let less = fewer path (joined (folder_of path) dirty) in let more = joined_more (folder_of path) dirty in omega (arith, less, more))
+deletion_more d Barrier dirty dirty_after before after (folder, own, left, called) = subst (λ xs. length xs ≤ length dirty + 1) (sym left) (let less = fewer folder dirty in omega (arith, less))
+deletion_more d (Ended ending part) dirty dirty_after before after h = let same = ap length h.1 in omega (arith, same)
+deletion_more d (Kept path) dirty dirty_after before after h = let same = ap length h in omega (arith, same)
+deletion_more d (Troubled trouble) dirty dirty_after before after h = let same = ap length h in omega (arith, same)
+deletion_more d (Began part) dirty dirty_after before after h = let same = ap length h in omega (arith, same)
+deletion_more d (Chunk bytes) dirty dirty_after before after h = let same = ap length h in omega (arith, same)
+deletion_more d (Placed path) dirty dirty_after before after h = let same = ap length h in omega (arith, same)
+deletion_more d (Made made) dirty dirty_after before after h = let same = ap length h in omega (arith, same)
+deletion_more d (Skipped path cause) dirty dirty_after before after h = let same = ap length h in omega (arith, same)
+deletion_more d (Cleaned part) dirty dirty_after before after h = let same = ap length h in omega (arith, same)
 
-tried_more : (did : Did) (left : Option TreeError) (folder : Route) (dirty : List Route) → length (after_try did left folder dirty) ≤ length dirty + 1
-tried_more Barrier None folder dirty = let less = fewer folder dirty in omega (arith, less)
-tried_more Barrier (Some e) folder dirty = omega arith
-tried_more (Began part) left folder dirty = omega arith
-tried_more (Chunk bytes) left folder dirty = omega arith
-tried_more (Placed path) left folder dirty = omega arith
-tried_more (Removed path) left folder dirty = omega arith
-tried_more (Made made) left folder dirty = omega arith
-tried_more (Kept kept) left folder dirty = omega arith
-tried_more (Skipped path cause) left folder dirty = omega arith
-tried_more (Cleaned part) left folder dirty = omega arith
-tried_more (Troubled trouble) left folder dirty = omega arith
-tried_more (Ended ending part) left folder dirty = omega arith
+work_more : (old new : Work) (did : Did) (dirty dirty_after : List Route) (before after : Option CallLog) → WorkLeaves old did new dirty dirty_after before after → length dirty_after ≤ length dirty + 1
+work_more (Copy c) (Copy new) did dirty dirty_after before after h = subst (λ xs. length xs ≤ length dirty + 1) (sym h) (one_more (copying.is_dirty c.folder) (copying.is_dirty new.folder) (folder_of c.target) dirty)
+work_more (Copy c) (Delete new) did dirty dirty_after before after h = absurd h
+work_more (Copy c) (Make new) did dirty dirty_after before after h = absurd h
+work_more (Delete d) (Make new) did dirty dirty_after before after h = absurd h
+work_more (Make m) (Copy new) did dirty dirty_after before after h = absurd h
+work_more (Make m) (Delete new) did dirty dirty_after before after h = absurd h
+work_more (Make m) (Make new) did dirty dirty_after before after h = subst (λ xs. length xs ≤ length dirty + 1) (sym h) (one_more (makings.is_dirty m.stage) (makings.is_dirty new.stage) (folder_of m.path) dirty)
+work_more (Delete d) (Copy new) did dirty dirty_after before after h = absurd h
+work_more (Delete d) (Delete new) did dirty dirty_after before after h = deletion_more d did dirty dirty_after before after h
 
 leaves_more : (course : Course) (old new : Work) (did : Did) (dirty dirty_after : List Route) (before after : Option CallLog) → LeavesDirty course old did new dirty dirty_after before after → length dirty_after ≤ length dirty + 1
-leaves_more GoesOn old new did dirty dirty_after before after h = subst (λ d. length d ≤ length dirty + 1) (sym h) (one_more (is_dirty old) (is_dirty new) (changed_folder old) dirty)
-leaves_more (InTrouble cause) old new did dirty dirty_after before after h = subst (λ d. length d ≤ length dirty + 1) (sym h) (one_more (is_dirty old) (is_dirty new) (changed_folder old) dirty)
-leaves_more (OwedSyncFailed cause) old new did dirty dirty_after before after h = subst (λ d. length d ≤ length dirty + 1) (sym h) (one_more (is_dirty old) (is_dirty new) (changed_folder old) dirty)
-leaves_more (Skips cause) old new did dirty dirty_after before after h = subst (λ d. length d ≤ length dirty + 1) (sym h) (one_more (is_dirty old) (is_dirty new) (changed_folder old) dirty)
-leaves_more (Ends ending) old new did dirty dirty_after before after h = subst (λ d. length d ≤ length dirty + 1) (sym h.dirty_is) (tried_more did h.refusal (changed_folder old) dirty)
+leaves_more GoesOn old new did dirty dirty_after before after h = work_more old new did dirty dirty_after before after h
+leaves_more (InTrouble cause) old new did dirty dirty_after before after h = absurd h
+leaves_more (OwedSyncFailed cause) old new did dirty dirty_after before after h = absurd h
+leaves_more (Skips cause) old new did dirty dirty_after before after h = let same = ap length h in omega (arith, same)
+leaves_more (Ends ending) old new did dirty dirty_after before after h = subst (λ d. length d ≤ length dirty + 1) (sym h.dirty_is) (tried_more did h.refusal h.folder dirty)
 
 -- the sync of a folder that an ended job left leaves the job where it stood, or waiting
 settled_falls : (closed : Bool) (job stepped : Running) (did : Did) (made : ℕ) (dirty dirty_after : List Route) (before after : Option CallLog) (f0 f1 : ℕ) → OwedSyncStep (step_made job stepped did made dirty dirty_after before after f0 f1)
     → rank_with dirty_after (if_closed closed (if ends did then None else Some stepped)) < rank_with dirty (Some job)
-settled_falls closed job stepped did made dirty dirty_after before after f0 f1 s = go s.synced
+settled_falls closed job stepped did made dirty dirty_after before after f0 f1 s = by s.synced
   where
-    left : (b : Bool) → rank (if_closed b (Some stepped)) ≡ rank (Some stepped)
-    left true = closed_rank stepped.course stepped.work
-    left false = refl
-
-    go : SyncsFolder job s.folder did stepped dirty dirty_after before after → rank_with dirty_after (if_closed closed (if ends did then None else Some stepped)) < rank_with dirty (Some job)
-    go (inl h) =
-        let same : rank (Some stepped) ≡ rank (Some job) = ap (λ (j : Running). rank (Some j)) h.new_is in
-        let going : rank (if_closed closed (if ends did then None else Some stepped)) ≡ rank (if_closed closed (Some stepped)) = ap (λ d. rank (if_closed closed (if ends d then None else Some stepped))) h.did_is in
-        let still = left closed in
+    by : SyncsFolder job s.folder did stepped dirty dirty_after before after → rank_with dirty_after (if_closed closed (if ends did then None else Some stepped)) < rank_with dirty (Some job)
+    by (inl h) =
         let less = one_fewer s.folder dirty s.owed in
         let count : length dirty_after ≡ length (without s.folder dirty) = ap length h.dirty_is in
-        omega (arith, same, going, still, less, count)
-    go (inr h) =
-        let waits : rank (Some stepped) ≡ last_rank job.work = ap (λ (j : Running). rank (Some j)) h.new_is in
-        let goes : rank (Some job) ≡ work_rank job.work = ap (λ c. rank_on c job.work) s.goes in
-        let low = trouble_falls job.work in
-        let going : rank (if_closed closed (if ends did then None else Some stepped)) ≡ rank (if_closed closed (Some stepped)) = ap (λ d. rank (if_closed closed (if ends d then None else Some stepped))) h.did_is in
-        let still = left closed in
+        let goes : rank_at dirty job.course job.work ≡ rank_at dirty GoesOn job.work = ap (λ c. rank_at dirty c job.work) s.goes in
+        let on : rank_at dirty_after job.course job.work ≡ rank_at dirty_after GoesOn job.work = ap (λ c. rank_at dirty_after c job.work) s.goes in
+        let same : rank_at dirty_after stepped.course stepped.work ≡ rank_at dirty_after job.course job.work = ap (λ (j : Running). rank_at dirty_after j.course j.work) h.new_is in
+        rank_left closed job stepped did dirty dirty_after (omega (arith, less, count)) (λ going. omega (arith, less, count, goes, on, same))
+    by (inr h) =
         let count : length dirty_after ≡ length dirty = ap length h.dirty_is in
-        omega (arith, waits, goes, low, going, still, count)
+        let waits : rank_at dirty_after stepped.course stepped.work ≡ rank_at dirty_after (OwedSyncFailed (cause_of h.error)) job.work = ap (λ (j : Running). rank_at dirty_after j.course j.work) h.new_is in
+        let goes : rank_at dirty job.course job.work ≡ rank_at dirty GoesOn job.work = ap (λ c. rank_at dirty c job.work) s.goes in
+        let low = trouble_falls job.work in
+        rank_left closed job stepped did dirty dirty_after (omega (arith, count)) (λ going. omega (arith, count, waits, goes, low))
 
 pub run_falls : (unclaimed : Route → Type 0) (closed : Bool) (job stepped : Running) (did : Did) (made : ℕ) (dirty dirty_after : List Route) (before after : Option CallLog) (f0 f1 : ℕ)
     → RunStep unclaimed (step_made job stepped did made dirty dirty_after before after f0 f1) → rank_with dirty_after (if_closed closed (if ends did then None else Some stepped)) < rank_with dirty (Some job)
 run_falls unclaimed closed job stepped did made dirty dirty_after before after f0 f1 (inl o) =
-    let low = rank_left closed job stepped did o.own.falls in
-    let more = leaves_more job.course job.work stepped.work did dirty dirty_after before after o.leaves in
-    omega (arith, low, more)
+    rank_left closed job stepped did dirty dirty_after (leaves_more job.course job.work stepped.work did dirty dirty_after before after o.leaves) o.falls
 run_falls unclaimed closed job stepped did made dirty dirty_after before after f0 f1 (inr s) = settled_falls closed job stepped did made dirty dirty_after before after f0 f1 s
 
 -- a job that is given up is no more
 pub given_up_falls : (job : Running) (dirty : List Route) → rank_with dirty None < rank_with dirty (Some job)
-given_up_falls job dirty = let some = some_steps job.course job.work in omega (arith, some)
+given_up_falls job dirty = some_left dirty job

@@ -21,21 +21,18 @@ use Rattle.session_history.specs.declared.history.Event.{Event}
 use Rattle.session_history.specs.declared.history.Event.TheVariants.{Key, Look, Began, Order, Step, Closed}
 use Rattle.session_history.specs.declared.history.JobOrder.TheVariants.{Answered}
 use Rattle.session_history.specs.Entries.{is_closed}
-use Rattle.copy_move.specs.declared.deletion.Stage.{Stage as DeletionStage}
-use Rattle.copy_move.specs.declared.deletion.Stage.TheVariants as deletion
 use Rattle.copy_move.specs.declared.making.MakingStage.{MakingStage}
 use Rattle.copy_move.specs.declared.making.MakingStage.TheVariants as making
 use Rattle.copy_move.specs.declared.work.Work.{Work}
 use Rattle.copy_move.specs.declared.work.Work.TheVariants.{Copy, Delete, Make}
 use Rattle.copy_move.specs.declared.run.Course.{Course}
 use Rattle.copy_move.specs.declared.run.Course.TheVariants.{GoesOn, InTrouble, OwedSyncFailed, Skips, Ends}
-use Rattle.copy_move.specs.Deletions as deletions
 use Rattle.copy_move.specs.Makings as makings
 use Rattle.copy_move.specs.Jobs.{Running, MayAnswer, TellsOn, WorkTells, WorkWinds, answered, answered_on, at_barrier, closed_course, closed_job, first_work, is_barred, is_fresh, waits_on}
 use Rattle.copy_move.specs.Told.{IsAllowedStep, after_step, course_told, if_closed, running, told}
 use Rattle.history_laws.specs.ToldJob.{after_event, live_job}
 use Rattle.mc_ui.specs.LiveJobs.{fits, is_troubled, takes_answer}
-use Rattle.mc_ui.specs.Screens.{Screen, sight}
+use Rattle.mc_ui.specs.Screens.{Screen}
 use Rattle.mc_desk.specs.declared.starts.Start.{Start}
 use Rattle.mc_desk.specs.LiveRows.{is_report, reported_trouble, row_of, trouble_told}
 use Rattle.mc_desk.specs.Shown.{Put}
@@ -49,14 +46,6 @@ WaitsIn (Some job) t = waits_on job.course ≡ true → (trouble : Trouble) × (
 
 never : (job : Running) (t : Option Trouble) → waits_on job.course ≡ false → WaitsIn (Some job) t
 never job t goes waits = absurd (false≢true (sym goes ∙ waits))
-
--- the trouble of a deletion is at a barrier where its next call is
-deletion_barrier : (stage : DeletionStage) (path : Route) (trouble : Trouble) → deletions.IsTroubleAt stage path trouble → trouble.barrier ≡ deletions.at_barrier stage
-deletion_barrier deletion.Remove path trouble (e, is) = ap (λ (t : Trouble). t.barrier) is
-deletion_barrier deletion.Sync [] trouble h = absurd h
-deletion_barrier deletion.Sync (name ∷ folder) trouble (e, is) = ap (λ (t : Trouble). t.barrier) is
-deletion_barrier deletion.Finish path trouble h = absurd h
-deletion_barrier deletion.PassedOver path trouble h = absurd h
 
 -- the trouble of a making is at a barrier where its next call is
 making_barrier : (stage : MakingStage) (path : Route) (trouble : Trouble) → makings.IsTroubleAt stage path trouble → trouble.barrier ≡ makings.at_barrier stage
@@ -74,7 +63,7 @@ work_barrier (Delete d) (Copy new) trouble t = absurd t
 work_barrier (Delete d) (Make new) trouble t = absurd t
 work_barrier (Make m) (Copy new) trouble t = absurd t
 work_barrier (Make m) (Delete new) trouble t = absurd t
-work_barrier (Delete d) (Delete new) trouble t = deletion_barrier d.stage d.path trouble t.0
+work_barrier (Delete d) (Delete new) trouble t = t.0
 work_barrier (Make m) (Make new) trouble t = making_barrier m.stage m.path trouble t.0
 
 no_winding : (ending : Ending) (old new : Work) (trouble : Trouble) → WorkWinds ending old (Troubled trouble) new → ⊥
@@ -92,7 +81,7 @@ tells_barrier : (course : Course) (old new : Running) (trouble : Trouble) → Te
 tells_barrier GoesOn old new trouble (work, tells, is) = work_barrier old.work work trouble tells
 tells_barrier (InTrouble cause) old new trouble t = absurd t
 tells_barrier (OwedSyncFailed cause) old new trouble t = absurd t
-tells_barrier (Skips cause) old new trouble (inl (did, is)) = absurd cc
+tells_barrier (Skips cause) old new trouble (inl (path, work, did, passes, is)) = absurd cc
 tells_barrier (Skips cause) old new trouble (inr (did, is)) = let same : trouble ≡ out_of_memory_at (at_barrier old.work) = cc in ap (λ (t : Trouble). t.barrier) same
 tells_barrier (Ends ending) old new trouble (work, winds, is) = absurd (no_winding ending old.work work trouble winds)
 
@@ -196,7 +185,7 @@ pub session_waits : (start : Option Start) (opening : Option CallLog) (faults : 
 session_waits start opening faults [] now begins = tt
 session_waits start opening faults (e ∷ older) now (was, session, enters) =
     closed_waits (is_closed (e ∷ older)) (after_event e.what (live_job older)) (trouble_told (e ∷ older))
-    (event_waits (before_entry (sight was.contents) older was.screen) e.what now.screen (live_job older) (trouble_told older) refl enters.leads
+    (event_waits (before_entry was.contents older was.screen) e.what now.screen (live_job older) (trouble_told older) refl enters.leads
     (session_waits start opening faults older was session))
 
 not_true : (b : Bool) → not b ≡ true → b ≡ false

@@ -1,12 +1,9 @@
 -- The entries of a desk leave a whole desk.
-use Rattle.std.proofs.Common.{◌≡◌, ℕ, ◌+◌, ◌-◌, ◌^◌, ◌≤◌, min, Bool, true, false, ◌||◌, List, [], ◌∷◌, ◌++◌, length, refl, sym, ◌∙◌, ap, subst, inl, inr, Option, Some, None, IsSome, arith}
+use Rattle.std.proofs.Common.{◌≡◌, ℕ, ◌+◌, ◌-◌, ◌^◌, ◌≤◌, min, Bool, true, false, ◌||◌, List, [], ◌∷◌, length, refl, sym, ◌∙◌, ap, subst, inl, inr, Option, Some, None, IsSome, arith}
 use Rattle.std.specs.Prelude.{if◌then◌else◌}
 use Rattle.std.specs.Option.{option_map}
 use Rattle.key_screen.specs.declared.keys.Key.{Key as KeyType}
-use Rattle.key_screen.specs.declared.keys.Base.TheVariants.{Unknown}
 use Rattle.mc_text.specs.Routes.{Route}
-use Rattle.tree_trait.specs.Calls.{Stat, ListFolder}
-use Rattle.tree_trait.specs.FileSystem.{View}
 use Rattle.tree_trait.specs.Change.{CallLog}
 use Rattle.tree_trait.specs.Answers.{IfKnown, HasRisen}
 use Rattle.job_reports.specs.declared.report.Did.{Did}
@@ -31,7 +28,7 @@ use Rattle.copy_move.specs.Steps.{RunStep, step_made}
 use Rattle.session_history.specs.Refusals.{AreRefused}
 use Rattle.history_laws.specs.Traces.{IsUnclaimed}
 use Rattle.mc_ui.specs.LiveJobs.{takes_answer}
-use Rattle.mc_ui.specs.Screens.{Screen, Begins, Answers, LookLeads, sight}
+use Rattle.mc_ui.specs.Screens.{Screen, Begins, Answers, LookLeads}
 use Rattle.box_words.specs.declared.message.Message.{Message}
 use Rattle.mc_ui.specs.Refused.{has_fault}
 use Rattle.mc_desk.specs.Tallies.{Tally, faults_in, can_step, next_id, news_left}
@@ -40,7 +37,7 @@ use Rattle.mc_desk.specs.LiveRows.{row_of, rows_of, rows_told, trouble_told}
 use Rattle.mc_desk.specs.Granting.{KeyWorks}
 use Rattle.mc_desk.specs.Outputs.{FitsScreen, Output}
 use Rattle.mc_desk.specs.Shown.{DrawsFrame, PutsNothing, frame_due, none_before}
-use Rattle.mc_desk.specs.Desks.{Seen, kept_room, IsShown, IsWritten, IsDesk, noted, stand_of, state_of}
+use Rattle.mc_desk.specs.Desks.{Seen, kept_room, IsShown, IsWritten, IsDesk, noted, state_of}
 use Rattle.mc_desk.proofs.Showing.{shown_closed, shown_stepping}
 use Rattle.mc_desk.proofs.Adding.{adds_began, adds_closed, adds_given_up, adds_key, adds_look, adds_lost, adds_order, adds_settled, adds_step, entry, unasked_screen}
 use Rattle.mc_desk.proofs.Answering.{rows_untold}
@@ -136,11 +133,11 @@ module _ (start : Option Start) (opening contents contents_after : Option CallLo
       mid : Seen
       mid = record old { newest = entry 0 old.tally.calls count shown (Key key now [] true) ∷ old.newest; tally = record old.tally { lost = true } }
 
-  module _ (refusals : List Refusal) (fault : has_fault refusals ≡ true → HasRisen (faults_in faults old.newest) count) (refused : IfKnown contents (λ log. AreRefused Stat log refusals))
+  module _ (refusals : List Refusal) (fault : has_fault refusals ≡ true → HasRisen (faults_in faults old.newest) count) (refused : IfKnown contents (λ log. AreRefused log refusals))
       (settled : new.screen.planned ≡ None) (room : 2 ≤ new.spare) (shown_now : IsShown new) where
     -- a key that was worked
     pub desk_keyed : new.newest ≡ entry 0 old.tally.calls count shown (Key key now refusals false) ∷ old.newest → new.tally ≡ old.tally → new.job ≡ old.job → new.tally.job ≡ option_map told new.job
-        → KeyWorks (sight contents) (rows_told old.newest) (next_id old.tally.last) key refusals (noted old) (noted new) → new.dirty ≡ old.dirty
+        → KeyWorks contents (rows_told old.newest) (next_id old.tally.last) now key refusals (noted old) (noted new) → new.dirty ≡ old.dirty
         → DrawsFrame (none_before old.newest) (frame_due (noted new) (next_id old.tally.last) (rows_told old.newest)) shown old.out.put new.out.put → IsDesk start opening contents_after faults new
     desk_keyed more is job tells works dirty draws =
         desk_of start opening contents_after faults new
@@ -157,12 +154,12 @@ module _ (start : Option Start) (opening contents contents_after : Option CallLo
     abbrev pub keyed : Screen → Seen
     keyed screen = record old { newest = entry 0 old.tally.calls count shown (Key key now refusals false) ∷ old.newest; screen = screen; out = new.out }
 
-    keyed_written : (screen : Screen) → KeyWorks (sight contents) (rows_told old.newest) (next_id old.tally.last) key refusals (noted old) screen
+    keyed_written : (screen : Screen) → KeyWorks contents (rows_told old.newest) (next_id old.tally.last) now key refusals (noted old) screen
         → DrawsFrame (none_before old.newest) (frame_due screen (next_id old.tally.last) (rows_told old.newest)) shown old.out.put new.out.put → IsWritten start opening contents_after faults (keyed screen)
     keyed_written screen works draws =
         written_more faults old (keyed screen) _ start opening contents contents_after desk.written
         (adds_key contents contents_after faults old (keyed screen) 0 count shown refl key now refusals refl refl refl desk.written.told unclosed looked (unlost start opening contents faults old desk unclosed) desk.settled same later fault
-        refused (subst (λ s. KeyWorks (sight contents) (rows_told old.newest) (next_id old.tally.last) key refusals (noted old) s) (sym (unasked_screen (keyed screen) unasked)) works) unasked refl
+        refused (subst (λ s. KeyWorks contents (rows_told old.newest) (next_id old.tally.last) now key refusals (noted old) s) (sym (unasked_screen (keyed screen) unasked)) works) unasked refl
         (subst (λ s. DrawsFrame (none_before old.newest) (frame_due s (next_id old.tally.last) (rows_told old.newest)) shown old.out.put new.out.put) (sym (unasked_screen (keyed screen) unasked)) draws))
 
     -- a key that confirmed a job, and the job that it begins
@@ -170,7 +167,7 @@ module _ (start : Option Start) (opening contents contents_after : Option CallLo
         → option_map (running run.id) (first_work run.id plan) ≡ Some run
         → new.newest ≡ entry 0 old.tally.calls began_count 0 (Began id plan background) ∷ (entry 0 old.tally.calls count shown (Key key now refusals false) ∷ old.newest)
         → count ≤ began_count → new.job ≡ Some run → new.tally ≡ record old.tally { job = Some (told run); last = id; due = Some id } → new.quit ≡ old.quit → new.dirty ≡ old.dirty
-        → KeyWorks (sight contents) (rows_told old.newest) (next_id old.tally.last) key refusals (noted old) (record new.screen { planned = Some (Begins plan background) })
+        → KeyWorks contents (rows_told old.newest) (next_id old.tally.last) now key refusals (noted old) (record new.screen { planned = Some (Begins plan background) })
         → DrawsFrame (none_before old.newest) (frame_due (record new.screen { planned = Some (Begins plan background) }) (next_id old.tally.last) (rows_told old.newest)) shown old.out.put new.out.put → IsDesk start opening contents_after faults new
     desk_began plan background run id began_count number numbered idle workable started more counted job is quit dirty works draws =
         let written = keyed_written screen works draws in
@@ -191,7 +188,7 @@ module _ (start : Option Start) (opening contents contents_after : Option CallLo
         → new.newest ≡ entry 0 old.tally.calls order_count 0 (Order live.id (Answered answer)) ∷ (entry 0 old.tally.calls count shown (Key key now refusals false) ∷ old.newest)
         → count ≤ order_count → new.job ≡ Some (answered answer live)
         → new.tally ≡ record old.tally { job = Some (told (answered answer live)); due = Some live.id } → new.quit ≡ old.quit → new.dirty ≡ old.dirty
-        → KeyWorks (sight contents) (rows_told old.newest) (next_id old.tally.last) key refusals (noted old) (record new.screen { planned = Some (Answers answer) })
+        → KeyWorks contents (rows_told old.newest) (next_id old.tally.last) now key refusals (noted old) (record new.screen { planned = Some (Answers answer) })
         → DrawsFrame (none_before old.newest) (frame_due (record new.screen { planned = Some (Answers answer) }) (next_id old.tally.last) (rows_told old.newest)) shown old.out.put new.out.put → IsDesk start opening contents_after faults new
     desk_ordered answer live order_count was takes more counted job is quit dirty works draws =
         let written = keyed_written screen works draws in
@@ -230,7 +227,7 @@ desk_closed start opening contents faults old new count desk unclosed later more
 -- a look, written down
 pub desk_looked : (start : Option Start) (opening contents contents_after : Option CallLog) (faults : ℕ) (old new : Seen) (count shown : ℕ) (refusals : List Refusal) (rows : List JobRow) (news : Option Message) → rows ≡ rows_of old.job (trouble_told old.newest) → news ≡ news_left old.newest → IsDesk start opening contents faults old
     → old.tally.closed ≡ false → IsSome old.tally.due → contents_after ≡ contents → faults_in faults old.newest ≤ count → (has_fault refusals ≡ true → HasRisen (faults_in faults old.newest) count)
-    → IfKnown contents (λ log. AreRefused ListFolder log refusals) → LookLeads (sight contents) rows old.tally.has_unseen_end news refusals old.screen new.screen
+    → IfKnown contents (λ log. AreRefused log refusals) → LookLeads contents rows old.tally.has_unseen_end news refusals old.screen new.screen
     → new.newest ≡ entry 0 old.tally.calls count shown (Look refusals) ∷ old.newest
     → new.tally ≡ record old.tally { has_unseen_end = false; due = if can_step old.tally.job then old.tally.due else None } → new.job ≡ old.job → new.tally.job ≡ option_map told new.job
     → new.screen.planned ≡ None → new.quit ≡ old.quit → 2 ≤ new.spare → new.dirty ≡ old.dirty → old.quit ≡ false → IsShown new
@@ -240,8 +237,8 @@ desk_looked start opening contents contents_after faults old new count shown ref
     desk_of start opening contents_after faults new
     (written_more faults old new _ start opening contents contents_after desk.written
     (adds_look contents contents_after faults old new 0 count shown refl refusals more is job tells unclosed is_due desk.settled same later fault refused
-    (subst (λ rs. LookLeads (sight contents) rs old.tally.has_unseen_end (news_left old.newest) refusals old.screen new.screen) (rows_is ∙ sym (rows_are start opening contents faults old desk.written))
-    (subst (λ p. LookLeads (sight contents) rows old.tally.has_unseen_end p refusals old.screen new.screen) news_is leads)) quit unasked dirty draws))
+    (subst (λ rs. LookLeads contents rs old.tally.has_unseen_end (news_left old.newest) refusals old.screen new.screen) (rows_is ∙ sym (rows_are start opening contents faults old desk.written))
+    (subst (λ p. LookLeads contents rows old.tally.has_unseen_end p refusals old.screen new.screen) news_is leads)) quit unasked dirty draws))
     settled (λ h. ap (λ (t : Tally). t.closed) is ∙ desk.lost (sym (ap (λ (t : Tally). t.lost) is) ∙ h)) (λ h. absurd (let no = unasked in cc)) (λ h. absurd (let shut = ap (λ (t : Tally). t.closed) is in cc)) room shown_now
 
 -- a step makes at most three changing calls

@@ -7,12 +7,10 @@ use Rattle.key_screen.specs.Grids.{CellGrid}
 use Rattle.tree_trait.specs.declared.devices.SinkError.{SinkError}
 use Rattle.key_screen.specs.declared.keys.Key.{Key as KeyType}
 use Rattle.mc_text.specs.Routes.{Route}
-use Rattle.tree_trait.specs.Calls.{Stat}
 use Rattle.tree_trait.specs.Change.{CallLog}
 use Rattle.tree_trait.specs.Answers.{IfKnown, HasRisen}
 use Rattle.job_reports.specs.declared.row.JobRow.{JobRow}
-use Rattle.session_history.specs.declared.history.Entry.{Entry}
-use Rattle.session_history.specs.declared.history.Event.TheVariants.{Began, Key}
+use Rattle.session_history.specs.declared.history.Event.TheVariants.{Key}
 use Rattle.session_history.specs.declared.refusal.Refusal.{Refusal}
 use Rattle.session_history.specs.Refusals.{AreRefused}
 use Rattle.job_reports.specs.declared.answer.Answer.{Answer}
@@ -27,12 +25,11 @@ use Rattle.copy_move.specs.declared.run.Course.TheVariants.{GoesOn, InTrouble, O
 use Rattle.copy_move.specs.Jobs.{MayAnswer, Running, answered, answered_on, first_work, is_barred, waits_on}
 use Rattle.copy_move.specs.Told.{running, told}
 use Rattle.mc_ui.specs.LiveJobs.{can_answer, takes_answer}
-use Rattle.mc_ui.specs.Screens.{Answers, Begins, Screen, sight}
+use Rattle.mc_ui.specs.Screens.{Answers, Begins, Screen}
 use Rattle.mc_ui.specs.Refused.{has_fault}
 use Rattle.mc_desk.specs.declared.starts.Start.{Start}
 use Rattle.mc_desk.specs.declared.granting.Deed.{Deed}
 use Rattle.mc_desk.specs.declared.granting.Deed.TheVariants as deed
-use Rattle.mc_desk.specs.declared.standing.Due.TheVariants.{Job}
 use Rattle.mc_desk.specs.declared.standing.Standing.{Standing}
 use Rattle.mc_desk.specs.Granting.{CanBeDone, IsWorked, KeyWorks, with_deed}
 use Rattle.mc_desk.specs.LiveRows.{row_of, rows_of, rows_told, trouble_told}
@@ -126,7 +123,7 @@ cleared s h = ap (λ o. let c : Screen = record s { planned = o } in c) h
 module _ (start : Option Start) (opening contents contents_after : Option CallLog) (faults : ℕ) (log log_after : Logged) (screen screen_after : Screen) (was : Standing) (dirty : List Route) (out out_after : Output) (taken : ℕ)
     (pending : List ℕ) (count : ℕ) (key : KeyType) (now : ℕ) (desk : IsDesk start opening contents faults (seen_of log screen was dirty out taken pending)) (unclosed : was.closed ≡ false) (unasked : was.quit ≡ false)
     (looked : awaited was.due ≡ None) (same : contents_after ≡ contents) (later : faults_in faults log.newest ≤ count) (refusals : List Refusal)
-    (fault : has_fault refusals ≡ true → HasRisen (faults_in faults log.newest) count) (refused : IfKnown contents (λ l. AreRefused Stat l refusals)) (room : 2 ≤ log_after.spare)
+    (fault : has_fault refusals ≡ true → HasRisen (faults_in faults log.newest) count) (refused : IfKnown contents (λ l. AreRefused l refusals)) (room : 2 ≤ log_after.spare)
     (rows : List JobRow) (rows_is : rows ≡ rows_of was.job (trouble_told log.newest)) (r : Result (Unit {0}) SinkError) where
   abbrev pub old : Seen
   old = seen_of log screen was dirty out taken pending
@@ -135,14 +132,14 @@ module _ (start : Option Start) (opening contents contents_after : Option CallLo
   new standing = seen_of log_after screen_after standing dirty out_after taken pending
 
   -- the key, on the screens on which the end is noted
-  noted_works : (after : Screen) → KeyWorks (sight contents) rows (next_id was.last_id) key refusals screen after → KeyWorks (sight contents) (rows_told log.newest) (next_id was.last_id) key refusals (with_end was.quit screen) after
+  noted_works : (after : Screen) → KeyWorks contents rows (next_id was.last_id) now key refusals screen after → KeyWorks contents (rows_told log.newest) (next_id was.last_id) now key refusals (with_end was.quit screen) after
   noted_works after works =
-      subst (λ s. KeyWorks (sight contents) (rows_told log.newest) (next_id was.last_id) key refusals s after) (sym (unasked_screen old unasked))
-      (subst (λ rs. KeyWorks (sight contents) rs (next_id was.last_id) key refusals screen after) (rows_is ∙ sym (rows_are start opening contents faults old desk.written)) works)
+      subst (λ s. KeyWorks contents (rows_told log.newest) (next_id was.last_id) now key refusals s after) (sym (unasked_screen old unasked))
+      (subst (λ rs. KeyWorks contents rs (next_id was.last_id) now key refusals screen after) (rows_is ∙ sym (rows_are start opening contents faults old desk.written)) works)
 
-  still_noted : KeyWorks (sight contents) rows (next_id was.last_id) key refusals screen screen_after → KeyWorks (sight contents) (rows_told log.newest) (next_id was.last_id) key refusals (with_end was.quit screen) (with_end was.quit screen_after)
+  still_noted : KeyWorks contents rows (next_id was.last_id) now key refusals screen screen_after → KeyWorks contents (rows_told log.newest) (next_id was.last_id) now key refusals (with_end was.quit screen) (with_end was.quit screen_after)
   still_noted works =
-      subst (λ b. KeyWorks (sight contents) (rows_told log.newest) (next_id was.last_id) key refusals (with_end was.quit screen) (with_end b screen_after)) (sym unasked) (noted_works screen_after works)
+      subst (λ b. KeyWorks contents (rows_told log.newest) (next_id was.last_id) now key refusals (with_end was.quit screen) (with_end b screen_after)) (sym unasked) (noted_works screen_after works)
 
   abbrev pub shown : ℕ
   shown = out_after.shown
@@ -154,7 +151,7 @@ module _ (start : Option Start) (opening contents contents_after : Option CallLo
   due_of done = frame_due (with_deed done screen_after) (next_id was.last_id) (rows_told log.newest)
 
   -- the frame that is drawn is the one that is due
-  frame_as : (done : Deed) → IsWorked (sight contents) rows (next_id was.last_id) key screen screen_after done refusals
+  frame_as : (done : Deed) → IsWorked contents rows (next_id was.last_id) now key screen screen_after done refusals
       → frame_of screen_after (rows_of (after_deed done was).job (trouble_told log.newest)) ≡ due_of done
   frame_as deed.Nothing w = plain w.settled
     where
@@ -197,7 +194,7 @@ module _ (start : Option Start) (opening contents contents_after : Option CallLo
       (shown_whole (frame_of screen_after (rows_of standing.job (trouble_told log.newest))) r out out_after s))
       still
 
-  drawn_for : (done : Deed) → IsWorked (sight contents) rows (next_id was.last_id) key screen screen_after done refusals → Shown done
+  drawn_for : (done : Deed) → IsWorked contents rows (next_id was.last_id) now key screen screen_after done refusals → Shown done
       → DrawsFrame (none_before log.newest) (due_of done) shown out.put out_after.put
   drawn_for done w s = draws_written old (frame_of screen_after (rows_of (after_deed done was).job (trouble_told log.newest))) (due_of done) r out_after desk.shown unclosed s (frame_as done w)
 
@@ -206,7 +203,7 @@ module _ (start : Option Start) (opening contents contents_after : Option CallLo
       → DrawsFrame (none_before log.newest) (frame_due (with_end was.quit screen_after) (next_id was.last_id) (rows_told log.newest)) shown out.put out_after.put
   drawn_noted d = subst (λ b. DrawsFrame (none_before log.newest) (frame_due (with_end b screen_after) (next_id was.last_id) (rows_told log.newest)) shown out.put out_after.put) (sym unasked) d
 
-  pub desk_worked : (done : Deed) → IsWorked (sight contents) rows (next_id was.last_id) key screen screen_after done refusals → FitsScreen out_after.display.grid screen_after → Shown done
+  pub desk_worked : (done : Deed) → IsWorked contents rows (next_id was.last_id) now key screen screen_after done refusals → FitsScreen out_after.display.grid screen_after → Shown done
       → log_after.newest ≡ followed was.calls count (event_of done was.job) (entry 0 was.calls count shown (Key key now refusals false) ∷ log.newest) → IsDesk start opening contents_after faults (new (after_deed done was))
   desk_worked deed.Nothing w fits s more =
       desk_keyed start opening contents contents_after faults old (new was) count shown key now desk unclosed unasked looked same later refusals fault refused w.settled room

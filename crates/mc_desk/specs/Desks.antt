@@ -7,13 +7,14 @@ use Rattle.tree_trait.specs.Answers.{IfKnown}
 use Rattle.tree_trait.specs.declared.devices.Command.{Command}
 use Rattle.key_screen.specs.declared.keys.Key.{Key as KeyType}
 use Rattle.key_screen.specs.DecodedKeys.{decoded_keys}
-use Rattle.job_reports.specs.declared.report.Did.TheVariants.{Barrier}
+use Rattle.job_reports.specs.declared.report.Did.TheVariants.{Barrier, Removed}
 use Rattle.session_history.specs.declared.history.Event.TheVariants.{Step}
 use Rattle.session_history.specs.declared.history.Entry.{Entry}
 use Rattle.copy_move.specs.Jobs.{Running}
 use Rattle.copy_move.specs.Told.{told}
-use Rattle.copy_move.specs.Settling.{changed_folder}
-use Rattle.job_reports.specs.Paths.{without}
+use Rattle.copy_move.specs.Settling.{is_own}
+use Rattle.tree_deletion.specs.Folders.{joined}
+use Rattle.job_reports.specs.Paths.{folder_of, without}
 use Rattle.history_laws.specs.Traces.{Stand, before_others}
 use Rattle.mc_ui.specs.Screens.{Screen, Ends}
 use Rattle.mc_desk.specs.Shown.{ShowsOverAny, none_before}
@@ -206,12 +207,30 @@ abbrev pub HasSynced : List Entry → Type 0
 HasSynced [] = ⊥
 HasSynced (e ∷ older) = (id : ℕ) × (e.what ≡ Step id Barrier)
 
--- What a step makes of the dirty folders: the live job's may join them, and one leaves them only with the report of a sync.
+-- the newest entry is the report that this was removed
+abbrev pub HasRemoved : List Entry → Route → Type 0
+HasRemoved [] path = ⊥
+HasRemoved (e ∷ older) path = (id : ℕ) × (e.what ≡ Step id (Removed path))
+
+-- a folder of the live job's own joined the dirty ones
+pub record JoinsDirty (job : Option Running) (dirty dirty_after : List Route) : Type 0 where
+  pub live : Running
+  pub job_is : job ≡ Some live
+  pub folder : Route
+  pub own : is_own live.work folder ≡ true
+  pub joins : dirty_after ≡ joined folder dirty
+
+-- a folder was removed: the one that held it joined the dirty ones, and it is no longer one itself
+pub record RemovesDirty (newest : List Entry) (dirty dirty_after : List Route) : Type 0 where
+  pub path : Route
+  pub removed : HasRemoved newest path
+  pub leaves : dirty_after ≡ without path (joined (folder_of path) dirty)
+
+-- What a step makes of the dirty folders: one of the live job's own may join them, and one leaves them only with the report of its
+-- removal, or of a sync.
 abbrev pub MovesDirty : Option Running → List Entry → List Route → List Route → Type 0
 MovesDirty job newest dirty dirty_after =
-    (dirty_after ≡ dirty)
-    ⊎ (((live : Running) × (job ≡ Some live) × (dirty_after ≡ dirty ++ changed_folder live.work ∷ []))
-    ⊎ ((folder : Route) × (dirty_after ≡ without folder dirty) × HasSynced newest))
+    (dirty_after ≡ dirty) ⊎ (JoinsDirty job dirty dirty_after ⊎ (RemovesDirty newest dirty dirty_after ⊎ ((folder : Route) × (dirty_after ≡ without folder dirty) × HasSynced newest)))
 
 -- the answer of a step where no job can be stepped, by whether the desk is closed
 abbrev pub idle_reply : Bool → StepReply

@@ -1,6 +1,6 @@
 -- What the desk does about what a key asks.
 use Rattle.std.specs.Prelude.{◌≡◌, ◌⊎◌, ℕ, Bool, true, ⊤, List, [], ◌∷◌, Option, Some, None}
-use Rattle.tree_trait.specs.FileSystem.{View}
+use Rattle.tree_trait.specs.Change.{CallLog}
 use Rattle.key_screen.specs.declared.keys.Key.{Key as KeyType}
 use Rattle.job_reports.specs.declared.row.JobRow.{JobRow}
 use Rattle.job_reports.specs.declared.job.Job.{Job}
@@ -9,7 +9,7 @@ use Rattle.session_history.specs.declared.refusal.BeginError.TheVariants.{NoMore
 use Rattle.session_history.specs.declared.refusal.Refusal.{Refusal}
 use Rattle.session_history.specs.declared.refusal.Refusal.TheVariants as refusal
 use Rattle.mc_ui.specs.LiveJobs.{can_answer}
-use Rattle.mc_ui.specs.Screens.{Answers, Begins, Ends, KeyLeads, Screen, told_refusal, with_ask}
+use Rattle.mc_ui.specs.Screens.{Answers, Begins, Ends, KeyLeads, Screen, at_second, told_refusal, with_ask}
 use Rattle.mc_ui.specs.declared.asks.Ask.{Ask}
 use Rattle.mc_ui.specs.declared.asks.Ask.TheVariants as ask
 use Rattle.mc_ui.specs.declared.asks.Told.{Told}
@@ -30,18 +30,18 @@ abbrev pub no_more_ids : List Refusal
 no_more_ids = refusal.Begin NoMoreIds ∷ []
 
 -- a key asks for a job after all numbers were given: that is refused, and a message says so
-pub record FindsNoNumber (tree : Option View) (rows : List JobRow) (next : Option ℕ) (key : KeyType) (refusals : List Refusal) (before after : Screen) : Type 0 where
+pub record FindsNoNumber (contents : Option CallLog) (rows : List JobRow) (next : Option ℕ) (now : ℕ) (key : KeyType) (refusals : List Refusal) (before after : Screen) : Type 0 where
   pub plan : Job
   pub background : Bool
-  pub asks : KeyLeads tree rows key [] before (with_ask (ask.Begin plan background) before)
+  pub asks : KeyLeads contents rows now key [] before (with_ask (ask.Begin plan background) (at_second now before))
   pub none_left : next ≡ None
   pub refused : refusals ≡ no_more_ids
-  pub told : after ≡ told_refusal (refusal.Begin NoMoreIds) before
+  pub told : after ≡ told_refusal (refusal.Begin NoMoreIds) (at_second now before)
 
 -- what a key comes to, while these jobs are live and the next job has this number
-abbrev pub KeyWorks : Option View → List JobRow → Option ℕ → KeyType → List Refusal → Screen → Screen → Type 0
-KeyWorks tree rows next key refusals before after =
-    KeyLeads tree rows key refusals before after ⊎ FindsNoNumber tree rows next key refusals before after
+abbrev pub KeyWorks : Option CallLog → List JobRow → Option ℕ → ℕ → KeyType → List Refusal → Screen → Screen → Type 0
+KeyWorks contents rows next now key refusals before after =
+    KeyLeads contents rows now key refusals before after ⊎ FindsNoNumber contents rows next now key refusals before after
 
 -- What a key asks is done: a job is begun under the next number. Where there is none that is refused. All else that the key was
 -- refused is told as it was.
@@ -57,9 +57,9 @@ IsGranted next asked own Refuse refusals =
 -- what the screen is told of it
 abbrev pub told_of : Deed → Told
 told_of Nothing = told.Nothing
-told_of (Begin confirmed) = told.Done
+told_of (Begin confirmed) = told.Begun
 told_of Refuse = told.Refused (refusal.Begin NoMoreIds)
-told_of (Answer answer) = told.Done
+told_of (Answer answer) = told.Answered
 told_of End = told.Nothing
 
 -- the screen with what is done noted on it
@@ -79,8 +79,8 @@ CanBeDone rows next (Begin confirmed) = (rows ≡ []) × (is_workable confirmed.
 CanBeDone rows next (Answer answer) = can_answer rows answer ≡ true
 
 -- a key was worked on the screen, and it was decided what is done about it
-pub record IsWorked (tree : Option View) (rows : List JobRow) (next : Option ℕ) (key : KeyType) (before after : Screen) (done : Deed) (refusals : List Refusal) : Type 0 where
-  pub works : KeyWorks tree rows next key refusals before (with_deed done after)
+pub record IsWorked (contents : Option CallLog) (rows : List JobRow) (next : Option ℕ) (now : ℕ) (key : KeyType) (before after : Screen) (done : Deed) (refusals : List Refusal) : Type 0 where
+  pub works : KeyWorks contents rows next now key refusals before (with_deed done after)
   pub can : CanBeDone rows next done
   pub settled : after.planned ≡ None
   pub size : HasSameSize before after

@@ -1,9 +1,7 @@
 -- A session, as its history tells it: each entry follows from those before it, and from the tree as it stands then. Histories
 -- stand newest first here.
-use Rattle.std.specs.Prelude.{◌≡◌, ◌⊎◌, ℕ, ◌+◌, ◌≤◌, Bool, true, false, ⊤, if◌then◌else◌, List, [], ◌∷◌, Option, Some, None, IsSome}
-use Rattle.tree_trait.specs.FileSystem.{View}
+use Rattle.std.specs.Prelude.{◌≡◌, ◌⊎◌, ℕ, ◌+◌, ◌≤◌, Bool, true, false, ⊤, if◌then◌else◌, List, [], ◌∷◌, Option, Some, None, IsSome, Ok}
 use Rattle.mc_text.specs.Routes.{Route}
-use Rattle.tree_trait.specs.Calls.{Stat, ListFolder}
 use Rattle.tree_trait.specs.Change.{CallLog}
 use Rattle.tree_trait.specs.Answers.{HasRisen, IfKnown}
 use Rattle.job_reports.specs.declared.answer.Answer.{Answer}
@@ -23,7 +21,9 @@ use Rattle.history_laws.specs.Traces.{Follows, Stand, at_rest, nothing_live}
 use Rattle.box_words.specs.declared.message.Message.{Message}
 use Rattle.mc_ui.specs.Refused.{has_fault}
 use Rattle.mc_ui.specs.LiveJobs.{takes_answer}
-use Rattle.mc_ui.specs.Screens.{Screen, Planned, Begins, Answers, Ends, sight, LookLeads, IsOpening}
+use Rattle.mc_ui.specs.Screens.{Screen, Planned, Begins, Answers, Ends, LookLeads, opened_screen}
+use Rattle.panel_pair.specs.Openings.{OpensBoth}
+use Rattle.panel_pair.specs.Pairs.{PairState, opened_pair}
 use Rattle.mc_desk.specs.declared.starts.Start.{Start}
 use Rattle.mc_desk.specs.Granting.{KeyWorks}
 use Rattle.mc_desk.specs.LiveRows.{rows_told}
@@ -36,10 +36,10 @@ pub record TakesKey (t : Tally) : Type 0 where
   pub looked : t.due ≡ None
   pub unlost : t.lost ≡ false
 
--- How a session stands before an entry: what can be seen of the tree, what the history came to, the rows of its live jobs, what
+-- How a session stands before an entry: what the tree holds, where it tells that, what the history came to, the rows of its live jobs, what
 -- is to be told of the last end, and the screen.
 pub record Before : Type 0 where
-  pub tree : Option View
+  pub contents : Option CallLog
   pub tally : Tally
   pub rows : List JobRow
   pub news : Option Message
@@ -68,9 +68,9 @@ pub record IsOrdered (was : Before) (id : ℕ) (answer : Answer) (after : Screen
 -- live job as its newest report told it. A step is one that the live job may make.
 abbrev pub EventLeads : Before → Event → Screen → Type 0
 EventLeads was (Key key now refusals true) after = TakesKey was.tally × (after ≡ was.screen)
-EventLeads was (Key key now refusals false) after = TakesKey was.tally × KeyWorks was.tree was.rows (next_id was.tally.last) key refusals was.screen after
+EventLeads was (Key key now refusals false) after = TakesKey was.tally × KeyWorks was.contents was.rows (next_id was.tally.last) now key refusals was.screen after
 EventLeads was (Look refusals) after =
-    (was.tally.closed ≡ false) × IsSome was.tally.due × LookLeads was.tree was.rows was.tally.has_unseen_end was.news refusals was.screen after
+    (was.tally.closed ≡ false) × IsSome was.tally.due × LookLeads was.contents was.rows was.tally.has_unseen_end was.news refusals was.screen after
 EventLeads was (Began id plan background) after = IsBegun was id plan background after
 EventLeads was (Order id (Answered answer)) after = IsOrdered was id answer after
 EventLeads was (Step id did) after =
@@ -109,10 +109,10 @@ pub record Counts (failed made : ℕ) (e : Entry) : Type 0 where
   pub calls : made ≤ e.calls
   pub most : e.calls ≤ made + most_calls e.what
 
--- A key looks at a thing, a look lists folders, and what they were refused has its cause in the tree.
+-- What a key and a look were refused has its cause in the tree.
 abbrev pub HasCauses : Event → CallLog → Type 0
-HasCauses (Key key now refusals lost) log = AreRefused Stat log refusals
-HasCauses (Look refusals) log = AreRefused ListFolder log refusals
+HasCauses (Key key now refusals lost) log = AreRefused log refusals
+HasCauses (Look refusals) log = AreRefused log refusals
 HasCauses (Began id plan background) log = ⊤
 HasCauses (Order id order) log = ⊤
 HasCauses (Step id did) log = ⊤
@@ -126,8 +126,8 @@ Traces (Some opening) e older was before stand contents =
     (log : CallLog) × (now : CallLog) × (before ≡ Some log) × (contents ≡ Some now) × Follows opening e older was log stand now
 
 -- how a session stands after these entries
-abbrev pub before_entry : Option View → List Entry → Screen → Before
-before_entry tree older screen = record { tree = tree; tally = tally older; rows = rows_told older; news = news_left older; screen = screen }
+abbrev pub before_entry : Option CallLog → List Entry → Screen → Before
+before_entry contents older screen = record { contents = contents; tally = tally older; rows = rows_told older; news = news_left older; screen = screen }
 
 -- what a session has come to: the screen, the live jobs with the dirty folders, what the tree holds, where it tells that, and what
 -- was put to the terminal
@@ -141,23 +141,30 @@ pub record SessionState : Type 0 where
 pub record Enters (opening : Option CallLog) (faults : ℕ) (e : Entry) (older : List Entry) (was now : SessionState) : Type 0 where
   pub timely : IsTimely e.what was.screen
   pub counts : Counts (faults_in faults older) (calls_in older) e
-  pub leads : EventLeads (before_entry (sight was.contents) older was.screen) e.what now.screen
+  pub leads : EventLeads (before_entry was.contents older was.screen) e.what now.screen
   pub caused : IfKnown was.contents (HasCauses e.what)
   pub traced : Traces opening e older was.stand was.contents now.stand now.contents
   pub draws : EventDraws e.what (none_before older) (frame_due now.screen (next_id (last_id older)) (rows_told older)) e.shown was.put now.put
 
--- the folders of the two panels, and the size of the screen
-abbrev pub folders_of : Screen → Start
-folders_of screen = record { left = screen.left.folder; right = screen.right.folder; lines = screen.lines; columns = screen.columns }
+-- panels that were just opened
+abbrev pub just_opened : PairState → PairState
+just_opened pair = opened_pair pair.current.folder pair.other.folder pair.current.listing pair.other.listing
 
--- the session begins in the folders that were named, where they are known
+-- At the opening each panel shows the folder to which its path leads, as it was read; the left one is current, and the screen has
+-- nothing else.
+pub record IsOpening (contents : Option CallLog) (start : Start) (screen : Screen) : Type 0 where
+  pub shows : IfKnown contents (λ log. OpensBoth log start.left start.right (Ok screen.panels))
+  pub opened : screen ≡ opened_screen (just_opened screen.panels) start.lines start.columns screen.second
+
+-- the session begins as was named, where that is known
 abbrev pub BeginsIn : Option Start → Start → Type 0
-BeginsIn start folders = IfKnown start (λ named. named ≡ folders)
+BeginsIn named start = IfKnown named (λ known. known ≡ start)
 
--- a session that has just begun in these folders, over a tree with these contents
-pub record IsBeginning (start : Option Start) (opening : Option CallLog) (now : SessionState) : Type 0 where
-  pub opened : IsOpening (sight opening) now.screen
-  pub folders : BeginsIn start (folders_of now.screen)
+-- a session that has just begun so, over a tree with these contents
+pub record IsBeginning (named : Option Start) (opening : Option CallLog) (now : SessionState) : Type 0 where
+  pub start : Start
+  pub begins : BeginsIn named start
+  pub opened : IsOpening opening start now.screen
   pub idle : now.stand ≡ nothing_live
   pub same : now.contents ≡ opening
   pub blank : HasPutNothing now.put

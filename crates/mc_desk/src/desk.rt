@@ -1,7 +1,5 @@
 //! The desk: a session, and how many bytes of the keyboard it has taken. These are the first that the keyboard gives.
 ghost use Rattle.std.specs.Prelude.{◌≡◌, ◌<◌, ◌≤◌, false, true, [], Option, IfOk, IfErr, IsSome, IsTrue, OnOk, None, Some, if◌then◌else◌, reverse};
-ghost use Rattle.tree_trait.specs.Calls.{ListFolder};
-ghost use Rattle.tree_trait.specs.Refusals.{refusal_of};
 ghost use Rattle.tree_trait.specs.Change.{current};
 ghost use Rattle.tree_trait.specs.Answers.{IfKnown, HasRisen};
 ghost use Rattle.copy_move.specs.Ranks.{rank_with};
@@ -10,7 +8,7 @@ ghost use Rattle.copy_move.specs.Told.{IsReady};
 ghost use Rattle.history_laws.specs.Traces.{IsTracedTo};
 ghost use Rattle.mc_desk.specs.Logs.{jobs_begun};
 ghost use Rattle.mc_desk.specs.Sessions.{BeginsIn, EndsSession};
-ghost use Rattle.mc_desk.specs.Starts.{IsStartCause, is_start_fault};
+ghost use Rattle.mc_desk.specs.Starts.{IsStartCause, is_start_fault, path_refusal};
 ghost use Rattle.mc_desk.specs.Tallies.{can_step, faults_in, has_lost};
 ghost use Rattle.mc_desk.specs.Outputs.{Blames};
 ghost use Rattle.mc_desk.specs.Shown.{HasGiven, put_since};
@@ -42,11 +40,12 @@ impl<N: Tag, T: Tree, S: Sink, P: Spawner> Model for Desk<N, T, S, P> {
 }
 
 impl<N: Tag, T: Tree, S: Sink, P: Spawner> Desk<N, T, S, P> {
-    /// Opens a session in two folders. It is refused as `list` of the first is that can't be listed, or since memory ran out;
-    /// the devices are as they were then, but for the tree's count of faults.
+    /// Opens a session at a second of the clock, in the folders to which two paths lead. It is refused as the first is that
+    /// leads to no folder which can be read, or since memory ran out; the devices are as they were then, but for the tree's count of faults.
     pub fn begin(
         alloc: Global,
         start: Start,
+        now: u64,
         tree: T,
         screen: S,
         spawner: P,
@@ -62,7 +61,7 @@ impl<N: Tag, T: Tree, S: Sink, P: Spawner> Desk<N, T, S, P> {
 
         ensures fresh { IfOk result IsFresh }
         ensures permitted { IfKnown (T.contents tree) (λ log.
-            OnOk result ((refusal_of (current log) (ListFolder start.left) ≡ None) × (refusal_of (current log) (ListFolder start.right) ≡ None))) }
+            OnOk result ((path_refusal (current log) start.left ≡ None) × (path_refusal (current log) start.right ≡ None))) }
         ensures cause { IfKnown (T.contents tree) (λ log. IfErr result (λ r. IsStartCause (current log) start.left start.right r.error)) }
         ensures fault { IfErr result (λ r. is_start_fault r.error ≡ true → HasRisen (T.fault_count tree) (T.fault_count r.tree)) }
         ensures same { IfErr result (λ r. T.contents r.tree ≡ T.contents tree) }
@@ -70,7 +69,7 @@ impl<N: Tag, T: Tree, S: Sink, P: Spawner> Desk<N, T, S, P> {
         ensures same_screen { IfErr result (λ r. r.screen ≡ screen) }
         ensures same_spawner { IfErr result (λ r. r.spawner ≡ spawner) }
     {
-        match Session::begin(alloc, start, tree, screen, spawner) {
+        match Session::begin(alloc, start, now, tree, screen, spawner) {
             Ok(session) => Ok(Desk { session }),
             Err(refused) => Err(refused),
         }
@@ -97,7 +96,7 @@ impl<N: Tag, T: Tree, S: Sink, P: Spawner> Desk<N, T, S, P> {
         self.session.byte(alloc, byte, now)
     }
 
-    /// Takes up what the job did, and draws. After the job's end the panel is read again, and a message tells of it where memory
+    /// Takes up what the job did, and draws. After the job's end the panels are read again, and a message tells of it where memory
     /// ran out or a part was left. Where nothing is due the desk stays as it is: so one that is closed, or whose end was asked.
     pub fn look(&mut self, alloc: Global) -> Result<(), DeskError>
         ensures shows { OnOk result (self.new.tally.closed ≡ false → ShowsDesk self.new) }

@@ -1,9 +1,8 @@
 //! What the desk does about what a key asks.
 ghost use Rattle.std.specs.Prelude.{◌≡◌, ◌∷◌, [], true, IfOk, OnErr, Some};
 ghost use Rattle.job_reports.specs.Jobs.{is_workable};
-ghost use Rattle.tree_trait.specs.Calls.{Stat};
 ghost use Rattle.mc_ui.specs.Reading.{ReadsTree};
-ghost use Rattle.mc_ui.specs.Screens.{is_request, sight};
+ghost use Rattle.mc_ui.specs.Screens.{is_request};
 ghost use Rattle.mc_desk.specs.declared.granting.Granted.{Granted as GrantedType};
 ghost use Rattle.mc_desk.specs.Granting.{CanBeWorked, IsGranted, IsWorked, told_of};
 
@@ -37,7 +36,7 @@ pub struct Granted {
     pub refusals: Refusals,
 }
 
-/// Works a key on the screen while these jobs are live, and decides what is done about what it asks. The screen is told of
+/// Works a key on the screen at a second of the clock, while these jobs are live, and decides what is done about what it asks. The screen is told of
 /// that; where memory runs out it is as it was.
 pub fn work<T: Tree>(
     alloc: Global,
@@ -46,16 +45,25 @@ pub fn work<T: Tree>(
     rows: &JobRows,
     next: Option<u32>,
     key: Key,
+    now: u64,
 ) -> Result<Granted, NoMemory>
-    ensures worked { IfOk result (λ granted. IsWorked (sight (T.contents tree.old)) rows.now next key ui.old ui.new granted.deed granted.refusals) }
+    ensures worked { IfOk result (λ granted. IsWorked (T.contents tree.old) rows.now next now key ui.old ui.new granted.deed granted.refusals) }
     ensures lost { OnErr result (ui.new ≡ ui.old) }
-    ensures reads { ReadsTree Stat (λ (granted : GrantedType). granted.refusals) result (T.contents tree.old) (T.contents tree.new)
+    ensures reads { ReadsTree (λ (granted : GrantedType). granted.refusals) result (T.contents tree.old) (T.contents tree.new)
         (T.fault_count tree.old) (T.fault_count tree.new) }
 {
-    let act = ui.key(alloc, tree, rows, key)?;
-    let granted = grant(alloc, act, next)?;
-    ui.settle(told(&granted.deed));
-    Ok(granted)
+    let second = ui.second();
+    let act = ui.key(alloc, tree, rows, key, now)?;
+    match grant(alloc, act, next) {
+        Ok(granted) => {
+            ui.settle(told(&granted.deed));
+            Ok(granted)
+        }
+        Err(error) => {
+            ui.set_second(second);
+            Err(error)
+        }
+    }
 }
 
 /// Starts the job that a key asks for under the next number, or refuses it where none is left.
@@ -82,7 +90,8 @@ fn told(deed: &Deed) -> Told
 {
     match deed {
         Deed::Nothing | Deed::End => Told::Nothing,
-        Deed::Begin(_) | Deed::Answer(_) => Told::Done,
+        Deed::Begin(_) => Told::Begun,
+        Deed::Answer(_) => Told::Answered,
         Deed::Refuse => Told::Refused(Refusal::Begin(BeginError::NoMoreIds)),
     }
 }

@@ -19,9 +19,9 @@ mod terminal;
 pub use desk::Desk;
 pub use log::Log;
 pub use mc_ui::{
-    Ask, Choice, Chosen, CopyPlan, Dialog, KeyAct, Panel, Reread, Told, Ui, cause_text, choose,
-    list_again, plan_copy,
+    Ask, Choice, Chosen, CopyPlan, Dialog, KeyAct, Told, Ui, choose, plan_copy, resolve_text,
 };
+pub use panel_pair::Side;
 pub use replies::{DeskError, DeskReply, Ended, Refused, StepReply};
-pub use starts::{Side, Start, StartError};
+pub use starts::{Start, StartError};
 pub use tag::Tag;

@@ -1,4 +1,4 @@
-//! The opening of a session: the folders are listed, and room is made for the entry that will close it.
+//! The opening of a session: the folders are read, and room is made for the entry that will close it.
 ghost use Rattle.std.specs.Prelude.{◌≡◌, ◌≤◌, true, false, IfErr, IfOk};
 ghost use Rattle.tree_trait.specs.Change.{current};
 ghost use Rattle.tree_trait.specs.Answers.{IfKnown, HasRisen};
@@ -6,18 +6,21 @@ ghost use Rattle.mc_desk.specs.Outputs.{FitsScreen};
 ghost use Rattle.mc_desk.specs.Starts.{IsOpened, Starts, is_start_fault, start_error};
 
 use crate::log::Log;
-use crate::starts::{Side, Start, StartError};
+use crate::starts::{Start, StartError};
 use mc_screen::Screen;
 use mc_text::NoMemory;
-use mc_ui::{Panel, Ui};
+use mc_ui::Ui;
+use panel_pair::{Panels, Side, Unopened};
+use resolving::ResolveError;
 use std::alloc::Global;
-use tree_trait::{Tree, TreeError};
+use tree_trait::Tree;
 
-/// The screen of two folders, with no box open, and an empty log. The left one is listed first.
+/// The screen of two folders at a second of the clock, with no box open, and an empty log. The left one is read first.
 pub fn open<T: Tree>(
     alloc: Global,
     tree: &mut T,
     start: Start,
+    now: u64,
 ) -> Result<(Ui, Log, Screen), StartError>
     ensures opened { IfOk result (λ parts. IsOpened (T.contents tree.old) start parts.0 parts.1) }
     ensures fresh { IfOk result (λ parts. parts.2.has_drawn ≡ false) }
@@ -41,26 +44,21 @@ pub fn open<T: Tree>(
         Ok(screen) => screen,
         Err(NoMemory) => return Err(StartError::Memory),
     };
-    let left_names = match tree.list(alloc, &left) {
-        Ok(children) => children.names,
-        Err(error) => return Err(refused(Side::Left, error)),
-    };
-    let right_names = match tree.list(alloc, &right) {
-        Ok(children) => children.names,
-        Err(error) => return Err(refused(Side::Right, error)),
-    };
-    let left_panel = Panel::new(left, left_names);
-    let right_panel = Panel::new(right, right_names);
-    let ui = Ui::new(left_panel, right_panel, lines, columns);
-    Ok((ui, log, screen))
+    match Panels::open(alloc, tree, &left, &right) {
+        Ok(panels) => {
+            let ui = Ui::new(panels, lines, columns, now);
+            Ok((ui, log, screen))
+        }
+        Err(Unopened { side, error }) => Err(refused(side, error)),
+    }
 }
 
-/// Why a folder can't be listed.
-fn refused(side: Side, error: TreeError) -> StartError
+/// Why a folder can't be read.
+fn refused(side: Side, error: ResolveError) -> StartError
     ensures { result ≡ start_error side error }
 {
     match error {
-        TreeError::Memory => StartError::Memory,
-        error => StartError::Tree(side, error),
+        ResolveError::Memory => StartError::Memory,
+        error => StartError::Resolve(side, error),
     }
 }

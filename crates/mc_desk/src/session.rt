@@ -1,12 +1,10 @@
 //! A session over its devices: its screen, its job and its history. Every call leaves it whole. Where its bytes come from, it
 //! doesn't know: that is the desk's.
 ghost use Rattle.std.specs.Prelude.{◌≡◌, ◌≤◌, false, true, [], IfOk, IfErr, OnOk, None, Some};
-ghost use Rattle.tree_trait.specs.Calls.{ListFolder};
-ghost use Rattle.tree_trait.specs.Refusals.{refusal_of};
 ghost use Rattle.tree_trait.specs.Change.{current};
 ghost use Rattle.tree_trait.specs.Answers.{IfKnown, HasRisen};
 ghost use Rattle.mc_desk.specs.Sessions.{BeginsIn};
-ghost use Rattle.mc_desk.specs.Starts.{IsStartCause, is_start_fault};
+ghost use Rattle.mc_desk.specs.Starts.{IsStartCause, is_start_fault, path_refusal};
 
 mod keys;
 mod steps;
@@ -53,11 +51,12 @@ impl<N: Tag, T: Tree, S: Sink, P: Spawner> Model for Session<N, T, S, P> {
 }
 
 impl<N: Tag, T: Tree, S: Sink, P: Spawner> Session<N, T, S, P> {
-    /// Opens a session in two folders. It is refused as `list` of the first is that can't be listed, or since memory ran out;
-    /// the tree is as it was then.
+    /// Opens a session at a second of the clock, in the folders to which two paths lead. It is refused as the first is that
+    /// leads to no folder which can be read, or since memory ran out; the tree is as it was then.
     pub fn begin(
         alloc: Global,
         start: Start,
+        now: u64,
         tree: T,
         screen: S,
         spawner: P,
@@ -74,7 +73,7 @@ impl<N: Tag, T: Tree, S: Sink, P: Spawner> Session<N, T, S, P> {
         ensures uncut { IfOk result (λ session. session.out.put.is_cut ≡ false) }
         ensures unclosed { IfOk result (λ session. (session.tally.closed ≡ false) × (session.quit ≡ false)) }
         ensures permitted { IfKnown (T.contents tree) (λ log.
-            OnOk result ((refusal_of (current log) (ListFolder start.left) ≡ None) × (refusal_of (current log) (ListFolder start.right) ≡ None))) }
+            OnOk result ((path_refusal (current log) start.left ≡ None) × (path_refusal (current log) start.right ≡ None))) }
         ensures cause { IfKnown (T.contents tree) (λ log. IfErr result (λ r. IsStartCause (current log) start.left start.right r.error)) }
         ensures fault { IfErr result (λ r. is_start_fault r.error ≡ true → HasRisen (T.fault_count tree) (T.fault_count r.tree)) }
         ensures same { IfErr result (λ r. T.contents r.tree ≡ T.contents tree) }
@@ -83,7 +82,7 @@ impl<N: Tag, T: Tree, S: Sink, P: Spawner> Session<N, T, S, P> {
         ensures same_spawner { IfErr result (λ r. r.spawner ≡ spawner) }
     {
         let mut tree = tree;
-        match open(alloc, &mut tree, start) {
+        match open(alloc, &mut tree, start, now) {
             Err(error) => Err(Refused {
                 error,
                 tree,

@@ -1,9 +1,10 @@
 //! What a session starts with, and why it may not start.
 use mc_text::Path;
+use panel_pair::Side;
+use resolving::ResolveError;
 use thiserror::Error;
-use tree_trait::TreeError;
 
-/// What a session starts with: the folders of its two panels, and the size of the screen.
+/// What a session starts with: the paths of the folders that its two panels are to show, and the size of the screen.
 #[derive(Debug, Drop)]
 pub struct Start {
     pub left: Path,
@@ -12,19 +13,12 @@ pub struct Start {
     pub columns: u16,
 }
 
-/// A panel.
-#[derive(Clone, Copy, Debug, Drop, PartialEq, Eq)]
-pub enum Side {
-    Left,
-    Right,
-}
-
 /// Why a session did not start.
-#[derive(Clone, Copy, Debug, Drop, Error, PartialEq, Eq)]
+#[derive(Debug, Drop, Error)]
 pub enum StartError {
-    /// The folder of this panel can't be listed.
+    /// The path of this panel leads to no folder that can be read.
     #[error("{1}")]
-    Tree(Side, TreeError),
+    Resolve(Side, ResolveError),
     #[error("out of memory")]
     Memory,
 }

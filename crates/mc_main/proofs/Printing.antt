@@ -9,9 +9,9 @@ use Rattle.start_words.specs.Sizes.{ScreenSize}
 use Rattle.start_words.specs.declared.words.Words.{Words}
 use Rattle.start_words.specs.declared.words.Words.TheVariants.{Panels, NotBuilt}
 use Rattle.start_words.specs.declared.words.Words.TheVariants as asks
-use Rattle.mc_desk.specs.declared.starts.Side.TheVariants.{Left, Right}
+use Rattle.panel_pair.specs.declared.side.Side.TheVariants.{Left, Right}
 use Rattle.mc_desk.specs.declared.starts.StartError.{StartError}
-use Rattle.mc_desk.specs.declared.starts.StartError.TheVariants.{Tree, Memory}
+use Rattle.mc_desk.specs.declared.starts.StartError.TheVariants.{Resolve, Memory}
 use Rattle.mc_desk.specs.declared.starts.Start.{Start}
 use Rattle.mc_desk.specs.Starts.{IsStartCause, is_start_fault}
 use Rattle.mc_main.specs.declared.words.Printed.{Printed}
@@ -23,22 +23,22 @@ use Rattle.mc_main.specs.Beginnings.{IsBeginning, asked_in, folder_word, printed
 use Rattle.mc_main.specs.Headline.{BeginsNone, IsComplete, IsStatusOr, RefusesStart}
 use Rattle.mc_main.specs.Printed.{IsCauseIn, MayPut, MayPutCause, PrintsCause, PrintsStart, PutsSome, start_line}
 
--- the line for a folder that can't be listed has the cause for which the session doesn't start
+-- the line for a folder that can't be read has the cause for which the session doesn't start
 pub prints_start : (contents : Option CallLog) (size : ScreenSize) (asked : Option Words) (start : Start) (typed : Typed) (error : StartError) (faults faults_after : ℕ) (before : List ℕ) (given : Option (List ℕ)) → IsBeginning size asked (Session start typed) → error ≢ Memory
     → IfKnown contents (λ log. IsStartCause (current log) start.left start.right error) → (is_start_fault error ≡ true → HasRisen faults faults_after) → PrintsCause typed error before given
     → PrintsStart contents size asked faults faults_after before given
 prints_start contents size asked start typed Memory faults faults_after before given is some why risen prints = absurd (some refl)
-prints_start contents size asked start typed (Tree Left cause) faults faults_after before given is some why risen prints = record {
+prints_start contents size asked start typed (Resolve Left cause) faults faults_after before given is some why risen prints = record {
   side = Left;
   cause = cause;
-  is_cause = λ log known. subst (λ o. IsCauseIn log (session_start size o) (Tree Left cause)) (sym is.0) (why log known);
+  is_cause = λ log known. subst (λ o. IsCauseIn log (session_start size o) (Resolve Left cause)) (sym is.0) (why log known);
   risen = risen;
   line = subst (λ o. given ≡ Some (before ++ start_line (folder_word Left o) cause)) (sym is.0) prints;
 }
-prints_start contents size asked start typed (Tree Right cause) faults faults_after before given is some why risen prints = record {
+prints_start contents size asked start typed (Resolve Right cause) faults faults_after before given is some why risen prints = record {
   side = Right;
   cause = cause;
-  is_cause = λ log known. subst (λ o. IsCauseIn log (session_start size o) (Tree Right cause)) (sym is.0) (why log known);
+  is_cause = λ log known. subst (λ o. IsCauseIn log (session_start size o) (Resolve Right cause)) (sym is.0) (why log known);
   risen = risen;
   line = subst (λ o. given ≡ Some (before ++ start_line (folder_word Right o) cause)) (sym is.0) prints;
 }
@@ -152,20 +152,20 @@ put_printed contents size asked printed before text given is says puts = inr (in
 pub put_start : (contents : Option CallLog) (size : ScreenSize) (asked : Option Words) (start : Start) (typed : Typed) (error : StartError) (before : List ℕ) (given : Option (List ℕ)) → IsBeginning size asked (Session start typed)
     → IfKnown contents (λ log. IsStartCause (current log) start.left start.right error) → MayPutCause typed error before given → MayPut contents size asked before given
 put_start contents size asked start typed Memory before given is why same = inl same
-put_start contents size asked start typed (Tree side cause) before given is why (inl same) = inl same
-put_start contents size asked start typed (Tree Left cause) before given is why (inr puts) =
+put_start contents size asked start typed (Resolve side cause) before given is why (inl same) = inl same
+put_start contents size asked start typed (Resolve Left cause) before given is why (inr puts) =
     inr (inr (
       Left,
       cause,
       subst (λ (o : Option Start). IsSome o) (sym (starts_in size asked start typed is)) refl,
-      λ log known. subst (λ o. IsCauseIn log (session_start size o) (Tree Left cause)) (sym is.0) (why log known),
+      λ log known. subst (λ o. IsCauseIn log (session_start size o) (Resolve Left cause)) (sym is.0) (why log known),
       subst (λ o. PutsSome before (start_line (folder_word Left o) cause) given) (sym is.0) puts,
     ))
-put_start contents size asked start typed (Tree Right cause) before given is why (inr puts) =
+put_start contents size asked start typed (Resolve Right cause) before given is why (inr puts) =
     inr (inr (
       Right,
       cause,
       subst (λ (o : Option Start). IsSome o) (sym (starts_in size asked start typed is)) refl,
-      λ log known. subst (λ o. IsCauseIn log (session_start size o) (Tree Right cause)) (sym is.0) (why log known),
+      λ log known. subst (λ o. IsCauseIn log (session_start size o) (Resolve Right cause)) (sym is.0) (why log known),
       subst (λ o. PutsSome before (start_line (folder_word Right o) cause) given) (sym is.0) puts,
     ))

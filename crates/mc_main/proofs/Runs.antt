@@ -1,8 +1,6 @@
 -- What a run promises, from what its session does, or where none began.
 use Rattle.std.proofs.Common.{◌≡◌, ◌⊎◌, ◌≤◌, ℕ, Bool, true, List, [], refl, sym, subst, inl, inr, Option, Some, None, IsSome, ◌∷◌, ◌++◌, ◌∙◌}
 use Rattle.mc_text.specs.Routes.{Route}
-use Rattle.tree_trait.specs.Calls.{ListFolder}
-use Rattle.tree_trait.specs.Refusals.{refusal_of}
 use Rattle.tree_trait.specs.Change.{CallLog, current}
 use Rattle.tree_trait.specs.Answers.{IfKnown, HasRisen}
 use Rattle.session_history.specs.declared.history.Entry.{Entry}
@@ -14,8 +12,8 @@ use Rattle.history_laws.proofs.Histories.{traced_reached}
 use Rattle.history_laws.proofs.Moments.{replay_law, session_law}
 use Rattle.mc_desk.specs.declared.starts.Start.{Start}
 use Rattle.mc_desk.specs.Sessions.{EndsSession}
+use Rattle.mc_desk.specs.Starts.{path_refusal}
 use Rattle.mc_desk.specs.Shown.{HasGiven, put_since}
-use Rattle.mc_desk.specs.ShownEntries.{draws}
 use Rattle.mc_desk.specs.Tallies.{faults_in}
 use Rattle.mc_desk.proofs.Seeing.{session_shows}
 use Rattle.mc_desk.proofs.Terminals.{since_is}
@@ -59,7 +57,7 @@ pub traced_none : (o contents : Option CallLog) (newest : List Entry) → newest
 traced_none None contents newest empty same = same
 traced_none (Some opening) contents newest empty same = (opening, [], same, subst (λ es. IsTraced opening es (at_rest []) opening) (sym empty) (refl, refl))
 
--- folders that can be listed are refused only where a device failed
+-- paths that lead to folders which can be listed are refused only where a device failed
 pub refused_start : (log : CallLog) (o : Option Start) (status faults faults_after : ℕ) (keys screen : Type 0) → (status ≡ 2 → MayRefuseStart log o faults faults_after) → IsStatusOr 2 status → (status ≡ 4 → screen)
     → IsComplete log o status (HasRisen faults faults_after ⊎ (keys ⊎ screen))
 refused_start log None status faults faults_after keys screen start is sink = tt
@@ -69,8 +67,8 @@ refused_start log (Some folders) status faults faults_after keys screen start is
           elim (start two) [
             | inl refusal ↦
                 elim refusal [
-                  | inl at_left ↦ absurd (some_none (refusal_of (current log) (ListFolder folders.left)) left at_left)
-                  | inr at_right ↦ absurd (some_none (refusal_of (current log) (ListFolder folders.right)) right at_right)
+                  | inl at_left ↦ absurd (some_none (path_refusal (current log) folders.left) left at_left)
+                  | inr at_right ↦ absurd (some_none (path_refusal (current log) folders.right) right at_right)
                 ]
             | inr risen ↦ absurd (none_failed (inl risen))
           ]

@@ -1,50 +1,37 @@
 -- Which starts are refused, and how a run with a session ends, by the folders that are asked for.
 use Rattle.std.proofs.Common.{◌≡◌, ◌≢◌, ◌⊎◌, ◌≤◌, ℕ, zero, suc, true, refl, sym, subst, inl, inr, Option, Some, None, IsSome, arith}
-use Rattle.tree_trait.specs.declared.calls.TreeError.TheVariants as tree
-use Rattle.tree_trait.specs.Calls.{ListFolder}
-use Rattle.tree_trait.specs.Refusals.{refusal_of}
+use Rattle.mc_text.specs.Routes.{Route}
 use Rattle.tree_trait.specs.Change.{CallLog, current}
 use Rattle.tree_trait.specs.Answers.{HasRisen}
-use Rattle.mc_desk.specs.declared.starts.Side.TheVariants.{Left, Right}
+use Rattle.resolving.specs.declared.error.ResolveError.{ResolveError}
+use Rattle.resolving.specs.declared.error.ResolveError.TheVariants as resolve
+use Rattle.panel_pair.specs.declared.side.Side.{Side}
+use Rattle.panel_pair.specs.declared.side.Side.TheVariants.{Left, Right}
 use Rattle.mc_desk.specs.declared.starts.StartError.{StartError}
-use Rattle.mc_desk.specs.declared.starts.StartError.TheVariants.{Tree, Memory}
+use Rattle.mc_desk.specs.declared.starts.StartError.TheVariants.{Resolve, Memory}
 use Rattle.mc_desk.specs.declared.starts.Start.{Start}
-use Rattle.mc_desk.specs.Starts.{IsStartCause, is_start_fault}
+use Rattle.mc_desk.specs.Starts.{IsPathRefused, IsStartCause, is_start_fault, path_refusal}
 use Rattle.mc_main.specs.Headline.{CantList, IsComplete, IsStatusOr, MayRefuseStart, RefusesStart}
 
 some_of : {A : Type 0} (x : Option A) (a : A) → x ≡ Some a → IsSome x
 some_of x a is = subst (λ (o : Option _). IsSome o) (sym is) refl
 
+-- a path that is refused leads to no folder that can be listed, or the tree failed
+fails : (log : CallLog) (path : Route) (side : Side) (e : ResolveError) (faults after : ℕ) → IsPathRefused (current log) path e → (is_start_fault (Resolve side e) ≡ true → HasRisen faults after)
+    → IsSome (path_refusal (current log) path) ⊎ HasRisen faults after
+fails log path side resolve.Fault faults after cause risen = inr (risen refl)
+fails log path side resolve.Memory faults after cause risen = absurd cause
+fails log path side (resolve.Tree at e) faults after cause risen = inl (some_of (path_refusal (current log) path) (resolve.Tree at e) cause)
+fails log path side resolve.TooManyLinks faults after cause risen = inl (some_of (path_refusal (current log) path) resolve.TooManyLinks cause)
+fails log path side resolve.TooLong faults after cause risen = inl (some_of (path_refusal (current log) path) resolve.TooLong cause)
+fails log path side resolve.BadName faults after cause risen = inl (some_of (path_refusal (current log) path) resolve.BadName cause)
+
 -- the cause for which a session doesn't start
 why : (log : CallLog) (start : Start) (error : StartError) (faults after : ℕ) → error ≢ Memory → IsStartCause (current log) start.left start.right error → (is_start_fault error ≡ true → HasRisen faults after)
     → CantList log start ⊎ HasRisen faults after
 why log start Memory faults after some cause risen = absurd (some refl)
-why log start (Tree Left tree.Fault) faults after some cause risen = inr (risen refl)
-why log start (Tree Left tree.Missing) faults after some cause risen = inl (inl (some_of (refusal_of (current log) (ListFolder start.left)) tree.Missing cause))
-why log start (Tree Left tree.NotFolder) faults after some cause risen = inl (inl (some_of (refusal_of (current log) (ListFolder start.left)) tree.NotFolder cause))
-why log start (Tree Left tree.Denied) faults after some cause risen = inl (inl (some_of (refusal_of (current log) (ListFolder start.left)) tree.Denied cause))
-why log start (Tree Left tree.Exists) faults after some cause risen = inl (inl (some_of (refusal_of (current log) (ListFolder start.left)) tree.Exists cause))
-why log start (Tree Left tree.IsFolder) faults after some cause risen = inl (inl (some_of (refusal_of (current log) (ListFolder start.left)) tree.IsFolder cause))
-why log start (Tree Left tree.NotEmpty) faults after some cause risen = inl (inl (some_of (refusal_of (current log) (ListFolder start.left)) tree.NotEmpty cause))
-why log start (Tree Left tree.IntoItself) faults after some cause risen = inl (inl (some_of (refusal_of (current log) (ListFolder start.left)) tree.IntoItself cause))
-why log start (Tree Left tree.Mounted) faults after some cause risen = inl (inl (some_of (refusal_of (current log) (ListFolder start.left)) tree.Mounted cause))
-why log start (Tree Left tree.CrossMount) faults after some cause risen = inl (inl (some_of (refusal_of (current log) (ListFolder start.left)) tree.CrossMount cause))
-why log start (Tree Left tree.NoSpace) faults after some cause risen = inl (inl (some_of (refusal_of (current log) (ListFolder start.left)) tree.NoSpace cause))
-why log start (Tree Left tree.Special) faults after some cause risen = inl (inl (some_of (refusal_of (current log) (ListFolder start.left)) tree.Special cause))
-why log start (Tree Left tree.Memory) faults after some cause risen = inl (inl (some_of (refusal_of (current log) (ListFolder start.left)) tree.Memory cause))
-why log start (Tree Right tree.Fault) faults after some cause risen = inr (risen refl)
-why log start (Tree Right tree.Missing) faults after some cause risen = inl (inr (some_of (refusal_of (current log) (ListFolder start.right)) tree.Missing cause.1))
-why log start (Tree Right tree.NotFolder) faults after some cause risen = inl (inr (some_of (refusal_of (current log) (ListFolder start.right)) tree.NotFolder cause.1))
-why log start (Tree Right tree.Denied) faults after some cause risen = inl (inr (some_of (refusal_of (current log) (ListFolder start.right)) tree.Denied cause.1))
-why log start (Tree Right tree.Exists) faults after some cause risen = inl (inr (some_of (refusal_of (current log) (ListFolder start.right)) tree.Exists cause.1))
-why log start (Tree Right tree.IsFolder) faults after some cause risen = inl (inr (some_of (refusal_of (current log) (ListFolder start.right)) tree.IsFolder cause.1))
-why log start (Tree Right tree.NotEmpty) faults after some cause risen = inl (inr (some_of (refusal_of (current log) (ListFolder start.right)) tree.NotEmpty cause.1))
-why log start (Tree Right tree.IntoItself) faults after some cause risen = inl (inr (some_of (refusal_of (current log) (ListFolder start.right)) tree.IntoItself cause.1))
-why log start (Tree Right tree.Mounted) faults after some cause risen = inl (inr (some_of (refusal_of (current log) (ListFolder start.right)) tree.Mounted cause.1))
-why log start (Tree Right tree.CrossMount) faults after some cause risen = inl (inr (some_of (refusal_of (current log) (ListFolder start.right)) tree.CrossMount cause.1))
-why log start (Tree Right tree.NoSpace) faults after some cause risen = inl (inr (some_of (refusal_of (current log) (ListFolder start.right)) tree.NoSpace cause.1))
-why log start (Tree Right tree.Special) faults after some cause risen = inl (inr (some_of (refusal_of (current log) (ListFolder start.right)) tree.Special cause.1))
-why log start (Tree Right tree.Memory) faults after some cause risen = inl (inr (some_of (refusal_of (current log) (ListFolder start.right)) tree.Memory cause.1))
+why log start (Resolve Left e) faults after some cause risen = elim (fails log start.left Left e faults after cause risen) [ inl cant ↦ inl (inl cant) | inr failed ↦ inr failed ]
+why log start (Resolve Right e) faults after some cause risen = elim (fails log start.right Right e faults after cause.1 risen) [ inl cant ↦ inl (inr cant) | inr failed ↦ inr failed ]
 
 pub may_refuse : (log : CallLog) (o : Option Start) (start : Start) (error : StartError) (faults after : ℕ) → o ≡ Some start → error ≢ Memory → IsStartCause (current log) start.left start.right error
     → (is_start_fault error ≡ true → HasRisen faults after) → MayRefuseStart log o faults after
@@ -55,7 +42,7 @@ pub refuses_by : (log : CallLog) (o : Option Start) (status : ℕ) → IsStatusO
 refuses_by log None status is = tt
 refuses_by log (Some start) status is = λ cant. is
 
-pub refuses_listed : (log : CallLog) (o : Option Start) (start : Start) (status : ℕ) → o ≡ Some start → refusal_of (current log) (ListFolder start.left) ≡ None → refusal_of (current log) (ListFolder start.right) ≡ None
+pub refuses_listed : (log : CallLog) (o : Option Start) (start : Start) (status : ℕ) → o ≡ Some start → path_refusal (current log) start.left ≡ None → path_refusal (current log) start.right ≡ None
     → RefusesStart log o status
 refuses_listed log o start status is left right = subst (λ x. RefusesStart log x status) (sym is) (λ cant. elim cant [ inl at_left ↦ absurd (none_some _ left at_left) | inr at_right ↦ absurd (none_some _ right at_right) ])
   where

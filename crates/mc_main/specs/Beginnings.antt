@@ -7,8 +7,8 @@ use Rattle.start_words.specs.declared.words.Words.TheVariants as asked
 use Rattle.start_words.specs.Folders.{started_in}
 use Rattle.start_words.specs.Asked.{asked_by}
 use Rattle.start_words.specs.Sizes.{ScreenSize, size_said}
-use Rattle.mc_desk.specs.declared.starts.Side.{Side}
-use Rattle.mc_desk.specs.declared.starts.Side.TheVariants.{Left, Right}
+use Rattle.panel_pair.specs.declared.side.Side.{Side}
+use Rattle.panel_pair.specs.declared.side.Side.TheVariants.{Left, Right}
 use Rattle.mc_desk.specs.declared.starts.Start.{Start}
 use Rattle.mc_main.specs.declared.run.Env.{Env}
 use Rattle.mc_main.specs.declared.words.Printed.{Printed}

@@ -4,8 +4,6 @@ use Rattle.std.specs.Option.{option_map}
 use Rattle.mc_text.specs.Routes.{Route}
 use Rattle.tree_trait.specs.declared.file_system.FileSystem.{FileSystem}
 use Rattle.tree_trait.specs.FileSystem.{visible_tree}
-use Rattle.tree_trait.specs.Calls.{ListFolder}
-use Rattle.tree_trait.specs.Refusals.{refusal_of}
 use Rattle.tree_trait.specs.Shape.{IsTree}
 use Rattle.tree_trait.specs.Change.{CallLog, current}
 use Rattle.tree_trait.specs.CrashImages.{all_settled, IsCrashImage}
@@ -21,6 +19,7 @@ use Rattle.history_laws.specs.Staying.{StaysDone}
 use Rattle.mc_desk.specs.Tallies.{keys_in}
 use Rattle.mc_desk.specs.declared.starts.Start.{Start}
 use Rattle.mc_desk.specs.Sessions.{EndsSession}
+use Rattle.mc_desk.specs.Starts.{path_refusal}
 use Rattle.mc_desk.specs.Shown.{HasGiven, Put}
 use Rattle.mc_desk.specs.ShownEntries.{CutsEntry, ShowsEntry, draws}
 use Rattle.mc_desk.specs.Desks.{LacksSecond}
@@ -35,16 +34,16 @@ use Rattle.mc_main.specs.declared.session.SessionEnd.TheVariants.{Quit, KeysEnde
 abbrev pub IsStatusOr : ℕ → ℕ → Type 0
 IsStatusOr own status = (status ≡ own) ⊎ (status ≡ 4) ⊎ (status ≡ 5)
 
--- one of the folders can't be listed
+-- one of the paths leads to no folder that can be listed
 abbrev pub CantList : CallLog → Start → Type 0
-CantList log start = IsSome (refusal_of (current log) (ListFolder start.left)) ⊎ IsSome (refusal_of (current log) (ListFolder start.right))
+CantList log start = IsSome (path_refusal (current log) start.left) ⊎ IsSome (path_refusal (current log) start.right)
 
--- a start is refused where a folder can't be listed, or where the tree failed meanwhile
+-- a start is refused where a path leads to no such folder, or where the tree failed meanwhile
 abbrev pub MayRefuseStart : CallLog → Option Start → ℕ → ℕ → Type 0
 MayRefuseStart log None faults faults_after = ⊥
 MayRefuseStart log (Some start) faults faults_after = CantList log start ⊎ HasRisen faults faults_after
 
--- a folder that can't be listed is refused
+-- and it is refused there
 abbrev pub RefusesStart : CallLog → Option Start → ℕ → Type 0
 RefusesStart log None status = ⊤
 RefusesStart log (Some start) status = CantList log start → IsStatusOr 2 status
@@ -141,11 +140,11 @@ pub record ShowsAll (opening : CallLog) (newest : List Entry) (now : CallLog) : 
 abbrev pub IsReplayedRun : CallLog → CallLog → List Entry → Type 0
 IsReplayedRun opening now newest = IsTree (current opening) → all_settled opening.changes ≡ true → ShowsAll opening newest now
 
--- Where the words name folders that can be listed, and no device failed, the status is 0, or 5 where memory ran out.
+-- Where the words name paths that lead to folders which can be listed, and no device failed, the status is 0, or 5 where memory ran out.
 abbrev pub IsComplete : CallLog → Option Start → ℕ → Type 0 → Type 0
 IsComplete log None status failed = ⊤
 IsComplete log (Some start) status failed =
-    refusal_of (current log) (ListFolder start.left) ≡ None → refusal_of (current log) (ListFolder start.right) ≡ None → (failed → ⊥) → (status ≡ 0) ⊎ (status ≡ 5)
+    path_refusal (current log) start.left ≡ None → path_refusal (current log) start.right ≡ None → (failed → ⊥) → (status ≡ 0) ⊎ (status ≡ 5)
 
 -- The status of a session. A key that was lost makes it 5. Else it is 3 exactly where the keyboard failed, 4 only where the
 -- screen did, and 0 only at the quit key or the end of the keys, where the screen never failed; so it is never 0 where the

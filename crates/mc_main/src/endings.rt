@@ -12,11 +12,12 @@ ghost use Rattle.mc_main.specs.Headline.{IsStatusOr, IsStatusOf, RanSession, Rea
 use crate::outcome::Outcome;
 use crate::session::{SessionEnd, run_session};
 use crate::words::Typed;
-use mc_desk::{Desk, Ended, Refused, Side, StartError, Tag, cause_text};
+use mc_desk::{Desk, Ended, Refused, StartError, Tag, resolve_text};
 use mc_text::{NoMemory, drawn};
+use resolving::ResolveError;
 use session_history::{Entries, History};
 use std::alloc::Global;
-use tree_trait::{Clock, Sink, SinkError, Source, Spawner, Tree, TreeError};
+use tree_trait::{Clock, Sink, SinkError, Source, Spawner, Tree};
 
 /// Runs a session that was opened, and ends it.
 pub fn run_desk<N: Tag, T: Tree, K: Source, S: Sink, P: Spawner, C: Clock>(
@@ -129,8 +130,8 @@ pub fn refuse_start<T, S: Sink, P>(
     } = refused;
     match error {
         StartError::Memory => without_session(alloc, 5, tree, screen, spawner),
-        StartError::Tree(side, error) => {
-            match start_line(alloc, typed.word_for(side), error) {
+        StartError::Resolve(side, error) => {
+            match start_line(alloc, typed.word_for(side), &error) {
                 Ok(line) => refuse(alloc, 2, line.as_str(), tree, screen, spawner),
                 Err(NoMemory) => without_session(alloc, 5, tree, screen, spawner),
             }
@@ -139,14 +140,14 @@ pub fn refuse_start<T, S: Sink, P>(
 }
 
 /// The line for a folder that was refused.
-fn start_line(alloc: Global, word: &str, error: TreeError) -> Result<String, NoMemory>
-    ensures { IfOk result (λ line. string_bytes line ≡ line_for word.now error) }
+fn start_line(alloc: Global, word: &str, error: &ResolveError) -> Result<String, NoMemory>
+    ensures { IfOk result (λ line. string_bytes line ≡ line_for word.now error.now) }
 {
     let mut line = String::from_str(alloc, "mc: ")?;
     let shown = drawn(alloc, word)?;
     line.push_str(shown.0.as_str())?;
     line.push_str(": ")?;
-    line.push_str(cause_text(error))?;
+    line.push_str(resolve_text(error))?;
     line.push('\n')?;
     Ok(line)
 }

@@ -144,7 +144,7 @@ pub fn mc_run<N: Tag, T: Tree, K: Source, S: Sink, P: Spawner, C: Clock, G: Gate
             refuse(alloc, status, text, tree, screen, spawner)
         }
         Ok(Beginning::Session { start, typed }) => {
-            match Desk::<N, T, S, P>::begin(alloc, start, tree, screen, spawner) {
+            match Desk::<N, T, S, P>::begin(alloc, start, clock.now(), tree, screen, spawner) {
                 Ok(desk) => run_desk(alloc, desk, keys, clock),
                 Err(refused) => refuse_start(alloc, &typed, refused),
             }

@@ -1,9 +1,9 @@
 //! Folders that are read again: first they are read, and then the panels take what was read.
-ghost use Rattle.std.specs.Prelude.{◌≡◌, ◌<◌, ◌≤◌, ◌^◌, Ok, Some, IfOk, IfErr, OnErr};
+ghost use Rattle.std.specs.Prelude.{◌≡◌, ◌<◌, ◌≤◌, ◌^◌, Some, IfOk, IfErr};
 ghost use Rattle.tree_trait.specs.Answers.{IfKnown, HasCause, HasRisen};
 ghost use Rattle.resolving.specs.Errors.{CarriesCause};
 ghost use Rattle.mc_panels.specs.Readings.{ListsFolder, read_again};
-ghost use Rattle.mc_panels.specs.Rereadings.{listed_in, IsFresh, IsAttempt, IsReadAgain, ShowsAgain, ShowsAttempt, refusal_in, taken};
+ghost use Rattle.mc_panels.specs.Rereadings.{listed_in, IsFresh, IsAttempt, ShowsAttempt, refusal_in, taken};
 
 use crate::fresh::Fresh;
 use crate::kept::kept_tags;
@@ -16,49 +16,11 @@ use resolving::ResolveError;
 use std::alloc::Global;
 use tree_trait::Tree;
 
-/// What reading a folder again came to.
+/// What reading a folder again came to: what it held then, or why it could not be read.
 #[derive(Drop)]
 pub enum Attempt {
     Read(Fresh),
     Refused(ResolveError),
-}
-
-/// Why two folders could not be read again; a folder that was read has none.
-#[derive(Debug, Drop)]
-pub struct Unread {
-    pub first: Option<ResolveError>,
-    pub second: Option<ResolveError>,
-}
-
-/// Reads the folders of two panels again. A panel whose folder is refused stays as it was. Without memory both do.
-pub fn read_both_again<T: Tree>(
-    alloc: Global,
-    tree: &mut T,
-    page: usize,
-    first: &mut Panel,
-    second: &mut Panel,
-) -> Result<Unread, NoMemory>
-    requires { page < 2 ^ 16 }
-
-    // What becomes of each panel.
-    ensures first { IfOk result (λ unread. IsReadAgain page unread.first first.old first.new) }
-    ensures second { IfOk result (λ unread. IsReadAgain page unread.second second.old second.new) }
-    ensures first_lost { OnErr result (first.new ≡ first.old) }
-    ensures second_lost { OnErr result (second.new ≡ second.old) }
-
-    // What was read of the tree, and what that refused.
-    ensures first_answer { IfKnown (T.contents tree.old) (λ log. IfOk result (λ unread. ShowsAgain log first.old.folder unread.first first.new)) }
-    ensures second_answer { IfKnown (T.contents tree.old) (λ log. IfOk result (λ unread. ShowsAgain log second.old.folder unread.second second.new)) }
-    ensures same { T.contents tree.new ≡ T.contents tree.old }
-    ensures later { T.fault_count tree.old ≤ T.fault_count tree.new }
-    ensures first_fault { IfOk result (λ unread. unread.first ≡ Some ResolveError.Fault → HasRisen (T.fault_count tree.old) (T.fault_count tree.new)) }
-    ensures second_fault { IfOk result (λ unread. unread.second ≡ Some ResolveError.Fault → HasRisen (T.fault_count tree.old) (T.fault_count tree.new)) }
-{
-    let fresh = first.try_reading(alloc, tree)?;
-    let more = second.try_reading(alloc, tree)?;
-    let first = first.take_if_read(page, fresh);
-    let second = second.take_if_read(page, more);
-    Ok(Unread { first, second })
 }
 
 impl Panel {
@@ -96,8 +58,8 @@ impl Panel {
         self.tags = tags;
     }
 
-    /// Reads its folder again, unless that is refused. The panel stays as it is.
-    fn try_reading<T: Tree>(&self, alloc: Global, tree: &mut T) -> Result<Attempt, NoMemory>
+    /// Reads its folder again, unless that is refused. The panel stays as it is. It takes a look for each child.
+    pub fn try_reading<T: Tree>(&self, alloc: Global, tree: &mut T) -> Result<Attempt, NoMemory>
         ensures attempt { IfOk result (IsAttempt self.now) }
         ensures answer { IfKnown (T.contents tree.old) (λ log. IfOk result (ShowsAttempt log self.now.folder)) }
         ensures same { T.contents tree.new ≡ T.contents tree.old }
@@ -112,7 +74,7 @@ impl Panel {
     }
 
     /// Takes what was read again, or answers why it wasn't. It takes no memory.
-    fn take_if_read(&mut self, page: usize, attempt: Attempt) -> Option<ResolveError>
+    pub fn take_if_read(&mut self, page: usize, attempt: Attempt) -> Option<ResolveError>
         requires page { page < 2 ^ 16 }
         requires attempt { IsAttempt self.old attempt }
         ensures done { self.new ≡ taken page attempt self.old }

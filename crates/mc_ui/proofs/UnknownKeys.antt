@@ -1,21 +1,22 @@
--- A key that is none leaves the screen as it was, so it asks for nothing that is to be carried out.
-use Rattle.std.proofs.Common.{◌≡◌, Bool, true, false, List, [], refl, sym, ◌∙◌, ap, subst, Option}
+-- A key that is none leaves the screen as it was but for the second, so it asks for nothing that is to be carried out.
+use Rattle.std.proofs.Common.{◌≡◌, ℕ, Bool, true, false, List, [], refl, sym, ◌∙◌, ap, subst, Option}
 use Rattle.std.specs.Prelude.{MatchBool, is_some}
 use Rattle.key_screen.specs.declared.keys.Key.{Key}
 use Rattle.key_screen.specs.declared.keys.Base.TheVariants.{Unknown}
-use Rattle.tree_trait.specs.FileSystem.{View}
+use Rattle.tree_trait.specs.Change.{CallLog}
 use Rattle.job_reports.specs.declared.row.JobRow.{JobRow}
 use Rattle.session_history.specs.declared.refusal.Refusal.{Refusal}
-use Rattle.mc_ui.specs.Screens.{Box, NoBox, DeleteBox, MaskBox, TargetBox, TroubleBox, ByBox, KeyLeads, Screen, after_message, plain_base}
+use Rattle.mc_ui.specs.Screens.{Box, NoBox, DeleteBox, MaskBox, TargetBox, TroubleBox, ByBox, KeyLeads, Screen, WorksKey, after_message, at_second}
+use Rattle.mc_ui.specs.PanelKeys.{plain_base}
 
 abbrev pub unknown_key : Bool → Key
 unknown_key meta = record { meta = meta; base = Unknown }
 
-module _ (tree : Option View) (rows : List JobRow) (refusals : List Refusal) (before after : Screen) where
+module _ (contents : Option CallLog) (rows : List JobRow) (refusals : List Refusal) (before after : Screen) where
   kept : (over : Box) → before.over ≡ over → (let same : Screen = record before { over = over } in same) ≡ before
   kept over is = ap (λ o. let same : Screen = record before { over = o } in same) (sym is)
 
-  by_box : (meta : Bool) (over : Box) → before.over ≡ over → ByBox over tree rows (unknown_key meta) refusals before after → after ≡ before
+  by_box : (meta : Bool) (over : Box) → before.over ≡ over → ByBox over contents rows (unknown_key meta) refusals before after → after ≡ before
   by_box true NoBox is h = h.1
   by_box false NoBox is h = h.1
   by_box true (DeleteBox path) is h = h.1
@@ -28,14 +29,16 @@ module _ (tree : Option View) (rows : List JobRow) (refusals : List Refusal) (be
   by_box false (TroubleBox trouble) is h = h.1
 
   by_message : (meta shown : Bool)
-      → MatchBool shown ((refusals ≡ []) × (after ≡ after_message (plain_base (unknown_key meta)) before)) (ByBox before.over tree rows (unknown_key meta) refusals before after) → after ≡ before
+      → MatchBool shown ((refusals ≡ []) × (after ≡ after_message (plain_base (unknown_key meta)) before)) (ByBox before.over contents rows (unknown_key meta) refusals before after) → after ≡ before
   by_message true true h = h.1
   by_message false true h = h.1
   by_message true false h = by_box true before.over refl h
   by_message false false h = by_box false before.over refl h
 
 -- the screen stays
-pub unknown_stays : (tree : Option View) (rows : List JobRow) (key : Key) (refusals : List Refusal) (before after : Screen) → key.base ≡ Unknown → KeyLeads tree rows key refusals before after → after ≡ before
-unknown_stays tree rows key refusals before after is leads =
-    by_message tree rows refusals before after key.meta (is_some before.message)
-    (subst (λ b. KeyLeads tree rows (let k : Key = record { meta = key.meta; base = b } in k) refusals before after) is leads)
+pub unknown_stays : (contents : Option CallLog) (rows : List JobRow) (now : ℕ) (key : Key) (refusals : List Refusal) (before after : Screen)
+    → key.base ≡ Unknown → KeyLeads contents rows now key refusals before after → after ≡ at_second now before
+unknown_stays contents rows now key refusals before after is leads =
+    let at : Screen = at_second now before in
+    by_message contents rows refusals at after key.meta (is_some before.message)
+    (subst (λ b. WorksKey contents rows (let k : Key = record { meta = key.meta; base = b } in k) refusals at after) is leads)

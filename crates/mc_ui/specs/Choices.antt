@@ -1,5 +1,5 @@
--- What choosing the thing under the cursor comes to, and what planning a copy does.
-use Rattle.std.specs.Prelude.{◌≡◌, ◌≢◌, true, false, List, [], ◌∷◌, Option, Some, None}
+-- What choosing the thing that is selected comes to, and what planning a copy does.
+use Rattle.std.specs.Prelude.{◌≡◌, ◌≢◌, ℕ, true, false, List, [], ◌∷◌, Option}
 use Rattle.mc_text.specs.Routes.{Route}
 use Rattle.tree_trait.specs.declared.calls.TreeError.{TreeError}
 use Rattle.tree_trait.specs.declared.calls.TreeError.TheVariants.{Missing, Memory}
@@ -14,13 +14,18 @@ use Rattle.mc_ui.specs.declared.copying.CopyPlan.{CopyPlan}
 use Rattle.mc_ui.specs.declared.copying.CopyPlan.TheVariants.{Begins, Refuses}
 use Rattle.mc_ui.specs.Copies.{CopyRefused, IsVacant, MayAsk, copy_plan}
 
--- there is nothing; or it is nothing that the box may ask of, or a thing that it may, or a look at it was refused
-abbrev pub IsChoice : Opens → Option View → Option Route → Choice → Type 0
-IsChoice box tree None choice = choice ≡ NoSelection
-IsChoice box tree (Some path) NoSelection = ⊥
-IsChoice box tree (Some path) Nothing = MayAsk box tree path false
-IsChoice box tree (Some path) (Thing chosen) = MayAsk box tree path true × (chosen.path ≡ path)
-IsChoice box tree (Some path) (Refused refused e) = refused ≡ path
+-- a thing may be asked of by a box, or not, or the look at it was refused
+abbrev pub IsLook : Opens → Option View → Route → Choice → Type 0
+IsLook box tree path NoSelection = ⊥
+IsLook box tree path Nothing = MayAsk box tree path false
+IsLook box tree path (Thing chosen) = MayAsk box tree path true × (chosen.path ≡ path)
+IsLook box tree path (Refused refused e) = refused ≡ path
+
+-- of what is selected in a folder: there is nothing; or one thing, which is looked at; or there are several
+abbrev pub IsChoice : Opens → Option View → Route → List (List ℕ) → Choice → Type 0
+IsChoice box tree folder [] choice = choice ≡ NoSelection
+IsChoice box tree folder (name ∷ []) choice = IsLook box tree (name ∷ folder) choice
+IsChoice box tree folder (name ∷ other ∷ more) choice = choice ≡ Nothing
 
 -- what the look at the thing was refused
 abbrev pub choice_refusals : Choice → List Refusal

@@ -1,23 +1,23 @@
 -- What a box may ask of, and the plans that it confirms.
-use Rattle.std.specs.Prelude.{◌≡◌, ◌≢◌, ◌<◌, Bool, false, not, ◌&&◌, nat_le, ⊤, [], ◌∷◌, length, IsSome, Option, Some, None}
+use Rattle.std.specs.Prelude.{◌≡◌, ◌≢◌, ◌<◌, Bool, true, false, ◌&&◌, nat_le, ⊤, [], ◌∷◌, length, IsSome, Option, Some, None}
 use Rattle.std.specs.Option.{option_map_or}
 use Rattle.mc_text.specs.declared.kind.Kind.{Kind}
 use Rattle.mc_text.specs.Routes.{Route, spelled}
 use Rattle.tree_trait.specs.declared.calls.TreeError.TheVariants.{Missing}
 use Rattle.tree_trait.specs.FileSystem.{Spot, View}
-use Rattle.tree_trait.specs.Refusals.{file_kind, folder_kind}
+use Rattle.tree_trait.specs.Refusals.{file_kind}
 use Rattle.job_reports.specs.declared.job.Job.{Job}
 use Rattle.job_reports.specs.declared.job.Job.TheVariants as plan
 use Rattle.session_history.specs.declared.refusal.PlanError.TheVariants.{NoSelection, TargetThere, TargetTooLong, BadMask}
 use Rattle.session_history.specs.declared.refusal.Refusal.{Refusal}
-use Rattle.session_history.specs.declared.refusal.Refusal.TheVariants.{Tree, Plan, Begin}
+use Rattle.session_history.specs.declared.refusal.Refusal.TheVariants.{Tree, Resolve, Plan, Begin}
 use Rattle.mc_ui.specs.declared.panel_command.Opens.{Opens}
 use Rattle.mc_ui.specs.declared.panel_command.Opens.TheVariants as opens
 
--- a file may be copied, and all but a folder deleted
+-- a file may be copied, and anything deleted
 abbrev pub may_open : Opens → Kind → Bool
 may_open opens.SourceMask kind = file_kind kind
-may_open opens.Delete kind = not (folder_kind kind)
+may_open opens.Delete kind = true
 
 -- a thing of such a kind stands there
 abbrev pub is_spot_of : Opens → Spot → Bool
@@ -55,4 +55,5 @@ CopyRefused tree target (Plan TargetTooLong) = 4096 < length (spelled target)
 CopyRefused tree target (Plan NoSelection) = ⊥
 CopyRefused tree target (Plan BadMask) = ⊥
 CopyRefused tree target (Tree path e) = (path ≡ target) × (e ≢ Missing)
+CopyRefused tree target (Resolve e) = ⊥
 CopyRefused tree target (Begin error) = ⊥

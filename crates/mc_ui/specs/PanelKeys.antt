@@ -1,13 +1,16 @@
 -- The keys of the panels, while no box is open (mc(1), "Directory Panels"; F1, F5, F8 and F10 of its bottom line).
-use Rattle.std.specs.Prelude.{ℕ, ◌==◌, if◌then◌else◌}
+use Rattle.std.specs.Prelude.{ℕ, ◌==◌, if◌then◌else◌, Option, Some, None}
+use Rattle.key_screen.specs.declared.keys.Key.{Key}
 use Rattle.key_screen.specs.declared.keys.Base.{Base}
-use Rattle.key_screen.specs.declared.keys.Base.TheVariants.{Up, Down, PgUp, PgDn, Home, End, Tab, F}
+use Rattle.key_screen.specs.declared.keys.Base.TheVariants.{F, Unknown}
+use Rattle.panel_pair.specs.declared.command.PanelCommand.{PanelCommand}
+use Rattle.panel_pair.specs.Keys.{key_command}
 use Rattle.mc_ui.specs.declared.panel_command.Opens.TheVariants.{Delete, SourceMask}
-use Rattle.mc_ui.specs.declared.panel_command.PanelCommand.{PanelCommand}
-use Rattle.mc_ui.specs.declared.panel_command.PanelCommand.TheVariants.{Move, SwitchPanel, ShowHelp, Open, Quit, Nothing}
+use Rattle.mc_ui.specs.declared.panel_command.KeyCommand.{KeyCommand}
+use Rattle.mc_ui.specs.declared.panel_command.KeyCommand.TheVariants.{Work, ShowHelp, Open, Quit, Nothing}
 
 -- what a function key does
-abbrev pub function_command : ℕ → PanelCommand
+abbrev pub function_command : ℕ → KeyCommand
 function_command number =
     if number == 1 then ShowHelp
     else if number == 5 then Open SourceMask
@@ -15,14 +18,20 @@ function_command number =
     else if number == 10 then Quit
     else Nothing
 
--- what a key without meta does; those that are not built do nothing
-abbrev pub panel_command_of : Base → PanelCommand
-panel_command_of Up = Move Up
-panel_command_of Down = Move Down
-panel_command_of PgUp = Move PgUp
-panel_command_of PgDn = Move PgDn
-panel_command_of Home = Move Home
-panel_command_of End = Move End
-panel_command_of Tab = SwitchPanel
-panel_command_of (F number) = function_command number
-panel_command_of other = Nothing
+-- what a key does that works on no panel; those that are not built do nothing
+abbrev pub other_command : Base → KeyCommand
+other_command (F number) = function_command number
+other_command other = Nothing
+
+-- the key of the panels and of messages: one with meta is none of those that are known here
+abbrev pub plain_base : Key → Base
+plain_base key = if key.meta then Unknown else key.base
+
+-- a command of the panels, or else what the key does besides
+abbrev pub work_or_other : Option PanelCommand → Key → KeyCommand
+work_or_other (Some command) key = Work command
+work_or_other None key = other_command (plain_base key)
+
+-- what a key does in the panels
+abbrev pub panel_command_of : Key → KeyCommand
+panel_command_of key = work_or_other (key_command key) key

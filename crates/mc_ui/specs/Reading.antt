@@ -1,17 +1,15 @@
 -- What the screen's calls ask of the tree, and what they tell of it.
 use Rattle.std.specs.Prelude.{◌≡◌, ℕ, ◌≤◌, true, List, Option, Result, IfOk}
-use Rattle.mc_text.specs.Routes.{Route}
-use Rattle.tree_trait.specs.Calls.{Call}
 use Rattle.tree_trait.specs.Change.{CallLog}
 use Rattle.tree_trait.specs.Answers.{IfKnown, HasRisen}
 use Rattle.session_history.specs.declared.refusal.Refusal.{Refusal}
 use Rattle.session_history.specs.Refusals.{AreRefused}
 use Rattle.mc_ui.specs.Refused.{has_fault}
 
--- Reading calls of this kind leave the tree as it was. What they were refused has its cause there, and tells of a fault only
--- where the tree's count has risen.
-pub record ReadsTree {A E : Type 0} (call : Route → Call) (refused : A → List Refusal) (result : Result A E) (before after : Option CallLog) (faults faults_after : ℕ) : Type 0 where
+-- Reading calls leave the tree as it was. What they were refused has its cause there, and tells of a fault only where the tree's
+-- count has risen.
+pub record ReadsTree {A E : Type 0} (refused : A → List Refusal) (result : Result A E) (before after : Option CallLog) (faults faults_after : ℕ) : Type 0 where
   pub same : after ≡ before
   pub later : faults ≤ faults_after
-  pub called : IfKnown before (λ log. IfOk result (λ answer. AreRefused call log (refused answer)))
+  pub called : IfKnown before (λ log. IfOk result (λ answer. AreRefused log (refused answer)))
   pub fault : IfOk result (λ answer. has_fault (refused answer) ≡ true → HasRisen faults faults_after)

@@ -1,14 +1,16 @@
 -- What a key or a look makes of the screen: the two panels, the box that stands over them, and a message over all.
-use Rattle.std.specs.Prelude.{◌≡◌, ◌⊎◌, ℕ, ◌-◌, Bool, true, false, is_some, MatchBool, ⊤, if◌then◌else◌, List, [], ◌∷◌, ◌++◌, codes, Option, Some, None}
+use Rattle.std.specs.Prelude.{◌≡◌, ◌≢◌, ◌⊎◌, ℕ, Bool, true, false, is_some, MatchBool, ⊤, if◌then◌else◌, List, [], ◌∷◌, codes, Option, Some, None, Ok, Err}
 use Rattle.std.specs.Option.{option_map}
 use Rattle.std.specs.Str.{bytes_eq}
 use Rattle.mc_text.specs.Routes.{Route}
 use Rattle.tree_trait.specs.declared.calls.TreeError.{TreeError}
 use Rattle.tree_trait.specs.FileSystem.{View, visible_tree}
 use Rattle.tree_trait.specs.Change.{CallLog, current}
+use Rattle.tree_trait.specs.Answers.{IfKnown}
+use Rattle.resolving.specs.declared.error.ResolveError.{ResolveError}
+use Rattle.resolving.specs.declared.error.ResolveError.TheVariants as resolve
 use Rattle.key_screen.specs.declared.keys.Key.{Key}
 use Rattle.key_screen.specs.declared.keys.Base.{Base}
-use Rattle.key_screen.specs.declared.keys.Base.TheVariants.{Unknown}
 use Rattle.job_reports.specs.declared.report.Trouble.{Trouble}
 use Rattle.job_reports.specs.declared.answer.Answer.{Answer}
 use Rattle.job_reports.specs.declared.job.Job.{Job}
@@ -16,7 +18,7 @@ use Rattle.job_reports.specs.declared.row.JobRow.{JobRow}
 use Rattle.job_reports.specs.Jobs.{is_workable}
 use Rattle.session_history.specs.declared.refusal.PlanError.TheVariants.{NoSelection, BadMask}
 use Rattle.session_history.specs.declared.refusal.Refusal.{Refusal}
-use Rattle.session_history.specs.declared.refusal.Refusal.TheVariants.{Tree, Plan}
+use Rattle.session_history.specs.declared.refusal.Refusal.TheVariants.{Tree, Resolve, Plan}
 use Rattle.mc_dialogs.specs.InputKeys.{InputState, input_after, input_shut}
 use Rattle.mc_ui.specs.declared.asks.Ask.{Ask}
 use Rattle.mc_ui.specs.declared.asks.Ask.TheVariants as ask
@@ -28,23 +30,26 @@ use Rattle.box_words.specs.declared.message.Message.{Message}
 use Rattle.box_words.specs.declared.message.Message.TheVariants.{Refused, Help}
 use Rattle.mc_ui.specs.declared.panel_command.Opens.{Opens}
 use Rattle.mc_ui.specs.declared.panel_command.Opens.TheVariants as opens
-use Rattle.mc_ui.specs.declared.panel_command.PanelCommand.{PanelCommand}
-use Rattle.mc_ui.specs.declared.panel_command.PanelCommand.TheVariants.{Move, SwitchPanel, ShowHelp, Open, Quit, Nothing}
+use Rattle.mc_ui.specs.declared.panel_command.KeyCommand.{KeyCommand}
+use Rattle.mc_ui.specs.declared.panel_command.KeyCommand.TheVariants.{Work, ShowHelp, Open, Quit, Nothing}
 use Rattle.box_words.specs.declared.replies.DeleteReply.{DeleteReply}
 use Rattle.box_words.specs.declared.replies.DeleteReply.TheVariants as delete
 use Rattle.box_words.specs.declared.replies.LineReply.{LineReply}
 use Rattle.box_words.specs.declared.replies.LineReply.TheVariants as line
 use Rattle.box_words.specs.declared.replies.TroubleReply.{TroubleReply}
 use Rattle.box_words.specs.declared.replies.TroubleReply.TheVariants as trouble
-use Rattle.mc_ui.specs.declared.reread.Reread.{Reread}
-use Rattle.mc_ui.specs.declared.side.Side.{Side}
-use Rattle.mc_ui.specs.declared.side.Side.TheVariants.{Left, Right}
+use Rattle.mc_panels.specs.Selections.{selection}
+use Rattle.panel_pair.specs.declared.command.PanelCommand.{PanelCommand}
+use Rattle.panel_pair.specs.declared.frame.FrameSize.{FrameSize}
+use Rattle.panel_pair.specs.Commands.{CommandDone, CommandReads}
+use Rattle.panel_pair.specs.Frames.{page_of as page_of_lines}
+use Rattle.panel_pair.specs.Pairs.{PairState, untagged_pair}
 use Rattle.box_words.specs.BoxKeys.{closes_message, delete_reply_to, line_reply, trouble_reply_to}
 use Rattle.box_words.specs.BoxLines.{mask_line, target_line, target_text}
 use Rattle.mc_ui.specs.Copies.{CopyRefused, IsVacant, MayAsk, copy_plan, delete_plan, target_in}
 use Rattle.mc_ui.specs.LiveJobs.{can_answer, none_live, shown_trouble}
-use Rattle.mc_ui.specs.PanelKeys.{panel_command_of}
-use Rattle.mc_ui.specs.Panels.{ListsFolder, Shown, current_path, moved_by, opened_panel, with_names}
+use Rattle.mc_ui.specs.Looks.{LooksAgain}
+use Rattle.mc_ui.specs.PanelKeys.{panel_command_of, plain_base}
 
 -- What stands over the panels: nothing, or a box that asks whether to delete a file, asks for the source mask or for the
 -- destination of a copy, or tells of a job's trouble.
@@ -61,21 +66,27 @@ pub data Planned : Type 0 where
   Answers : (answer : Answer) → Planned
   Ends : Planned
 
--- the panels and which of them is current, the size of the screen, the box and the message, and what is to be carried out
+-- the panels, the size of the screen, the second of the last key, the box and the message, and what is to be carried out
 pub record Screen : Type 0 where
-  pub left : Shown
-  pub right : Shown
-  pub current : Side
+  pub panels : PairState
   pub lines : ℕ
   pub columns : ℕ
+  pub second : ℕ
   pub over : Box
   pub message : Option Message
   pub planned : Option Planned
 
 -- a screen of this size as it opens
-abbrev pub opened_screen : Shown → Shown → ℕ → ℕ → Screen
-opened_screen left right lines columns =
-    record { left = left; right = right; current = Left; lines = lines; columns = columns; over = NoBox; message = None; planned = None }
+abbrev pub opened_screen : PairState → ℕ → ℕ → ℕ → Screen
+opened_screen panels lines columns second =
+    record { panels = panels; lines = lines; columns = columns; second = second; over = NoBox; message = None; planned = None }
+
+-- the screen with other panels, and at another second
+abbrev pub with_panels : PairState → Screen → Screen
+with_panels panels before = record before { panels = panels }
+
+abbrev pub at_second : ℕ → Screen → Screen
+at_second second before = record before { second = second }
 
 -- the screen keeps its size
 pub record HasSameSize (before after : Screen) : Type 0 where
@@ -90,25 +101,12 @@ seen_box (dialog.SourceMask chosen typed) = MaskBox chosen.path typed
 seen_box (dialog.CopyTo chosen typed) = TargetBox chosen.path typed
 seen_box (dialog.Trouble trouble) = TroubleBox trouble
 
--- the other side
-abbrev pub opposite : Side → Side
-opposite Left = Right
-opposite Right = Left
-
--- the panel of a side
-abbrev pub panel_of : Side → Screen → Shown
-panel_of Left s = s.left
-panel_of Right s = s.right
-
-abbrev pub current_panel : Screen → Shown
-current_panel s = panel_of s.current s
-
-abbrev pub other_panel : Screen → Shown
-other_panel s = panel_of (opposite s.current) s
-
--- how many items of a panel are on the screen
+-- how many items of a column are on the screen, and what the frame of the panels goes by
 abbrev pub page_of : Screen → ℕ
-page_of s = s.lines - 6
+page_of s = page_of_lines s.lines
+
+abbrev pub frame_size : Screen → FrameSize
+frame_size s = record { lines = s.lines; columns = s.columns; now = s.second }
 
 -- what can be seen of a tree, where it tells
 abbrev pub sight : Option CallLog → Option View
@@ -120,42 +118,61 @@ told_refusal refusal before = record before { message = Some (Refused refusal) }
 
 -- THE PANELS
 
--- the cursor of the current panel as a key moves it
-abbrev pub with_move : Side → Base → Screen → Screen
-with_move Left base s = record s { left = moved_by (page_of s) base s.left }
-with_move Right base s = record s { right = moved_by (page_of s) base s.right }
+-- a command of the panels is done, as the folders that it reads are; nothing else changes
+pub record IsDone (command : PanelCommand) (contents : Option CallLog) (before after : Screen) : Type 0 where
+  pub done : CommandDone command (page_of before) before.panels after.panels
+  pub read : IfKnown contents (λ log. CommandReads command log before.panels.current (Ok after.panels.current))
+  pub rest : after ≡ with_panels after.panels before
+
+-- or it is refused as the tree refuses it: the panels stay, and a message says so
+pub record IsRefused (command : PanelCommand) (contents : Option CallLog) (refusals : List Refusal) (before after : Screen) : Type 0 where
+  pub error : ResolveError
+  pub why : IfKnown contents (λ log. CommandReads command log before.panels.current (Err error))
+  pub memory : error ≢ resolve.Memory
+  pub told : refusals ≡ Resolve error ∷ []
+  pub stays : after ≡ told_refusal (Resolve error) before
+
+-- what a command of the panels makes of the screen
+abbrev pub Works : PanelCommand → Option CallLog → List Refusal → Screen → Screen → Type 0
+Works command contents [] before after = IsDone command contents before after
+Works command contents (refusal ∷ more) before after = IsRefused command contents (refusal ∷ more) before after
 
 -- the box that such a key opens
 abbrev pub box_of : Opens → Route → Box
 box_of opens.Delete path = DeleteBox path
 box_of opens.SourceMask path = MaskBox path mask_line
 
--- The key that asks of the thing under the cursor opens its box, if the box may ask of that and no job is live. Where the cursor
--- stands on `..` or on no row nothing is selected, and a message says so.
-abbrev pub Chooses : Opens → Option View → List JobRow → Option Route → List Refusal → Screen → Screen → Type 0
-Chooses box tree (row ∷ rows) current refusals before after = (refusals ≡ []) × (after ≡ before)
-Chooses box tree [] None refusals before after = (refusals ≡ Plan NoSelection ∷ []) × (after ≡ told_refusal (Plan NoSelection) before)
-Chooses box tree [] (Some path) [] before after = (asks : Bool) × MayAsk box tree path asks × (after ≡ (if asks then record before { over = box_of box path } else before))
-Chooses box tree [] (Some path) (refusal ∷ more) before after =
+-- The box is opened on a thing, if it may ask of that; or the look at it was refused, and a message says so.
+abbrev pub AsksOf : Opens → Option View → Route → List Refusal → Screen → Screen → Type 0
+AsksOf box tree path [] before after = (asks : Bool) × MayAsk box tree path asks × (after ≡ (if asks then record before { over = box_of box path } else before))
+AsksOf box tree path (refusal ∷ more) before after =
     (e : TreeError) × (refusal ∷ more ≡ Tree path e ∷ []) × (after ≡ told_refusal (Tree path e) before)
 
--- what a command of the panels makes of the screen
-abbrev pub CommandLeads : PanelCommand → Option View → List JobRow → List Refusal → Screen → Screen → Type 0
-CommandLeads (Move base) tree rows refusals before after = (refusals ≡ []) × (after ≡ with_move before.current base before)
-CommandLeads SwitchPanel tree rows refusals before after = (refusals ≡ []) × (after ≡ record before { current = opposite before.current })
-CommandLeads ShowHelp tree rows refusals before after = (refusals ≡ []) × (after ≡ record before { message = Some Help })
-CommandLeads (Open opens) tree rows refusals before after = Chooses opens tree rows (current_path (current_panel before)) refusals before after
-CommandLeads Quit tree rows refusals before after = (refusals ≡ []) × (after ≡ record before { planned = Some Ends })
-CommandLeads Nothing tree rows refusals before after = (refusals ≡ []) × (after ≡ before)
+-- The key that asks of what is selected in a folder opens its box on it, where it is one thing and no job is live. Where nothing is
+-- selected a message says so; of several things no box can ask yet.
+abbrev pub Chooses : Opens → Option View → List JobRow → Route → List (List ℕ) → List Refusal → Screen → Screen → Type 0
+Chooses box tree (row ∷ rows) folder names refusals before after = (refusals ≡ []) × (after ≡ before)
+Chooses box tree [] folder [] refusals before after = (refusals ≡ Plan NoSelection ∷ []) × (after ≡ told_refusal (Plan NoSelection) before)
+Chooses box tree [] folder (name ∷ []) refusals before after = AsksOf box tree (name ∷ folder) refusals before after
+Chooses box tree [] folder (name ∷ other ∷ more) refusals before after = (refusals ≡ []) × (after ≡ before)
+
+-- what a key makes of the screen while no box is open
+abbrev pub CommandLeads : KeyCommand → Option CallLog → List JobRow → List Refusal → Screen → Screen → Type 0
+CommandLeads (Work command) contents rows refusals before after = Works command contents refusals before after
+CommandLeads ShowHelp contents rows refusals before after = (refusals ≡ []) × (after ≡ record before { message = Some Help })
+CommandLeads (Open opens) contents rows refusals before after =
+    Chooses opens (sight contents) rows before.panels.current.folder (selection before.panels.current) refusals before after
+CommandLeads Quit contents rows refusals before after = (refusals ≡ []) × (after ≡ record before { planned = Some Ends })
+CommandLeads Nothing contents rows refusals before after = (refusals ≡ []) × (after ≡ before)
 
 -- THE BOXES
 
 abbrev pub without_box : Screen → Screen
 without_box before = record before { over = NoBox }
 
--- the screen once a job is to be begun
+-- the screen once a job is to be begun: nothing is tagged any more
 abbrev pub begun : Job → Screen → Screen
-begun plan before = record before { over = NoBox; planned = Some (Begins plan false) }
+begun plan before = record before { panels = untagged_pair before.panels; over = NoBox; planned = Some (Begins plan false) }
 
 -- the delete box's answer: a job is confirmed only while none is live
 abbrev pub after_delete : DeleteReply → List JobRow → Route → Screen → Screen
@@ -179,7 +196,7 @@ MaskLeads line.Stays path typed refusals before after = (refusals ≡ []) × (af
 MaskLeads line.Shuts path typed refusals before after = (refusals ≡ []) × (after ≡ without_box before)
 MaskLeads (line.Takes text) path typed refusals before after =
     MatchBool (bytes_eq text (codes "*"))
-    ((refusals ≡ []) × (after ≡ record before { over = TargetBox path (target_line (other_panel before).folder) }))
+    ((refusals ≡ []) × (after ≡ record before { over = TargetBox path (target_line before.panels.other.folder) }))
     ((refusals ≡ Plan BadMask ∷ []) × (after ≡ told_refusal (Plan BadMask) before))
 
 -- the copy is planned where nothing stands at its target, or refused, and then the box stays
@@ -192,8 +209,8 @@ abbrev pub TargetLeads : LineReply → Option View → List JobRow → Route →
 TargetLeads line.Stays tree rows path typed refusals before after = (refusals ≡ []) × (after ≡ record before { over = TargetBox path typed })
 TargetLeads line.Shuts tree rows path typed refusals before after = (refusals ≡ []) × (after ≡ without_box before)
 TargetLeads (line.Takes text) tree rows path typed refusals before after =
-    MatchBool (bytes_eq text (target_text (other_panel before).folder))
-    (MatchBool (none_live rows) (PlansCopy tree path (target_in (other_panel before).folder path) refusals before after) ((refusals ≡ []) × (after ≡ before)))
+    MatchBool (bytes_eq text (target_text before.panels.other.folder))
+    (MatchBool (none_live rows) (PlansCopy tree path (target_in before.panels.other.folder path) refusals before after) ((refusals ≡ []) × (after ≡ before)))
     ((refusals ≡ Plan BadMask ∷ []) × (after ≡ told_refusal (Plan BadMask) before))
 
 -- a trouble's answer, where the live job can be answered so; without one the job stays as it is
@@ -208,38 +225,27 @@ after_message base before = if closes_message base then record before { message 
 
 -- KEYS
 
--- the key of the panels and of messages: one with meta is none of those that are known here
-abbrev pub plain_base : Key → Base
-plain_base key = if key.meta then Unknown else key.base
-
 -- what a key makes of the screen, by the box that is open, while these jobs are live
-abbrev pub ByBox : Box → Option View → List JobRow → Key → List Refusal → Screen → Screen → Type 0
-ByBox NoBox tree rows key refusals before after = CommandLeads (panel_command_of (plain_base key)) tree rows refusals before after
-ByBox (DeleteBox path) tree rows key refusals before after = (refusals ≡ []) × (after ≡ after_delete (delete_reply_to key) rows path before)
-ByBox (MaskBox path typed) tree rows key refusals before after =
+abbrev pub ByBox : Box → Option CallLog → List JobRow → Key → List Refusal → Screen → Screen → Type 0
+ByBox NoBox contents rows key refusals before after = CommandLeads (panel_command_of key) contents rows refusals before after
+ByBox (DeleteBox path) contents rows key refusals before after = (refusals ≡ []) × (after ≡ after_delete (delete_reply_to key) rows path before)
+ByBox (MaskBox path typed) contents rows key refusals before after =
     MaskLeads (line_reply (input_shut typed key)) path (input_after typed key) refusals before after
-ByBox (TargetBox path typed) tree rows key refusals before after =
-    TargetLeads (line_reply (input_shut typed key)) tree rows path (input_after typed key) refusals before after
-ByBox (TroubleBox trouble) tree rows key refusals before after = (refusals ≡ []) × (after ≡ after_trouble (trouble_reply_to trouble.barrier key) rows before)
+ByBox (TargetBox path typed) contents rows key refusals before after =
+    TargetLeads (line_reply (input_shut typed key)) (sight contents) rows path (input_after typed key) refusals before after
+ByBox (TroubleBox trouble) contents rows key refusals before after =
+    (refusals ≡ []) × (after ≡ after_trouble (trouble_reply_to trouble.barrier key) rows before)
 
 -- what a key makes of the screen: a message takes it before the box below does
-abbrev pub KeyLeads : Option View → List JobRow → Key → List Refusal → Screen → Screen → Type 0
-KeyLeads tree rows key refusals before after =
-    MatchBool (is_some before.message) ((refusals ≡ []) × (after ≡ after_message (plain_base key) before)) (ByBox before.over tree rows key refusals before after)
+abbrev pub WorksKey : Option CallLog → List JobRow → Key → List Refusal → Screen → Screen → Type 0
+WorksKey contents rows key refusals before after =
+    MatchBool (is_some before.message) ((refusals ≡ []) × (after ≡ after_message (plain_base key) before)) (ByBox before.over contents rows key refusals before after)
+
+-- and at which second that is
+abbrev pub KeyLeads : Option CallLog → List JobRow → ℕ → Key → List Refusal → Screen → Screen → Type 0
+KeyLeads contents rows now key refusals before after = WorksKey contents rows key refusals (at_second now before) after
 
 -- LOOKS
-
--- a refusal, if there is one
-abbrev pub listed : Option Refusal → List Refusal
-listed None = []
-listed (Some refusal) = refusal ∷ []
-
--- what reading a panel's folder again comes to: after a job's end its names, or its refusal
-abbrev pub IsReread : Option View → Bool → Route → Reread → Type 0
-IsReread tree false folder r = (r.names ≡ None) × (r.refused ≡ None)
-IsReread tree true folder r =
-    ((names : List (List ℕ)) × ListsFolder tree folder names × (r.names ≡ Some names) × (r.refused ≡ None))
-    ⊎ ((e : TreeError) × (r.names ≡ None) × (r.refused ≡ Some (Tree folder e)))
 
 -- a trouble's box stands over the panels, in place of another
 abbrev pub with_trouble : Option Trouble → Box → Box
@@ -261,37 +267,23 @@ abbrev pub with_news : Option Message → Option Message → Option Message
 with_news None before = before
 with_news (Some news) before = Some news
 
--- A look reads each panel again, after a job's end that was not taken up, and shows the trouble that there is, what it was
--- refused, and what is to be told of this end.
-pub record LooksAgain (tree : Option View) (has_unseen_end : Bool) (trouble : Option Trouble) (news : Option Message) (refusals : List Refusal) (before after : Screen) : Type 0 where
-  pub left : Reread
-  pub right : Reread
-  pub left_is : IsReread tree has_unseen_end before.left.folder left
-  pub right_is : IsReread tree has_unseen_end before.right.folder right
-  pub refused : refusals ≡ listed left.refused ++ listed right.refused
-  pub after_is : after
-      ≡ record before {
-        left = with_names (page_of before) left.names before.left;
-        right = with_names (page_of before) right.names before.right;
-        over = with_trouble trouble before.over;
-        message = with_news news (with_refusal (first_refusal refusals) before.message);
-      }
+-- a message tells of the first of some refusals
+abbrev pub with_told : List Refusal → Screen → Screen
+with_told refusals before = record before { message = with_refusal (first_refusal refusals) before.message }
 
--- What a look makes of the screen: it takes up what the live job did. The trouble of one that waits gets its box; what is to be
--- told of the end of one, a message.
-abbrev pub LookLeads : Option View → List JobRow → Bool → Option Message → List Refusal → Screen → Screen → Type 0
-LookLeads tree rows has_unseen_end news refusals before after = LooksAgain tree has_unseen_end (shown_trouble rows) news refusals before after
+-- the screen once a look has taken up a trouble, refusals and news, over these panels
+abbrev pub looked_at : Option Trouble → Option Message → List Refusal → PairState → Screen → Screen
+looked_at trouble news refusals panels before = record before {
+  panels = panels;
+  over = with_trouble trouble before.over;
+  message = with_news news (with_refusal (first_refusal refusals) before.message);
+}
 
--- the panels show the same folders
-abbrev pub SameFolders : Screen → Screen → Type 0
-SameFolders before after = (after.left.folder ≡ before.left.folder) × (after.right.folder ≡ before.right.folder)
-
--- at the opening each panel lists its folder, from its first row on, on which the cursor is, and the left one is current
-pub record IsOpening (tree : Option View) (screen : Screen) : Type 0 where
-  pub left : ListsFolder tree screen.left.folder screen.left.names
-  pub right : ListsFolder tree screen.right.folder screen.right.names
-  pub opened : screen
-      ≡ opened_screen (opened_panel screen.left.folder screen.left.names) (opened_panel screen.right.folder screen.right.names) screen.lines screen.columns
+-- What a look makes of the screen: it takes up what the live job did. The panels are read again after a job's end that was not taken
+-- up. The trouble of a job that waits gets its box; what was refused, and what is to be told of an end, a message.
+pub record LookLeads (contents : Option CallLog) (rows : List JobRow) (has_unseen_end : Bool) (news : Option Message) (refusals : List Refusal) (before after : Screen) : Type 0 where
+  pub panels : LooksAgain contents has_unseen_end (page_of before) refusals before.panels after.panels
+  pub after_is : after ≡ looked_at (shown_trouble rows) news refusals after.panels before
 
 -- ASKS
 
@@ -311,14 +303,16 @@ is_request ask.End = false
 
 -- the screen once what a key asked is noted; the box that asked is shut
 abbrev pub with_ask : Ask → Screen → Screen
-with_ask (ask.Begin plan background) screen = record screen { over = NoBox; planned = Some (Begins plan background) }
+with_ask (ask.Begin plan background) screen = record screen { panels = untagged_pair screen.panels; over = NoBox; planned = Some (Begins plan background) }
 with_ask (ask.Answer answer) screen = record screen { over = NoBox; planned = Some (Answers answer) }
 with_ask ask.Nothing screen = screen
 with_ask ask.End screen = record screen { planned = Some Ends }
 
--- the screen once it is told what became of that: where it was done, the box that asked is shut; a refusal gets its message
+-- the screen once it is told what became of that: where it was done, the box that asked is shut, and where a job was begun nothing is
+-- tagged any more; a refusal gets its message
 abbrev pub settled : Told → Screen → Screen
 settled told.Nothing screen = screen
-settled told.Done screen = without_box screen
+settled told.Begun screen = record screen { panels = untagged_pair screen.panels; over = NoBox }
+settled told.Answered screen = without_box screen
 settled (told.Refused refusal) screen = told_refusal refusal screen
 settled told.Lost screen = screen

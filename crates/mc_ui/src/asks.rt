@@ -25,8 +25,10 @@ pub struct KeyAct {
 pub enum Told {
     /// It asked for neither.
     Nothing,
-    /// It was carried out.
-    Done,
+    /// The job was begun.
+    Begun,
+    /// The trouble was answered.
+    Answered,
     Refused(Refusal),
     /// There was no memory.
     Lost,

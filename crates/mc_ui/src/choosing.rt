@@ -1,25 +1,24 @@
-//! The look at the thing under the cursor.
-ghost use Rattle.std.specs.Prelude.{◌≡◌, IfOk};
-ghost use Rattle.tree_trait.specs.Calls.{Stat};
-ghost use Rattle.mc_ui.specs.Panels.{current_path};
+//! The look at the thing that is selected.
+ghost use Rattle.std.specs.Prelude.{◌≡◌, ◌∷◌, IfOk};
+ghost use Rattle.mc_panels.specs.Selections.{selection};
 ghost use Rattle.mc_ui.specs.Screens.{sight};
-ghost use Rattle.mc_ui.specs.Choices.{IsChoice, choice_refusals};
+ghost use Rattle.mc_ui.specs.Choices.{IsChoice, IsLook, choice_refusals};
 ghost use Rattle.mc_ui.specs.Copies.{may_open};
 ghost use Rattle.mc_ui.specs.Reading.{ReadsTree};
 
-use crate::panel::Panel;
 use crate::panel_command::Opens;
 use box_words::Chosen;
-use mc_text::{Kind, NoMemory, Path, PathError};
+use mc_panels::Panel;
+use mc_text::{Kind, Name, NoMemory, Path, PathError};
 use std::alloc::Global;
 use tree_trait::{Tree, TreeError};
 
-/// What choosing the thing under the cursor comes to.
+/// What choosing the thing that is selected comes to.
 #[derive(Debug, Drop)]
 pub enum Choice {
-    /// There is nothing: the cursor stands on `..`, or on no row.
+    /// There is nothing: no name is tagged, and the cursor stands on `..`, or on no row.
     NoSelection,
-    /// It is nothing that the box may ask of, or it can't be reached.
+    /// It is nothing that the box may ask of, it can't be reached, or there are several.
     Nothing,
     /// A thing that the box may ask of.
     Thing(Chosen),
@@ -27,20 +26,40 @@ pub enum Choice {
     Refused(Path, TreeError),
 }
 
-/// Looks at the thing under the cursor, of which a box may ask.
+/// Looks at the thing that is selected, of which a box may ask: the one that is tagged, or else the one under the cursor. It goes
+/// over the shown names once.
 pub fn choose<T: Tree>(
     alloc: Global,
     tree: &mut T,
     panel: &Panel,
     opens: Opens,
 ) -> Result<Choice, NoMemory>
-    ensures chosen { IfOk result (IsChoice opens (sight (T.contents tree.old)) (current_path panel.now)) }
-    ensures reads { ReadsTree Stat choice_refusals result (T.contents tree.old) (T.contents tree.new)
+    ensures chosen { IfOk result (IsChoice opens (sight (T.contents tree.old)) panel.now.folder (selection panel.now)) }
+    ensures reads { ReadsTree choice_refusals result (T.contents tree.old) (T.contents tree.new)
         (T.fault_count tree.old) (T.fault_count tree.new) }
 {
-    let path = match panel.current_path(alloc) {
-        Ok(Some(path)) => path,
-        Ok(None) => return Ok(Choice::NoSelection),
+    let names = panel.selection(alloc)?;
+    match names.as_slice() {
+        [] => Ok(Choice::NoSelection),
+        [name] => look_at_thing(alloc, tree, panel.folder(), name, opens),
+        [_, _, ..] => Ok(Choice::Nothing),
+    }
+}
+
+/// Looks at a thing in a folder.
+fn look_at_thing<T: Tree>(
+    alloc: Global,
+    tree: &mut T,
+    folder: &Path,
+    name: &Name,
+    opens: Opens,
+) -> Result<Choice, NoMemory>
+    ensures chosen { IfOk result (IsLook opens (sight (T.contents tree.old)) (name.now ∷ folder.now)) }
+    ensures reads { ReadsTree choice_refusals result (T.contents tree.old) (T.contents tree.new)
+        (T.fault_count tree.old) (T.fault_count tree.new) }
+{
+    let path = match folder.join(alloc, name) {
+        Ok(path) => path,
         Err(PathError::TooLong(_)) => return Ok(Choice::Nothing),
         Err(_) => return Err(NoMemory),
     };
@@ -57,14 +76,13 @@ pub fn choose<T: Tree>(
     }
 }
 
-/// Whether a box may ask of a thing of this kind: a file may be copied, and all but a folder deleted.
+/// Whether a box may ask of a thing of this kind: a file may be copied, and anything deleted.
 fn may_ask_of(opens: Opens, kind: Kind) -> bool
     ensures { result ≡ may_open opens kind }
 {
     match (opens, kind) {
         (Opens::SourceMask, Kind::File) => true,
         (Opens::SourceMask, Kind::Folder | Kind::Link | Kind::Other) => false,
-        (Opens::Delete, Kind::Folder) => false,
-        (Opens::Delete, Kind::File | Kind::Link | Kind::Other) => true,
+        (Opens::Delete, _) => true,
     }
 }

@@ -32,7 +32,7 @@ pub fn plan_copy<T: Tree>(
     folder: &Path,
 ) -> Result<CopyPlan, NoMemory>
     ensures leads { IfOk result (PlanLeads (sight (T.contents tree.old)) chosen.now.path (target_in folder.now chosen.now.path)) }
-    ensures reads { ReadsTree Stat plan_refusals result (T.contents tree.old) (T.contents tree.new)
+    ensures reads { ReadsTree plan_refusals result (T.contents tree.old) (T.contents tree.new)
         (T.fault_count tree.old) (T.fault_count tree.new) }
 {
     let target = match target_of(alloc, &chosen.path, folder) {

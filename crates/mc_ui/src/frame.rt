@@ -4,11 +4,11 @@ ghost use Rattle.mc_dialogs.specs.Boxes.{with_box};
 ghost use Rattle.mc_dialogs.specs.InputField.{with_input};
 ghost use Rattle.mc_frame.specs.Frames.{panels_frame};
 ghost use Rattle.mc_dialogs.specs.QuestionKeys.{plain_lines as plain_lines_of};
-ghost use Rattle.mc_ui.specs.Frames.{counts_of as counts_in, frame_of, panes_of, with_message, with_over};
-ghost use Rattle.mc_ui.specs.Screens.{seen_box};
+ghost use Rattle.panel_pair.specs.Frames.{panes_of};
+ghost use Rattle.mc_ui.specs.Frames.{counts_of as counts_in, frame_of, with_message, with_over};
+ghost use Rattle.mc_ui.specs.Screens.{frame_size, seen_box};
 
 mod counting;
-mod panes;
 
 use crate::ui::Ui;
 use box_words::{Dialog, Message, delete_lines, message_lines, trouble_lines};
@@ -28,18 +28,18 @@ impl Ui {
         ensures frame { IfOk result (λ grid. grid ≡ frame_of self.now rows.now) }
         ensures size { IfOk result (λ grid. (grid.lines ≡ self.now.lines) × (grid.columns ≡ self.now.columns)) }
     {
-        let mut grid = self.panels(alloc, rows)?;
+        let mut grid = self.panel_frame(alloc, rows)?;
         paint_dialog(&mut grid, alloc, self.dialog())?;
         paint_message(&mut grid, alloc, self.message())?;
         Ok(grid)
     }
 
     /// The panels, the line of jobs and the key bar.
-    fn panels(&self, alloc: Global, rows: &JobRows) -> Result<Grid, NoMemory>
-        ensures frame { IfOk result (λ grid. grid ≡ panels_frame self.now.lines self.now.columns (panes_of self.now) (counts_in rows.now)) }
+    fn panel_frame(&self, alloc: Global, rows: &JobRows) -> Result<Grid, NoMemory>
+        ensures frame { IfOk result (λ grid. grid ≡ panels_frame self.now.lines self.now.columns (panes_of (frame_size self.now) self.now.panels) (counts_in rows.now)) }
         ensures size { IfOk result (λ grid. (grid.lines ≡ self.now.lines) × (grid.columns ≡ self.now.columns)) }
     {
-        let panes = self.panes(alloc)?;
+        let panes = self.panels().panes(alloc, self.frame_size())?;
         let counts = counts_of(rows.0.as_slice());
         paint_panels(alloc, self.lines(), self.columns(), &panes, &counts)
     }

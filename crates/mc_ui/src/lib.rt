@@ -5,17 +5,11 @@ mod asks;
 mod choosing;
 mod copying;
 mod frame;
-mod panel;
 mod panel_command;
-mod reread;
-mod side;
 mod ui;
 
 pub use asks::{Ask, KeyAct, Told};
-pub use box_words::{Chosen, Dialog, Message, cause_text};
+pub use box_words::{Chosen, Dialog, Message, resolve_text};
 pub use choosing::{Choice, choose};
 pub use copying::{CopyPlan, plan_copy};
-pub use panel::Panel;
-pub use reread::{Reread, list_again};
-pub use side::Side;
 pub use ui::Ui;

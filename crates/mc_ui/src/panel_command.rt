@@ -1,10 +1,11 @@
 //! The keys of the panels.
 ghost use Rattle.std.specs.Prelude.{◌≡◌};
-ghost use Rattle.mc_ui.specs.PanelKeys.{panel_command_of};
+ghost use Rattle.mc_ui.specs.PanelKeys.{other_command as command_of_base, panel_command_of, plain_base as plain_base_of};
 
-use key_screen::Base;
+use key_screen::{Base, Key};
+use panel_pair::{PanelCommand, key_command};
 
-/// Which box is opened on the thing under the cursor.
+/// Which box is opened on the thing that is selected.
 #[derive(Clone, Copy, Debug, Drop, PartialEq, Eq)]
 pub enum Opens {
     Delete,
@@ -12,33 +13,42 @@ pub enum Opens {
 }
 
 /// What a key does while no box is open.
-#[derive(Clone, Copy, Debug, Drop, PartialEq, Eq)]
-pub enum PanelCommand {
-    /// The cursor goes where this key leads.
-    Move(Base),
-    SwitchPanel,
+#[derive(Debug, Drop)]
+pub enum KeyCommand {
+    /// It works on the panels.
+    Work(PanelCommand),
     ShowHelp,
     Open(Opens),
     Quit,
     Nothing,
 }
 
-/// What a key without meta does in the panels; those that are not built do nothing.
-pub fn panel_command(base: Base) -> PanelCommand
-    ensures { result ≡ panel_command_of base }
+/// What a key does in the panels; those that are not built do nothing.
+pub fn panel_command(key: Key) -> KeyCommand
+    ensures { result ≡ panel_command_of key }
+{
+    match key_command(key) {
+        Some(command) => KeyCommand::Work(command),
+        None => other_command(plain_base(key)),
+    }
+}
+
+/// What a key does that works on no panel.
+fn other_command(base: Base) -> KeyCommand
+    ensures { result ≡ command_of_base base }
 {
     match base {
-        Base::Up => PanelCommand::Move(Base::Up),
-        Base::Down => PanelCommand::Move(Base::Down),
-        Base::PgUp => PanelCommand::Move(Base::PgUp),
-        Base::PgDn => PanelCommand::Move(Base::PgDn),
-        Base::Home => PanelCommand::Move(Base::Home),
-        Base::End => PanelCommand::Move(Base::End),
-        Base::Tab => PanelCommand::SwitchPanel,
-        Base::F(1) => PanelCommand::ShowHelp,
-        Base::F(5) => PanelCommand::Open(Opens::SourceMask),
-        Base::F(8) => PanelCommand::Open(Opens::Delete),
-        Base::F(10) => PanelCommand::Quit,
-        _ => PanelCommand::Nothing,
+        Base::F(1) => KeyCommand::ShowHelp,
+        Base::F(5) => KeyCommand::Open(Opens::SourceMask),
+        Base::F(8) => KeyCommand::Open(Opens::Delete),
+        Base::F(10) => KeyCommand::Quit,
+        _ => KeyCommand::Nothing,
     }
+}
+
+/// The key, or one that is unknown where it has meta.
+pub fn plain_base(key: Key) -> Base
+    ensures { result ≡ plain_base_of key }
+{
+    if key.meta { Base::Unknown } else { key.base }
 }

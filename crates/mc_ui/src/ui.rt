@@ -1,9 +1,9 @@
 //! What stands on the screen: two panels, the box over them, and a message over all.
-ghost use Rattle.std.specs.Prelude.{◌≡◌, ◌-◌, ◌<◌, ◌^◌, [], true, is_some, List, None, Some, OnErr, IfOk};
-ghost use Rattle.tree_trait.specs.Calls.{Stat};
+ghost use Rattle.std.specs.Prelude.{◌≡◌, ◌<◌, ◌^◌, [], true, is_some, None, OnErr, IfOk};
 ghost use Rattle.mc_ui.specs.declared.asks.KeyAct.{KeyAct as KeyActType};
+ghost use Rattle.mc_ui.specs.PanelKeys.{plain_base};
 ghost use Rattle.mc_ui.specs.Reading.{ReadsTree};
-ghost use Rattle.mc_ui.specs.Screens.{HasSameSize, KeyLeads, WellAsked, after_message, current_panel, is_request, opened_screen, other_panel, page_of, plain_base, seen_box, settled as screen_settled, sight, with_ask};
+ghost use Rattle.mc_ui.specs.Screens.{HasSameSize, KeyLeads, WellAsked, WorksKey, after_message, at_second, frame_size, is_request, opened_screen, page_of, seen_box, settled as screen_settled, with_ask};
 
 mod boxes;
 mod copy_boxes;
@@ -11,26 +11,25 @@ mod look;
 mod panel_keys;
 
 use crate::asks::{Ask, KeyAct, Told};
-use crate::panel::Panel;
-use crate::side::Side;
+use crate::panel_command::plain_base;
 use box_words::{Dialog, Message, closes_message};
 use job_reports::JobRows;
-use key_screen::{Base, Key};
+use key_screen::Key;
 use mc_text::NoMemory;
 use panel_keys::asking_nothing;
+use panel_pair::{FrameSize, Panels, page_of};
 use std::alloc::Global;
 use std::marker::Model;
 use std::mem;
 use tree_trait::Tree;
 
-/// What the screen shows. Contracts see the panels, the box and the message.
-#[derive(Debug, Drop)]
+/// What the screen shows. Contracts see the panels, the second of the last key, the box and the message.
+#[derive(Drop)]
 pub struct Ui {
-    left: Panel,
-    right: Panel,
-    current: Side,
+    panels: Panels,
     lines: u16,
     columns: u16,
+    second: u64,
     dialog: Dialog,
     message: Option<Message>,
 }
@@ -41,64 +40,29 @@ impl Model for Ui {
 
     ghost Value = { Screen };
 
-    ghost view = { λ u. record { left = u.left; right = u.right; current = u.current; lines = u.lines; columns = u.columns; over = seen_box u.dialog; message = u.message; planned = None } };
+    ghost view = { λ u. record { panels = u.panels; lines = u.lines; columns = u.columns; second = u.second; over = seen_box u.dialog; message = u.message; planned = None } };
 }
 
 impl Ui {
-    /// The panels alone, on a screen of so many lines and columns, the left one current.
-    pub fn new(left: Panel, right: Panel, lines: u16, columns: u16) -> Ui
-        ensures { result ≡ opened_screen left right lines columns }
+    /// Panels alone, on a screen of so many lines and columns, at this second of the clock.
+    pub fn new(panels: Panels, lines: u16, columns: u16, second: u64) -> Ui
+        ensures { result ≡ opened_screen panels lines columns second }
     {
         Ui {
-            left,
-            right,
-            current: Side::Left,
+            panels,
             lines,
             columns,
+            second,
             dialog: Dialog::Nothing,
             message: None,
         }
     }
 
-    /// The left panel.
-    pub fn left(&self) -> &Panel
-        ensures { result.now ≡ self.now.left }
+    /// The panels.
+    pub fn panels(&self) -> &Panels
+        ensures { result.now ≡ self.now.panels }
     {
-        &self.left
-    }
-
-    /// The right panel.
-    pub fn right(&self) -> &Panel
-        ensures { result.now ≡ self.now.right }
-    {
-        &self.right
-    }
-
-    /// The panel that is current.
-    pub fn current(&self) -> &Panel
-        ensures { result.now ≡ current_panel self.now }
-    {
-        match self.current {
-            Side::Left => &self.left,
-            Side::Right => &self.right,
-        }
-    }
-
-    /// The panel that isn't.
-    pub fn other(&self) -> &Panel
-        ensures { result.now ≡ other_panel self.now }
-    {
-        match self.current {
-            Side::Left => &self.right,
-            Side::Right => &self.left,
-        }
-    }
-
-    /// Which of them is current.
-    pub fn side(&self) -> Side
-        ensures { result ≡ self.now.current }
-    {
-        self.current
+        &self.panels
     }
 
     /// How many lines the screen has.
@@ -115,6 +79,21 @@ impl Ui {
         self.columns
     }
 
+    /// The second of the last key.
+    pub fn second(&self) -> u64
+        ensures { result ≡ self.now.second }
+    {
+        self.second
+    }
+
+    /// Gives it back the second of an earlier key.
+    pub fn set_second(&mut self, second: u64)
+        ensures { self.new ≡ at_second second self.old }
+    {
+        let _dialog = &self.dialog;
+        self.second = second;
+    }
+
     /// The box that stands over the panels.
     pub fn dialog(&self) -> &Dialog
         ensures { seen_box result.now ≡ self.now.over }
@@ -129,27 +108,57 @@ impl Ui {
         &self.message
     }
 
-    /// Works a key while these jobs are live. What was refused, the refusals say, and a message the first of them. Where the key
-    /// asks for a job, or answers a trouble, the screen stays as it is until `settle` tells what became of that. It takes the
-    /// time of what is on the screen, and of the paths and texts of the box.
+    /// Works a key at a second of the clock, while these jobs are live. What was refused, the refusals say, and a message the
+    /// first of them. Where the key asks for a job, or answers a trouble, the screen stays as it is until `settle` tells what
+    /// became of that. A key of the panels takes what its command takes, each other the time of what is on the screen, and of the
+    /// paths and texts of the box; F5 and F8 go over the shown names once.
     pub fn key<T: Tree>(
         &mut self,
         alloc: Global,
         tree: &mut T,
         rows: &JobRows,
         key: Key,
+        now: u64,
     ) -> Result<KeyAct, NoMemory>
-        ensures leads { IfOk result (λ act. KeyLeads (sight (T.contents tree.old)) rows.now key act.refusals
+        ensures leads { IfOk result (λ act. KeyLeads (T.contents tree.old) rows.now now key act.refusals
+            self.old (with_ask act.ask self.new)) }
+        ensures asked { IfOk result (λ act. WellAsked rows.now act.ask) }
+        ensures stays { IfOk result (λ act. is_request act.ask ≡ true → self.new ≡ at_second now self.old) }
+        ensures alone { IfOk result (λ act. is_request act.ask ≡ true → act.refusals ≡ []) }
+        ensures size { HasSameSize self.old self.new }
+        ensures settled { self.new.planned ≡ None }
+        ensures lost { OnErr result (self.new ≡ self.old) }
+        ensures reads { ReadsTree (λ (act : KeyActType). act.refusals) result (T.contents tree.old) (T.contents tree.new)
+            (T.fault_count tree.old) (T.fault_count tree.new) }
+    {
+        let second = self.second();
+        self.set_second(now);
+        match self.work_key(alloc, tree, rows, key) {
+            Ok(act) => Ok(act),
+            Err(error) => {
+                self.set_second(second);
+                Err(error)
+            }
+        }
+    }
+
+    /// Works a key.
+    fn work_key<T: Tree>(
+        &mut self,
+        alloc: Global,
+        tree: &mut T,
+        rows: &JobRows,
+        key: Key,
+    ) -> Result<KeyAct, NoMemory>
+        ensures leads { IfOk result (λ act. WorksKey (T.contents tree.old) rows.now key act.refusals
             self.old (with_ask act.ask self.new)) }
         ensures asked { IfOk result (λ act. WellAsked rows.now act.ask) }
         ensures stays { IfOk result (λ act. is_request act.ask ≡ true → self.new ≡ self.old) }
         ensures alone { IfOk result (λ act. is_request act.ask ≡ true → act.refusals ≡ []) }
-        ensures left { self.new.left.folder ≡ self.old.left.folder }
-        ensures right { self.new.right.folder ≡ self.old.right.folder }
         ensures size { HasSameSize self.old self.new }
         ensures settled { self.new.planned ≡ None }
         ensures lost { OnErr result (self.new ≡ self.old) }
-        ensures reads { ReadsTree Stat (λ (act : KeyActType). act.refusals) result (T.contents tree.old) (T.contents tree.new)
+        ensures reads { ReadsTree (λ (act : KeyActType). act.refusals) result (T.contents tree.old) (T.contents tree.new)
             (T.fault_count tree.old) (T.fault_count tree.new) }
     {
         if self.has_message() {
@@ -166,18 +175,27 @@ impl Ui {
         }
     }
 
-    /// Tells what became of what the last key asked. Where it was carried out its box is shut; where it was refused, a message
-    /// says so.
+    /// Tells what became of what the last key asked. Where it was carried out its box is shut, and where a job was begun nothing is
+    /// tagged any more; where it was refused, a message says so.
     pub fn settle(&mut self, told: Told)
         ensures settled { self.new ≡ screen_settled told self.old }
         ensures size { HasSameSize self.old self.new }
     {
         match told {
             Told::Nothing => {}
-            Told::Done => self.dialog = Dialog::Nothing,
+            Told::Begun => self.take_tags(),
+            Told::Answered => self.dialog = Dialog::Nothing,
             Told::Refused(refusal) => self.message = Some(Message::Refused(refusal)),
             Told::Lost => {}
         }
+    }
+
+    /// A job was begun: its box is shut, and the current panel untagged.
+    fn take_tags(&mut self)
+        ensures { self.new ≡ screen_settled Told.Begun self.old }
+    {
+        self.dialog = Dialog::Nothing;
+        self.panels.untag();
     }
 
     /// Whether a message is shown.
@@ -199,18 +217,22 @@ impl Ui {
         asking_nothing(alloc)
     }
 
-    /// How many items of a panel are on the screen.
-    pub fn page(&self) -> usize
+    /// How many items of a column are on the screen.
+    fn page(&self) -> usize
         ensures page { result ≡ page_of self.now }
         ensures bound { result < 2 ^ 16 }
     {
-        usize::from(self.lines.saturating_sub(6))
+        page_of(self.lines)
     }
-}
 
-/// The key, or one that is unknown where it has meta.
-fn plain_base(key: Key) -> Base
-    ensures { result ≡ plain_base key }
-{
-    if key.meta { Base::Unknown } else { key.base }
+    /// The size of the screen, and the second by which times are told.
+    pub(crate) fn frame_size(&self) -> FrameSize
+        ensures { result ≡ frame_size self.now }
+    {
+        FrameSize {
+            lines: self.lines,
+            columns: self.columns,
+            now: self.second,
+        }
+    }
 }

@@ -36,8 +36,9 @@ fn tell_work<T: Tree>(page: &mut Page, tree: &mut T, panels: &mut Panels, word: 
 }
 
 fn tell_look<T: Tree>(page: &mut Page, tree: &mut T, panels: &mut Panels) {
-    match panels.look(page.alloc(), tree, PAGE) {
-        Ok(unread) => {
+    match panels.read_both(page.alloc(), tree) {
+        Ok(reread) => {
+            let unread = panels.take(PAGE, reread);
             tell_unread(page, &unread);
             tell_panels(page, panels);
         }

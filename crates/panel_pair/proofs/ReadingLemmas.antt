@@ -1,9 +1,9 @@
 -- What was refused has its cause in the tree.
-use Rattle.std.proofs.Common.{◌≡◌, ℕ, ◌≤◌, inl, inr, List, [], ◌∷◌, ◌++◌, Option, Some, None, Result, Ok, Err, refl, sym, subst, ap, ◌∙◌, arith}
+use Rattle.std.proofs.Common.{◌≡◌, ℕ, ◌≤◌, inl, inr, List, [], ◌∷◌, Option, Result, Ok, Err, refl, sym, subst, ap, ◌∙◌, arith}
 use Rattle.mc_text.specs.Routes.{Route, path_text}
 use Rattle.tree_trait.specs.Refusals.{holder}
 use Rattle.tree_trait.specs.Change.{CallLog, current}
-use Rattle.tree_trait.specs.Answers.{IfKnown, HasCause, HasRisen}
+use Rattle.tree_trait.specs.Answers.{IfKnown, HasCause}
 use Rattle.resolving.specs.declared.error.ResolveError.{ResolveError}
 use Rattle.resolving.specs.declared.error.ResolveError.TheVariants.{Tree, TooManyLinks, TooLong, BadName, Fault, Memory}
 use Rattle.resolving.specs.declared.walking.Wanted.TheVariants.{FolderAlone}
@@ -12,13 +12,12 @@ use Rattle.resolving.specs.Resolution.{resolved}
 use Rattle.mc_panels.specs.declared.going.Way.{Way}
 use Rattle.mc_panels.specs.declared.going.Way.TheVariants.{Nowhere, Up, Into}
 use Rattle.mc_panels.specs.Panels.{PanelState, current_text}
-use Rattle.mc_panels.specs.Rereadings.{ShowsAgain}
 use Rattle.mc_panels.specs.Goings.{way_of, Reads, ShowsNext, ShowsResolved}
 use Rattle.panel_pair.specs.declared.command.PanelCommand.{PanelCommand}
 use Rattle.panel_pair.specs.declared.command.PanelCommand.TheVariants.{Move, SwitchPanel, SwapPanels, Enter, ReadAgain, Back, Forward, Toggle, Invert, Select, Unselect, Compare, Arrange, ShowColumns, ShowBrief}
 use Rattle.panel_pair.specs.Commands.{CommandReads}
 use Rattle.panel_pair.specs.Openings.{ShowsPath}
-use Rattle.panel_pair.specs.Readings.{HasReadCause, ReadsTree, listed}
+use Rattle.panel_pair.specs.Readings.{HasReadCause, ReadsTree}
 
 -- want of memory needs none
 memory_cause : (log : CallLog) (e : ResolveError) → e ≡ Memory → HasReadCause log e
@@ -77,42 +76,6 @@ command_cause ShowBrief log p e h = memory_cause log e h
 pub path_cause : (log : CallLog) (path : Route) (e : ResolveError) → ShowsPath log path (Err e) → HasReadCause log e
 path_cause log path e shows =
     resolved_cause log [] (path_text path) (resolved (current log) FolderAlone [] (path_text path)) e refl shows
-
--- what two readings read, and what they were refused
-abbrev pub MayTell : Option ResolveError → ℕ → ℕ → Type 0
-MayTell refused faults faults_after = refused ≡ Some Fault → HasRisen faults faults_after
-
-looks_cause : (log : CallLog) (folder : Route) (e : ResolveError) (p : PanelState) → ShowsAgain log folder (Some e) p → HasReadCause log e
-looks_cause log folder e p shows = inl (folder, shows)
-
-pub reads_two : (left right : Option ResolveError) (on_left on_right : Route) (p q : PanelState) (before after : Option CallLog) (faults faults_after : ℕ)
-    → after ≡ before → faults ≤ faults_after
-    → IfKnown before (λ log. ShowsAgain log on_left left p) → IfKnown before (λ log. ShowsAgain log on_right right q)
-    → MayTell left faults faults_after → MayTell right faults faults_after
-    → ReadsTree (listed left ++ listed right) before after faults faults_after
-reads_two None None on_left on_right p q before after faults faults_after same later shows_left shows_right fault_left fault_right =
-    record { same = same; later = later; causes = (λ log is. tt); fault = tt }
-reads_two (Some e) None on_left on_right p q before after faults faults_after same later shows_left shows_right fault_left fault_right =
-    record {
-      same = same;
-      later = later;
-      causes = (λ log is. (looks_cause log on_left e p (shows_left log is), tt));
-      fault = ((λ fault. fault_left (ap Some fault)), tt);
-    }
-reads_two None (Some e) on_left on_right p q before after faults faults_after same later shows_left shows_right fault_left fault_right =
-    record {
-      same = same;
-      later = later;
-      causes = (λ log is. (looks_cause log on_right e q (shows_right log is), tt));
-      fault = ((λ fault. fault_right (ap Some fault)), tt);
-    }
-reads_two (Some e) (Some other) on_left on_right p q before after faults faults_after same later shows_left shows_right fault_left fault_right =
-    record {
-      same = same;
-      later = later;
-      causes = (λ log is. (looks_cause log on_left e p (shows_left log is), (looks_cause log on_right other q (shows_right log is), tt)));
-      fault = ((λ fault. fault_left (ap Some fault)), ((λ fault. fault_right (ap Some fault)), tt));
-    }
 
 -- what a call behind another one was refused
 pub reads_later : (A : Type 0) (told e : ResolveError) (before between after : Option CallLog) (faults faults_between faults_after : ℕ)

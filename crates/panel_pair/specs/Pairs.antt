@@ -1,7 +1,7 @@
 -- The two panels of a session (own, after mc(1), "Directory Panels").
 use Rattle.panel_listing.specs.Listings.{Listed}
 use Rattle.mc_text.specs.Routes.{Route}
-use Rattle.mc_panels.specs.Panels.{PanelState}
+use Rattle.mc_panels.specs.Panels.{PanelState, untagged}
 use Rattle.mc_panels.specs.Readings.{opened_panel}
 use Rattle.panel_pair.specs.declared.side.Side.{Side}
 use Rattle.panel_pair.specs.declared.side.Side.TheVariants.{Left, Right}
@@ -35,6 +35,10 @@ right_panel pair = right_of pair.side pair.current pair.other
 -- another state of the current panel
 abbrev pub with_current : PanelState → PairState → PairState
 with_current panel pair = record pair { current = panel }
+
+-- no name is tagged in the current panel
+abbrev pub untagged_pair : PairState → PairState
+untagged_pair pair = with_current (untagged pair.current) pair
 
 -- the panels of two folders that were read; the left one is current
 abbrev pub opened_pair : Route → Route → Listed → Listed → PairState

@@ -10,7 +10,8 @@ use Rattle.resolving.specs.declared.walking.Wanted.TheVariants.{FolderAlone}
 use Rattle.resolving.specs.Errors.{Answers}
 use Rattle.resolving.specs.Resolution.{resolved}
 use Rattle.mc_panels.specs.Readings.{ListsFolder}
-use Rattle.panel_pair.specs.declared.looking.Unread.{Unread}
+use Rattle.mc_panels.specs.Rereadings.{refusal_in}
+use Rattle.panel_pair.specs.declared.looking.Reread.{Reread}
 
 -- a refusal has its cause in the tree: that of listing a folder, or of the folder that a text leads to
 abbrev pub HasReadCause : CallLog → ResolveError → Type 0
@@ -41,6 +42,6 @@ listed None = []
 listed (Some e) = e ∷ []
 
 -- what was refused to a look at both panels, the left one first
-abbrev pub refused_looks : Result Unread NoMemory → List ResolveError
-refused_looks (Ok unread) = listed unread.left ++ listed unread.right
+abbrev pub refused_looks : Result Reread NoMemory → List ResolveError
+refused_looks (Ok reread) = listed (refusal_in reread.left) ++ listed (refusal_in reread.right)
 refused_looks (Err e) = []

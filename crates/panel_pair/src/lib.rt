@@ -15,7 +15,7 @@ mod working;
 pub use command::PanelCommand;
 pub use frame::{FrameSize, page_of};
 pub use keys::key_command;
-pub use looking::Unread;
+pub use looking::{Reread, Unread};
 pub use opening::Unopened;
 pub use panels::Panels;
 pub use side::Side;

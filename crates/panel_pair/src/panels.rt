@@ -1,6 +1,6 @@
 //! The two panels, and the side on which the current one stands.
 ghost use Rattle.std.specs.Prelude.{◌≡◌};
-ghost use Rattle.panel_pair.specs.Pairs.{left_panel, right_panel};
+ghost use Rattle.panel_pair.specs.Pairs.{left_panel, right_panel, untagged_pair};
 
 use crate::side::Side;
 use mc_panels::Panel;
@@ -62,5 +62,12 @@ impl Panels {
             Side::Left => &self.other,
             Side::Right => &self.current,
         }
+    }
+
+    /// Takes all tags of the current panel. It takes no memory.
+    pub fn untag(&mut self)
+        ensures { self.new ≡ untagged_pair self.old }
+    {
+        self.current.untag();
     }
 }

@@ -1,9 +1,14 @@
 -- What refusals tell of the tree: each has its cause there.
-use Rattle.std.specs.Prelude.{◌≡◌, ⊤, List, [], ◌∷◌, None}
+use Rattle.std.specs.Prelude.{◌≡◌, ◌⊎◌, ℕ, ⊤, List, [], ◌∷◌, Some, None, Err}
 use Rattle.mc_text.specs.Routes.{Route}
-use Rattle.tree_trait.specs.Calls.{Call, Stat}
+use Rattle.tree_trait.specs.Calls.{ListFolder, Stat}
 use Rattle.tree_trait.specs.Change.{CallLog, current}
 use Rattle.tree_trait.specs.Refusals.{refusal_of}
+use Rattle.resolving.specs.declared.error.ResolveError.{ResolveError}
+use Rattle.resolving.specs.declared.error.ResolveError.TheVariants as resolve
+use Rattle.resolving.specs.declared.walking.Wanted.TheVariants.{FolderAlone}
+use Rattle.resolving.specs.Errors.{Answers}
+use Rattle.resolving.specs.Resolution.{resolved}
 use Rattle.job_reports.specs.Reading.{IsRefusedWith}
 use Rattle.session_history.specs.declared.refusal.PlanError.{PlanError}
 use Rattle.session_history.specs.declared.refusal.PlanError.TheVariants.{NoSelection, TargetThere, TargetTooLong, BadMask}
@@ -17,13 +22,29 @@ IsPlanRefused log (TargetThere path) = refusal_of (current log) (Stat path) ≡ 
 IsPlanRefused log TargetTooLong = ⊤
 IsPlanRefused log BadMask = ⊤
 
--- A refusal is one of this reading call at its path, or of a plan. That of a job's beginning has its cause in the history.
-abbrev pub HasCause : (Route → Call) → CallLog → Refusal → Type 0
-HasCause call log (refusal.Tree path e) = IsRefusedWith (current log) (call path) e
-HasCause call log (refusal.Plan error) = IsPlanRefused log error
-HasCause call log (refusal.Begin error) = ⊤
+-- reading a folder is refused as `list` of it is, with its path; a device may fail, and memory run out
+abbrev pub IsListRefused : CallLog → Route → ResolveError → Type 0
+IsListRefused log folder (resolve.Tree path e) = (path ≡ folder) × (refusal_of (current log) (ListFolder folder) ≡ Some e)
+IsListRefused log folder resolve.Fault = ⊤
+IsListRefused log folder resolve.Memory = ⊤
+IsListRefused log folder resolve.TooManyLinks = ⊥
+IsListRefused log folder resolve.TooLong = ⊥
+IsListRefused log folder resolve.BadName = ⊥
+
+-- a folder can't be read, or a text leads to none
+abbrev pub IsResolveRefused : CallLog → ResolveError → Type 0
+IsResolveRefused log e =
+    ((folder : Route) × IsListRefused log folder e)
+    ⊎ ((from : Route) × ((typed : List ℕ) × Answers {A = Route} (resolved (current log) FolderAlone from typed) (Err e)))
+
+-- A refusal is that of a look at its path, of reading a folder, or of a plan. That of a job's beginning has its cause in the history.
+abbrev pub HasCause : CallLog → Refusal → Type 0
+HasCause log (refusal.Tree path e) = IsRefusedWith (current log) (Stat path) e
+HasCause log (refusal.Resolve e) = IsResolveRefused log e
+HasCause log (refusal.Plan error) = IsPlanRefused log error
+HasCause log (refusal.Begin error) = ⊤
 
 -- each of these refusals has its cause in the tree
-abbrev pub AreRefused : (Route → Call) → CallLog → List Refusal → Type 0
-AreRefused call log [] = ⊤
-AreRefused call log (refusal ∷ more) = HasCause call log refusal × AreRefused call log more
+abbrev pub AreRefused : CallLog → List Refusal → Type 0
+AreRefused log [] = ⊤
+AreRefused log (refusal ∷ more) = HasCause log refusal × AreRefused log more

@@ -2,6 +2,7 @@
 ghost use Rattle.std.specs.Prelude.{◌≡◌, IfOk};
 
 use mc_text::{NoMemory, Path};
+use resolving::ResolveError;
 use std::alloc::Global;
 use std::marker::Model;
 use tree_trait::TreeError;
@@ -45,6 +46,8 @@ pub enum BeginError {
 pub enum Refusal {
     /// This call of the tree.
     Tree(Path, TreeError),
+    /// The reading of a folder, or the way to it.
+    Resolve(ResolveError),
     /// This plan of a job.
     Plan(PlanError),
     /// The beginning of a job.
@@ -58,9 +61,31 @@ impl Refusal {
     {
         match self {
             Refusal::Tree(path, error) => Ok(Refusal::Tree(path.copy(alloc)?, *error)),
+            Refusal::Resolve(error) => Refusal::resolve(alloc, error),
             Refusal::Plan(error) => Ok(Refusal::Plan(error.copy(alloc)?)),
             Refusal::Begin(error) => Ok(Refusal::Begin(*error)),
         }
+    }
+
+    /// That a folder could not be read.
+    pub fn resolve(alloc: Global, error: &ResolveError) -> Result<Refusal, NoMemory>
+        ensures { IfOk result (λ refusal. refusal ≡ Refusal.Resolve error.now) }
+    {
+        Ok(Refusal::Resolve(copy_of(alloc, error)?))
+    }
+}
+
+/// The same error once more.
+fn copy_of(alloc: Global, error: &ResolveError) -> Result<ResolveError, NoMemory>
+    ensures { IfOk result (λ copy. copy ≡ error.now) }
+{
+    match error {
+        ResolveError::Tree(path, cause) => Ok(ResolveError::Tree(path.copy(alloc)?, *cause)),
+        ResolveError::TooManyLinks => Ok(ResolveError::TooManyLinks),
+        ResolveError::TooLong => Ok(ResolveError::TooLong),
+        ResolveError::BadName => Ok(ResolveError::BadName),
+        ResolveError::Fault => Ok(ResolveError::Fault),
+        ResolveError::Memory => Ok(ResolveError::Memory),
     }
 }
 

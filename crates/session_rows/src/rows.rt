@@ -77,6 +77,8 @@ fn bytes_of_key(key: &str) -> &str {
     match key {
         "down" => "\x1b[B",
         "enter" => "\r",
+        "tab" => "\t",
+        "insert" => "\x1b[2~",
         "escape" => "\x1b",
         "f5" => "\x1b[15~",
         "f8" => "\x1b[19~",

@@ -20,6 +20,8 @@ fn scene_tree(alloc: Global, scene: &str) -> Result<MemTree> {
         "fixed folder" => one_file(alloc, 0o555),
         "two files" => two_files(alloc),
         "no files" => no_files(alloc),
+        "folders" => folders(alloc, 0o755),
+        "fixed inner folder" => folders(alloc, 0o555),
         "room for 9" => file_and_mount(alloc, 9),
         "room for 1" => file_and_mount(alloc, 1),
         _ => bail!("no such tree"),
@@ -51,6 +53,20 @@ fn no_files(alloc: Global) -> Result<MemTree> {
     put_folder(alloc, &mut tree, "/a", 0o755)?;
     put_link(alloc, &mut tree, "/a/l", "x")?;
     put_pipe(alloc, &mut tree, "/a/p")?;
+    Ok(tree)
+}
+
+/// The folder `/a` with the file `y` and the folder `d`, and in that the file `x`, and the folder `e` of this mode with the file `z`.
+fn folders(alloc: Global, mode: u16) -> Result<MemTree>
+    requires { mode ≤ 0o7777 }
+{
+    let mut tree = MemTree::new(alloc, 0)?;
+    put_folder(alloc, &mut tree, "/a", 0o755)?;
+    put_folder(alloc, &mut tree, "/a/d", 0o755)?;
+    put_folder(alloc, &mut tree, "/a/d/e", mode)?;
+    put_file(alloc, &mut tree, "/a/d/e/z", 0o644, b"hi")?;
+    put_file(alloc, &mut tree, "/a/d/x", 0o644, b"hi")?;
+    put_file(alloc, &mut tree, "/a/y", 0o644, b"ho")?;
     Ok(tree)
 }
 

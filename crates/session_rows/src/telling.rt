@@ -9,7 +9,7 @@ use std::convert::AsStr;
 use tree_trait::{Tree, TreeError};
 
 /// The folders whose things are told.
-const FOLDERS: [&str; 3] = ["/a", "/s", "/t"];
+const FOLDERS: [&str; 4] = ["/a", "/a/d", "/s", "/t"];
 
 /// The status, what was printed where no session began, the keys and the steps of the history, and what stands in the folders.
 pub fn told<T: Tree>(

@@ -4,3 +4,4 @@ mod OnWay
 mod Refusals
 mod Synced
 mod Worked
+pub mod Staying

@@ -1,6 +1,6 @@
 -- A sync is one call of the tree, with its answer.
 use Rattle.std.proofs.Common.{◌≡◌, ℕ, ◌≤◌, true, List, refl, sym, subst, Option, None, Result, Ok, Err, arith, ◌+◌, ◌∙◌, ap, Some}
-use Rattle.std.specs.Prelude.{remove, slice_get}
+use Rattle.std.specs.Prelude.{slice_get}
 use Rattle.mc_text.specs.Routes.{Route}
 use Rattle.tree_trait.specs.declared.calls.TreeError.{TreeError}
 use Rattle.tree_trait.specs.declared.calls.TreeError.TheVariants as refused
@@ -56,7 +56,7 @@ module _ (d : Deletion) (ending : Ending) (from next at : ℕ) (folder : Route) 
   Last did calls left = LastSteps ending d from next did calls left folders folders_after before after faults faults_after
 
   -- a try that was done
-  pub tries_done : (did : Did) (calls : ℕ) (left : Option TreeError) → did ≡ Barrier → calls ≡ 1 → left ≡ None → folders_after ≡ remove folders at → next ≡ at → Synced d folders folders_after before after faults faults_after folder (Ok tt)
+  pub tries_done : (did : Did) (calls : ℕ) (left : Option TreeError) → did ≡ Barrier → calls ≡ 1 → left ≡ None → folders_after ≡ without folder folders → next ≡ at → Synced d folders folders_after before after faults faults_after folder (Ok tt)
       → (before ≡ None → after ≡ None) → faults ≤ faults_after → Last did calls left
   tries_done did calls left is count none gone next_is called unknown later =
       subst (λ x. Last x calls left) (sym is) (subst (λ x. Last Barrier calls x) (sym none) record {

@@ -2,3 +2,4 @@ pub mod Folders
 pub mod Standing
 pub mod Descending
 pub mod Steps
+pub mod Inside

@@ -1,5 +1,5 @@
 -- What a step of a deletion reports, where the deletion stands then, and what it says of the tree's calls.
-use Rattle.std.specs.Prelude.{◌≡◌, ◌⊎◌, ℕ, ◌<◌, ◌≤◌, ⊤, Bool, true, false, List, length, Option, Some, None, Ok, Err, ◌+◌, remove, slice_get}
+use Rattle.std.specs.Prelude.{◌≡◌, ◌⊎◌, ℕ, ◌<◌, ◌≤◌, ⊤, Bool, true, false, List, length, Option, Some, None, Ok, Err, ◌+◌, slice_get}
 use Rattle.mc_text.specs.Routes.{Route, spelled}
 use Rattle.tree_trait.specs.declared.calls.TreeError.{TreeError}
 use Rattle.tree_trait.specs.declared.calls.TreeError.TheVariants.{Fault}
@@ -68,7 +68,7 @@ WorkCalls d (Troubled trouble) log after =
     ⊎ ((e : TreeError) × (trouble ≡ trouble_at e (path_of (item d)) false) × IsSeen (current log) d.depth d.walk.place (item d) × Performs {A = Unit {0}} log (removal_of (item d)) (Err e) after)
 WorkCalls d did log after = ⊥
 
--- What it makes of the unsynced folders: that of a removed thing is one of them, and a folder that is gone is not.
+-- What it makes of the dirty folders: that of a removed thing is one of them, and a folder that is gone is not.
 abbrev pub RemovalLeaves : Item → Route → List Route → List Route → Type 0
 RemovalLeaves (Thing thing) path folders after = after ≡ joined (folder_of path) folders
 RemovalLeaves (End folder) path folders after = after ≡ without path (joined (folder_of path) folders)
@@ -77,7 +77,7 @@ abbrev pub WorkLeaves : Item → Did → List Route → List Route → Type 0
 WorkLeaves item (Removed path) folders after = RemovalLeaves item path folders after
 WorkLeaves item did folders after = after ≡ folders
 
--- What works on an item comes to: its report, the deletion then, the calls that were made, at most one, and the unsynced
+-- What works on an item comes to: its report, the deletion then, the calls that were made, at most one, and the dirty
 -- folders. It reports a fault only where the tree's count has risen.
 pub record Working (old new : Deletion) (did : Did) (calls : ℕ) (folders folders_after : List Route) (before after : Option CallLog) (faults faults_after : ℕ) : Type 0 where
   pub works : Works old did new
@@ -169,9 +169,9 @@ pub record SyncSteps (d : Deletion) (did : Did) (calls : ℕ) (folders folders_a
   pub fault : IsFault did → HasRisen faults faults_after
 
 -- what is left of the folders once this one was tried, and from where on they are yet to be tried
-abbrev pub after_try : Option TreeError → ℕ → List Route → List Route
-after_try None at folders = remove folders at
-after_try (Some e) at folders = folders
+abbrev pub after_try : Option TreeError → Route → List Route → List Route
+after_try None folder folders = without folder folders
+after_try (Some e) folder folders = folders
 
 abbrev pub next_try : Option TreeError → ℕ → ℕ
 next_try None at = at
@@ -181,7 +181,7 @@ next_try (Some e) at = at + 1
 -- ordered. It tells the refusal of a try in vain.
 abbrev pub Tries : Ending → Deletion → ℕ → ℕ → Did → Option TreeError → List Route → List Route → Option CallLog → Option CallLog → Type 0
 Tries ending d from next Barrier left folders folders_after before after =
-    (at : ℕ) × (folder : Route) × IsOwnAt d.folder d.path folders from at × (slice_get folders at ≡ Some folder) × (folders_after ≡ after_try left at folders) × (next ≡ next_try left at)
+    (at : ℕ) × (folder : Route) × IsOwnAt d.folder d.path folders from at × (slice_get folders at ≡ Some folder) × (folders_after ≡ after_try left folder folders) × (next ≡ next_try left at)
     × IfKnown before (λ log. Performs {A = Unit {0}} log (SyncFolder folder) (sync_answer left) after)
 Tries ending d from next (Ended how part) left folders folders_after before after =
     NoneBetween d.folder d.path folders from (length folders)

@@ -4,19 +4,19 @@ ghost use Rattle.job_reports.specs.Stops.{calls_made_for};
 ghost use Rattle.tree_deletion.specs.Steps.{LastSteps, SyncSteps};
 
 use crate::deletion::Deletion;
+use crate::dirty::Dirty;
 use crate::reports::{ended, refused, with_call, without_call};
-use crate::unsynced::Unsynced;
 use job_reports::{Did, Ending, LastStepResult, StepResult, calls_made, out_of_memory};
 use std::alloc::Global;
 use tree_trait::{Tree, TreeError};
 
 impl Deletion {
     /// Syncs a folder that was changed, or where there is none the deletion is finished.
-    pub fn sync<T: Tree>(&self, alloc: Global, tree: &mut T, unsynced: &mut Unsynced) -> StepResult
-        ensures { SyncSteps self.now result.did result.calls unsynced.old unsynced.new
+    pub fn sync<T: Tree>(&self, alloc: Global, tree: &mut T, dirty: &mut Dirty) -> StepResult
+        ensures { SyncSteps self.now result.did result.calls dirty.old dirty.new
             (T.contents tree.old) (T.contents tree.new) (T.fault_count tree.old) (T.fault_count tree.new) }
     {
-        let Some(folder) = unsynced.first_of(&self.folder, &self.path) else {
+        let Some(folder) = dirty.first_of(&self.folder, &self.path) else {
             return without_call(ended(Ending::Finished));
         };
         let Ok(folder) = folder.copy(alloc) else {
@@ -24,7 +24,7 @@ impl Deletion {
         };
         match tree.sync_folder(alloc, &folder) {
             Ok(()) => {
-                unsynced.remove(&folder);
+                dirty.remove(&folder);
                 with_call(Did::Barrier)
             }
             Err(error) => refused(error, folder, true),
@@ -37,19 +37,19 @@ impl Deletion {
         &self,
         alloc: Global,
         tree: &mut T,
-        unsynced: &mut Unsynced,
+        dirty: &mut Dirty,
         from: &mut usize,
         ending: Ending,
     ) -> LastStepResult
-        ensures { LastSteps ending self.now from.old from.new result.did result.calls result.left unsynced.old unsynced.new
+        ensures { LastSteps ending self.now from.old from.new result.did result.calls result.left dirty.old dirty.new
             (T.contents tree.old) (T.contents tree.new) (T.fault_count tree.old) (T.fault_count tree.new) }
     {
-        let Some(at) = unsynced.first_from(*from, &self.folder, &self.path) else {
+        let Some(at) = dirty.first_from(*from, &self.folder, &self.path) else {
             return last(ended(ending));
         };
-        match tree.sync_folder(alloc, unsynced.get(at)) {
+        match tree.sync_folder(alloc, dirty.get(at)) {
             Ok(()) => {
-                unsynced.remove_at(at);
+                dirty.remove_at(at);
                 *from = at;
                 tried()
             }

@@ -2,16 +2,16 @@
 #![tactic(auto)]
 
 mod deletion;
+mod dirty;
 mod ending;
 mod looking;
 mod meeting;
 mod removing;
 mod reports;
 mod skipping;
-mod unsynced;
 mod working;
 
 pub use deletion::{Deletion, Depth, Stage};
+pub use dirty::Dirty;
 pub use looking::Found;
 pub use meeting::Met;
-pub use unsynced::Unsynced;

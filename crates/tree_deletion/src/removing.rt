@@ -7,8 +7,8 @@ ghost use Rattle.tree_deletion.specs.Standing.{Decides, End, Leaves, Thing, at_b
 ghost use Rattle.tree_deletion.specs.Steps.{IsThing, KeepsRest, Passes, Working};
 
 use crate::deletion::{Deletion, Depth, Stage, stage_after};
+use crate::dirty::Dirty;
 use crate::reports::{refused, with_call, without_call};
-use crate::unsynced::Unsynced;
 use job_reports::{Did, StepResult, out_of_memory};
 use mc_text::{NoMemory, Path};
 use std::alloc::Global;
@@ -20,17 +20,17 @@ impl Deletion {
         &mut self,
         alloc: Global,
         tree: &mut T,
-        unsynced: &mut Unsynced,
+        dirty: &mut Dirty,
         path: Path,
     ) -> StepResult
         requires next { next_item self.old ≡ Thing path }
         requires may { MayLook self.old.depth self.old.walk.place path }
         requires plain { IsPlain (T.contents tree.old) path }
         requires going { at_barrier self.old.stage ≡ false }
-        ensures { Working self.old self.new result.did result.calls unsynced.old unsynced.new
+        ensures { Working self.old self.new result.did result.calls dirty.old dirty.new
             (T.contents tree.old) (T.contents tree.new) (T.fault_count tree.old) (T.fault_count tree.new) }
     {
-        let Ok(joined) = join_holder(alloc, unsynced, &path) else {
+        let Ok(joined) = join_holder(alloc, dirty, &path) else {
             return without_call(Did::Troubled(out_of_memory(false)));
         };
         match tree.remove_file(alloc, &path) {
@@ -40,7 +40,7 @@ impl Deletion {
                 with_call(Did::Removed(path))
             }
             Err(error) => {
-                unsynced.drop_last_if(joined);
+                dirty.drop_last_if(joined);
                 refused(error, path, false)
             }
         }
@@ -77,12 +77,12 @@ impl Deletion {
         &mut self,
         alloc: Global,
         tree: &mut T,
-        unsynced: &mut Unsynced,
+        dirty: &mut Dirty,
     ) -> StepResult
         requires inside { self.old.depth ≡ Depth.Inside }
         requires next { next_item self.old ≡ End (worked self.old.path self.old.walk.place) }
         requires going { at_barrier self.old.stage ≡ false }
-        ensures { Working self.old self.new result.did result.calls unsynced.old unsynced.new
+        ensures { Working self.old self.new result.did result.calls dirty.old dirty.new
             (T.contents tree.old) (T.contents tree.new) (T.fault_count tree.old) (T.fault_count tree.new) }
     {
         let Ok(path) = self.worked().copy(alloc) else {
@@ -91,7 +91,7 @@ impl Deletion {
         if self.walk.is_spared() {
             return without_call(self.keep_folder(path));
         }
-        self.remove_folder(alloc, tree, unsynced, path)
+        self.remove_folder(alloc, tree, dirty, path)
     }
 
     /// The folder that is worked.
@@ -119,27 +119,27 @@ impl Deletion {
         &mut self,
         alloc: Global,
         tree: &mut T,
-        unsynced: &mut Unsynced,
+        dirty: &mut Dirty,
         path: Path,
     ) -> StepResult
         requires inside { self.old.depth ≡ Depth.Inside }
         requires next { next_item self.old ≡ End path }
         requires bare { self.old.walk.place.inner.spared ≡ false }
-        ensures { Working self.old self.new result.did result.calls unsynced.old unsynced.new
+        ensures { Working self.old self.new result.did result.calls dirty.old dirty.new
             (T.contents tree.old) (T.contents tree.new) (T.fault_count tree.old) (T.fault_count tree.new) }
     {
-        let Ok(joined) = join_holder(alloc, unsynced, &path) else {
+        let Ok(joined) = join_holder(alloc, dirty, &path) else {
             return without_call(Did::Troubled(out_of_memory(false)));
         };
         match tree.remove_folder(alloc, &path) {
             Ok(()) => {
-                unsynced.remove(&path);
+                dirty.remove(&path);
                 self.leave(false);
                 self.stage = stage_after(Stage::Going, &self.path, &path);
                 with_call(Did::Removed(path))
             }
             Err(error) => {
-                unsynced.drop_last_if(joined);
+                dirty.drop_last_if(joined);
                 refused(error, path, false)
             }
         }
@@ -154,14 +154,14 @@ impl Deletion {
     }
 }
 
-/// The folder that holds what stands at a path joins the unsynced ones; whether it did.
-fn join_holder(alloc: Global, unsynced: &mut Unsynced, path: &Path) -> Result<bool, NoMemory>
-    ensures joined { OnOk result (unsynced.new ≡ joined (folder_of path.now) unsynced.old) }
-    ensures back { IfOk result (λ more. (if more then take (length unsynced.new - 1) unsynced.new else unsynced.new) ≡ unsynced.old) }
-    ensures refused { OnErr result (unsynced.new ≡ unsynced.old) }
+/// The folder that holds what stands at a path joins the dirty ones; whether it did.
+fn join_holder(alloc: Global, dirty: &mut Dirty, path: &Path) -> Result<bool, NoMemory>
+    ensures joined { OnOk result (dirty.new ≡ joined (folder_of path.now) dirty.old) }
+    ensures back { IfOk result (λ more. (if more then take (length dirty.new - 1) dirty.new else dirty.new) ≡ dirty.old) }
+    ensures refused { OnErr result (dirty.new ≡ dirty.old) }
 {
     let holder = holder_of(alloc, path)?;
-    unsynced.join(alloc, &holder)
+    dirty.join(alloc, &holder)
 }
 
 /// The folder that holds what stands at a path.

@@ -5,27 +5,22 @@ ghost use Rattle.tree_deletion.specs.Descending.{Enters, Meets};
 ghost use Rattle.tree_deletion.specs.Steps.{Advances, WorkSteps};
 
 use crate::deletion::Deletion;
+use crate::dirty::Dirty;
 use crate::meeting::Met;
 use crate::reports::without_call;
-use crate::unsynced::Unsynced;
 use job_reports::{Did, StepResult};
 use std::alloc::Global;
 use tree_trait::Tree;
 
 impl Deletion {
     /// Goes on up to something that is to be reported.
-    pub fn work<T: Tree>(
-        &mut self,
-        alloc: Global,
-        tree: &mut T,
-        unsynced: &mut Unsynced,
-    ) -> StepResult
+    pub fn work<T: Tree>(&mut self, alloc: Global, tree: &mut T, dirty: &mut Dirty) -> StepResult
         requires going { at_barrier self.old.stage ≡ false }
-        ensures { WorkSteps self.old self.new result.did result.calls unsynced.old unsynced.new
+        ensures { WorkSteps self.old self.new result.did result.calls dirty.old dirty.new
             (T.contents tree.old) (T.contents tree.new) (T.fault_count tree.old) (T.fault_count tree.new) }
     {
         loop {
-            if let Some(stepped) = self.advance(alloc, tree, unsynced) {
+            if let Some(stepped) = self.advance(alloc, tree, dirty) {
                 return stepped;
             }
         }
@@ -36,16 +31,16 @@ impl Deletion {
         &mut self,
         alloc: Global,
         tree: &mut T,
-        unsynced: &mut Unsynced,
+        dirty: &mut Dirty,
     ) -> Option<StepResult>
         requires going { at_barrier self.old.stage ≡ false }
-        ensures { Advances self.old self.new result unsynced.old unsynced.new
+        ensures { Advances self.old self.new result dirty.old dirty.new
             (T.contents tree.old) (T.contents tree.new) (T.fault_count tree.old) (T.fault_count tree.new) }
     {
         match self.meet(alloc, tree) {
             Ok(Met::Entered) => None,
-            Ok(Met::Thing(path)) => Some(self.remove_thing(alloc, tree, unsynced, path)),
-            Ok(Met::End) => Some(self.end_folder(alloc, tree, unsynced)),
+            Ok(Met::Thing(path)) => Some(self.remove_thing(alloc, tree, dirty, path)),
+            Ok(Met::End) => Some(self.end_folder(alloc, tree, dirty)),
             Err(trouble) => Some(without_call(Did::Troubled(trouble))),
         }
     }

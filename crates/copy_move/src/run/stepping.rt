@@ -1,20 +1,21 @@
 //! What a step of a job does, by its course: a piece of its work, the sync of a folder that an ended job left, a skip, or one
 //! of its last steps.
-ghost use Rattle.std.specs.Prelude.{◌≡◌, ◌&&◌, not, false, true};
+ghost use Rattle.std.specs.Prelude.{◌≡◌, true};
 ghost use Rattle.tree_trait.specs.Change.{current};
 ghost use Rattle.tree_trait.specs.Answers.{IfKnown};
 ghost use Rattle.tree_trait.specs.CrashImages.{Among};
 ghost use Rattle.copy_move.specs.Jobs.{course_after, is_fresh};
-ghost use Rattle.copy_move.specs.Settling.{NoneOwed, changed_folder};
+ghost use Rattle.copy_move.specs.Settling.{NoneOwed};
 ghost use Rattle.copy_move.specs.Steps.{OwedSyncStep, OwnStep, RunStep, SkipSteps, WindingStep};
 
 use super::{Course, Run};
-use crate::deletion::{cause_of, refused, with_call, without_call};
-use crate::dirty::Dirty;
+use crate::owed::first_owed;
+use crate::reports::{cause_of, refused, with_call, without_call};
 use file_copy::PartTest;
-use job_reports::{Cause, Did, Ending, LastStepResult, StepResult, out_of_memory};
+use job_reports::{Cause, Did, Ending, StepResult, out_of_memory};
 use mc_text::Path;
 use std::alloc::Global;
+use tree_deletion::Dirty;
 use tree_trait::Tree;
 
 impl Run {
@@ -47,8 +48,8 @@ impl Run {
         }
     }
 
-    /// The step of a job that has changed nothing yet: it syncs a folder that an ended job left on that mount, or may make its
-    /// first change where there is none.
+    /// The step of a job that has changed nothing yet: it syncs a folder that an ended job left there, or may make its first change
+    /// where there is none.
     fn begin<T: Tree, P: PartTest>(
         &mut self,
         alloc: Global,
@@ -71,8 +72,8 @@ impl Run {
           faults_after = T.fault_count tree.new;
         }) }
     {
-        let Some(owed) = dirty.first_on_mount_of(alloc, tree, self.work.folder()) else {
-            return self.change_first(alloc, tree, parts, dirty);
+        let Some(owed) = first_owed(dirty, alloc, tree, &self.work) else {
+            return self.work_on(alloc, tree, parts, dirty);
         };
         let Ok(folder) = owed.copy(alloc) else {
             self.course = Course::OwedSyncFailed(Cause::Memory);
@@ -117,42 +118,7 @@ impl Run {
         }
     }
 
-    /// The step that may make the first change. The folder joins the dirty ones before it: afterwards it is too late to find
-    /// no memory.
-    fn change_first<T: Tree, P: PartTest>(
-        &mut self,
-        alloc: Global,
-        tree: &mut T,
-        parts: &P,
-        dirty: &mut Dirty,
-    ) -> StepResult
-        requires course { self.old.course ≡ Course.GoesOn }
-        requires fresh { is_fresh self.old.work ≡ true }
-        requires settled { IfKnown (T.contents tree.old) (λ log. NoneOwed (current log) (changed_folder self.old.work) dirty.old) }
-        ensures steps { OwnStep (λ path. P.is_free parts.now path ≡ true) (record {
-          old = self.old;
-          new = self.new;
-          did = result.did;
-          calls = result.calls;
-          dirty = dirty.old;
-          dirty_after = dirty.new;
-          before = T.contents tree.old;
-          after = T.contents tree.new;
-          faults = T.fault_count tree.old;
-          faults_after = T.fault_count tree.new;
-        }) }
-    {
-        let Ok(()) = dirty.add(alloc, self.work.folder()) else {
-            self.course = Course::InTrouble(Cause::Memory);
-            return without_call(Did::Troubled(out_of_memory(false)));
-        };
-        let stepped = self.work.step(alloc, tree, parts);
-        dirty.keep_last_if(self.work.is_dirty());
-        self.course = after_report(&stepped.did);
-        stepped
-    }
-
-    /// A step after the first change.
+    /// The next piece of the work. One that may make the first change comes only where no dirty folder is owed.
     fn work_on<T: Tree, P: PartTest>(
         &mut self,
         alloc: Global,
@@ -161,7 +127,7 @@ impl Run {
         dirty: &mut Dirty,
     ) -> StepResult
         requires course { self.old.course ≡ Course.GoesOn }
-        requires changed { is_fresh self.old.work ≡ false }
+        requires settled { is_fresh self.old.work ≡ true → IfKnown (T.contents tree.old) (λ log. NoneOwed (current log) self.old.work dirty.old) }
         ensures steps { OwnStep (λ path. P.is_free parts.now path ≡ true) (record {
           old = self.old;
           new = self.new;
@@ -175,17 +141,12 @@ impl Run {
           faults_after = T.fault_count tree.new;
         }) }
     {
-        let was_dirty = self.work.is_dirty();
-        let stepped = self.work.step(alloc, tree, parts);
-        dirty.remove_if(
-            became_clean(was_dirty, self.work.is_dirty()),
-            self.work.folder(),
-        );
+        let stepped = self.work.step(alloc, tree, parts, dirty);
         self.course = after_report(&stepped.did);
         stepped
     }
 
-    /// Reports that the file is left as it is.
+    /// Reports what is left as it is.
     pub(super) fn skip(&mut self, alloc: Global, cause: Cause) -> StepResult
         requires course { self.old.course ≡ Course.Skips cause }
         ensures skips { SkipSteps cause self.old self.new result.did result.calls }
@@ -217,9 +178,11 @@ impl Run {
           faults_after = T.fault_count tree.new;
         }) }
     {
-        let LastStepResult { did, calls, left } = self.work.wind_up(alloc, tree, ending);
-        dirty.after_try(&did, left, self.work.folder());
-        StepResult { did, calls }
+        let last = self.work.wind_up(alloc, tree, ending, dirty);
+        StepResult {
+            did: last.did,
+            calls: last.calls,
+        }
     }
 }
 
@@ -231,11 +194,4 @@ fn after_report(did: &Did) -> Course
         Did::Troubled(trouble) => Course::InTrouble(trouble.cause),
         _ => Course::GoesOn,
     }
-}
-
-/// Whether a folder that was dirty no longer is.
-fn became_clean(was_dirty: bool, is_dirty: bool) -> bool
-    ensures { result ≡ (was_dirty && not is_dirty) }
-{
-    was_dirty && !is_dirty
 }

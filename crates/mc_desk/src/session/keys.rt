@@ -66,7 +66,7 @@ impl<N: Tag, T: Tree, S: Sink, P: Spawner> Session<N, T, S, P> {
         }
     }
 
-    /// Takes up what the job did, and draws. After the job's end the panel is read again, and a message tells of it where memory
+    /// Takes up what the job did, and draws. After the job's end the panels are read again, and a message tells of it where memory
     /// ran out or a part was left. Where nothing is due all stays as it is: so in a session that is closed, or whose end was asked.
     pub fn look(&mut self, alloc: Global) -> Result<(), DeskError>
         requires uncut { IsUncut self.old }
@@ -163,7 +163,7 @@ impl<N: Tag, T: Tree, S: Sink, P: Spawner> Session<N, T, S, P> {
             return self.lose_key(alloc, key, now);
         };
         let next = self.standing.next_id();
-        let Ok(granted) = work(alloc, &mut self.ui, &mut self.tree, &rows, next, key) else {
+        let Ok(granted) = work(alloc, &mut self.ui, &mut self.tree, &rows, next, key, now) else {
             return self.lose_key(alloc, key, now);
         };
         let Granted { deed, refusals } = granted;

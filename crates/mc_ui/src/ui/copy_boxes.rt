@@ -1,13 +1,12 @@
 //! Keys while one of a copy's input lines is open. Its dialog was taken out, and is put back where the box stays.
 ghost use Rattle.std.specs.Prelude.{◌≡◌, [], true, OnErr, OnOk, IfOk};
 ghost use Rattle.std.specs.Str.{bytes_eq};
-ghost use Rattle.tree_trait.specs.Calls.{Stat};
 ghost use Rattle.mc_dialogs.specs.InputKeys.{input_after, input_shut};
 ghost use Rattle.mc_ui.specs.declared.asks.KeyAct.{KeyAct as KeyActType};
 ghost use Rattle.box_words.specs.BoxKeys.{line_reply as line_reply_of};
 ghost use Rattle.mc_ui.specs.Copies.{target_in};
 ghost use Rattle.mc_ui.specs.Reading.{ReadsTree};
-ghost use Rattle.mc_ui.specs.Screens.{MaskBox, MaskLeads, MayRefuseMask, NoBox, PlansCopy, StaysWhereTaken, TargetBox, TargetLeads, WellAsked, is_request, other_panel, seen_box, sight, with_ask};
+ghost use Rattle.mc_ui.specs.Screens.{MaskBox, MaskLeads, MayRefuseMask, NoBox, PlansCopy, StaysWhereTaken, TargetBox, TargetLeads, WellAsked, is_request, seen_box, sight, with_ask};
 
 use super::Ui;
 use super::boxes::{begin, none_live};
@@ -79,7 +78,7 @@ impl Ui {
             self.dialog = Dialog::SourceMask(chosen, line);
             return self.refuse(alloc, Refusal::Plan(PlanError::BadMask));
         }
-        let asked = target_line(alloc, self.other().folder());
+        let asked = target_line(alloc, self.panels.other().folder());
         match asked {
             Ok(asked) => {
                 self.dialog = Dialog::CopyTo(chosen, asked);
@@ -110,7 +109,7 @@ impl Ui {
         ensures alone { IfOk result (λ act. is_request act.ask ≡ true → act.refusals ≡ []) }
         ensures rest { record self.new { over = NoBox; message = self.old.message } ≡ self.old }
         ensures lost { OnErr result (self.new ≡ record self.old { over = TargetBox chosen.path line }) }
-        ensures reads { ReadsTree Stat (λ (act : KeyActType). act.refusals) result (T.contents tree.old) (T.contents tree.new)
+        ensures reads { ReadsTree (λ (act : KeyActType). act.refusals) result (T.contents tree.old) (T.contents tree.new)
             (T.fault_count tree.old) (T.fault_count tree.new) }
     {
         let _lines = &self.lines;
@@ -151,11 +150,11 @@ impl Ui {
         ensures alone { IfOk result (λ act. is_request act.ask ≡ true → act.refusals ≡ []) }
         ensures rest { record self.new { over = NoBox; message = self.old.message } ≡ self.old }
         ensures lost { OnErr result (self.new ≡ record self.old { over = TargetBox chosen.path line }) }
-        ensures reads { ReadsTree Stat (λ (act : KeyActType). act.refusals) result (T.contents tree.old) (T.contents tree.new)
+        ensures reads { ReadsTree (λ (act : KeyActType). act.refusals) result (T.contents tree.old) (T.contents tree.new)
             (T.fault_count tree.old) (T.fault_count tree.new) }
     {
         let _lines = &self.lines;
-        let wanted = target_text(alloc, self.other().folder());
+        let wanted = target_text(alloc, self.panels.other().folder());
         match wanted {
             Ok(wanted) if !is_text(text, wanted.as_str()) => {
                 self.dialog = Dialog::CopyTo(chosen, line);
@@ -182,18 +181,18 @@ impl Ui {
         line: InputLine,
     ) -> Result<KeyAct, NoMemory>
         requires clear { self.old.over ≡ NoBox }
-        ensures leads { IfOk result (λ act. PlansCopy (sight (T.contents tree.old)) chosen.path (target_in (other_panel self.old).folder chosen.path)
+        ensures leads { IfOk result (λ act. PlansCopy (sight (T.contents tree.old)) chosen.path (target_in self.old.panels.other.folder chosen.path)
             act.refusals (record self.old { over = TargetBox chosen.path line }) (with_ask act.ask self.new)) }
         ensures asked { IfOk result (λ act. WellAsked [] act.ask) }
         ensures stays { IfOk result (λ act. is_request act.ask ≡ true → self.new ≡ record self.old { over = TargetBox chosen.path line }) }
         ensures alone { IfOk result (λ act. is_request act.ask ≡ true → act.refusals ≡ []) }
         ensures rest { record self.new { over = NoBox; message = self.old.message } ≡ self.old }
         ensures lost { OnErr result (self.new ≡ record self.old { over = TargetBox chosen.path line }) }
-        ensures reads { ReadsTree Stat (λ (act : KeyActType). act.refusals) result (T.contents tree.old) (T.contents tree.new)
+        ensures reads { ReadsTree (λ (act : KeyActType). act.refusals) result (T.contents tree.old) (T.contents tree.new)
             (T.fault_count tree.old) (T.fault_count tree.new) }
     {
         let _lines = &self.lines;
-        let planned = plan_copy(alloc, tree, &chosen, self.other().folder());
+        let planned = plan_copy(alloc, tree, &chosen, self.panels.other().folder());
         self.dialog = Dialog::CopyTo(chosen, line);
         match planned {
             Ok(CopyPlan::Begins(plan)) => Ok(asking(alloc, begin(plan))),

@@ -1,24 +1,27 @@
 //! Looks: what the screen takes up of what the live jobs did.
-ghost use Rattle.std.specs.Prelude.{◌≡◌, ◌++◌, List, None, OnErr, IfOk};
-ghost use Rattle.tree_trait.specs.Calls.{ListFolder};
+ghost use Rattle.std.specs.Prelude.{◌≡◌, List, None, OnErr, IfOk};
+ghost use Rattle.std.specs.Option.{option_map};
+ghost use Rattle.mc_panels.specs.Rereadings.{refusal_in};
+ghost use Rattle.panel_pair.specs.Looks.{IsRereadOf, LooksAgain as PanelsLookAgain, TakesReread, unread_of};
 ghost use Rattle.session_history.specs.declared.refusal.Refusal.{Refusal as RefusalType};
 ghost use Rattle.mc_ui.specs.LiveJobs.{shown_trouble as trouble_in};
+ghost use Rattle.mc_ui.specs.Looks.{LooksAgain, ReadsAgain, told_unread};
 ghost use Rattle.mc_ui.specs.Reading.{ReadsTree};
-ghost use Rattle.mc_ui.specs.Screens.{HasSameSize, LookLeads, listed, page_of, sight, first_refusal, with_news, with_refusal, with_trouble};
-ghost use Rattle.mc_ui.specs.Panels.{with_names};
+ghost use Rattle.mc_ui.specs.Screens.{HasSameSize, LookLeads, first_refusal, page_of, with_news, with_panels, with_refusal, with_told, with_trouble};
 
 use super::Ui;
-use crate::reread::{Reread, Rereads, list_both};
 use box_words::{Dialog, Message};
 use job_reports::{JobRows, Trouble};
-use mc_text::{Names, NoMemory};
+use mc_panels::Attempt;
+use mc_text::NoMemory;
+use panel_pair::Reread;
 use session_history::{Refusal, Refusals};
 use std::alloc::Global;
 use tree_trait::Tree;
 
 impl Ui {
     /// Takes up what the live jobs did. After a job's end, which `has_unseen_end` says, each panel is read again. A trouble gets
-    /// its box; what was refused, or the news of that end, a message. It takes the time of the names that are read.
+    /// its box; what was refused, or the news of that end, a message. It takes a look for each child of the folders that are read.
     pub fn look<T: Tree>(
         &mut self,
         alloc: Global,
@@ -27,43 +30,68 @@ impl Ui {
         has_unseen_end: bool,
         news: Option<Message>,
     ) -> Result<Refusals, NoMemory>
-        ensures leads { IfOk result (λ refusals. LookLeads (sight (T.contents tree.old)) rows.now has_unseen_end news refusals self.old self.new) }
-        ensures left { self.new.left.folder ≡ self.old.left.folder }
-        ensures right { self.new.right.folder ≡ self.old.right.folder }
+        ensures leads { IfOk result (λ refusals. LookLeads (T.contents tree.old) rows.now has_unseen_end news refusals self.old self.new) }
         ensures size { HasSameSize self.old self.new }
         ensures settled { self.new.planned ≡ None }
         ensures lost { OnErr result (self.new ≡ self.old) }
-        ensures reads { ReadsTree ListFolder (λ (refusals : List RefusalType). refusals) result (T.contents tree.old) (T.contents tree.new)
+        ensures reads { ReadsTree (λ (refusals : List RefusalType). refusals) result (T.contents tree.old) (T.contents tree.new)
             (T.fault_count tree.old) (T.fault_count tree.new) }
     {
         let _lines = &self.lines;
         let trouble = shown_trouble(alloc, rows)?;
-        let (left, right) = (self.left.folder(), self.right.folder());
-        let Rereads { left, right } = list_both(alloc, tree, left, right, has_unseen_end)?;
-        let Reread {
-            names: left_names,
-            refused: left_refused,
-        } = left;
-        let Reread {
-            names: right_names,
-            refused: right_refused,
-        } = right;
-        let refusals = refusals_of(alloc, left_refused, right_refused)?;
-        let first = first_of(alloc, &refusals)?;
-        self.take_names(left_names, right_names);
+        let refusals = self.read_if_due(alloc, tree, has_unseen_end)?;
         self.show(trouble);
-        self.tell_first(first);
         self.tell_news(news);
         Ok(refusals)
     }
 
-    /// Gives the panels the names that were read.
-    fn take_names(&mut self, left: Option<Names>, right: Option<Names>)
-        ensures { self.new ≡ record self.old { left = with_names (page_of self.old) left self.old.left; right = with_names (page_of self.old) right self.old.right } }
+    /// Reads the panels again, if a job has ended that no look has taken up.
+    fn read_if_due<T: Tree>(
+        &mut self,
+        alloc: Global,
+        tree: &mut T,
+        has_unseen_end: bool,
+    ) -> Result<Refusals, NoMemory>
+        ensures panels { IfOk result (λ refusals. LooksAgain (T.contents tree.old) has_unseen_end (page_of self.old) refusals self.old.panels self.new.panels) }
+        ensures rest { IfOk result (λ refusals. self.new ≡ with_told refusals (with_panels self.new.panels self.old)) }
+        ensures lost { OnErr result (self.new ≡ self.old) }
+        ensures reads { ReadsTree (λ (refusals : List RefusalType). refusals) result (T.contents tree.old) (T.contents tree.new)
+            (T.fault_count tree.old) (T.fault_count tree.new) }
     {
+        let _dialog = &self.dialog;
+        if !has_unseen_end {
+            return Ok(Refusals(Vec::new(alloc)));
+        }
+        self.read_again(alloc, tree)
+    }
+
+    /// Reads the panels again. What is told of it finds its memory before they take what was read.
+    fn read_again<T: Tree>(&mut self, alloc: Global, tree: &mut T) -> Result<Refusals, NoMemory>
+        ensures panels { IfOk result (λ refusals. ReadsAgain (T.contents tree.old) (page_of self.old) refusals self.old.panels self.new.panels) }
+        ensures rest { IfOk result (λ refusals. self.new ≡ with_told refusals (with_panels self.new.panels self.old)) }
+        ensures lost { OnErr result (self.new ≡ self.old) }
+        ensures reads { ReadsTree (λ (refusals : List RefusalType). refusals) result (T.contents tree.old) (T.contents tree.new)
+            (T.fault_count tree.old) (T.fault_count tree.new) }
+    {
+        let _dialog = &self.dialog;
+        let reread = self.panels().read_both(alloc, tree)?;
+        let refusals = refusals_of(alloc, &reread)?;
+        let first = first_of(alloc, &refusals)?;
+        self.take(reread);
+        self.tell_first(first);
+        Ok(refusals)
+    }
+
+    /// Gives the panels what was read for them.
+    fn take(&mut self, reread: Reread)
+        requires read { IsRereadOf self.old.panels reread }
+        ensures panels { PanelsLookAgain (page_of self.old) (unread_of reread) self.old.panels self.new.panels }
+        ensures shows { TakesReread reread self.old.panels self.new.panels }
+        ensures rest { self.new ≡ with_panels self.new.panels self.old }
+    {
+        let _dialog = &self.dialog;
         let page = self.page();
-        self.left.take_names(page, left);
-        self.right.take_names(page, right);
+        self.panels.take(page, reread);
     }
 
     /// Puts a trouble's box over the panels.
@@ -107,22 +135,28 @@ fn shown_trouble(alloc: Global, rows: &JobRows) -> Result<Option<Trouble>, NoMem
     }
 }
 
-/// Two refusals, as far as they are there.
-fn refusals_of(
-    alloc: Global,
-    first: Option<Refusal>,
-    second: Option<Refusal>,
-) -> Result<Refusals, NoMemory>
-    ensures { IfOk result (λ refusals. refusals ≡ listed first ++ listed second) }
+/// What was refused to reading both folders, the left one first.
+fn refusals_of(alloc: Global, reread: &Reread) -> Result<Refusals, NoMemory>
+    ensures { IfOk result (λ refusals. refusals ≡ told_unread (unread_of reread.now)) }
 {
     let mut refusals = Vec::new(alloc);
-    if let Some(refusal) = first {
+    if let Some(refusal) = refusal_of(alloc, &reread.left)? {
         refusals.push(refusal)?;
     }
-    if let Some(refusal) = second {
+    if let Some(refusal) = refusal_of(alloc, &reread.right)? {
         refusals.push(refusal)?;
     }
     Ok(Refusals(refusals))
+}
+
+/// What was refused to reading a folder, if it was.
+fn refusal_of(alloc: Global, attempt: &Attempt) -> Result<Option<Refusal>, NoMemory>
+    ensures { IfOk result (λ refusal. refusal ≡ option_map Refusal.Resolve (refusal_in attempt.now)) }
+{
+    match attempt {
+        Attempt::Read(_) => Ok(None),
+        Attempt::Refused(error) => Ok(Some(Refusal::resolve(alloc, error)?)),
+    }
 }
 
 /// The first of some refusals once more.

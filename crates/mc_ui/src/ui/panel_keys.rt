@@ -1,21 +1,21 @@
 //! Keys while no box is open.
 ghost use Rattle.std.specs.Prelude.{◌≡◌, ◌∷◌, [], false, None, OnErr, IfOk};
-ghost use Rattle.tree_trait.specs.Calls.{Stat};
+ghost use Rattle.mc_panels.specs.Selections.{selection};
 ghost use Rattle.mc_ui.specs.declared.asks.KeyAct.{KeyAct as KeyActType};
 ghost use Rattle.mc_ui.specs.PanelKeys.{panel_command_of};
-ghost use Rattle.mc_ui.specs.Panels.{current_path};
 ghost use Rattle.mc_ui.specs.Reading.{ReadsTree};
-ghost use Rattle.mc_ui.specs.Screens.{Chooses, CommandLeads, HasSameSize, NoBox, WellAsked, box_of, current_panel, is_request, opposite as other_side, plain_base as plain_base_of, seen_box, sight, told_refusal, with_ask, with_move};
+ghost use Rattle.mc_ui.specs.Screens.{Chooses, CommandLeads, HasSameSize, NoBox, WellAsked, Works, box_of, is_request, seen_box, sight, told_refusal, with_ask};
 
-use super::{Ui, plain_base};
+use super::Ui;
 use crate::asks::{Ask, KeyAct};
 use crate::choosing::{Choice, choose};
-use crate::panel_command::{Opens, PanelCommand, panel_command};
-use crate::side::{Side, opposite};
+use crate::panel_command::{KeyCommand, Opens, panel_command};
 use box_words::{Chosen, Dialog, Message, mask_line};
 use job_reports::JobRows;
-use key_screen::{Base, Key};
+use key_screen::Key;
 use mc_text::NoMemory;
+use panel_pair::PanelCommand;
+use resolving::ResolveError;
 use session_history::{PlanError, Refusal, Refusals};
 use std::alloc::Global;
 use tree_trait::Tree;
@@ -30,56 +30,51 @@ impl Ui {
         key: Key,
     ) -> Result<KeyAct, NoMemory>
         requires clear { self.old.over ≡ NoBox }
-        ensures leads { IfOk result (λ act. CommandLeads (panel_command_of (plain_base_of key)) (sight (T.contents tree.old)) rows.now
+        ensures leads { IfOk result (λ act. CommandLeads (panel_command_of key) (T.contents tree.old) rows.now
             act.refusals self.old (with_ask act.ask self.new)) }
         ensures asked { IfOk result (λ act. WellAsked rows.now act.ask) }
         ensures unasked { IfOk result (λ act. is_request act.ask ≡ false) }
-        ensures left { self.new.left.folder ≡ self.old.left.folder }
-        ensures right { self.new.right.folder ≡ self.old.right.folder }
         ensures size { HasSameSize self.old self.new }
         ensures settled { self.new.planned ≡ None }
         ensures lost { OnErr result (self.new ≡ self.old) }
-        ensures reads { ReadsTree Stat (λ (act : KeyActType). act.refusals) result (T.contents tree.old) (T.contents tree.new)
+        ensures reads { ReadsTree (λ (act : KeyActType). act.refusals) result (T.contents tree.old) (T.contents tree.new)
             (T.fault_count tree.old) (T.fault_count tree.new) }
     {
         let _dialog = &self.dialog;
-        match panel_command(plain_base(key)) {
-            PanelCommand::Move(base) => {
-                self.move_cursor(base);
-                Ok(asking_nothing(alloc))
-            }
-            PanelCommand::SwitchPanel => {
-                self.switch_panel();
-                Ok(asking_nothing(alloc))
-            }
-            PanelCommand::ShowHelp => {
+        match panel_command(key) {
+            KeyCommand::Work(command) => self.work(alloc, tree, command),
+            KeyCommand::ShowHelp => {
                 self.show_help();
                 Ok(asking_nothing(alloc))
             }
-            PanelCommand::Open(opens) => self.open_box(alloc, tree, rows, opens),
-            PanelCommand::Quit => Ok(asking(alloc, Ask::End)),
-            PanelCommand::Nothing => Ok(asking_nothing(alloc)),
+            KeyCommand::Open(opens) => self.open_box(alloc, tree, rows, opens),
+            KeyCommand::Quit => Ok(asking(alloc, Ask::End)),
+            KeyCommand::Nothing => Ok(asking_nothing(alloc)),
         }
     }
 
-    /// Moves the cursor of the current panel.
-    fn move_cursor(&mut self, base: Base)
-        ensures moved { self.new ≡ with_move self.old.current base self.old }
-        ensures left { self.new.left.folder ≡ self.old.left.folder }
-        ensures right { self.new.right.folder ≡ self.old.right.folder }
+    /// Does what a command of the panels says. Where it is refused they stay as they were, and a message says so.
+    fn work<T: Tree>(
+        &mut self,
+        alloc: Global,
+        tree: &mut T,
+        command: PanelCommand,
+    ) -> Result<KeyAct, NoMemory>
+        ensures leads { IfOk result (λ act. Works command (T.contents tree.old) act.refusals self.old self.new) }
+        ensures asks { IfOk result (λ act. act.ask ≡ Ask.Nothing) }
+        ensures size { HasSameSize self.old self.new }
+        ensures settled { self.new.planned ≡ None }
+        ensures lost { OnErr result (self.new ≡ self.old) }
+        ensures reads { ReadsTree (λ (act : KeyActType). act.refusals) result (T.contents tree.old) (T.contents tree.new)
+            (T.fault_count tree.old) (T.fault_count tree.new) }
     {
+        let _dialog = &self.dialog;
         let page = self.page();
-        match self.current {
-            Side::Left => self.left.move_by(page, base),
-            Side::Right => self.right.move_by(page, base),
+        match self.panels.work(alloc, tree, page, command) {
+            Ok(()) => Ok(asking_nothing(alloc)),
+            Err(ResolveError::Memory) => Err(NoMemory),
+            Err(error) => self.refuse(alloc, Refusal::Resolve(error)),
         }
-    }
-
-    /// Makes the other panel current.
-    fn switch_panel(&mut self)
-        ensures { self.new ≡ record self.old { current = other_side self.old.current } }
-    {
-        self.current = opposite(self.current);
     }
 
     /// Shows the help.
@@ -89,8 +84,8 @@ impl Ui {
         self.message = Some(Message::Help);
     }
 
-    /// Opens a box on the thing under the cursor, if the box may ask of that and no job is live. Where nothing is selected a message
-    /// says so.
+    /// Opens a box on the thing that is selected, if the box may ask of that and no job is live. Where nothing is selected a
+    /// message says so; of several things no box can ask yet.
     fn open_box<T: Tree>(
         &mut self,
         alloc: Global,
@@ -100,21 +95,19 @@ impl Ui {
     ) -> Result<KeyAct, NoMemory>
         requires clear { self.old.over ≡ NoBox }
         ensures leads { IfOk result (λ act. Chooses opens (sight (T.contents tree.old)) rows.now
-            (current_path (current_panel self.old)) act.refusals self.old self.new) }
+            self.old.panels.current.folder (selection self.old.panels.current) act.refusals self.old self.new) }
         ensures asks { IfOk result (λ act. act.ask ≡ Ask.Nothing) }
-        ensures left { self.new.left ≡ self.old.left }
-        ensures right { self.new.right ≡ self.old.right }
         ensures size { HasSameSize self.old self.new }
         ensures settled { self.new.planned ≡ None }
         ensures lost { OnErr result (self.new ≡ self.old) }
-        ensures reads { ReadsTree Stat (λ (act : KeyActType). act.refusals) result (T.contents tree.old) (T.contents tree.new)
+        ensures reads { ReadsTree (λ (act : KeyActType). act.refusals) result (T.contents tree.old) (T.contents tree.new)
             (T.fault_count tree.old) (T.fault_count tree.new) }
     {
         let _dialog = &self.dialog;
         if !rows.0.is_empty() {
             return Ok(asking_nothing(alloc));
         }
-        match choose(alloc, tree, self.current(), opens)? {
+        match choose(alloc, tree, self.panels.current(), opens)? {
             Choice::NoSelection => self.refuse(alloc, Refusal::Plan(PlanError::NoSelection)),
             Choice::Nothing => Ok(asking_nothing(alloc)),
             Choice::Thing(chosen) => {

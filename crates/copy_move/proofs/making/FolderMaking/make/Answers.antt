@@ -8,7 +8,7 @@ use Rattle.copy_move.specs.declared.making.MakingStage.TheVariants.{Sync}
 use Rattle.copy_move.specs.Makings.{Making, call_of}
 use Rattle.job_reports.specs.Jobs.{new_folder_mode}
 use Rattle.job_reports.specs.Stops.{trouble_at}
-use Rattle.copy_move.proofs.DeletionRuns.{err_is, fault-cause}
+use Rattle.copy_move.proofs.FolderSteps.{err_is, fault-cause}
 use Rattle.copy_move.proofs.MakingRuns.{make_at, steps_made, steps_refused, steps_unmade}
 use Rattle.copy_move.proofs.making.FolderMaking.make.Goals as goal
 

@@ -7,7 +7,7 @@ use Rattle.job_reports.specs.declared.report.StepResult.{StepResult}
 use Rattle.copy_move.specs.declared.making.MakingStage.TheVariants.{Finish}
 use Rattle.copy_move.specs.Makings.{Making, call_of}
 use Rattle.job_reports.specs.Stops.{trouble_at}
-use Rattle.copy_move.proofs.DeletionRuns.{err_is, fault-cause}
+use Rattle.copy_move.proofs.FolderSteps.{err_is, fault-cause}
 use Rattle.copy_move.proofs.MakingRuns.{steps_refused, steps_synced, steps_unmade, sync_at, sync_call}
 use Rattle.copy_move.proofs.making.FolderMaking.sync.Goals as goal
 

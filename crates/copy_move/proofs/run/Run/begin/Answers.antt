@@ -11,16 +11,16 @@ use Rattle.copy_move.proofs.run.Run.begin.Goals as goal
 
 pub returns-in_default : goal.returns-in_default
 returns-in_default g c =
-    record { steps = inl (own_later (λ path. g.P.PartTest.is_free c.args.parts.now path ≡ true) _ _ _ _ _ _ _ _ _ _ _ _ c.first_on_mount_of.ensures.same c.first_on_mount_of.ensures.later c.change_first.ensures.steps) }
+    record { steps = inl (own_later (λ path. g.P.PartTest.is_free c.args.parts.now path ≡ true) _ _ _ _ _ _ _ _ _ _ _ _ c.first_owed.ensures.same c.first_owed.ensures.later c.work_on.ensures.steps) }
 
 pub returns-in_default-copy : goal.returns-in_default-copy
 returns-in_default-copy g c =
     record {
-      steps = inr (refused_folder c.in-Some.owed.now _ _ _ c.requires.course c.requires.fresh c.in-Some.ensures.owed _ _ _ _ (λ h. c.first_on_mount_of.ensures.same ∙ h) c.first_on_mount_of.ensures.later refused.Memory _ _ _
+      steps = inr (refused_folder c.in-Some.owed.now _ _ _ c.requires.course c.requires.fresh c.in-Some.ensures.owed _ _ _ _ (λ h. c.first_owed.ensures.same ∙ h) c.first_owed.ensures.later refused.Memory _ _ _
           (ap (λ (s : StepResult). s.did) c.without_call.ensures ∙ ap Troubled c.out_of_memory.ensures) (ap (λ (s : StepResult). s.calls) c.without_call.ensures)
-          (ap (λ (j : Running). let k : Running = record j { course = OwedSyncFailed Memory } in k) c.self.view_is) refl (λ log known. c.first_on_mount_of.ensures.same ∙ known) (λ h. absurd cc));
+          (ap (λ (j : Running). let k : Running = record j { course = OwedSyncFailed Memory } in k) c.self.view_is) refl (λ log known. c.first_owed.ensures.same ∙ known) (λ h. absurd cc));
     }
 
 pub returns : goal.returns
 returns g c =
-    record { steps = inr (settling_later _ _ _ _ _ _ _ _ _ _ _ _ c.first_on_mount_of.ensures.same c.first_on_mount_of.ensures.later c.sync_owed_folder.ensures.steps) }
+    record { steps = inr (settling_later _ _ _ _ _ _ _ _ _ _ _ _ c.first_owed.ensures.same c.first_owed.ensures.later c.sync_owed_folder.ensures.steps) }

@@ -3,8 +3,7 @@ use Rattle.std.proofs.Common.{ap, ◌∙◌, refl}
 use Rattle.job_reports.specs.declared.report.StepResult.{StepResult}
 use Rattle.copy_move.specs.declared.run.Course.TheVariants.{OwedSyncFailed}
 use Rattle.copy_move.specs.Jobs.{Running}
-use Rattle.copy_move.proofs.DeletionRuns.{err_is}
-use Rattle.copy_move.proofs.FolderSteps.{refused_folder, settled_folder}
+use Rattle.copy_move.proofs.FolderSteps.{err_is, refused_folder, settled_folder}
 use Rattle.copy_move.proofs.run.Run.sync_owed_folder.Goals as goal
 
 pub returns-in-Ok : goal.returns-in-Ok

@@ -1,7 +1,7 @@
--- A last step is one of the work; the dirty folders are as its sync was answered.
+-- A last step is one of the work.
 use Rattle.copy_move.proofs.FolderSteps.{winding_step}
 use Rattle.copy_move.proofs.run.Run.wind_up.Goals as goal
 
 pub returns : goal.returns
 returns g c =
-    record { steps = winding_step c.args.ending _ _ _ _ _ _ _ _ _ _ _ _ _ _ _ c.self.view_is c.wind_up-did.ensures c.folder.ensures c.after_try.ensures }
+    record { steps = winding_step c.args.ending _ _ _ _ _ _ _ _ _ _ _ _ _ _ c.self.view_is c.wind_up-last.ensures }

@@ -1,17 +1,15 @@
--- A step of the work is that of its machine.
-use Rattle.copy_move.proofs.Falling.{copy_falls}
+-- A step of a deletion is that of its machine.
+use Rattle.std.proofs.Common.{◌≡◌, true}
+use Rattle.copy_move.proofs.FolderSteps.{deletion_steps}
+use Rattle.copy_move.proofs.MakingFolders.{making_steps}
 use Rattle.copy_move.proofs.work.Work.step.Goals as goal
 
+pub returns-in-Delete-clause-steps : goal.returns-in-Delete-clause-steps
+returns-in-Delete-clause-steps g c = rw c.in-Delete.is (deletion_steps (λ path. g.P.PartTest.is_free c.args.parts.now path ≡ true) _ _ _ _ _ _ _ _ _ _ c.step.ensures)
+
 pub returns-in-Copy-clause-steps : goal.returns-in-Copy-clause-steps
-returns-in-Copy-clause-steps g c =
-    let s = c.step.ensures.steps in
-    rw c.in-Copy.is (record {
-      tells = s.tells;
-      called = s.called;
-      counted = s.counted;
-      few = s.few;
-      unknown = s.unknown;
-      later = s.later;
-      fault = s.fault;
-      falls = copy_falls _ c.step.new.self c.step.result.did s.tells c.step.ensures.sound;
-    })
+returns-in-Copy-clause-steps g c = rw c.in-Copy.is c.step_copy.ensures.steps
+
+pub returns-in-Make-clause-steps : goal.returns-in-Make-clause-steps
+returns-in-Make-clause-steps g c =
+    rw c.in-Make.is (making_steps (λ path. g.P.PartTest.is_free c.args.parts.now path ≡ true) _ _ _ _ _ _ _ _ _ _ c.step_making.ensures.steps c.step_making.ensures.leaves)

@@ -1,7 +1,6 @@
 -- A key is written down as it was worked, and what it asked for directly after it; its frame is on the terminal then.
-use Rattle.std.proofs.Common.{rules, ◌≡◌, ◌≤◌, ◌∷◌, false, None, ap, sym, subst, ◌∙◌, arith, refl}
+use Rattle.std.proofs.Common.{rules, ◌≡◌, ◌≤◌, ◌∷◌, false, None, ap, sym, subst, ◌∙◌, arith}
 use Rattle.session_history.specs.declared.history.Event.TheVariants.{Key}
-use Rattle.mc_ui.specs.Screens.{sight}
 use Rattle.mc_desk.specs.Desks.{IsDesk, Seen, ShowsDesk, seen_of}
 use Rattle.mc_desk.specs.Granting.{IsWorked}
 use Rattle.mc_desk.specs.LiveRows.{rows_of, trouble_told}
@@ -27,8 +26,8 @@ invariant_of-self-2 g c =
     let counted = c.faults-faults.ensures in
     let had = c.self.invariant.counted in
     let later = c.work.ensures.reads.later in
-    let worked : IsWorked (sight (g.T.Tree.contents inside.tree)) c.in-Ok.rows (next_id inside.standing.last_id) c.args.key inside.ui c.work.new.ui done.deed done.refusals =
-    subst (λ n. IsWorked (sight (g.T.Tree.contents inside.tree)) c.in-Ok.rows n c.args.key inside.ui c.work.new.ui done.deed done.refusals) c.next_id-next.ensures c.in-Ok-work.ensures.worked in
+    let worked : IsWorked (g.T.Tree.contents inside.tree) c.in-Ok.rows (next_id inside.standing.last_id) c.args.now c.args.key inside.ui c.work.new.ui done.deed done.refusals =
+    subst (λ n. IsWorked (g.T.Tree.contents inside.tree) c.in-Ok.rows n c.args.now c.args.key inside.ui c.work.new.ui done.deed done.refusals) c.next_id-next.ensures c.in-Ok-work.ensures.worked in
     let room : 2 ≤ c.note_after.new.self.spare = search rules in
     let shows : ShowsFrame (frame_of c.work.new.ui (rows_of (after_deed done.deed inside.standing).job (trouble_told inside.log.newest))) c.carry_out-follows.result.drawn inside.terminal c.carry_out-follows.new.terminal =
     subst (λ (s : Standing). ShowsFrame (frame_of c.work.new.ui (rows_of s.job (trouble_told inside.log.newest))) c.carry_out-follows.result.drawn inside.terminal c.carry_out-follows.new.terminal) c.carry_out-follows.ensures.done c.carry_out-follows.ensures.shows in
@@ -74,7 +73,7 @@ returns-clause-looked g c unknown =
     let unasked : inside.standing.quit ≡ false = ap (λ (d : Seen). d.quit) c.self.view_is ∙ c.requires.unasked in
     ap (λ (d : Seen). d.tally.due) c.in_ok-after_draw.ensures.same
     ∙ (ap (λ (s : Standing). awaited s.due) c.carry_out-follows.ensures.done
-    ∙ (unknown_due _ c.in-Ok.rows c.next_id-next.result c.args.key inside.ui c.work.new.ui c.in-Ok-work.granted.deed c.in-Ok-work.granted.refusals inside.standing unknown c.self.invariant.desk.settled c.in-Ok-work.ensures.worked looked unasked).0)
+    ∙ (unknown_due _ c.in-Ok.rows c.next_id-next.result c.args.now c.args.key inside.ui c.work.new.ui c.in-Ok-work.granted.deed c.in-Ok-work.granted.refusals inside.standing unknown c.self.invariant.desk.settled c.in-Ok-work.ensures.worked looked unasked).0)
 
 pub returns-clause-unasked : goal.returns-clause-unasked
 returns-clause-unasked g c unknown =
@@ -83,4 +82,4 @@ returns-clause-unasked g c unknown =
     let unasked : inside.standing.quit ≡ false = ap (λ (d : Seen). d.quit) c.self.view_is ∙ c.requires.unasked in
     ap (λ (d : Seen). d.quit) c.in_ok-after_draw.ensures.same
     ∙ (ap (λ (s : Standing). s.quit) c.carry_out-follows.ensures.done
-    ∙ (unknown_due _ c.in-Ok.rows c.next_id-next.result c.args.key inside.ui c.work.new.ui c.in-Ok-work.granted.deed c.in-Ok-work.granted.refusals inside.standing unknown c.self.invariant.desk.settled c.in-Ok-work.ensures.worked looked unasked).1)
+    ∙ (unknown_due _ c.in-Ok.rows c.next_id-next.result c.args.now c.args.key inside.ui c.work.new.ui c.in-Ok-work.granted.deed c.in-Ok-work.granted.refusals inside.standing unknown c.self.invariant.desk.settled c.in-Ok-work.ensures.worked looked unasked).1)

@@ -19,7 +19,7 @@ returns-in-Ok-remove_folder g c =
     (folder_decides c.args.self.now c.leave.new.self false c.args.path Going c.stage_after-self.result c.requires.inside c.requires.next c.leave.ensures.left c.leave.ensures.rest c.stage_after-self.ensures)
     (λ log known. subst (λ (i : Item). IsSeen (current log) c.args.self.now.depth c.args.self.now.walk.place i) (sym c.requires.next) tt)
     (λ log known. subst (λ (call : Call). Performs {A = Unit {0}} log call (Ok tt) (g.T.Tree.contents c.remove_folder.new.self)) (sym (ap removal_of c.requires.next)) (c.in-Ok-remove_folder.ensures.answer log known))
-    (subst (λ (i : Item). RemovalLeaves i c.args.path c.args.unsynced.now c.remove.new.self) (sym c.requires.next) (c.remove.ensures ∙ ap (without c.args.path) c.in-Ok.ensures.joined))
+    (subst (λ (i : Item). RemovalLeaves i c.args.path c.args.dirty.now c.remove.new.self) (sym c.requires.next) (c.remove.ensures ∙ ap (without c.args.path) c.in-Ok.ensures.joined))
     c.remove_folder.ensures.stays_unknown c.remove_folder.ensures.cause.later
 
 pub returns-in-Err : goal.returns-in-Err

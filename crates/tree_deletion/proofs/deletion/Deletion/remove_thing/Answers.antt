@@ -18,7 +18,7 @@ returns-in-Ok-remove_file g c =
     (thing_decides c.args.self.now c.pass.new.self false c.args.path Going c.stage_after-self.result c.pass.ensures c.stage_after-self.ensures)
     (λ log known. subst (λ (i : Item). IsSeen (current log) c.args.self.now.depth c.args.self.now.walk.place i) (sym c.requires.next) (c.requires.may, c.requires.plain log known))
     (λ log known. subst (λ (call : Call). Performs {A = Unit {0}} log call (Ok tt) (g.T.Tree.contents c.remove_file.new.self)) (sym (ap removal_of c.requires.next)) (c.in-Ok-remove_file.ensures.answer log known))
-    (subst (λ (i : Item). RemovalLeaves i c.args.path c.args.unsynced.now c.join_holder.new.unsynced) (sym c.requires.next) c.in-Ok.ensures.joined)
+    (subst (λ (i : Item). RemovalLeaves i c.args.path c.args.dirty.now c.join_holder.new.dirty) (sym c.requires.next) c.in-Ok.ensures.joined)
     c.remove_file.ensures.stays_unknown c.remove_file.ensures.cause.later
 
 pub returns-in-Err : goal.returns-in-Err

@@ -18,13 +18,13 @@ returns-in_default-copy g c =
 pub returns-in-Ok-sync_folder : goal.returns-in-Ok-sync_folder
 returns-in-Ok-sync_folder g c =
     syncs_done c.args.self.now _ _ _ _ _ _ c.with_call.result.did c.with_call.result.calls c.in-Ok.folder (ap (λ (s : StepResult). s.did) c.with_call.ensures) (ap (λ (s : StepResult). s.calls) c.with_call.ensures)
-    (subst (λ (q : Route). IsOwn c.args.self.now.folder c.args.self.now.path c.args.unsynced.now q) (sym c.in-Ok.ensures) c.in-Some.ensures.some)
+    (subst (λ (q : Route). IsOwn c.args.self.now.folder c.args.self.now.path c.args.dirty.now q) (sym c.in-Ok.ensures) c.in-Some.ensures.some)
     c.remove.ensures (λ log known. c.in-Ok-sync_folder.ensures.answer log known)
     c.sync_folder.ensures.stays_unknown c.sync_folder.ensures.cause.later
 
 pub returns-in-Err : goal.returns-in-Err
 returns-in-Err g c =
     syncs_refused c.args.self.now _ _ _ _ _ _ c.refused.result.did c.refused.result.calls c.in-Err.error c.in-Ok.folder
-    (subst (λ (q : Route). IsOwn c.args.self.now.folder c.args.self.now.path c.args.unsynced.now q) (sym c.in-Ok.ensures) c.in-Some.ensures.some) c.refused.ensures.did c.refused.ensures.calls refl
+    (subst (λ (q : Route). IsOwn c.args.self.now.folder c.args.self.now.path c.args.dirty.now q) (sym c.in-Ok.ensures) c.in-Some.ensures.some) c.refused.ensures.did c.refused.ensures.calls refl
     (λ log known. c.in-Err.ensures.answer log known)
     c.sync_folder.ensures.stays_unknown c.sync_folder.ensures.cause.later (λ h. c.in-Err.ensures.cause.risen (err_is c.in-Err.error h))

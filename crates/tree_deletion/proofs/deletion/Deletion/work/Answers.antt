@@ -8,7 +8,7 @@ returns-in-Some g c =
     let a = c.in-Some.ensures in
     let before = c.loop-stepped.invariant in
     way_ends (g.T.Tree.contents c.args.tree.now) (g.T.Tree.contents c.loop-stepped.tree) (g.T.Tree.contents c.advance.new.tree) c.args.self.now c.loop-stepped.self a.0 c.advance.new.self c.in-Some.stepped.did c.in-Some.stepped.calls
-    c.args.unsynced.now c.loop-stepped.unsynced c.advance.new.unsynced (g.T.Tree.fault_count c.args.tree.now) (g.T.Tree.fault_count c.loop-stepped.tree) (g.T.Tree.fault_count c.advance.new.tree)
+    c.args.dirty.now c.loop-stepped.dirty c.advance.new.dirty (g.T.Tree.fault_count c.args.tree.now) (g.T.Tree.fault_count c.loop-stepped.tree) (g.T.Tree.fault_count c.advance.new.tree)
     c.requires.going before.way before.same before.folders before.later a.1 a.2
 
 pub loop-stepped-preserved : goal.loop-stepped-preserved

@@ -9,7 +9,7 @@ invariant-loop-stepped g l = record {
   way : IsOnWay (g.T.Tree.contents l.fn.tree) l.fn.self l.self;
   same : g.T.Tree.contents l.tree ≡ g.T.Tree.contents l.fn.tree;
   later : g.T.Tree.fault_count l.fn.tree ≤ g.T.Tree.fault_count l.tree;
-  folders : l.unsynced ≡ l.fn.unsynced;
+  folders : l.dirty ≡ l.fn.dirty;
 }
 
 abbrev pub decreases-loop-stepped : goal.decreases-loop-stepped

@@ -1,0 +1,18 @@
+-- Each folder is still to come, or lies elsewhere; the tree is as it was.
+use Rattle.std.proofs.Common.{◌≡◌, ◌≤◌, ◌⊎◌, length}
+use Rattle.mc_text.specs.Routes.{Route}
+use Rattle.tree_trait.specs.Change.{current}
+use Rattle.tree_trait.specs.Answers.{IfKnown}
+use Rattle.tree_trait.specs.CrashImages.{Among}
+use Rattle.copy_move.specs.Settling.{IsElsewhere}
+use Rattle.copy_move.proofs.owed.first_owed.Given as goal
+
+abbrev pub invariant-loop-first : goal.invariant-loop-first
+invariant-loop-first g l =
+    (g.T.Tree.contents l.tree ≡ g.T.Tree.contents l.fn.tree)
+    × (g.T.Tree.fault_count l.fn.tree ≤ g.T.Tree.fault_count l.tree)
+    × ((owed : Route) → Among l.rest owed → Among l.fn.dirty owed)
+    × IfKnown (g.T.Tree.contents l.fn.tree) (λ log. (kept : Route) → Among l.fn.dirty kept → Among l.rest kept ⊎ IsElsewhere (current log) l.work kept l.mount)
+
+abbrev pub decreases-loop-first : goal.decreases-loop-first
+decreases-loop-first g l = length l.rest

@@ -1,0 +1,128 @@
+-- What a deletion knows of the thing that it deletes, and of what lies in it: nothing was done there yet but its own removals.
+use Rattle.std.proofs.Common.{◌≡◌, ◌⊎◌, ℕ, ◌≤◌, Bool, true, false, List, [], ◌∷◌, ◌++◌, length, length-append, arith, refl, sym, ◌∙◌, ap, subst, inl, inr, Option, Some, None}
+use Rattle.std.specs.Option.{option_map_or}
+use Rattle.std.proofs.lemmas.Bool.{both_ways, or_cases, or_left, or_right}
+use Rattle.mc_text.specs.Routes.{Route, is_prefix, same_path}
+use Rattle.mc_text.proofs.Prefixes.{same_path-lengths}
+use Rattle.tree_trait.specs.declared.file_system.FileSystem.{FileSystem}
+use Rattle.tree_trait.specs.FileSystem.{find, lookup}
+use Rattle.tree_trait.specs.Shape.{IsTree}
+use Rattle.tree_trait.specs.Change.{CallLog, current}
+use Rattle.tree_trait.specs.CrashImages.{Among}
+use Rattle.tree_trait.proofs.Finding.{and_then-some, find-once}
+use Rattle.tree_trait.proofs.Visible.{same_path-self, same_path-true}
+use Rattle.crash_law.specs.Guarded.{Marks}
+use Rattle.crash_law.proofs.Unworked.{unworked_law}
+use Rattle.job_reports.specs.Paths.{folder_of}
+use Rattle.job_reports.proofs.PermittedCalls.{stat_missing}
+use Rattle.copy_move.specs.declared.work.Work.TheVariants.{Delete}
+use Rattle.copy_move.specs.Deletions.{Deleting}
+use Rattle.copy_move.specs.Settling.{NoneOwed}
+use Rattle.history_laws.specs.Doubt.{is_pending, is_unsettled, name_waits}
+use Rattle.history_laws.proofs.Changing.{folder_anchored}
+use Rattle.history_laws.proofs.Deleted.{IsRemoval, removal_leads}
+use Rattle.history_laws.proofs.JobKnows.{HasName, IsIntact, intact_settled, none_on, way_sure}
+use Rattle.history_laws.proofs.Knowing.{IsKept, IsKnown, Said, settled_marks}
+use Rattle.history_laws.proofs.Resting.{IsSureFolder, folder_at, folder_at_of, stands_at, sure_path}
+
+pub prefix_way : (top p : Route) → is_prefix top p ≡ true → (rest : Route) × (p ≡ rest ++ top)
+prefix_way top [] h = ([], sym (same_path-true top [] h))
+prefix_way top (name ∷ p) h = elim (or_cases (same_path top (name ∷ p)) (is_prefix top p) h) [
+  | inl here ↦ ([], sym (same_path-true top (name ∷ p) here))
+  | inr above ↦ let w = prefix_way top p above in (name ∷ w.0, ap (λ (r : Route). name ∷ r) w.1)
+]
+
+pub prefix_append : (top rest : Route) → is_prefix top (rest ++ top) ≡ true
+prefix_append [] [] = refl
+prefix_append (name ∷ top) [] = or_left (same_path (name ∷ top) (name ∷ top)) (is_prefix (name ∷ top) top) (same_path-self (name ∷ top))
+prefix_append top (name ∷ rest) = or_right (same_path top (name ∷ rest ++ top)) (is_prefix top (rest ++ top)) (prefix_append top rest)
+
+module _ (told : Said) (dirty : List Route) (marks : Marks) (log : CallLog) (kept : IsKept told dirty marks log) (d : Deleting) (has : HasName d.path) (none : NoneOwed (current log) (Delete d) dirty) where
+  -- no folder in which something lies that is deleted is dirty
+  not_listed : (up : Route) (f : ℕ) → find (current log) up ≡ Some f → (is_prefix d.path up ≡ true) ⊎ (up ≡ folder_of d.path) → Among dirty up → ⊥
+  not_listed up f at where_is among = elim (none up among) [
+    | inl gone ↦ (let e : (let o : Option ℕ = None in o) ≡ Some f = sym (stat_missing (current log) up gone) ∙ at in let x : ⊥ = cc in x)
+    | inr apart ↦ elim where_is [
+      | inl within ↦ both_ways _ apart.0 within
+      | inr same ↦ (let a = apart.1 in a.2 (subst (λ q. Rattle.copy_move.specs.Settling.IsMountOf (current log) q a.0) (sym same) a.1))
+    ]
+  ]
+
+  calm : (name : List ℕ) (up : Route) (f : ℕ) → find (current log) up ≡ Some f → (is_prefix d.path up ≡ true) ⊎ (up ≡ folder_of d.path) → name_waits log (name ∷ up) ≡ false
+  calm name up f at where_is = ap (λ o. option_map_or (λ g. is_pending g name log.changes) o false) at ∙ by (is_pending f name log.changes) refl
+    where
+      by : (b : Bool) → is_pending f name log.changes ≡ b → b ≡ false
+      by false is = refl
+      by true is = elim (kept.known.tracked f name is) [
+        | inl t ↦ absurd (not_listed up f at where_is (subst (λ q. Among dirty q) (find-once (current log) kept.known.guarded.tree t.0 up f t.2 at) t.1))
+        | inr unreached ↦ absurd (unreached up at)
+      ]
+
+  -- nor is the folder that holds it in doubt
+  up_sure : (f : ℕ) → find (current log) (folder_of d.path) ≡ Some f → is_unsettled log (folder_of d.path) ≡ false
+  up_sure f at = way_sure told dirty marks log (folder_of d.path) f kept.known at (none_on (current log) (Delete d) dirty none)
+
+  pub folder_firm : folder_at (current log) (folder_of d.path) ≡ true → IsSureFolder log (folder_of d.path)
+  folder_firm stands = let there = stands_at (current log) (folder_of d.path) stands in record { stands = stands; sure = up_sure there.i there.at }
+
+  -- so nothing that stands there is
+  top_sure : (i : ℕ) → find (current log) (has.name ∷ folder_of d.path) ≡ Some i → is_unsettled log (has.name ∷ folder_of d.path) ≡ false
+  top_sure i at =
+      let h = and_then-some (find (current log) (folder_of d.path)) (λ g. lookup (current log).names g has.name) i at in
+      sure_path log (has.name ∷ folder_of d.path) (up_sure h.0 h.1) (calm has.name (folder_of d.path) h.0 h.1 (inr refl))
+
+  sure_there : (rest : Route) (i : ℕ) → find (current log) (rest ++ d.path) ≡ Some i → is_unsettled log (rest ++ d.path) ≡ false
+  sure_there [] i at = subst (λ q. is_unsettled log q ≡ false) (sym has.is) (top_sure i (sym (ap (find (current log)) has.is) ∙ at))
+  sure_there (name ∷ rest) i at =
+      let h = and_then-some (find (current log) (rest ++ d.path)) (λ g. lookup (current log).names g name) i at in
+      sure_path log (name ∷ rest ++ d.path) (sure_there rest h.0 h.1) (calm name (rest ++ d.path) h.0 h.1 (inl (prefix_append d.path rest)))
+
+  -- before the first change nothing waits there, so all is as it was found
+  pub intact_begins : IsIntact marks (current log) d.path
+  intact_begins rest out = by (find (current log) (rest ++ d.path)) refl
+    where
+      by : (o : Option ℕ) → find (current log) (rest ++ d.path) ≡ o → (find (current log) (rest ++ d.path) ≡ marks.was (rest ++ d.path)) ⊎ (find (current log) (rest ++ d.path) ≡ None)
+      by None is = inr is
+      by (Some i) is = inl (sym (kept.was (rest ++ d.path) out (sure_there rest i is)))
+
+-- where something stands at or below a path the folder that holds the path stands
+held_above : (s : FileSystem) (rest top : Route) (i : ℕ) → IsTree s → find s (rest ++ top) ≡ Some i → folder_at s (folder_of top) ≡ true
+held_above s [] [] i tree at = tree.root
+held_above s [] (name ∷ up) i tree at =
+    let h = and_then-some (find s up) (λ g. lookup s.names g name) i at in folder_at_of s up h.0 h.1 (tree.in_folders h.0 name i h.2)
+held_above s (name ∷ rest) top i tree at = let h = and_then-some (find s (rest ++ top)) (λ g. lookup s.names g name) i at in held_above s rest top h.0 tree h.1
+
+-- where something was removed there the folder that holds the path stands
+pub removed_in : (log now : CallLog) (top path : Route) → IsTree (current log) → is_prefix top path ≡ true → IsRemoval log now path → folder_at (current log) (folder_of top) ≡ true
+removed_in log now top path tree within it =
+    let w = prefix_way top path within in
+    held_above (current log) w.0 top it.r.i tree (ap (find (current log)) (sym w.1) ∙ removal_leads log now path it)
+
+not_above : (top path rest : Route) → path ≡ rest ++ top → 1 ≤ length path → same_path (folder_of top) path ≡ false
+not_above [] path rest e some = same_path-lengths [] path (λ same. absurd (omega (arith, same, some)))
+not_above (name ∷ up) path rest e some = same_path-lengths up path (λ same. let l = ap (λ (q : Route). length q) e in let n = length-append rest (name ∷ up) in absurd (omega (arith, same, l, n)))
+
+removal_some : (log now : CallLog) (path : Route) → IsRemoval log now path → 1 ≤ length path
+removal_some log now path it = subst (λ (q : Route). 1 ≤ length q) (sym it.r.path_is) (omega arith)
+
+-- and what is removed isn't that folder
+pub folder_apart : (log now : CallLog) (top path : Route) → is_prefix top path ≡ true → IsRemoval log now path → same_path (folder_of top) path ≡ false
+folder_apart log now top path within it = let w = prefix_way top path within in not_above top path w.0 w.1 (removal_some log now path it)
+
+-- what is removed next is as it was found
+pub intact_was : (marks : Marks) (s : FileSystem) (top path : Route) (i : ℕ) → IsIntact marks s top → is_prefix top path ≡ true → find s path ≡ Some i → marks.aside path ≡ false → marks.was path ≡ find s path
+intact_was marks s top path i intact within at out =
+    let w = prefix_way top path within in
+    elim (intact w.0 (subst (λ (q : Route). marks.aside q ≡ false) w.1 out)) [
+      | inl same ↦ sym (subst (λ (q : Route). find s q ≡ marks.was q) (sym w.1) same)
+      | inr gone ↦ absurd (let e : (let o : Option ℕ = Some i in o) ≡ None = sym at ∙ (ap (find s) w.1 ∙ gone) in let f : ⊥ = cc in f)
+    ]
+
+-- and after a removal it is so too
+pub intact_after : (told : Said) (dirty : List Route) (marks : Marks) (log now : CallLog) (path top : Route) → IsKnown told dirty marks log → (it : IsRemoval log now path) → IsIntact marks (current log) top → IsIntact (settled_marks now marks) (current now) top
+intact_after told dirty marks log now path top known it intact =
+    intact_settled now marks top (subst (λ (l : CallLog). IsIntact marks (current l) top) (sym it.now_is)
+    (unworked_law.removed marks log top it.r.up it.r.name it.r.f it.k known.guarded (record {
+      at = it.r.folder;
+      anchored = folder_anchored told dirty marks log known it.r.up it.r.f it.r.folder (known.guarded.tree.in_folders it.r.f it.r.name it.r.i it.r.leads);
+    }) intact))
