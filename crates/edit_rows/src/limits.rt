@@ -1,54 +1,96 @@
 //! The limits: how large a text may be, and how deep an undo goes.
-use anyhow::{Result, bail};
 use gap_text::{Change, Undo};
-use mc_edit::{EditCmd, EditError, Editor, LARGEST_TEXT};
-use mc_text::Bytes;
+use mc_edit::{EditCmd, Editor, LARGEST_TEXT};
+use mc_text::{Bytes, NoMemory};
+use row_page::Page;
 use std::alloc::Global;
 
 /// A line for each limit.
-pub fn shown(alloc: Global) -> Result<String> {
-    let too_large = start_too_large(alloc)?;
-    let pasted = pasted(alloc)?;
-    let notes = two_notes(alloc)?;
-    Ok(format!(in alloc; "{too_large}{pasted}{notes}")?)
+pub fn tell_limits(page: &mut Page) {
+    tell_too_large(page, LARGEST_TEXT + 1);
+    tell_largest(page, LARGEST_TEXT);
+    tell_two_notes(page);
 }
 
-fn started(alloc: Global, size: usize) -> Result<std::result::Result<Editor, EditError>> {
-    Ok(Editor::start(alloc, vec![in alloc; b'a'; size]?.as_slice()))
+/// A text of so many letters.
+fn letters(page: &mut Page, count: usize) -> Vec<u8> {
+    match vec![in page.alloc(); b'a'; count] {
+        Ok(letters) => letters,
+        Err(_error) => {
+            page.fail();
+            Vec::new(page.alloc())
+        }
+    }
 }
 
-fn start_too_large(alloc: Global) -> Result<String> {
-    match started(alloc, LARGEST_TEXT + 1)? {
-        Ok(_) => bail!("a text was not too large"),
-        Err(error) => Ok(format!(in alloc; "start with 16777217 bytes: {error}\n")?),
+fn tell_too_large(page: &mut Page, size: usize) {
+    page.put("start with 16777217 bytes: ");
+    let letters = letters(page, size);
+    match Editor::start(page.alloc(), letters.as_slice()) {
+        Ok(_editor) => page.fail(),
+        Err(error) => page.tell(error),
+    }
+    page.put("\n");
+}
+
+fn tell_largest(page: &mut Page, size: usize) {
+    let letters = letters(page, size);
+    match Editor::start(page.alloc(), letters.as_slice()) {
+        Ok(mut editor) => tell_full(page, &mut editor),
+        Err(_error) => page.fail(),
     }
 }
 
 /// A byte more than fits, and moves within one line of all bytes.
-fn pasted(alloc: Global) -> Result<String> {
-    let Ok(mut editor) = started(alloc, LARGEST_TEXT)? else {
-        bail!("a text was too large");
-    };
-    let Err(error) = editor.command(alloc, &EditCmd::Insert('x')) else {
-        bail!("a byte more was not too large");
-    };
-    let right = place_after(alloc, &mut editor, &EditCmd::Right)?;
-    let down = place_after(alloc, &mut editor, &EditCmd::Down)?;
-    let end = place_after(alloc, &mut editor, &EditCmd::LineEnd)?;
-    Ok(format!(in alloc;
-        "one byte more than 16777216: {error}\nright, down, end in one line: {right}, {down}, {end}\n"
-    )?)
+fn tell_full(page: &mut Page, editor: &mut Editor) {
+    page.put("one byte more than 16777216: ");
+    match editor.command(page.alloc(), &EditCmd::Insert('x')) {
+        Ok(()) => page.fail(),
+        Err(error) => page.tell(error),
+    }
+    page.put("\nright, down, end in one line: ");
+    tell_place_after(page, editor, &EditCmd::Right);
+    page.put(", ");
+    tell_place_after(page, editor, &EditCmd::Down);
+    page.put(", ");
+    tell_place_after(page, editor, &EditCmd::LineEnd);
+    page.put("\n");
 }
 
-fn place_after(alloc: Global, editor: &mut Editor, command: &EditCmd) -> Result<usize> {
-    match editor.command(alloc, command) {
-        Ok(()) => Ok(editor.point()),
-        Err(error) => bail!("{error}"),
+fn tell_place_after(page: &mut Page, editor: &mut Editor, command: &EditCmd) {
+    match editor.command(page.alloc(), command) {
+        Ok(()) => page.tell(editor.point()),
+        Err(_error) => page.fail(),
     }
 }
 
-/// A change that put one byte at a place.
-fn typed(alloc: Global, at: usize) -> Result<Change> {
+fn tell_two_notes(page: &mut Page) {
+    match Undo::new(page.alloc(), 1) {
+        Ok(mut undo) => tell_undone(page, &mut undo),
+        Err(_error) => page.fail(),
+    }
+}
+
+/// What two undos take back of two changes.
+fn tell_undone(page: &mut Page, undo: &mut Undo) {
+    note(page, undo, 1);
+    note(page, undo, 2);
+    page.put("undo of depth 1 with two notes: ");
+    tell_next_undone(page, undo);
+    page.put(", ");
+    tell_next_undone(page, undo);
+    page.put("\n");
+}
+
+/// Notes a change that put one byte at a place.
+fn note(page: &mut Page, undo: &mut Undo, at: usize) {
+    match typed(page.alloc(), at) {
+        Ok(change) => undo.note(change),
+        Err(_error) => page.fail(),
+    }
+}
+
+fn typed(alloc: Global, at: usize) -> Result<Change, NoMemory> {
     Ok(Change {
         at,
         removed: Bytes::from_slice(alloc, b"")?,
@@ -58,20 +100,18 @@ fn typed(alloc: Global, at: usize) -> Result<Change> {
     })
 }
 
-fn two_notes(alloc: Global) -> Result<String> {
-    let mut undo = Undo::new(alloc, 1)?;
-    undo.note(typed(alloc, 1)?);
-    undo.note(typed(alloc, 2)?);
-    let first = undone(&mut undo)?;
-    let second = undone(&mut undo)?;
-    Ok(format!(in alloc; "undo of depth 1 with two notes: {first}, {second}\n")?)
+fn tell_next_undone(page: &mut Page, undo: &mut Undo) {
+    match undo.undo() {
+        Ok(Some(change)) => page.put(name_of(change.at)),
+        Ok(None) => page.put("nothing"),
+        Err(_error) => page.fail(),
+    }
 }
 
-fn undone(undo: &mut Undo) -> Result<&'static str> {
-    match undo.undo()?.map(|change| change.at) {
-        Some(1) => Ok("the first"),
-        Some(2) => Ok("the second"),
-        Some(_) => Ok("another"),
-        None => Ok("nothing"),
+fn name_of(at: usize) -> &'static str {
+    match at {
+        1 => "the first",
+        2 => "the second",
+        _ => "another",
     }
 }

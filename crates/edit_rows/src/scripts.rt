@@ -1,123 +1,97 @@
-//! Scripts: their words as commands, and texts as they are shown.
-use anyhow::{Result, bail};
+//! Scripts that are played, and texts as a row spells them: `/` is a newline, `>` a tab, and `!` a byte that is no text.
+use crate::commands::command_of;
 use mc_edit::{EditCmd, Editor};
-use mc_text::Bytes;
-use std::alloc::Global;
+use row_page::Page;
 
 /// What stands after each command of a script, or why it was refused.
-pub fn played(alloc: Global, text: &str, script: &str) -> Result<String> {
-    let mut editor = match Editor::start(alloc, unspelled(alloc, text)?.as_slice()) {
-        Ok(editor) => editor,
-        Err(error) => bail!("{error}"),
-    };
-    let mut states = String::new(alloc);
-    for word in script.split_whitespace() {
-        if !states.is_empty() {
-            states.push_str(", ")?;
-        }
-        let command = command_of(alloc, word)?;
-        states.push_str(after(alloc, &mut editor, &command)?.as_str())?;
+pub fn tell_played(page: &mut Page, text: &str, script: &str) {
+    let bytes = unspelled(page, text);
+    match Editor::start(page.alloc(), bytes.as_slice()) {
+        Ok(mut editor) => tell_commands(page, &mut editor, script),
+        Err(_error) => page.fail(),
     }
-    Ok(states)
+}
+
+fn tell_commands(page: &mut Page, editor: &mut Editor, script: &str) {
+    let mut words = script.split_whitespace();
+    if let Some(word) = words.next() {
+        tell_command(page, editor, word);
+    }
+    for word in words {
+        page.put(", ");
+        tell_command(page, editor, word);
+    }
+}
+
+fn tell_command(page: &mut Page, editor: &mut Editor, word: &str) {
+    match command_of(page, word) {
+        Some(command) => tell_after(page, editor, &command),
+        None => page.fail(),
+    }
 }
 
 /// What stands after a command, or why it was refused.
-fn after(alloc: Global, editor: &mut Editor, command: &EditCmd) -> Result<String> {
-    match editor.command(alloc, command) {
-        Ok(()) => shown(alloc, editor),
-        Err(error) => Ok(format!(in alloc; "{error}")?),
+fn tell_after(page: &mut Page, editor: &mut Editor, command: &EditCmd) {
+    match editor.command(page.alloc(), command) {
+        Ok(()) => tell_text(page, editor),
+        Err(error) => page.tell(error),
     }
 }
 
 /// The text with a bar at the point.
-fn shown(alloc: Global, editor: &Editor) -> Result<String> {
-    let bytes = editor.bytes(alloc)?.0;
-    let mut spelled = Vec::new(alloc);
-    for (at, byte) in bytes.iter().enumerate() {
-        if at == editor.point() {
-            spelled.push(b'|')?;
-        }
-        spelled.push(match byte {
-            b'\n' => b'/',
-            b'\t' => b'>',
-            0xff => b'!',
-            other => *other,
-        })?;
+fn tell_text(page: &mut Page, editor: &Editor) {
+    match editor.bytes(page.alloc()) {
+        Ok(bytes) => tell_bytes(page, bytes.0.as_slice(), editor.point()),
+        Err(_error) => page.fail(),
     }
-    if editor.point() == bytes.len() {
-        spelled.push(b'|')?;
-    }
+}
+
+fn tell_bytes(page: &mut Page, bytes: &[u8], point: usize) {
+    let spelled = spelled(page, bytes, point);
     match std::str::from_utf8(spelled.as_slice()) {
-        Ok(text) => Ok(String::from_str(alloc, text)?),
-        Err(_) => bail!("a point within a character"),
+        Ok(text) => page.put(text),
+        Err(_error) => page.fail(),
+    }
+}
+
+fn spelled(page: &mut Page, bytes: &[u8], point: usize) -> Vec<u8> {
+    let mut spelled = Vec::new(page.alloc());
+    for (at, byte) in bytes.iter().enumerate() {
+        if at == point {
+            page.need(spelled.push(b'|').is_ok());
+        }
+        page.need(spelled.push(letter_of(*byte)).is_ok());
+    }
+    if point == bytes.len() {
+        page.need(spelled.push(b'|').is_ok());
+    }
+    spelled
+}
+
+/// How a row spells a byte.
+fn letter_of(byte: u8) -> u8 {
+    match byte {
+        b'\n' => b'/',
+        b'\t' => b'>',
+        0xff => b'!',
+        other => other,
     }
 }
 
 /// The bytes of a text as a row spells it.
-fn unspelled(alloc: Global, text: &str) -> Result<Vec<u8>> {
-    let mut bytes = Vec::new(alloc);
-    for byte in text.as_bytes() {
-        bytes.push(match byte {
-            b'/' => b'\n',
-            b'>' => b'\t',
-            b'!' => 0xff,
-            other => *other,
-        })?;
+pub fn unspelled(page: &mut Page, text: &str) -> Vec<u8> {
+    let mut bytes = Vec::new(page.alloc());
+    for letter in text.as_bytes() {
+        page.need(bytes.push(byte_of(*letter)).is_ok());
     }
-    Ok(bytes)
+    bytes
 }
 
-/// The command that a word spells; what it is about stands behind a colon.
-pub fn command_of(alloc: Global, word: &str) -> Result<EditCmd> {
-    let Some((name, about)) = word.split_once(':') else {
-        return plain_command(word);
-    };
-    match name {
-        "x" => Ok(EditCmd::Insert(about.chars().next().unwrap_or(' '))),
-        "pgup" => Ok(EditCmd::PageUp(about.parse::<u16>()?)),
-        "pgdn" => Ok(EditCmd::PageDown(about.parse::<u16>()?)),
-        "go" => Ok(EditCmd::GoLine(about.parse::<u64>()?)),
-        "find" => Ok(EditCmd::Find(bytes_of(alloc, about)?)),
-        "all" => replacing(alloc, about),
-        _ => bail!("no command {name}"),
+fn byte_of(letter: u8) -> u8 {
+    match letter {
+        b'/' => b'\n',
+        b'>' => b'\t',
+        b'!' => 0xff,
+        other => other,
     }
-}
-
-/// Both texts of a replacement, with `=` between them.
-fn replacing(alloc: Global, about: &str) -> Result<EditCmd> {
-    let Some((what, new)) = about.split_once('=') else {
-        bail!("a replacement without a sign");
-    };
-    Ok(EditCmd::ReplaceAll(bytes_of(alloc, what)?, bytes_of(alloc, new)?))
-}
-
-fn bytes_of(alloc: Global, text: &str) -> Result<Bytes> {
-    Ok(Bytes(unspelled(alloc, text)?))
-}
-
-/// A command that a single word spells.
-fn plain_command(word: &str) -> Result<EditCmd> {
-    Ok(match word {
-        "nl" => EditCmd::NewLine,
-        "bs" => EditCmd::Backspace,
-        "del" => EditCmd::DeleteUnder,
-        "left" => EditCmd::Left,
-        "right" => EditCmd::Right,
-        "up" => EditCmd::Up,
-        "down" => EditCmd::Down,
-        "home" => EditCmd::LineStart,
-        "end" => EditCmd::LineEnd,
-        "top" => EditCmd::TextStart,
-        "bottom" => EditCmd::TextEnd,
-        "mark" => EditCmd::Mark,
-        "copy" => EditCmd::CopyBlock,
-        "move" => EditCmd::MoveBlock,
-        "cut" => EditCmd::DeleteBlock,
-        "line" => EditCmd::DeleteLine,
-        "kill" => EditCmd::DeleteToEnd,
-        "undo" => EditCmd::Undo,
-        "redo" => EditCmd::Redo,
-        "bracket" => EditCmd::Bracket,
-        _ => bail!("no command {word}"),
-    })
 }

@@ -1,4 +1,4 @@
-//! Runs the rows of the viewer, searches below a folder, and the two panels.
+//! Runs the rows of the viewer, searches below a folder, the two panels, and the editor.
 #![tactic(auto)]
 
 use row_page::{Fault, Page};
@@ -13,6 +13,7 @@ impl Sections for Libraries {
             "viewer" => viewer_rows::tell_rows(page, rows),
             "finding" => finding_rows::tell_rows(page, rows),
             "panels" => pair_rows::tell_rows(page, rows),
+            "editor" => edit_rows::tell_rows(page, rows),
             _ => page.fail(),
         }
     }
