@@ -59,7 +59,9 @@ invariant_of-self-2 g c =
     let more : c.note-2.new.self.newest ≡ entry c.args.seat calls count 0 (Step c.in-Some.job.id did) ∷ inside.log.newest =
     c.note-2.ensures.added ∙ (ap (λ n. entry c.args.seat calls count 0 (Step n did) ∷ c.reserve.new.self.newest) c.id-id.ensures
     ∙ ap (λ es. entry c.args.seat calls count 0 (Step c.in-Some.job.id did) ∷ es) c.reserve.ensures.same) in
-    let room : 2 ≤ c.note-2.new.self.spare = search rules in
+    let had : 3 ≤ c.reserve.new.self.spare = search rules in
+    let kept = c.note-2.ensures.room in
+    let room : 2 ≤ c.note-2.new.self.spare = omega (arith, had, kept) in
     let bounded : length c.reserve.new.self.newest + 3 ≤ 2 ^ 56 = search rules in
     let fits : length inside.log.newest + 3 ≤ 2 ^ 56 = subst (λ es. length es + 3 ≤ 2 ^ 56) c.reserve.ensures.same bounded in
     let job : c.left.result ≡ if_closed inside.standing.closed (if ends did then None else Some c.step-did.new.self) =
