@@ -1,5 +1,5 @@
 -- A session is a trace of its tree's calls.
-use Rattle.std.proofs.Common.{rules, reverse, ap, sym, subst, ◌≡◌, ◌∙◌, None}
+use Rattle.std.proofs.Common.{reverse, ap, sym, subst, ◌≡◌, ◌∙◌, None}
 use Rattle.history_laws.specs.Traces.{IsTracedTo, Stand, at_rest}
 use Rattle.mc_desk.specs.Sessions.{IsSession, SessionState}
 use Rattle.mc_desk.specs.Desks.{Seen, stand_with, with_end}
@@ -12,7 +12,7 @@ use Rattle.mc_desk.proofs.session.Session.end.Goals as goal
 pub returns-clause-traced : goal.returns-clause-traced
 returns-clause-traced g c =
     let desk = c.session.inside in
-    let none : desk.standing.job ≡ None = search rules in
+    let none : desk.standing.job ≡ None = ap (λ (d : Seen). d.job) c.session.view_is ∙ c.work_off.ensures.idle in
     let state : Stand → Put → SessionState = λ stand put. record { screen = with_end desk.standing.quit desk.ui; stand = stand; contents = g.T.Tree.contents desk.tree; put = put } in
     subst (λ es. IsTracedTo g.N.Tag.opening (g.T.Tree.contents desk.tree) es) (sym c.into_history.ensures.entries)
     (session_traced_to g.N.Tag.start g.N.Tag.opening g.N.Tag.tree_faults desk.log.newest (with_end desk.standing.quit desk.ui) desk.dirty (g.T.Tree.contents desk.tree) desk.terminal.put
@@ -22,7 +22,7 @@ returns-clause-traced g c =
 pub returns-clause-session : goal.returns-clause-session
 returns-clause-session g c =
     let desk = c.session.inside in
-    let none : desk.standing.job ≡ None = search rules in
+    let none : desk.standing.job ≡ None = ap (λ (d : Seen). d.job) c.session.view_is ∙ c.work_off.ensures.idle in
     let state : Stand → Put → SessionState = λ stand put. record { screen = with_end desk.standing.quit desk.ui; stand = stand; contents = g.T.Tree.contents desk.tree; put = put } in
     let bytes = put_since g.N.Tag.given (g.S.Sink.given c.into_parts-screen.result.0) in
     let out : desk.terminal ≡ c.args.self.out = ap (λ (d : Seen). d.out) c.session.view_is ∙ (c.work_off.ensures.out ∙ c.close.ensures.out) in
