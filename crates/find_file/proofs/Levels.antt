@@ -8,8 +8,8 @@ use Rattle.tree_trait.specs.declared.file_system.FileSystem.{FileSystem}
 use Rattle.tree_trait.specs.Calls.{ListFolder}
 use Rattle.tree_trait.specs.Refusals.{refusal_of}
 use Rattle.find_file.specs.declared.search.Search.{Search}
-use Rattle.find_file.specs.declared.found.Found.{Found}
-use Rattle.find_file.specs.FoundList.{is_by_name, leaves_out, is_passed_over, brings, path_if, looked, child, names_in, listed, found_within, found_list}
+use Rattle.find_file.specs.FoundList.Turn.{At}
+use Rattle.find_file.specs.FoundList.{Turn, is_by_name, leaves_out, is_passed_over, brings, path_if, looked, child, names_in, listed, turns_within, turns_below}
 
 -- a path that is a name longer
 pub longer : (name : List ℕ) (folder : Route) → length (spelled (name ∷ folder)) ≡ length (spelled folder) + suc (length name)
@@ -24,7 +24,7 @@ pub is_short : (search : Search) (name : List ℕ) (folder : Route) → is_passe
 is_short search name folder h = ltb-false 4096 (length (spelled (name ∷ folder))) (or_false (leaves_out search name) (nat_lt 4096 (length (spelled (name ∷ folder)))) h)
 
 module _ (s : FileSystem) (search : Search) where
-  child_by : (passed is_named : Bool) (name : List ℕ) (folder : Route) (one other : List Found) → is_passed_over search name folder ≡ passed
+  child_by : (passed is_named : Bool) (name : List ℕ) (folder : Route) (one other : List Turn) → is_passed_over search name folder ≡ passed
       → (is_passed_over search name folder ≡ false → one ≡ other)
       → cond passed [] (path_if (is_named && is_by_name search) (name ∷ folder) ++ looked s search is_named (name ∷ folder) one)
       ≡ cond passed [] (path_if (is_named && is_by_name search) (name ∷ folder) ++ looked s search is_named (name ∷ folder) other)
@@ -33,11 +33,11 @@ module _ (s : FileSystem) (search : Search) where
       ap (λ below. path_if (is_named && is_by_name search) (name ∷ folder) ++ looked s search is_named (name ∷ folder) below) (same is)
 
   -- what is below a child that is passed over doesn't count
-  child_same : (is_named : Bool) (name : List ℕ) (folder : Route) (one other : List Found) → (is_passed_over search name folder ≡ false → one ≡ other)
+  child_same : (is_named : Bool) (name : List ℕ) (folder : Route) (one other : List Turn) → (is_passed_over search name folder ≡ false → one ≡ other)
       → child s search is_named name folder one ≡ child s search is_named name folder other
   child_same is_named name folder one other same = child_by (is_passed_over search name folder) is_named name folder one other refl same
 
-  children_same : (folder : Route) (names : List (List ℕ)) (one other : Route → List Found)
+  children_same : (folder : Route) (names : List (List ℕ)) (one other : Route → List Turn)
       → ((name : List ℕ) → is_passed_over search name folder ≡ false → one (name ∷ folder) ≡ other (name ∷ folder))
       → flat_map (λ name. child s search (is_found search.name name) name folder (one (name ∷ folder))) names
       ≡ flat_map (λ name. child s search (is_found search.name name) name folder (other (name ∷ folder))) names
@@ -48,30 +48,30 @@ module _ (s : FileSystem) (search : Search) where
       ap (λ l. l ++ flat_map (λ name. child s search (is_found search.name name) name folder (one (name ∷ folder))) names) first
       ∙ ap (λ l. child s search (is_found search.name name) name folder (other (name ∷ folder)) ++ l) rest
 
-  listed_same : (folder : Route) (one other : Route → List Found)
+  listed_same : (folder : Route) (one other : Route → List Turn)
       → ((name : List ℕ) → is_passed_over search name folder ≡ false → one (name ∷ folder) ≡ other (name ∷ folder))
       → listed s search folder one ≡ listed s search folder other
-  listed_same folder one other same = ap (λ l. brings (refusal_of s (ListFolder folder)) folder l) (children_same folder (names_in s folder) one other same)
+  listed_same folder one other same = ap (λ l. At folder ∷ brings (refusal_of s (ListFolder folder)) folder l) (children_same folder (names_in s folder) one other same)
 
   enough : (a b : ℕ) (folder : Route) → length (spelled folder) ≤ 4096 → 4096 < a + length (spelled folder) → 4096 < b + length (spelled folder)
-      → found_within a s search folder ≡ found_within b s search folder
-  unfolding found_within
+      → turns_within a s search folder ≡ turns_within b s search folder
+  unfolding turns_within
   enough zero b folder short more other = absurd (omega arith)
   enough (suc a) zero folder short more other = absurd (omega arith)
   enough (suc a) (suc b) folder short more other =
-      listed_same folder (found_within a s search) (found_within b s search) (λ name met.
+      listed_same folder (turns_within a s search) (turns_within b s search) (λ name met.
       let is : length (spelled (name ∷ folder)) ≡ length (spelled folder) + suc (length name) = longer name folder in
       enough a b (name ∷ folder) (is_short search name folder met) (omega arith) (omega arith))
 
   one_more : (levels : ℕ) (folder : Route) → 4096 ≤ levels → length (spelled folder) ≤ 4096
-      → found_within (suc levels) s search folder ≡ listed s search folder (found_within (suc levels) s search)
-  unfolding found_within
+      → turns_within (suc levels) s search folder ≡ listed s search folder (turns_within (suc levels) s search)
+  unfolding turns_within
   one_more levels folder many short =
-      listed_same folder (found_within levels s search) (found_within (suc levels) s search) (λ name met.
+      listed_same folder (turns_within levels s search) (turns_within (suc levels) s search) (λ name met.
       let is : length (spelled (name ∷ folder)) ≡ length (spelled folder) + suc (length name) = longer name folder in
       enough levels (suc levels) (name ∷ folder) (is_short search name folder met) (omega arith) (omega arith))
 
-  -- what is found below a folder is what its listing brings
-  pub found_list_is : (folder : Route) → length (spelled folder) ≤ 4096 → found_list s search folder ≡ listed s search folder (found_list s search)
-  unfolding found_list
-  found_list_is folder short = one_more 4096 folder (omega arith) short
+  -- what comes of a folder is its listing, and what that brings
+  pub turns_below_is : (folder : Route) → length (spelled folder) ≤ 4096 → turns_below s search folder ≡ listed s search folder (turns_below s search)
+  unfolding turns_below
+  turns_below_is folder short = one_more 4096 folder (omega arith) short

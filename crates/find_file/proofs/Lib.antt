@@ -1,4 +1,5 @@
 mod InOrder
+mod Leading
 mod Levels
 mod Looking
 mod Marks

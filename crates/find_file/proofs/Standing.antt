@@ -1,4 +1,4 @@
--- What is to be found, and how many steps are left, by where a walk stands; and the steps that make no call of the tree.
+-- What is yet to come, and how many steps are left, by where a walk stands; and the steps that make no call of the tree.
 use Rattle.std.proofs.Common.{◌≡◌, ◌<◌, ◌≤◌, Bool, true, false, cond, List, [], ◌∷◌, ◌++◌, length, drop, refl, sym, ap, subst, ◌∙◌, arith, append_assoc}
 use Rattle.std.specs.Prelude.{◌&&◌, ◌||◌, nat_lt, Option, Some, None, Result, Ok, Err, IfOk, IfErr}
 use Rattle.std.proofs.lemmas.Bool.{lt-ltb, le-ltb}
@@ -12,10 +12,11 @@ use Rattle.find_file.specs.declared.search.Search.{Search}
 use Rattle.find_file.specs.declared.walk.Walk.{Walk}
 use Rattle.find_file.specs.declared.walk.Task.{Task}
 use Rattle.find_file.specs.declared.walk.Task.TheVariants.{Look}
-use Rattle.find_file.specs.FoundList.{is_by_name, leaves_out, is_passed_over, path_if, looked, found_list}
+use Rattle.find_file.specs.FoundList.Turn.{Tells}
+use Rattle.find_file.specs.FoundList.{Turn, is_by_name, leaves_out, is_passed_over, path_if, looked, turns_below}
 use Rattle.find_file.specs.Folders.{OpenFolder}
 use Rattle.find_file.specs.Walks.{of_children, of_folders, left_of, left_in, rank_of_folders, rank_of, rank}
-use Rattle.find_file.specs.Telling.{StandsAt, IsOver, Goes}
+use Rattle.find_file.specs.Telling.{StandsAt, IsOver, Goes, Leads}
 use Rattle.find_file.proofs.Levels.{is_short}
 use Rattle.find_file.proofs.Ranking.{rank-taken, rank-past}
 
@@ -30,13 +31,17 @@ module _ (w : Walk) (task : Option Task) (inner : OpenFolder) (around : List Ope
       ap (λ t. rank_of t w.inner w.around.nearest) stands.task_is
       ∙ (ap (λ i. rank_of task i w.around.nearest) stands.inner_is ∙ ap (λ a. rank_of task inner a) stands.around_is)
 
+-- nothing is passed
+pub leads-now : (before after : List Turn) → before ≡ after → Leads before after
+leads-now before after is = record { past = []; is = is }
+
 module _ (search : Search) (old new : Walk) where
   -- a step that tells nothing
   silent : (t t' : Option Task) (i i' : OpenFolder) (a a' : List OpenFolder) → StandsAt old t i a → StandsAt new t' i' a'
       → ((s : FileSystem) → left_of s search t' i' a' ≡ left_of s search t i a) → rank_of t' i' a' < rank_of t i a
       → (IsOver old → ⊥) → Goes search old new (Ok None)
   silent t t' i i' a a' was is left fewer more = record {
-    steps = λ s. left-at new t' i' a' s search is ∙ (left s ∙ sym (left-at old t i a s search was));
+    steps = λ s. leads-now (left_in s search old) (left_in s search new) (left-at old t i a s search was ∙ (sym (left s) ∙ sym (left-at new t' i' a' s search is)));
     falls = λ _. subst (λ n. rank new < n) (sym (rank-at old t i a was)) (subst (λ n. n < rank_of t i a) (sym (rank-at new t' i' a' is)) fewer);
     cause = refl;
     ended = λ h. absurd (cc);
@@ -58,7 +63,7 @@ module _ (search : Search) (old new : Walk) where
       → new.task ≡ old.task → new.inner ≡ old.inner → new.around.nearest ≡ [] → Goes search old new (Ok (Some End))
   goes-nowhere path none empty around same same_inner nothing = record {
     steps = λ s. (
-      left-at old None (record { path = path; children = [] }) [] s search (record { task_is = none; inner_is = empty; around_is = around }),
+      leads-now (left_in s search old) [] (left-at old None (record { path = path; children = [] }) [] s search (record { task_is = none; inner_is = empty; around_is = around })),
       left-at new None (record { path = path; children = [] }) [] s search (record { task_is = same ∙ none; inner_is = same_inner ∙ empty; around_is = nothing }),
     );
     falls = λ h. absurd (cc);
@@ -71,11 +76,11 @@ module _ (search : Search) (old new : Walk) where
     not_over : IsOver old → ⊥
     not_over over = let none : c ∷ cs ≡ [] = sym (ap (λ (f : OpenFolder). f.children) was.inner_is) ∙ over.no_child in cc
 
-    passed : (b : Bool) (some : List Found) → b ≡ true → cond b [] some ≡ []
+    passed : (b : Bool) (some : List Turn) → b ≡ true → cond b [] some ≡ []
     passed true some h = refl
     passed false some h = cc
 
-    met : (b : Bool) (some : List Found) → b ≡ false → cond b [] some ≡ some
+    met : (b : Bool) (some : List Turn) → b ≡ false → cond b [] some ≡ some
     met true some h = cc
     met false some h = refl
 
@@ -84,7 +89,7 @@ module _ (search : Search) (old new : Walk) where
     goes-past over is =
         silent None None (record { path = path; children = c ∷ cs }) (record { path = path; children = cs }) fs fs was is
         (λ s. ap (λ l. (l ++ of_children s search path cs) ++ of_folders s search fs)
-        (sym (passed (is_passed_over search c.name path) (path_if (c.is_named && is_by_name search) (c.name ∷ path) ++ looked s search c.is_named (c.name ∷ path) (found_list s search (c.name ∷ path))) over)))
+        (sym (passed (is_passed_over search c.name path) (path_if (c.is_named && is_by_name search) (c.name ∷ path) ++ looked s search c.is_named (c.name ∷ path) (turns_below s search (c.name ∷ path))) over)))
         (rank-past path (length cs) (rank_of_folders fs)) not_over
 
     -- a child is looked at next
@@ -93,7 +98,7 @@ module _ (search : Search) (old new : Walk) where
     goes-on over unnamed is =
         silent None (Some (Look (c.name ∷ path) c.is_named)) (record { path = path; children = c ∷ cs }) (record { path = path; children = cs }) fs fs was is
         (λ s.
-        let look = looked s search c.is_named (c.name ∷ path) (found_list s search (c.name ∷ path)) in
+        let look = looked s search c.is_named (c.name ∷ path) (turns_below s search (c.name ∷ path)) in
         sym (append_assoc look (of_children s search path cs) (of_folders s search fs))
         ∙ ap (λ l. (l ++ of_children s search path cs) ++ of_folders s search fs)
         (sym (met (is_passed_over search c.name path) (path_if (c.is_named && is_by_name search) (c.name ∷ path) ++ look) over
@@ -105,13 +110,14 @@ module _ (search : Search) (old new : Walk) where
         → StandsAt new (Some (Look (c.name ∷ path) c.is_named)) (record { path = path; children = cs }) fs → Goes search old new (Ok (Some (Path (c.name ∷ path))))
     goes-found over named is = record {
       steps = λ s.
-          let look = looked s search c.is_named (c.name ∷ path) (found_list s search (c.name ∷ path)) in
-          left-at old None (record { path = path; children = c ∷ cs }) fs s search was
+          let look = looked s search c.is_named (c.name ∷ path) (turns_below s search (c.name ∷ path)) in
+          leads-now (left_in s search old) (Tells (Path (c.name ∷ path)) ∷ left_in s search new)
+          (left-at old None (record { path = path; children = c ∷ cs }) fs s search was
           ∙ (ap (λ l. (l ++ of_children s search path cs) ++ of_folders s search fs)
           (met (is_passed_over search c.name path) (path_if (c.is_named && is_by_name search) (c.name ∷ path) ++ look) over
           ∙ ap (λ b. path_if b (c.name ∷ path) ++ look) named)
-          ∙ (ap (λ l. Path (c.name ∷ path) ∷ l) (append_assoc look (of_children s search path cs) (of_folders s search fs))
-          ∙ ap (λ l. Path (c.name ∷ path) ∷ l) (sym (left-at new (Some (Look (c.name ∷ path) c.is_named)) (record { path = path; children = cs }) fs s search is))));
+          ∙ (ap (λ l. Tells (Path (c.name ∷ path)) ∷ l) (append_assoc look (of_children s search path cs) (of_folders s search fs))
+          ∙ ap (λ l. Tells (Path (c.name ∷ path)) ∷ l) (sym (left-at new (Some (Look (c.name ∷ path) c.is_named)) (record { path = path; children = cs }) fs s search is)))));
       falls = λ h. absurd (cc);
       cause = refl;
       ended = λ h. absurd (cc);
@@ -121,7 +127,7 @@ module _ (search : Search) (old new : Walk) where
     -- want of memory
     pub goes-nothing : (e : NoMemory) → new ≡ old → Goes search old new (Err e)
     goes-nothing e same = record {
-      steps = λ s. ap (λ w. left_in s search w) same;
+      steps = λ s. leads-now (left_in s search old) (left_in s search new) (ap (λ w. left_in s search w) (sym same));
       falls = λ h. absurd (cc);
       cause = refl;
       ended = λ h. absurd (cc);

@@ -1,5 +1,5 @@
--- What a search finds below a folder, as one list: each thing before what lies below it, a folder's children in byte order
--- of their names. The order and what is skipped are own (find(1) leaves the order open; links aren't followed, as by its -P).
+-- What a search comes to below a folder, in turn, as one list: each thing before what lies below it, a folder's children in byte
+-- order of their names. The order and what is skipped are own (find(1) leaves the order open; links aren't followed, as by its -P).
 use Rattle.std.specs.Prelude.{ℕ, zero, suc, ◌==◌, Bool, false, not, ◌&&◌, ◌||◌, nat_lt, if◌then◌else◌, List, [], ◌∷◌, ◌++◌, length, take, flat_map, Option, Some, None}
 use Rattle.std.specs.Str.{bytes_eq}
 use Rattle.mc_text.specs.declared.kind.Kind.{Kind}
@@ -16,6 +16,11 @@ use Rattle.tree_rules.specs.Listed.{gathered}
 use Rattle.find_file.specs.declared.search.Search.{Search}
 use Rattle.find_file.specs.declared.found.Found.{Found}
 use Rattle.find_file.specs.declared.found.Found.TheVariants.{Path, Skipped}
+
+-- what comes in turn: a thing is looked at or a folder is listed, at a path; or an answer is told
+pub data Turn : Type 0 where
+  At : Route → Turn
+  Tells : Found → Turn
 
 -- the name alone decides: no content is asked for
 abbrev pub is_by_name : Search → Bool
@@ -40,33 +45,33 @@ holds content [] = length content == 0
 holds content (byte ∷ bytes) = bytes_eq (take (length content) (byte ∷ bytes)) content || holds content bytes
 
 -- what a call at a path brings, where it isn't refused; else the path is skipped
-abbrev pub brings : Option TreeError → Route → List Found → List Found
-brings None path found = found
-brings (Some error) path found = Skipped path error ∷ []
+abbrev pub brings : Option TreeError → Route → List Turn → List Turn
+brings None path turns = turns
+brings (Some error) path turns = Tells (Skipped path error) ∷ []
 
 -- the path, where it is found
-abbrev pub path_if : Bool → Route → List Found
-path_if is path = if is then Path path ∷ [] else []
+abbrev pub path_if : Bool → Route → List Turn
+path_if is path = if is then Tells (Path path) ∷ [] else []
 
 -- what reading a file brings
-abbrev pub read : FileSystem → Search → Route → List Found
+abbrev pub read : FileSystem → Search → Route → List Turn
 read s search path = brings (refusal_of s (ReadAt path 0 0)) path (path_if (holds search.content (node s (found s path)).bytes) path)
 
--- what a thing of a kind brings once it was looked at; `below` is what is found below it
-abbrev pub by_kind : Kind → FileSystem → Search → Bool → Route → List Found → List Found
+-- what a thing of a kind brings once it was looked at; `below` is what comes of what lies below it
+abbrev pub by_kind : Kind → FileSystem → Search → Bool → Route → List Turn → List Turn
 by_kind kinds.Folder s search is_named path below = if search.recursive then below else []
 by_kind kinds.File s search is_named path below = if is_named && not (is_by_name search) then read s search path else []
 by_kind kinds.Link s search is_named path below = []
 by_kind kinds.Other s search is_named path below = []
 
--- what a look at a thing brings: a folder what lies below it; a file itself, where the pattern finds its name and its bytes hold
--- the content that is looked for
-abbrev pub looked : FileSystem → Search → Bool → Route → List Found → List Found
+-- a look at a thing, and what it brings: a folder what lies below it; a file itself, where the pattern finds its name and its
+-- bytes hold the content that is looked for
+abbrev pub looked : FileSystem → Search → Bool → Route → List Turn → List Turn
 looked s search is_named path below =
-    brings (refusal_of s (Stat path)) path (by_kind (node s (found s path)).kind s search is_named path below)
+    At path ∷ brings (refusal_of s (Stat path)) path (by_kind (node s (found s path)).kind s search is_named path below)
 
 -- a child of a folder: it is found at once where the name alone decides; then it is looked at
-abbrev pub child : FileSystem → Search → Bool → List ℕ → Route → List Found → List Found
+abbrev pub child : FileSystem → Search → Bool → List ℕ → Route → List Turn → List Turn
 child s search is_named name folder below =
     if is_passed_over search name folder then [] else
     path_if (is_named && is_by_name search) (name ∷ folder)
@@ -76,16 +81,26 @@ child s search is_named name folder below =
 abbrev pub names_in : FileSystem → Route → List (List ℕ)
 names_in s folder = gathered s (found s folder) s.names
 
--- what a folder brings, where `below` says what is found below its children
-abbrev pub listed : FileSystem → Search → Route → (Route → List Found) → List Found
-listed s search folder below = brings (refusal_of s (ListFolder folder)) folder
+-- the listing of a folder, and what it brings, where `below` says what comes of what lies below its children
+abbrev pub listed : FileSystem → Search → Route → (Route → List Turn) → List Turn
+listed s search folder below = At folder ∷ brings (refusal_of s (ListFolder folder)) folder
     (flat_map (λ name. child s search (is_found search.name name) name folder (below (name ∷ folder))) (names_in s folder))
 
--- what is found below a folder, so many levels down
-unfoldable pub found_within : ℕ → FileSystem → Search → Route → List Found
-found_within zero s search folder = []
-found_within (suc levels) s search folder = listed s search folder (found_within levels s search)
+-- what comes of a folder, so many levels down
+unfoldable pub turns_within : ℕ → FileSystem → Search → Route → List Turn
+turns_within zero s search folder = []
+turns_within (suc levels) s search folder = listed s search folder (turns_within levels s search)
 
--- What is found below a folder. A path of at most 4,096 bytes has fewer than 4,097 names, so all levels are met.
-unfoldable pub found_list : FileSystem → Search → Route → List Found
-found_list s search start = found_within 4097 s search start
+-- What comes of a folder. A path of at most 4,096 bytes has fewer than 4,097 names, so all levels are met.
+unfoldable pub turns_below : FileSystem → Search → Route → List Turn
+turns_below s search start = turns_within 4097 s search start
+
+-- what is told in these turns
+unfoldable pub told_in : List Turn → List Found
+told_in [] = []
+told_in (At path ∷ turns) = told_in turns
+told_in (Tells found ∷ turns) = found ∷ told_in turns
+
+-- what a search finds below a folder
+abbrev pub found_list : FileSystem → Search → Route → List Found
+found_list s search start = told_in (turns_below s search start)

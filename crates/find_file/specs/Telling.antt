@@ -1,5 +1,5 @@
--- What an answer says of the list that is still to be found.
-use Rattle.std.specs.Prelude.{◌≡◌, ◌≢◌, ◌≤◌, ◌<◌, ℕ, List, [], ◌∷◌, ◌++◌, Option, Some, None, Result, Ok, Err}
+-- What an answer says of what is yet to come.
+use Rattle.std.specs.Prelude.{⊤, ◌≡◌, ◌≢◌, ◌≤◌, ◌<◌, ℕ, List, [], ◌∷◌, ◌++◌, map, Option, Some, None, Result, Ok, Err}
 use Rattle.mc_text.specs.declared.error.NoMemory.{NoMemory}
 use Rattle.mc_text.specs.Routes.{Route}
 use Rattle.tree_trait.specs.declared.file_system.FileSystem.{FileSystem}
@@ -14,6 +14,8 @@ use Rattle.find_file.specs.declared.search.Search.{Search}
 use Rattle.find_file.specs.declared.walk.Task.{Task}
 use Rattle.find_file.specs.declared.walk.Task.TheVariants.{Look, List as ListTask}
 use Rattle.find_file.specs.declared.walk.Walk.{Walk}
+use Rattle.find_file.specs.FoundList.{Turn}
+use Rattle.find_file.specs.FoundList.Turn.{At, Tells}
 use Rattle.find_file.specs.Folders.{OpenFolder}
 use Rattle.find_file.specs.Walks.{of_task, left_in, rank}
 
@@ -26,31 +28,44 @@ abbrev pub call_of : Task → Call
 call_of (Look path is_named) = Stat path
 call_of (ListTask folder) = ListFolder folder
 
--- The device failed at a path: all that the look or the listing there was to bring is missing, and nothing else. The tree
--- doesn't refuse it.
-pub record IsMissing (s : FileSystem) (search : Search) (path : Route) (before after : List Found) : Type 0 where
+-- what is yet to come begins with looks and listings at which nothing is told, and then comes this
+pub record Leads (before after : List Turn) : Type 0 where
+  pub past : List Route
+  pub is : before ≡ map At past ++ after
+
+-- The device failed at a path, where the next look or listing is made: all that this one was to bring is missing, and nothing
+-- else. The tree doesn't refuse it.
+pub record IsMissing (s : FileSystem) (search : Search) (path : Route) (before after : List Turn) : Type 0 where
   pub task : Task
   pub place : place_of task ≡ path
   pub allowed : refusal_of s (call_of task) ≡ None
-  pub missing : before ≡ of_task s search (Some task) ++ after
+  pub missing : Leads before (of_task s search (Some task) ++ after)
 
--- an answer is the first of what is to be found, or a fault; it is the end where nothing is
-abbrev pub IsTold : FileSystem → Search → List Found → Found → List Found → Type 0
-IsTold s search before (Path path) after = before ≡ Path path ∷ after
+-- an answer is the first that is to be told, or a fault; it is the end where nothing is
+abbrev pub IsTold : FileSystem → Search → List Turn → Found → List Turn → Type 0
+IsTold s search before (Path path) after = Leads before (Tells (Path path) ∷ after)
 IsTold s search before (Skipped path Fault) after = IsMissing s search path before after
-IsTold s search before (Skipped path error) after = before ≡ Skipped path error ∷ after
-IsTold s search before End after = (before ≡ []) × (after ≡ [])
+IsTold s search before (Skipped path error) after = Leads before (Tells (Skipped path error) ∷ after)
+IsTold s search before End after = Leads before [] × (after ≡ [])
 
--- an answer is told; without memory all that was to be found is still to be found
-abbrev pub Answers : FileSystem → Search → List Found → Result Found NoMemory → List Found → Type 0
+-- an answer is told; without memory all that was to be told is still to be told
+abbrev pub Answers : FileSystem → Search → List Turn → Result Found NoMemory → List Turn → Type 0
 Answers s search before (Ok found) after = IsTold s search before found after
-Answers s search before (Err error) after = after ≡ before
+Answers s search before (Err error) after = Leads before after
+
+-- of what is yet to be found an answer is the first; a fault leaves that open
+abbrev pub IsFirst : List Found → Result Found NoMemory → List Found → Type 0
+IsFirst before (Ok (Path path)) after = before ≡ Path path ∷ after
+IsFirst before (Ok (Skipped path Fault)) after = ⊤
+IsFirst before (Ok (Skipped path error)) after = before ≡ Skipped path error ∷ after
+IsFirst before (Ok End) after = (before ≡ []) × (after ≡ [])
+IsFirst before (Err error) after = before ≡ after
 
 -- a step may tell nothing yet
-abbrev pub Advances : FileSystem → Search → List Found → Result (Option Found) NoMemory → List Found → Type 0
-Advances s search before (Ok None) after = after ≡ before
+abbrev pub Advances : FileSystem → Search → List Turn → Result (Option Found) NoMemory → List Turn → Type 0
+Advances s search before (Ok None) after = Leads before after
 Advances s search before (Ok (Some found)) after = IsTold s search before found after
-Advances s search before (Err error) after = after ≡ before
+Advances s search before (Err error) after = Leads before after
 
 -- a step from where a walk stands
 abbrev pub Steps : FileSystem → Search → Walk → Result (Option Found) NoMemory → Walk → Type 0
@@ -65,6 +80,22 @@ pub record StandsAt (w : Walk) (task : Option Task) (inner : OpenFolder) (around
   pub task_is : w.task ≡ task
   pub inner_is : w.inner ≡ inner
   pub around_is : w.around.nearest ≡ around
+
+-- the path of which an answer tells
+abbrev pub path_of : Found → Option Route
+path_of (Path path) = Some path
+path_of (Skipped path error) = Some path
+path_of End = None
+
+-- Where a step at a task leaves a walk, whatever the tree holds. What is told is told of the task's path, and the folders that are
+-- open stay; without memory the task waits; where nothing is told, a folder may be listed next, or is open besides.
+abbrev pub Leaves : Walk → Task → Result (Option Found) NoMemory → Walk → Type 0
+Leaves old task (Err error) new = StandsAt new (Some task) old.inner old.around.nearest
+Leaves old task (Ok (Some found)) new = (path_of found ≡ Some (place_of task)) × StandsAt new None old.inner old.around.nearest
+Leaves old (Look path is_named) (Ok None) new = StandsAt new new.task old.inner old.around.nearest
+    × (new.task ≢ None → new.task ≡ Some (ListTask path))
+Leaves old (ListTask folder) (Ok None) new = (new.task ≡ None) × (new.inner.path ≡ folder)
+    × (new.around.nearest ≡ old.inner ∷ old.around.nearest)
 
 -- why a path was skipped
 abbrev pub cause_of : Found → Option TreeError
@@ -107,3 +138,4 @@ pub record Works (task : Task) (old new : Walk) (before after : ℕ) (result : R
   pub falls : result ≡ Ok None → rank new < rank (with_task old task)
   pub reason : HasReason before after (cause_at result)
   pub not_end : result ≢ Ok (Some End)
+  pub leaves : Leaves old task result new

@@ -3,9 +3,9 @@ ghost use Rattle.std.specs.Prelude.{◌≡◌, None, Ok, IfOk, IfSome, unwrap_or
 ghost use Rattle.tree_trait.specs.declared.file_system.FileSystem.{FileSystem};
 ghost use Rattle.tree_trait.specs.Change.{current};
 ghost use Rattle.tree_trait.specs.Answers.{IfKnown};
-ghost use Rattle.find_file.specs.FoundList.{found_list};
-ghost use Rattle.find_file.specs.Walks.{yet_to_find};
-ghost use Rattle.find_file.specs.Telling.{Answers, HasReason, IsOver, cause_in};
+ghost use Rattle.find_file.specs.FoundList.{found_list, turns_below};
+ghost use Rattle.find_file.specs.Walks.{yet_to_come, yet_to_find};
+ghost use Rattle.find_file.specs.Telling.{Answers, HasReason, IsFirst, IsOver, cause_in};
 
 use crate::found::Found;
 use crate::search::Search;
@@ -35,6 +35,7 @@ impl Finder {
     ) -> Result<Finder, NoMemory>
         ensures search { IfOk result (λ finder. finder.search
             ≡ record { name = name; content = unwrap_or content []; recursive = recursive; hidden = hidden }) }
+        ensures turns { IfOk result (λ finder. (s : FileSystem) → yet_to_come s finder ≡ turns_below s finder.search start) }
         ensures list { IfOk result (λ finder. (s : FileSystem) → yet_to_find s finder ≡ found_list s finder.search start) }
     {
         let content = match content {
@@ -54,17 +55,20 @@ impl Finder {
 
     /// The next answer. Where memory is short nothing is lost: the next call goes on.
     pub fn next<T: Tree>(&mut self, alloc: Global, tree: &mut T) -> Result<Found, NoMemory>
+        // An answer is the first of what is yet to be found; or the device failed at the next look or listing.
+        ensures first { IfKnown (T.contents tree.old) (λ log.
+            IsFirst (yet_to_find (current log) self.old) result (yet_to_find (current log) self.new)) }
         ensures answer { IfKnown (T.contents tree.old) (λ log. Answers (current log) self.old.search
-            (yet_to_find (current log) self.old) result (yet_to_find (current log) self.new)) }
+            (yet_to_come (current log) self.old) result (yet_to_come (current log) self.new)) }
 
         // A path is skipped for a fault only where the device failed, and never for want of memory.
         ensures reason { HasReason (T.fault_count tree.old) (T.fault_count tree.new) (cause_in result) }
 
-        // Nothing is changed, and behind the end is the end.
+        // Nothing is changed, and behind the end is the end, without a look.
         ensures same { T.contents tree.new ≡ T.contents tree.old }
         ensures search { self.new.search ≡ self.old.search }
         ensures ended { result ≡ Ok Found.End → IsOver self.new.walk }
-        ensures over { IsOver self.old.walk → result ≡ Ok Found.End }
+        ensures over { IsOver self.old.walk → (result ≡ Ok Found.End) × (tree.new ≡ tree.old) }
     {
         loop {
             if let Some(found) = self.walk.step(alloc, tree, &self.search)? {

@@ -1,5 +1,5 @@
 //! The walk of a search: what is to be done next, the folder that is worked, and the open folders around it.
-ghost use Rattle.std.specs.Prelude.{◌≡◌, ◌≢◌, ◌<◌, ◌≤◌, ◌^◌, ◌∷◌, ◌&&◌, [], drop, length, map, None, Some, Ok, IfOk, IfErr, IfNone, IfSome, OnOk, if◌then◌else◌};
+ghost use Rattle.std.specs.Prelude.{◌≡◌, ◌≢◌, ◌<◌, ◌≤◌, ◌^◌, ◌∷◌, ◌&&◌, not, false, [], drop, length, map, None, Some, Ok, IfOk, IfErr, IfNone, IfSome, OnOk, if◌then◌else◌};
 ghost use Rattle.mc_text.specs.declared.kind.Kind.TheVariants.{File};
 ghost use Rattle.tree_trait.specs.declared.file_system.FileSystem.{FileSystem};
 ghost use Rattle.tree_trait.specs.Calls.{Stat};
@@ -10,7 +10,7 @@ ghost use Rattle.tree_trait.specs.Answers.{IfKnown};
 ghost use Rattle.find_file.specs.FoundList.{is_by_name};
 ghost use Rattle.find_file.specs.Folders.{child_of};
 ghost use Rattle.find_file.specs.Walks.{rank};
-ghost use Rattle.find_file.specs.Telling.{Goes, HasReason, IsOver, StandsAt, Steps, Works, cause_at, place_of, with_task};
+ghost use Rattle.find_file.specs.Telling.{Goes, HasReason, IsOver, Leaves, StandsAt, Steps, Works, cause_at, place_of, with_task};
 
 use crate::content::file_holds;
 use crate::found::Found;
@@ -66,6 +66,8 @@ impl Walk {
         ensures same { T.contents tree.new ≡ T.contents tree.old }
         ensures ended { result ≡ Ok (Some Found.End) → IsOver self.new }
         ensures over { IsOver self.old → result ≡ Ok (Some Found.End) }
+        ensures apart { self.old.task ≡ None → tree.new ≡ tree.old }
+        ensures leaves { (task : Task) → self.old.task ≡ Some task → Leaves self.old task result self.new }
     {
         match self.task.take() {
             None => self.meet(alloc, search),
@@ -206,6 +208,7 @@ impl Walk {
             → length (node (current log) (found (current log) path)).bytes ≤ 2 ^ 63
             → Steps (current log) search.now (with_task self.old (Task.Look path is_named)) result self.new) }
         ensures works { Works (Task.Look path is_named) self.old self.new (T.fault_count tree.old) (T.fault_count tree.new) result }
+        ensures apart { (is_named && not (is_by_name search.now)) ≡ false → tree.new ≡ tree.old }
         ensures same { T.contents tree.new ≡ T.contents tree.old }
     {
         if !is_named || search.is_by_name() {

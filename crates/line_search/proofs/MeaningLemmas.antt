@@ -15,12 +15,14 @@ use Rattle.regex.specs.Names.{names_of}
 use Rattle.regex.specs.Sources.{IsRefusal}
 use Rattle.regex.specs.Failures.{IsRightKind}
 use Rattle.regex.specs.declared.error.Error as regex_error
-use Rattle.regex.specs.declared.error.Error.TheVariants.{Syntax}
+use Rattle.regex.specs.declared.error.Error.TheVariants.{Syntax, CompiledTooBig, Internal, OutOfMemory}
 use Rattle.regex_syntax.specs.declared.error.Error as syntax_error
 use Rattle.regex.specs.Bytes as raw
 use Rattle.regex.specs.declared.bytes.regex.Regex as raw_regex
 use Rattle.regex.specs.declared.bytes.matcher.Match as raw_match
+use Rattle.line_search.specs.declared.error.RegexError.TheVariants.{BadPattern, TooBig}
 use Rattle.line_search.specs.Lines.{bytes_config, within, meaning_of, is_pattern, line_place, IsMeantBy}
+use Rattle.line_search.specs.Refusals.{error_of}
 
 within-some : (limit : ℕ) (re : Nested Re) (names : Names) → re.depth ≤ limit → within limit (Some (re, names)) ≡ Some re.value
 within-some limit re names h = grind (arith, nat_tests)
@@ -89,7 +91,22 @@ found_place text a line m bytes o is =
     begins_in (Some x) = refl
 
 -- an error of syntax says that the text is no pattern
-pub refused_is_none : (text : List ℕ) (error : regex_error.Error) (e : syntax_error.Error) → error ≡ Syntax e
+refused_is_none : (text : List ℕ) (error : regex_error.Error) (e : syntax_error.Error) → error ≡ Syntax e
     → IsRefusal bytes_config text error → IsRightKind bytes_config text error → is_pattern text ≡ false
 unfolding is_pattern
 refused_is_none text error e is refusal right = ap is_some (means_nothing text e.kind (refusal e is) (rw is at right))
+
+pub bad_is_none : (text : List ℕ) (error : regex_error.Error) → error_of error ≡ BadPattern
+    → IsRefusal bytes_config text error → IsRightKind bytes_config text error → is_pattern text ≡ false
+bad_is_none text (Syntax e) is refusal right = refused_is_none text (Syntax e) e refl refusal right
+bad_is_none text CompiledTooBig is refusal right = cc
+bad_is_none text Internal is refusal right = cc
+bad_is_none text OutOfMemory is refusal right = cc
+
+-- only a pattern is too big
+pub too_big_is_one : (text : List ℕ) (error : regex_error.Error) → error_of error ≡ TooBig
+    → IsRightKind bytes_config text error → is_pattern text ≡ true
+too_big_is_one text (Syntax e) is right = cc
+too_big_is_one text CompiledTooBig is right = let (hir, names, reads) = right in pattern_is text (meaning hir) (means text hir names reads)
+too_big_is_one text Internal is right = cc
+too_big_is_one text OutOfMemory is right = cc

@@ -1,6 +1,8 @@
 //! A compiled regular expression over lines.
-ghost use Rattle.std.specs.Prelude.{◌≡◌, ◌⊎◌, true, false, IfOk, IfErr, Err};
+ghost use Rattle.std.specs.Prelude.{◌≡◌, ◌≢◌, true, false, IfOk, Err};
+ghost use Rattle.regex.specs.declared.error.Error.TheVariants.{Internal};
 ghost use Rattle.line_search.specs.Lines.{is_pattern};
+ghost use Rattle.line_search.specs.Refusals.{error_of};
 
 use crate::error::RegexError;
 use crate::matcher::LineMatcher;
@@ -31,21 +33,20 @@ impl Model for LineRegex {
 }
 
 impl LineRegex {
-    /// Compiles a regular expression. `BadPattern` says that the text is none; tables past the size limit count as want of
-    /// memory.
+    /// Compiles a regular expression. `BadPattern` says that the text is none, `TooBig` that it is one whose tables would pass
+    /// the size limit.
     pub fn new(alloc: Global, text: &str) -> Result<LineRegex, RegexError>
         ensures ok { IfOk result (λ regex. regex ≡ text.now) }
         ensures is_pattern { IfOk result (λ _. is_pattern text.now ≡ true) }
         ensures bad { result ≡ Err RegexError.BadPattern → is_pattern text.now ≡ false }
+        ensures too_big { result ≡ Err RegexError.TooBig → is_pattern text.now ≡ true }
     {
         match RegexBuilder::new(text)
             .size_limit(SIZE_LIMIT)
             .build_bytes(alloc)
         {
             Ok(regex) => Ok(LineRegex { regex }),
-            Err(regex::Error::Syntax(_)) => Err(RegexError::BadPattern),
-            Err(regex::Error::Internal) => unreachable!(),
-            Err(_) => Err(RegexError::Memory),
+            Err(error) => Err(error_of(error)),
         }
     }
 
@@ -55,5 +56,18 @@ impl LineRegex {
     {
         let matcher = self.regex.matcher(alloc)?;
         Ok(LineMatcher::new(self.regex.as_str(), matcher))
+    }
+}
+
+/// What an error of `regex` says. A failed internal check is none: with so small tables there is no such error.
+fn error_of(error: regex::Error) -> RegexError
+    requires { error ≢ Internal }
+    ensures { result ≡ error_of error }
+{
+    match error {
+        regex::Error::Syntax(_) => RegexError::BadPattern,
+        regex::Error::CompiledTooBig => RegexError::TooBig,
+        regex::Error::Internal => unreachable!(),
+        regex::Error::OutOfMemory => RegexError::Memory,
     }
 }

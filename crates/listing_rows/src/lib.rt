@@ -1,8 +1,6 @@
 //! Reads folders of trees in memory, and writes the names and rows of their listings; and reads formats.
 #![tactic(auto)]
 
-ghost use Rattle.std.specs.Prelude.{◌≡◌, []};
-
 mod folders;
 mod formats;
 mod home;
@@ -13,32 +11,25 @@ mod wishes;
 pub use folders::put_things;
 use mem_tree::MemTree;
 use row_page::{Page, two_fields};
-use row_trees::fresh;
+use row_trees::{Blocks, tell_blocks};
 use tree_trait::Tree;
 
-/// Each block of rows with what comes of it, on a tree of its own. Before a line `listed` stands what is on its disk.
+/// Each block of rows with what comes of it. Before a line `listed` stands what is on its disk.
 pub fn tell_rows(page: &mut Page, blocks: &str) {
-    for block in blocks.split("\n\n") {
-        tell_block(page, block);
-        page.put("\n");
-    }
+    tell_blocks::<ListingBlocks>(page, blocks);
 }
 
-fn tell_block(page: &mut Page, block: &str) {
-    match fresh(page.alloc(), 0) {
-        Ok(mut tree) => tell_block_on(page, &mut tree, block),
-        Err(_error) => page.fail(),
-    }
-}
+/// Blocks of rows on listings and formats.
+struct ListingBlocks;
 
-fn tell_block_on(page: &mut Page, tree: &mut MemTree, block: &str)
-    requires { tree.old.log.changes ≡ [] }
-{
-    let (things, rows) = block.split_once("listed\n").unwrap_or((block, ""));
-    put_things(page, tree, things);
-    page.put(things);
-    page.put("listed\n");
-    tell_asked(page, tree, rows);
+impl Blocks for ListingBlocks {
+    fn tell(page: &mut Page, tree: &mut MemTree, block: &str) {
+        let (things, rows) = block.split_once("listed\n").unwrap_or((block, ""));
+        put_things(page, tree, things);
+        page.put(things);
+        page.put("listed\n");
+        tell_asked(page, tree, rows);
+    }
 }
 
 /// Each row with its answer.

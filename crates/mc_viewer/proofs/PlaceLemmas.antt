@@ -72,7 +72,7 @@ module _ (text : List ℕ) (some : 1 ≤ length text) where
   sought-some : (at : ℕ) (rest : List ℕ) → text_sought text at rest ≡ option_map_or At (first_place text at rest) Nowhere
   sought-some at rest = cond-false _ _ _ (ne_eqb (length text) 0 (λ none. omega (arith, none, some)))
 
-  pub sought-end : (at size : ℕ) (bytes : List ℕ) → length bytes ≡ size → size ≤ at → text_sought text at (drop at bytes) ≡ Nowhere
+  pub sought-end : (at size : ℕ) (bytes : List ℕ) → length bytes ≤ size → size ≤ at → text_sought text at (drop at bytes) ≡ Nowhere
   sought-end at size bytes size_is past =
       ap (text_sought text at) (drop_all at bytes (omega arith)) ∙ sought-some at [] ∙ ap (λ o. option_map_or At o Nowhere) (place-none at)
 

@@ -1,5 +1,5 @@
 -- What a search comes to, and where that leads.
-use Rattle.std.proofs.Common.{◌≡◌, ℕ, zero, suc, ◌+◌, ◌≤◌, true, false, List, [], length, drop, Result, Ok, Err, IfErr, refl, sym, ap, ◌∙◌, arith, ⊎_elim, inl, inr, ◌⊎◌}
+use Rattle.std.proofs.Common.{◌≡◌, ℕ, zero, suc, ◌+◌, ◌≤◌, true, false, List, [], length, drop, Result, Ok, Err, IfErr, IfOk, refl, sym, ap, ◌∙◌, arith, ⊎_elim, inl, inr, ◌⊎◌}
 use Rattle.std.proofs.lemmas.Bool.{cases_Bool, cond-true, cond-false, eq-eqb, ne_eqb}
 use Rattle.std.proofs.lemmas.List.{drop_all, drop-drop}
 use Rattle.line_search.specs.declared.sought.Sought.TheVariants.{Nowhere}
@@ -9,7 +9,7 @@ use Rattle.mc_viewer.specs.declared.error.ViewError.{ViewError}
 use Rattle.mc_viewer.specs.declared.error.ViewError.TheVariants as error
 use Rattle.mc_viewer.specs.declared.search.Search.{Search}
 use Rattle.mc_viewer.specs.declared.search.Search.TheVariants.{Plain, Regex}
-use Rattle.mc_viewer.specs.Viewing.{IsReadError}
+use Rattle.mc_viewer.specs.Viewing.{IsReadError, IfRead}
 use Rattle.mc_viewer.specs.Searches.{first_place, text_sought, sought, next_from, IsMissed, IsSearchError}
 
 -- a reading that failed says nothing of what is sought
@@ -28,6 +28,24 @@ read_error_search (Err error.Memory) h = tt
 read_error_search (Err error.NotFound) h = tt
 read_error_search (Err error.BadPattern) h = tt
 read_error_search (Err (error.LineTooLong line)) h = tt
+
+-- a reading that failed is no answer that comes of what was read
+pub unread : {B : Type 0} (P : Type 0) (r : Result B ViewError) → IfErr r IsReadError → IfOk r (λ _. P) → IfRead r P
+unread P (Ok x) h k = k
+unread P (Err (error.Tree e)) h k = tt
+unread P (Err error.Memory) h k = tt
+unread P (Err error.NotFound) h k = absurd h
+unread P (Err error.BadPattern) h k = absurd h
+unread P (Err (error.LineTooLong line)) h k = absurd h
+
+-- what was read once can be read, whatever comes of it
+pub once_read : {B : Type 0} (P : Type 0) (r : Result B ViewError) → P → IfRead r P
+once_read P (Ok x) h = h
+once_read P (Err (error.Tree e)) h = tt
+once_read P (Err error.Memory) h = tt
+once_read P (Err error.NotFound) h = h
+once_read P (Err error.BadPattern) h = h
+once_read P (Err (error.LineTooLong line)) h = h
 
 -- behind the end nothing is found: what is sought there is what is sought further on
 text-past : (text : List ℕ) (at : ℕ) (rest : List ℕ) → rest ≡ [] → text_sought text at rest ≡ Nowhere

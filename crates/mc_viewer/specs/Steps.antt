@@ -1,5 +1,5 @@
 -- Where a viewer stands, and where each step leads (own; mc(1) has the keys).
-use Rattle.std.specs.Prelude.{ℕ, ◌+◌, ◌-◌, ◌^◌, min, Bool, true, false, not, ◌&&◌, List, length, Option, None, if◌then◌else◌}
+use Rattle.std.specs.Prelude.{⊤, ℕ, ◌+◌, ◌-◌, ◌^◌, min, Bool, true, false, not, ◌&&◌, List, length, Option, None, if◌then◌else◌}
 use Rattle.mc_viewer.specs.declared.layout.Shape.{Shape}
 use Rattle.mc_viewer.specs.declared.layout.Shape.TheVariants.{Wrapped, Unwrapped, Hex}
 use Rattle.mc_viewer.specs.declared.layout.Layout.{Layout}
@@ -68,6 +68,13 @@ after_step bytes (step.Line line) s = to_byte bytes s (line_behind (line - 1) by
 after_step bytes (step.Byte byte) s = to_byte bytes s byte
 after_step bytes step.Wrap s = to_byte bytes (record s { wraps = not s.wraps }) s.top
 after_step bytes step.Hex s = to_byte bytes (record s { is_hex = not s.is_hex }) s.top
+
+-- a step that leads to the same place in every file
+abbrev pub NeedsNoLook : ViewStep → Type 0
+NeedsNoLook step.Home = ⊤
+NeedsNoLook step.Left = ⊤
+NeedsNoLook step.Right = ⊤
+NeedsNoLook other = ⊥
 
 -- a viewer: what is viewed, where it stands, and what was found last
 pub record Viewing : Type 0 where

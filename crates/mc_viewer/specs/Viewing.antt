@@ -1,5 +1,5 @@
 -- What is viewed: its bytes, where they are known, and why it can't be read.
-use Rattle.std.specs.Prelude.{◌≡◌, ◌≢◌, ℕ, ⊤, List, length, Option, Some, None}
+use Rattle.std.specs.Prelude.{◌≡◌, ◌≢◌, ◌≤◌, ℕ, Bool, true, false, ⊤, List, length, Option, Some, None, Result, Ok, Err}
 use Rattle.tree_trait.specs.declared.calls.TreeError.{TreeError}
 use Rattle.tree_trait.specs.declared.calls.TreeError.TheVariants as tree
 use Rattle.tree_trait.specs.Calls.{ReadAt}
@@ -17,9 +17,18 @@ held contents (Output bytes) = Some bytes
 held None (File path) = None
 held (Some log) (File path) = Some (node (current log) (found (current log) path)).bytes
 
+-- what a command put out, which no tree is asked for
+abbrev pub is_output : Subject → Bool
+is_output (Output bytes) = true
+is_output (File path) = false
+
 -- a fact on the bytes that are viewed, where they are known and so many
 abbrev pub IfHeld : Option CallLog → Subject → ℕ → (List ℕ → Type 0) → Type 0
 IfHeld contents subject size P = (bytes : List ℕ) → held contents subject ≡ Some bytes → length bytes ≡ size → P bytes
+
+-- the same, where they may be fewer than was said: the file shrank since
+abbrev pub IfShorter : Option CallLog → Subject → ℕ → (List ℕ → Type 0) → Type 0
+IfShorter contents subject size P = (bytes : List ℕ) → held contents subject ≡ Some bytes → length bytes ≤ size → P bytes
 
 -- the error for a call that the tree refused
 abbrev pub refused_with : TreeError → ViewError
@@ -49,3 +58,16 @@ IsReadError (LineTooLong at) = ⊥
 abbrev pub AsTheTreeSays : CallLog → Subject → ViewError → Type 0
 AsTheTreeSays log subject (Tree e) = IsRefused log subject e
 AsTheTreeSays log subject error = ⊤
+
+-- a fact on what a search has read, where its error comes of that: not where the reading failed
+abbrev pub OfReading : ViewError → Type 0 → Type 0
+OfReading (Tree e) P = ⊤
+OfReading Memory P = ⊤
+OfReading NotFound P = P
+OfReading BadPattern P = P
+OfReading (LineTooLong at) P = P
+
+-- a fact on what a search has read, wherever its answer comes of that
+abbrev pub IfRead : {A : Type 0} → Result A ViewError → Type 0 → Type 0
+IfRead (Ok x) P = P
+IfRead (Err e) P = OfReading e P

@@ -1,9 +1,9 @@
 //! Where each step leads.
-ghost use Rattle.std.specs.Prelude.{◌≡◌, ◌+◌, ◌-◌, ◌<◌, ◌≤◌, ◌^◌, length, IfOk, IfErr};
+ghost use Rattle.std.specs.Prelude.{◌≡◌, ◌+◌, ◌-◌, ◌<◌, ◌≤◌, ◌^◌, length, IsOk, IfOk, IfErr, true};
 ghost use Rattle.tree_trait.specs.Answers.{IfKnown, HasCause};
-ghost use Rattle.mc_viewer.specs.Viewing.{held, IfHeld, IsReadError, AsTheTreeSays};
+ghost use Rattle.mc_viewer.specs.Viewing.{held, IfHeld, IsReadError, AsTheTreeSays, is_output};
 ghost use Rattle.mc_viewer.specs.Rows.{all_rows, IsRow, rows_down, rows_up, line_behind};
-ghost use Rattle.mc_viewer.specs.Steps.{after_step, to_byte, down, up, to_end};
+ghost use Rattle.mc_viewer.specs.Steps.{after_step, to_byte, down, up, to_end, NeedsNoLook};
 
 use crate::error::ViewError;
 use crate::layout::Layout;
@@ -29,10 +29,12 @@ pub fn moved<T: Tree>(
     requires wide { 1 ≤ state.columns }
     ensures shown { IfKnown (held (T.contents tree.old) subject.now) (λ bytes.
         IfOk result (λ new. new ≡ after_step bytes step state)) }
+    ensures still { NeedsNoLook step → IsOk result × (tree.new ≡ tree.old) }
     ensures screen { IfOk result (λ new. (new.columns ≡ state.columns) × (new.lines ≡ state.lines)) }
     ensures refused { IfKnown (T.contents tree.old) (λ log. IfErr result (AsTheTreeSays log subject.now)) }
     ensures kinds { IfErr result IsReadError }
     ensures same { T.contents tree.new ≡ T.contents tree.old }
+    ensures apart { is_output subject.now ≡ true → tree.new ≡ tree.old }
     ensures cause { HasCause (ViewError.Tree TreeError.Fault) (T.fault_count tree.old) (T.fault_count tree.new) result }
 {
     match step {
@@ -66,6 +68,7 @@ fn to_byte<T: Tree>(
     ensures refused { IfKnown (T.contents tree.old) (λ log. IfErr result (AsTheTreeSays log subject.now)) }
     ensures kinds { IfErr result IsReadError }
     ensures same { T.contents tree.new ≡ T.contents tree.old }
+    ensures apart { is_output subject.now ≡ true → tree.new ≡ tree.old }
     ensures cause { HasCause (ViewError.Tree TreeError.Fault) (T.fault_count tree.old) (T.fault_count tree.new) result }
 {
     let size = size_of(alloc, tree, subject)?;
@@ -89,6 +92,7 @@ fn down<T: Tree>(
     ensures refused { IfKnown (T.contents tree.old) (λ log. IfErr result (AsTheTreeSays log subject.now)) }
     ensures kinds { IfErr result IsReadError }
     ensures same { T.contents tree.new ≡ T.contents tree.old }
+    ensures apart { is_output subject.now ≡ true → tree.new ≡ tree.old }
     ensures cause { HasCause (ViewError.Tree TreeError.Fault) (T.fault_count tree.old) (T.fault_count tree.new) result }
 {
     let size = size_of(alloc, tree, subject)?;
@@ -113,6 +117,7 @@ fn up<T: Tree>(
     ensures refused { IfKnown (T.contents tree.old) (λ log. IfErr result (AsTheTreeSays log subject.now)) }
     ensures kinds { IfErr result IsReadError }
     ensures same { T.contents tree.new ≡ T.contents tree.old }
+    ensures apart { is_output subject.now ≡ true → tree.new ≡ tree.old }
     ensures cause { HasCause (ViewError.Tree TreeError.Fault) (T.fault_count tree.old) (T.fault_count tree.new) result }
 {
     let size = size_of(alloc, tree, subject)?;
@@ -136,6 +141,7 @@ fn to_end<T: Tree>(
     ensures refused { IfKnown (T.contents tree.old) (λ log. IfErr result (AsTheTreeSays log subject.now)) }
     ensures kinds { IfErr result IsReadError }
     ensures same { T.contents tree.new ≡ T.contents tree.old }
+    ensures apart { is_output subject.now ≡ true → tree.new ≡ tree.old }
     ensures cause { HasCause (ViewError.Tree TreeError.Fault) (T.fault_count tree.old) (T.fault_count tree.new) result }
 {
     let size = size_of(alloc, tree, subject)?;
@@ -161,6 +167,7 @@ fn to_line<T: Tree>(
     ensures refused { IfKnown (T.contents tree.old) (λ log. IfErr result (AsTheTreeSays log subject.now)) }
     ensures kinds { IfErr result IsReadError }
     ensures same { T.contents tree.new ≡ T.contents tree.old }
+    ensures apart { is_output subject.now ≡ true → tree.new ≡ tree.old }
     ensures cause { HasCause (ViewError.Tree TreeError.Fault) (T.fault_count tree.old) (T.fault_count tree.new) result }
 {
     let size = size_of(alloc, tree, subject)?;
@@ -189,6 +196,7 @@ fn rows_down<T: Tree>(
     ensures refused { IfKnown (T.contents tree.old) (λ log. IfErr result (AsTheTreeSays log subject.now)) }
     ensures kinds { IfErr result IsReadError }
     ensures same { T.contents tree.new ≡ T.contents tree.old }
+    ensures apart { is_output subject.now ≡ true → tree.new ≡ tree.old }
     ensures cause { HasCause (ViewError.Tree TreeError.Fault) (T.fault_count tree.old) (T.fault_count tree.new) result }
 {
     let mut row = from;
@@ -215,6 +223,7 @@ fn rows_up<T: Tree>(
     ensures refused { IfKnown (T.contents tree.old) (λ log. IfErr result (AsTheTreeSays log subject.now)) }
     ensures kinds { IfErr result IsReadError }
     ensures same { T.contents tree.new ≡ T.contents tree.old }
+    ensures apart { is_output subject.now ≡ true → tree.new ≡ tree.old }
     ensures cause { HasCause (ViewError.Tree TreeError.Fault) (T.fault_count tree.old) (T.fault_count tree.new) result }
 {
     let mut row = from;

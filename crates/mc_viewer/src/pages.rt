@@ -1,7 +1,7 @@
 //! What a page shows, row by row.
-ghost use Rattle.std.specs.Prelude.{◌≡◌, ◌+◌, ◌<◌, ◌≤◌, ◌^◌, ◌-◌, length, map, take, drop, IfOk, IfErr};
+ghost use Rattle.std.specs.Prelude.{◌≡◌, ◌+◌, ◌<◌, ◌≤◌, ◌^◌, ◌-◌, length, map, take, drop, IfOk, IfErr, true};
 ghost use Rattle.tree_trait.specs.Answers.{IfKnown, HasCause};
-ghost use Rattle.mc_viewer.specs.Viewing.{held, IfHeld, IsReadable, IsReadError, AsTheTreeSays};
+ghost use Rattle.mc_viewer.specs.Viewing.{held, IfHeld, IsReadable, IsReadError, AsTheTreeSays, is_output};
 ghost use Rattle.mc_viewer.specs.Rows.{row_starts};
 ghost use Rattle.mc_viewer.specs.Pages.{shown_row, page_rows};
 
@@ -31,6 +31,7 @@ pub fn page_rows<T: Tree>(
     ensures refused { IfKnown (T.contents tree.old) (λ log. IfErr result (AsTheTreeSays log subject.now)) }
     ensures kinds { IfErr result IsReadError }
     ensures same { T.contents tree.new ≡ T.contents tree.old }
+    ensures apart { is_output subject.now ≡ true → tree.new ≡ tree.old }
     ensures cause { HasCause (ViewError.Tree TreeError.Fault) (T.fault_count tree.old) (T.fault_count tree.new) result }
 {
     let size = size_of(alloc, tree, subject)?;
@@ -56,6 +57,7 @@ fn rows_from<T: Tree>(
     ensures refused { IfKnown (T.contents tree.old) (λ log. IfErr result (AsTheTreeSays log subject.now)) }
     ensures kinds { IfErr result IsReadError }
     ensures same { T.contents tree.new ≡ T.contents tree.old }
+    ensures apart { is_output subject.now ≡ true → tree.new ≡ tree.old }
     ensures cause { HasCause (ViewError.Tree TreeError.Fault) (T.fault_count tree.old) (T.fault_count tree.new) result }
 {
     let mut rows = Rows::new(alloc);
@@ -89,6 +91,7 @@ fn shown_row<T: Tree>(
     ensures refused { IfKnown (T.contents tree.old) (λ log. IfErr result (AsTheTreeSays log subject.now)) }
     ensures kinds { IfErr result IsReadError }
     ensures same { T.contents tree.new ≡ T.contents tree.old }
+    ensures apart { is_output subject.now ≡ true → tree.new ≡ tree.old }
     ensures cause { HasCause (ViewError.Tree TreeError.Fault) (T.fault_count tree.old) (T.fault_count tree.new) result }
 {
     let count = window_bytes(layout, size - row);

@@ -1,7 +1,7 @@
 //! Where a search leads.
-ghost use Rattle.std.specs.Prelude.{◌≡◌, ◌≤◌, ◌^◌, Ok, IfOk, IfErr};
+ghost use Rattle.std.specs.Prelude.{◌≡◌, ◌≢◌, ◌≤◌, ◌^◌, None, Ok, Err, IfOk, IfErr, true};
 ghost use Rattle.tree_trait.specs.Answers.{IfKnown, HasCause};
-ghost use Rattle.mc_viewer.specs.Viewing.{held, IfHeld, IsReadable, IsReadError, AsTheTreeSays};
+ghost use Rattle.mc_viewer.specs.Viewing.{held, IfHeld, IfRead, IsReadable, IsReadError, AsTheTreeSays, is_output};
 ghost use Rattle.mc_viewer.specs.Steps.{to_byte};
 ghost use Rattle.mc_viewer.specs.Searches.{sought, start_from, first_from, next_from, landing, hit_landing, IsMissed, IsSearchError};
 
@@ -19,7 +19,7 @@ use std::alloc::Global;
 use tree_trait::{Tree, TreeError};
 
 /// Where a search from the top leads.
-#[tactic(auto, using(crate::proofs::SeekLemmas::missed_unread, crate::proofs::SeekLemmas::read_error_search))]
+#[tactic(auto, using(crate::proofs::SeekLemmas::missed_unread, crate::proofs::SeekLemmas::read_error_search, crate::proofs::SeekLemmas::unread, crate::proofs::SeekLemmas::once_read))]
 pub fn first_landing<T: Tree>(
     alloc: Global,
     tree: &mut T,
@@ -33,10 +33,11 @@ pub fn first_landing<T: Tree>(
     ensures missed { IfKnown (held (T.contents tree.old) subject.now) (λ bytes.
         IfErr result (IsMissed (landing what.now bytes state (first_from bytes state what.now)))) }
     ensures columns { IfOk result (λ l. l.state.columns ≡ state.columns) }
-    ensures readable { IfKnown (T.contents tree.old) (λ log. IfOk result (λ _. IsReadable log subject.now)) }
+    ensures readable { IfKnown (T.contents tree.old) (λ log. IfRead result (IsReadable log subject.now)) }
     ensures refused { IfKnown (T.contents tree.old) (λ log. IfErr result (AsTheTreeSays log subject.now)) }
     ensures kinds { IfErr result IsSearchError }
     ensures same { T.contents tree.new ≡ T.contents tree.old }
+    ensures apart { is_output subject.now ≡ true → tree.new ≡ tree.old }
     ensures cause { HasCause (ViewError.Tree TreeError.Fault) (T.fault_count tree.old) (T.fault_count tree.new) result }
 {
     let size = size_of(alloc, tree, subject)?;
@@ -63,6 +64,7 @@ fn search_start<T: Tree>(
     ensures refused { IfKnown (T.contents tree.old) (λ log. IfErr result (AsTheTreeSays log subject.now)) }
     ensures kinds { IfErr result IsReadError }
     ensures same { T.contents tree.new ≡ T.contents tree.old }
+    ensures apart { is_output subject.now ≡ true → tree.new ≡ tree.old }
     ensures cause { HasCause (ViewError.Tree TreeError.Fault) (T.fault_count tree.old) (T.fault_count tree.new) result }
 {
     match what {
@@ -83,7 +85,7 @@ fn lines_of(columns: u16) -> Layout
 }
 
 /// Where a search behind what was found last leads.
-#[tactic(auto, using(crate::proofs::SeekLemmas::missed_unread, crate::proofs::SeekLemmas::read_error_search))]
+#[tactic(auto, using(crate::proofs::SeekLemmas::missed_unread, crate::proofs::SeekLemmas::read_error_search, crate::proofs::SeekLemmas::unread, crate::proofs::SeekLemmas::once_read))]
 pub fn next_landing<T: Tree>(
     alloc: Global,
     tree: &mut T,
@@ -97,10 +99,12 @@ pub fn next_landing<T: Tree>(
     ensures missed { IfKnown (held (T.contents tree.old) subject.now) (λ bytes.
         IfErr result (IsMissed (hit_landing bytes state last.now))) }
     ensures columns { IfOk result (λ l. l.state.columns ≡ state.columns) }
-    ensures readable { IfKnown (T.contents tree.old) (λ log. IfOk result (λ _. IsReadable log subject.now)) }
+    ensures unsought { last.now ≡ None → (result ≡ Err ViewError.NotFound) × (tree.new ≡ tree.old) }
+    ensures readable { IfKnown (T.contents tree.old) (λ log. IfRead result (last.now ≢ None → IsReadable log subject.now)) }
     ensures refused { IfKnown (T.contents tree.old) (λ log. IfErr result (AsTheTreeSays log subject.now)) }
     ensures kinds { IfErr result IsSearchError }
     ensures same { T.contents tree.new ≡ T.contents tree.old }
+    ensures apart { is_output subject.now ≡ true → tree.new ≡ tree.old }
     ensures cause { HasCause (ViewError.Tree TreeError.Fault) (T.fault_count tree.old) (T.fault_count tree.new) result }
 {
     let Some(hit) = last else {
@@ -127,6 +131,7 @@ fn behind<T: Tree>(
     ensures refused { IfKnown (T.contents tree.old) (λ log. IfErr result (AsTheTreeSays log subject.now)) }
     ensures kinds { IfErr result IsReadError }
     ensures same { T.contents tree.new ≡ T.contents tree.old }
+    ensures apart { is_output subject.now ≡ true → tree.new ≡ tree.old }
     ensures cause { HasCause (ViewError.Tree TreeError.Fault) (T.fault_count tree.old) (T.fault_count tree.new) result }
 {
     if place >= size {
@@ -159,6 +164,7 @@ fn land<T: Tree>(
     ensures refused { IfKnown (T.contents tree.old) (λ log. IfErr result (AsTheTreeSays log subject.now)) }
     ensures kinds { IfErr result IsSearchError }
     ensures same { T.contents tree.new ≡ T.contents tree.old }
+    ensures apart { is_output subject.now ≡ true → tree.new ≡ tree.old }
     ensures cause { HasCause (ViewError.Tree TreeError.Fault) (T.fault_count tree.old) (T.fault_count tree.new) result }
 {
     match sought(alloc, tree, subject, size, what, from)? {
@@ -186,6 +192,7 @@ fn landed<T: Tree>(
     ensures refused { IfKnown (T.contents tree.old) (λ log. IfErr result (AsTheTreeSays log subject.now)) }
     ensures kinds { IfErr result IsReadError }
     ensures same { T.contents tree.new ≡ T.contents tree.old }
+    ensures apart { is_output subject.now ≡ true → tree.new ≡ tree.old }
     ensures cause { HasCause (ViewError.Tree TreeError.Fault) (T.fault_count tree.old) (T.fault_count tree.new) result }
 {
     let layout = layout_of(state);

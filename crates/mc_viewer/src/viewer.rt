@@ -1,9 +1,9 @@
 //! A viewer of a file or an output.
-ghost use Rattle.std.specs.Prelude.{◌≡◌, ◌≤◌, Ok, IfOk, IfErr, OnOk, OnErr};
+ghost use Rattle.std.specs.Prelude.{◌≡◌, ◌≢◌, ◌≤◌, None, Ok, Err, IsOk, IfOk, IfErr, OnOk, OnErr, true};
 ghost use Rattle.tree_trait.specs.Answers.{IfKnown, HasCause};
-ghost use Rattle.mc_viewer.specs.Viewing.{held, IsReadable, IsReadError, AsTheTreeSays};
+ghost use Rattle.mc_viewer.specs.Viewing.{held, IfRead, IsReadable, IsReadError, AsTheTreeSays, is_output};
 ghost use Rattle.mc_viewer.specs.Searches.{after_search, after_next, moved_on, IsMissed, IsSearchError};
-ghost use Rattle.mc_viewer.specs.Steps.{begun, page_of, after_step};
+ghost use Rattle.mc_viewer.specs.Steps.{begun, page_of, after_step, NeedsNoLook};
 
 use crate::error::ViewError;
 use crate::moves::moved;
@@ -54,6 +54,7 @@ impl Viewer {
         ensures refused { IfKnown (T.contents tree.old) (λ log. IfErr result (AsTheTreeSays log subject)) }
         ensures kinds { IfErr result IsReadError }
         ensures same { T.contents tree.new ≡ T.contents tree.old }
+        ensures apart { is_output subject ≡ true → tree.new ≡ tree.old }
         ensures cause { HasCause (ViewError.Tree TreeError.Fault) (T.fault_count tree.old) (T.fault_count tree.new) result }
     {
         size_of(alloc, tree, &subject)?;
@@ -80,6 +81,7 @@ impl Viewer {
         ensures refused { IfKnown (T.contents tree.old) (λ log. IfErr result (AsTheTreeSays log self.now.subject)) }
         ensures kinds { IfErr result IsReadError }
         ensures same { T.contents tree.new ≡ T.contents tree.old }
+        ensures apart { is_output self.now.subject ≡ true → tree.new ≡ tree.old }
         ensures cause { HasCause (ViewError.Tree TreeError.Fault) (T.fault_count tree.old) (T.fault_count tree.new) result }
     {
         page_rows(
@@ -92,7 +94,7 @@ impl Viewer {
         )
     }
 
-    /// Makes a step. A refused one leaves the viewer where it stood.
+    /// Makes a step. A refused one leaves the viewer where it stood; one that needs no look makes none.
     pub fn go<T: Tree>(
         &mut self,
         alloc: Global,
@@ -104,9 +106,11 @@ impl Viewer {
         ensures subject { self.new.subject ≡ self.old.subject }
         ensures last { self.new.last ≡ self.old.last }
         ensures stays { OnErr result (self.new ≡ self.old) }
+        ensures still { NeedsNoLook step → IsOk result × (tree.new ≡ tree.old) }
         ensures refused { IfKnown (T.contents tree.old) (λ log. IfErr result (AsTheTreeSays log self.old.subject)) }
         ensures kinds { IfErr result IsReadError }
         ensures same { T.contents tree.new ≡ T.contents tree.old }
+        ensures apart { is_output self.old.subject ≡ true → tree.new ≡ tree.old }
         ensures cause { HasCause (ViewError.Tree TreeError.Fault) (T.fault_count tree.old) (T.fault_count tree.new) result }
     {
         let state = moved(alloc, tree, &self.subject, self.state, step)?;
@@ -114,8 +118,8 @@ impl Viewer {
         Ok(())
     }
 
-    /// Searches from the top on. A search that fails leaves the viewer where it stood, and what was found before is still the
-    /// last.
+    /// Searches from the top on. What can't be read is refused before anything is sought. A search that fails leaves the viewer
+    /// where it stood, and what was found before is still the last.
     pub fn search<T: Tree>(
         &mut self,
         alloc: Global,
@@ -128,10 +132,11 @@ impl Viewer {
             IfErr result (IsMissed (after_search bytes what self.old))) }
         ensures subject { self.new.subject ≡ self.old.subject }
         ensures stays { OnErr result (self.new ≡ self.old) }
-        ensures readable { IfKnown (T.contents tree.old) (λ log. IfOk result (λ _. IsReadable log self.old.subject)) }
+        ensures readable { IfKnown (T.contents tree.old) (λ log. IfRead result (IsReadable log self.old.subject)) }
         ensures refused { IfKnown (T.contents tree.old) (λ log. IfErr result (AsTheTreeSays log self.old.subject)) }
         ensures kinds { IfErr result IsSearchError }
         ensures same { T.contents tree.new ≡ T.contents tree.old }
+        ensures apart { is_output self.old.subject ≡ true → tree.new ≡ tree.old }
         ensures cause { HasCause (ViewError.Tree TreeError.Fault) (T.fault_count tree.old) (T.fault_count tree.new) result }
     {
         let landing = first_landing(alloc, tree, &self.subject, self.state, &what)?;
@@ -143,7 +148,7 @@ impl Viewer {
         Ok(())
     }
 
-    /// Searches once more, behind what was found last. Before that nothing is found.
+    /// Searches once more, behind what was found last. Before that nothing is found, and nothing is looked at.
     pub fn next<T: Tree>(&mut self, alloc: Global, tree: &mut T) -> Result<(), ViewError>
         ensures found { IfKnown (held (T.contents tree.old) self.old.subject) (λ bytes.
             OnOk result (after_next bytes self.old ≡ Ok self.new)) }
@@ -151,10 +156,13 @@ impl Viewer {
             IfErr result (IsMissed (after_next bytes self.old))) }
         ensures subject { self.new.subject ≡ self.old.subject }
         ensures stays { OnErr result (self.new ≡ self.old) }
-        ensures readable { IfKnown (T.contents tree.old) (λ log. IfOk result (λ _. IsReadable log self.old.subject)) }
+        ensures unsought { self.old.last ≡ None → (result ≡ Err ViewError.NotFound) × (tree.new ≡ tree.old) }
+        ensures readable { IfKnown (T.contents tree.old) (λ log.
+            IfRead result (self.old.last ≢ None → IsReadable log self.old.subject)) }
         ensures refused { IfKnown (T.contents tree.old) (λ log. IfErr result (AsTheTreeSays log self.old.subject)) }
         ensures kinds { IfErr result IsSearchError }
         ensures same { T.contents tree.new ≡ T.contents tree.old }
+        ensures apart { is_output self.old.subject ≡ true → tree.new ≡ tree.old }
         ensures cause { HasCause (ViewError.Tree TreeError.Fault) (T.fault_count tree.old) (T.fault_count tree.new) result }
     {
         let landing = next_landing(alloc, tree, &self.subject, self.state, &self.last)?;

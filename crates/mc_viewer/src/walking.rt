@@ -1,7 +1,7 @@
 //! The rows of what is viewed: where each ends, and which holds a byte.
-ghost use Rattle.std.specs.Prelude.{◌≡◌, ℕ, ◌+◌, ◌-◌, ◌<◌, ◌≤◌, ◌^◌, min, max, length, drop, IfOk, IfErr};
+ghost use Rattle.std.specs.Prelude.{◌≡◌, ℕ, ◌+◌, ◌-◌, ◌<◌, ◌≤◌, ◌^◌, min, max, length, drop, IfOk, IfErr, true};
 ghost use Rattle.tree_trait.specs.Answers.{IfKnown, HasCause};
-ghost use Rattle.mc_viewer.specs.Viewing.{IfHeld, IsReadError, AsTheTreeSays};
+ghost use Rattle.mc_viewer.specs.Viewing.{IfHeld, IsReadError, AsTheTreeSays, is_output};
 ghost use Rattle.mc_viewer.specs.Rows.{row_length, all_rows, row_holding, row_after, IsRow};
 
 use crate::error::ViewError;
@@ -32,6 +32,7 @@ pub fn row_end<T: Tree>(
     ensures refused { IfKnown (T.contents tree.old) (λ log. IfErr result (AsTheTreeSays log subject.now)) }
     ensures kinds { IfErr result IsReadError }
     ensures same { T.contents tree.new ≡ T.contents tree.old }
+    ensures apart { is_output subject.now ≡ true → tree.new ≡ tree.old }
     ensures cause { HasCause (ViewError.Tree TreeError.Fault) (T.fault_count tree.old) (T.fault_count tree.new) result }
 {
     match layout.shape {
@@ -61,6 +62,7 @@ fn wrapped_end<T: Tree>(
     ensures refused { IfKnown (T.contents tree.old) (λ log. IfErr result (AsTheTreeSays log subject.now)) }
     ensures kinds { IfErr result IsReadError }
     ensures same { T.contents tree.new ≡ T.contents tree.old }
+    ensures apart { is_output subject.now ≡ true → tree.new ≡ tree.old }
     ensures cause { HasCause (ViewError.Tree TreeError.Fault) (T.fault_count tree.old) (T.fault_count tree.new) result }
 {
     let columns = columns as usize;
@@ -96,6 +98,7 @@ pub fn row_holding<T: Tree>(
     ensures refused { IfKnown (T.contents tree.old) (λ log. IfErr result (AsTheTreeSays log subject.now)) }
     ensures kinds { IfErr result IsReadError }
     ensures same { T.contents tree.new ≡ T.contents tree.old }
+    ensures apart { is_output subject.now ≡ true → tree.new ≡ tree.old }
     ensures cause { HasCause (ViewError.Tree TreeError.Fault) (T.fault_count tree.old) (T.fault_count tree.new) result }
 {
     if size == 0 {
@@ -123,6 +126,7 @@ fn row_before<T: Tree>(
     ensures refused { IfKnown (T.contents tree.old) (λ log. IfErr result (AsTheTreeSays log subject.now)) }
     ensures kinds { IfErr result IsReadError }
     ensures same { T.contents tree.new ≡ T.contents tree.old }
+    ensures apart { is_output subject.now ≡ true → tree.new ≡ tree.old }
     ensures cause { HasCause (ViewError.Tree TreeError.Fault) (T.fault_count tree.old) (T.fault_count tree.new) result }
 {
     match shape {
@@ -155,6 +159,7 @@ fn walk<T: Tree>(
     ensures refused { IfKnown (T.contents tree.old) (λ log. IfErr result (AsTheTreeSays log subject.now)) }
     ensures kinds { IfErr result IsReadError }
     ensures same { T.contents tree.new ≡ T.contents tree.old }
+    ensures apart { is_output subject.now ≡ true → tree.new ≡ tree.old }
     ensures cause { HasCause (ViewError.Tree TreeError.Fault) (T.fault_count tree.old) (T.fault_count tree.new) result }
 {
     let mut row = from;
@@ -192,6 +197,7 @@ pub fn row_below<T: Tree>(
     ensures refused { IfKnown (T.contents tree.old) (λ log. IfErr result (AsTheTreeSays log subject.now)) }
     ensures kinds { IfErr result IsReadError }
     ensures same { T.contents tree.new ≡ T.contents tree.old }
+    ensures apart { is_output subject.now ≡ true → tree.new ≡ tree.old }
     ensures cause { HasCause (ViewError.Tree TreeError.Fault) (T.fault_count tree.old) (T.fault_count tree.new) result }
 {
     if size == 0 {

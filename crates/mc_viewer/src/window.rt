@@ -1,9 +1,9 @@
 //! What a search comes to, over pieces of what is viewed.
-ghost use Rattle.std.specs.Prelude.{◌≡◌, ◌≤◌, ◌<◌, ◌^◌, ◌+◌, length, drop, IfOk, IfErr, IfSome};
+ghost use Rattle.std.specs.Prelude.{◌≡◌, ◌≤◌, ◌<◌, ◌^◌, ◌+◌, length, drop, IfOk, IfErr, IfSome, true};
 ghost use Rattle.tree_trait.specs.Answers.{IfKnown, HasCause};
 ghost use Rattle.memchr.specs.Find.{FindsNeedle};
 ghost use Rattle.line_search.specs.Lines.{in_lines, lines_sought};
-ghost use Rattle.mc_viewer.specs.Viewing.{IfHeld, IsReadError, AsTheTreeSays};
+ghost use Rattle.mc_viewer.specs.Viewing.{IfShorter, IsReadError, AsTheTreeSays, is_output};
 ghost use Rattle.mc_viewer.specs.Searches.{sought, text_sought};
 
 use crate::error::ViewError;
@@ -29,11 +29,12 @@ pub fn sought<T: Tree>(
     from: u64,
 ) -> Result<Sought, ViewError>
     requires small { size ≤ 2 ^ 63 }
-    ensures shown { IfHeld (T.contents tree.old) subject.now size (λ bytes.
+    ensures shown { IfShorter (T.contents tree.old) subject.now size (λ bytes.
         IfOk result (λ found. found ≡ sought what.now bytes from)) }
     ensures refused { IfKnown (T.contents tree.old) (λ log. IfErr result (AsTheTreeSays log subject.now)) }
     ensures kinds { IfErr result IsReadError }
     ensures same { T.contents tree.new ≡ T.contents tree.old }
+    ensures apart { is_output subject.now ≡ true → tree.new ≡ tree.old }
     ensures cause { HasCause (ViewError.Tree TreeError.Fault) (T.fault_count tree.old) (T.fault_count tree.new) result }
 {
     match what {
@@ -52,11 +53,12 @@ fn text_sought<T: Tree>(
     from: u64,
 ) -> Result<Sought, ViewError>
     requires small { size ≤ 2 ^ 63 }
-    ensures shown { IfHeld (T.contents tree.old) subject.now size (λ bytes.
+    ensures shown { IfShorter (T.contents tree.old) subject.now size (λ bytes.
         IfOk result (λ found. found ≡ text_sought text.now from (drop from bytes))) }
     ensures refused { IfKnown (T.contents tree.old) (λ log. IfErr result (AsTheTreeSays log subject.now)) }
     ensures kinds { IfErr result IsReadError }
     ensures same { T.contents tree.new ≡ T.contents tree.old }
+    ensures apart { is_output subject.now ≡ true → tree.new ≡ tree.old }
     ensures cause { HasCause (ViewError.Tree TreeError.Fault) (T.fault_count tree.old) (T.fault_count tree.new) result }
 {
     if text.is_empty() {
@@ -87,11 +89,12 @@ fn through_pieces<T: Tree>(
     requires width { width ≡ length finder.now }
     requires some { 1 ≤ width }
     requires narrow { width ≤ 2 ^ 63 }
-    ensures shown { IfHeld (T.contents tree.old) subject.now size (λ bytes.
+    ensures shown { IfShorter (T.contents tree.old) subject.now size (λ bytes.
         IfOk result (λ found. found ≡ text_sought finder.now from (drop from bytes))) }
     ensures refused { IfKnown (T.contents tree.old) (λ log. IfErr result (AsTheTreeSays log subject.now)) }
     ensures kinds { IfErr result IsReadError }
     ensures same { T.contents tree.new ≡ T.contents tree.old }
+    ensures apart { is_output subject.now ≡ true → tree.new ≡ tree.old }
     ensures cause { HasCause (ViewError.Tree TreeError.Fault) (T.fault_count tree.old) (T.fault_count tree.new) result }
 {
     let mut at = from;
@@ -124,16 +127,18 @@ fn lines_sought<T: Tree>(
     from: u64,
 ) -> Result<Sought, ViewError>
     requires small { size ≤ 2 ^ 63 }
-    ensures shown { IfHeld (T.contents tree.old) subject.now size (λ bytes.
+    ensures shown { IfShorter (T.contents tree.old) subject.now size (λ bytes.
         IfOk result (λ found. found ≡ lines_sought text.now from (drop from bytes))) }
     ensures refused { IfKnown (T.contents tree.old) (λ log. IfErr result (AsTheTreeSays log subject.now)) }
     ensures kinds { IfErr result IsReadError }
     ensures same { T.contents tree.new ≡ T.contents tree.old }
+    ensures apart { is_output subject.now ≡ true → tree.new ≡ tree.old }
     ensures cause { HasCause (ViewError.Tree TreeError.Fault) (T.fault_count tree.old) (T.fault_count tree.new) result }
 {
     match LineRegex::new(alloc, text) {
         Ok(regex) => regex_sought(alloc, tree, subject, size, &regex, from),
         Err(RegexError::BadPattern) => Ok(Sought::NoPattern),
+        Err(RegexError::TooBig) => Err(ViewError::Memory),
         Err(RegexError::Memory) => Err(ViewError::Memory),
     }
 }
@@ -148,11 +153,12 @@ fn regex_sought<T: Tree>(
     from: u64,
 ) -> Result<Sought, ViewError>
     requires small { size ≤ 2 ^ 63 }
-    ensures shown { IfHeld (T.contents tree.old) subject.now size (λ bytes.
+    ensures shown { IfShorter (T.contents tree.old) subject.now size (λ bytes.
         IfOk result (λ found. found ≡ in_lines regex.now from 0 (drop from bytes))) }
     ensures refused { IfKnown (T.contents tree.old) (λ log. IfErr result (AsTheTreeSays log subject.now)) }
     ensures kinds { IfErr result IsReadError }
     ensures same { T.contents tree.new ≡ T.contents tree.old }
+    ensures apart { is_output subject.now ≡ true → tree.new ≡ tree.old }
     ensures cause { HasCause (ViewError.Tree TreeError.Fault) (T.fault_count tree.old) (T.fault_count tree.new) result }
 {
     let mut matcher = regex.matcher(alloc)?;
@@ -169,11 +175,12 @@ fn through_lines<T: Tree>(
     from: u64,
 ) -> Result<Sought, ViewError>
     requires small { size ≤ 2 ^ 63 }
-    ensures shown { IfHeld (T.contents tree.old) subject.now size (λ bytes.
+    ensures shown { IfShorter (T.contents tree.old) subject.now size (λ bytes.
         IfOk result (λ found. found ≡ in_lines matcher.old from 0 (drop from bytes))) }
     ensures refused { IfKnown (T.contents tree.old) (λ log. IfErr result (AsTheTreeSays log subject.now)) }
     ensures kinds { IfErr result IsReadError }
     ensures same { T.contents tree.new ≡ T.contents tree.old }
+    ensures apart { is_output subject.now ≡ true → tree.new ≡ tree.old }
     ensures cause { HasCause (ViewError.Tree TreeError.Fault) (T.fault_count tree.old) (T.fault_count tree.new) result }
 {
     let mut at = from;

@@ -1,8 +1,6 @@
 //! Works commands on the two panels of trees in memory, and writes what they come to.
 #![tactic(auto)]
 
-ghost use Rattle.std.specs.Prelude.{◌≡◌, []};
-
 mod commands;
 mod frames;
 mod telling;
@@ -13,34 +11,27 @@ use mc_text::Path;
 use mem_tree::MemTree;
 use panel_pair::Panels;
 use row_page::{Page, two_fields};
-use row_trees::fresh;
+use row_trees::{Blocks, tell_blocks};
 use telling::{tell_panels, tell_unopened};
 use tree_trait::Tree;
 
-/// Each block of rows with what comes of it, on a tree of its own. Before a line `opened` stands what is on its disk, and behind
-/// it the folders of both panels.
+/// Each block of rows with what comes of it. Before a line `opened` stands what is on its disk, and behind it the folders of both
+/// panels.
 pub fn tell_rows(page: &mut Page, blocks: &str) {
-    for block in blocks.split("\n\n") {
-        tell_block(page, block);
-        page.put("\n");
-    }
+    tell_blocks::<PairBlocks>(page, blocks);
 }
 
-fn tell_block(page: &mut Page, block: &str) {
-    match fresh(page.alloc(), 0) {
-        Ok(mut tree) => tell_block_on(page, &mut tree, block),
-        Err(_error) => page.fail(),
-    }
-}
+/// Blocks of rows on two panels.
+struct PairBlocks;
 
-fn tell_block_on(page: &mut Page, tree: &mut MemTree, block: &str)
-    requires { tree.old.log.changes ≡ [] }
-{
-    let (things, rows) = block.split_once("opened ").unwrap_or((block, ""));
-    put_things(page, tree, things);
-    page.put(things);
-    let (folders, rows) = two_fields(rows, '\n');
-    tell_opened(page, tree, folders, rows);
+impl Blocks for PairBlocks {
+    fn tell(page: &mut Page, tree: &mut MemTree, block: &str) {
+        let (things, rows) = block.split_once("opened ").unwrap_or((block, ""));
+        put_things(page, tree, things);
+        page.put(things);
+        let (folders, rows) = two_fields(rows, '\n');
+        tell_opened(page, tree, folders, rows);
+    }
 }
 
 /// The panels of two folders, and each row with what it comes to.

@@ -8,6 +8,7 @@ use Rattle.mc_viewer.proofs.lines.line_behind.Goals as goal
 pub loop-start-preserved : goal.loop-start-preserved
 loop-start-preserved g c = record {
   same = c.in_ok-piece.ensures.same ∙ c.loop-start.invariant.same;
+  apart = λ out. c.in_ok-piece.ensures.apart out ∙ c.loop-start.invariant.apart out;
   later = omega (arith, c.in_ok-piece.ensures.cause.later, c.loop-start.invariant.later);
   within = omega (arith, c.min-start.ensures);
   way = λ bytes known size_is.

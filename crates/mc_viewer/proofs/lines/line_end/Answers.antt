@@ -15,6 +15,7 @@ returns-in-Some-clause-shown g c = λ bytes known size_is.
 pub loop-end-preserved : goal.loop-end-preserved
 loop-end-preserved g c = record {
   same = c.in_ok-piece.ensures.same ∙ c.loop-end.invariant.same;
+  apart = λ out. c.in_ok-piece.ensures.apart out ∙ c.loop-end.invariant.apart out;
   later = omega (arith, c.in_ok-piece.ensures.cause.later, c.loop-end.invariant.later);
   from = omega (arith, c.min-end.ensures, c.loop-end.invariant.from, c.requires.inside);
   within = omega (arith, c.min-end.ensures);

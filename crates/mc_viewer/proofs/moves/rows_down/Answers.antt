@@ -8,6 +8,7 @@ use Rattle.mc_viewer.proofs.moves.rows_down.Goals as goal
 pub loop-preserved : goal.loop-preserved
 loop-preserved g c = record {
   same = c.in_ok-row.ensures.same ∙ c.loop.invariant.same;
+  apart = λ out. c.in_ok-row.ensures.apart out ∙ c.loop.invariant.apart out;
   later = omega (arith, c.in_ok-row.ensures.cause.later, c.loop.invariant.later);
   inside = c.in_ok-row.ensures.within;
   here = λ bytes known size_is first.

@@ -1,12 +1,13 @@
 -- What is left of the way leads there; each place is a row.
-use Rattle.std.proofs.Common.{◌≡◌, ◌≤◌, ◌-◌}
-use Rattle.mc_viewer.specs.Viewing.{IfHeld}
+use Rattle.std.proofs.Common.{◌≡◌, ◌≤◌, ◌-◌, true}
+use Rattle.mc_viewer.specs.Viewing.{IfHeld, is_output}
 use Rattle.mc_viewer.specs.Rows.{all_rows, IsRow, rows_down}
 use Rattle.mc_viewer.proofs.moves.rows_down.Given as goal
 
 abbrev pub invariant-loop : goal.invariant-loop
 invariant-loop g l = record {
   same : g.T.Tree.contents l.tree ≡ g.T.Tree.contents l.fn.tree;
+  apart : is_output l.subject ≡ true → l.tree ≡ l.fn.tree;
   later : g.T.Tree.fault_count l.fn.tree ≤ g.T.Tree.fault_count l.tree;
   inside : l.row ≤ l.size - 1;
   here : IfHeld (g.T.Tree.contents l.fn.tree) l.subject l.size (λ bytes.

@@ -8,6 +8,7 @@ use Rattle.mc_viewer.proofs.moves.rows_up.Goals as goal
 pub loop-preserved : goal.loop-preserved
 loop-preserved g c = record {
   same = c.in_ok-row.ensures.same ∙ c.loop.invariant.same;
+  apart = λ out. c.in_ok-row.ensures.apart out ∙ c.loop.invariant.apart out;
   later = omega (arith, c.in_ok-row.ensures.cause.later, c.loop.invariant.later);
   way = λ bytes known size_is.
       let shape = c.args.layout.shape in

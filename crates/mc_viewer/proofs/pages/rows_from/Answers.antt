@@ -10,6 +10,7 @@ use Rattle.mc_viewer.proofs.pages.rows_from.Goals as goal
 pub loop-row-preserved : goal.loop-row-preserved
 loop-row-preserved g c = record {
   same = c.in_ok-row.ensures.same ∙ c.in_ok-shown_row.ensures.same ∙ c.loop-row.invariant.same;
+  apart = λ out. c.in_ok-row.ensures.apart out ∙ c.in_ok-shown_row.ensures.apart out ∙ c.loop-row.invariant.apart out;
   later = omega (arith, c.in_ok-row.ensures.cause.later, c.in_ok-shown_row.ensures.cause.later, c.loop-row.invariant.later);
   all = λ bytes known size_is.
       let still = ap (λ t. held t c.args.subject.now) c.loop-row.invariant.same ∙ known in

@@ -1,6 +1,6 @@
 -- The rows so far, and those that are left, are all rows.
-use Rattle.std.proofs.Common.{◌≡◌, ◌≤◌, ◌-◌, ◌++◌, map, take, drop}
-use Rattle.mc_viewer.specs.Viewing.{IfHeld}
+use Rattle.std.proofs.Common.{◌≡◌, ◌≤◌, ◌-◌, ◌++◌, map, take, drop, true}
+use Rattle.mc_viewer.specs.Viewing.{IfHeld, is_output}
 use Rattle.mc_viewer.specs.Rows.{row_starts}
 use Rattle.mc_viewer.specs.Pages.{shown_row}
 use Rattle.mc_viewer.proofs.pages.rows_from.Given as goal
@@ -8,6 +8,7 @@ use Rattle.mc_viewer.proofs.pages.rows_from.Given as goal
 abbrev pub invariant-loop-row : goal.invariant-loop-row
 invariant-loop-row g l = record {
   same : g.T.Tree.contents l.tree ≡ g.T.Tree.contents l.fn.tree;
+  apart : is_output l.subject ≡ true → l.tree ≡ l.fn.tree;
   later : g.T.Tree.fault_count l.fn.tree ≤ g.T.Tree.fault_count l.tree;
   all : IfHeld (g.T.Tree.contents l.fn.tree) l.subject l.size (λ bytes.
       l.rows ++ map (shown_row l.layout bytes) (take l.left (row_starts l.layout.shape l.layout.columns l.row 0 (drop l.row bytes)))

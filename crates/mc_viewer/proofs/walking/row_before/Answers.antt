@@ -21,5 +21,6 @@ returns-in_default g c = record {
   refused = c.line_begin.ensures.refused;
   kinds = c.line_begin.ensures.kinds;
   same = c.line_begin.ensures.same;
+  apart = c.line_begin.ensures.apart;
   cause = c.line_begin.ensures.cause;
 }

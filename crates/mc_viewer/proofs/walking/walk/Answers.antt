@@ -19,6 +19,7 @@ returns-then-end-size-clause-shown g c = λ bytes known size_is first.
 pub loop-end-preserved : goal.loop-end-preserved
 loop-end-preserved g c = record {
   same = c.in_ok-end.ensures.same ∙ c.loop-end.invariant.same;
+  apart = λ out. c.in_ok-end.ensures.apart out ∙ c.loop-end.invariant.apart out;
   later = omega (arith, c.in_ok-end.ensures.cause.later, c.loop-end.invariant.later);
   inside = omega (arith, c.in_ok-end.ensures.within);
   before = omega arith;

@@ -1,5 +1,5 @@
 -- A part says what its lines come to.
-use Rattle.std.proofs.Common.{◌≡◌, length, drop, ap, sym, ◌∙◌, arith, length-take, length-drop}
+use Rattle.std.proofs.Common.{◌≡◌, [], length, drop, ap, sym, ◌∙◌, arith, length-take, length-drop}
 use Rattle.std.proofs.lemmas.Bool.{eqb-true}
 use Rattle.std.proofs.lemmas.List.{drop_all}
 use Rattle.line_search.specs.Lines.{in_lines}
@@ -27,6 +27,7 @@ returns-in-TooLong-clause-shown g c = λ bytes known size_is.
 pub loop-at-preserved : goal.loop-at-preserved
 loop-at-preserved g c = record {
   same = c.in_ok-part.ensures.same ∙ c.loop-at.invariant.same;
+  apart = λ out. c.in_ok-part.ensures.apart out ∙ c.loop-at.invariant.apart out;
   later = omega (arith, c.in_ok-part.ensures.cause.later, c.loop-at.invariant.later);
   keeps = c.in-Passed.ensures.same ∙ c.loop-at.invariant.keeps;
   left = λ bytes known size_is.
@@ -46,4 +47,5 @@ returns-then-is_empty-clause-shown g c = λ bytes known size_is.
     let still = ap (λ t. held t c.args.subject.now) c.loop-at.invariant.same ∙ known in
     let shown = c.as_slice-lines.ensures.value ∙ c.in_ok-part.ensures.shown bytes still in
     let none : length c.as_slice-lines.result.now ≡ 0 = eqb-true (length c.as_slice-lines.result.now) 0 (sym c.is_empty.ensures ∙ c.if-is_empty.true) in
-    absurd (omega (arith, none, ap length shown, length-take 1048577 (drop c.loop-at.at bytes), length-drop c.loop-at.at bytes, c.loop-at-test.true, size_is))
+    let past : drop c.loop-at.at bytes ≡ [] = drop_all c.loop-at.at bytes (omega (arith, none, ap length shown, length-take 1048577 (drop c.loop-at.at bytes), length-drop c.loop-at.at bytes)) in
+    sym (in_lines-past c.args.matcher.now c.loop-at.at (drop c.loop-at.at bytes) past) ∙ c.loop-at.invariant.left bytes known size_is

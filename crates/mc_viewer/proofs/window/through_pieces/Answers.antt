@@ -15,6 +15,7 @@ returns-in-Some-clause-shown g c = λ bytes known size_is.
 pub loop-at-preserved : goal.loop-at-preserved
 loop-at-preserved g c = record {
   same = c.in_ok-piece.ensures.same ∙ c.loop-at.invariant.same;
+  apart = λ out. c.in_ok-piece.ensures.apart out ∙ c.loop-at.invariant.apart out;
   later = omega (arith, c.in_ok-piece.ensures.cause.later, c.loop-at.invariant.later);
   left = λ bytes known size_is.
       let still = ap (λ t. held t c.args.subject.now) c.loop-at.invariant.same ∙ known in

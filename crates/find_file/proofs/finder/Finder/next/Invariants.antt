@@ -1,9 +1,9 @@
--- Steps that tell nothing leave all that is to be found, and fewer steps.
+-- Steps that tell nothing leave all that is to be told, and fewer steps.
 use Rattle.std.proofs.Common.{◌≡◌, ◌≤◌}
 use Rattle.std.specs.Prelude.{Some}
 use Rattle.tree_trait.specs.Change.{CallLog, current}
 use Rattle.find_file.specs.Walks.{left_in, rank}
-use Rattle.find_file.specs.Telling.{IsOver}
+use Rattle.find_file.specs.Telling.{IsOver, Leads}
 use Rattle.find_file.proofs.finder.Finder.next.Given as goal
 
 abbrev pub invariant-loop-found : goal.invariant-loop-found
@@ -11,9 +11,10 @@ invariant-loop-found g l = record {
   same : g.T.Tree.contents l.tree ≡ g.T.Tree.contents l.fn.tree;
   later : g.T.Tree.fault_count l.fn.tree ≤ g.T.Tree.fault_count l.tree;
   over : IsOver l.fn.self.walk → IsOver l.self.walk;
+  apart : IsOver l.fn.self.walk → l.tree ≡ l.fn.tree;
   search : l.self.search ≡ l.fn.self.search;
   left : (log : CallLog) → g.T.Tree.contents l.fn.tree ≡ Some log
-      → left_in (current log) l.fn.self.search l.self.walk ≡ left_in (current log) l.fn.self.search l.fn.self.walk;
+      → Leads (left_in (current log) l.fn.self.search l.fn.self.walk) (left_in (current log) l.fn.self.search l.self.walk);
 }
 
 abbrev pub decreases-loop-found : goal.decreases-loop-found

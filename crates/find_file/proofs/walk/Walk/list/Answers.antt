@@ -14,7 +14,7 @@ returns-in-Err-clause-answer g c = λ log tells.
 pub returns-in-Err-clause-works : goal.returns-in-Err-clause-works
 returns-in-Err-clause-works g c =
     works-refused (ListTask c.args.folder) c.args.self.now c.refused.new.self (g.T.Tree.fault_count c.args.tree.now) (g.T.Tree.fault_count c.list.new.self) Children c.in-Err.error c.refused.result
-    c.in-Err.ensures.cause c.refused.ensures.told
+    c.in-Err.ensures.cause c.refused.ensures.told c.refused.ensures.waits c.requires
 
 pub returns-in-Ok-clause-answer : goal.returns-in-Ok-clause-answer
 returns-in-Ok-clause-answer g c = λ log tells.
@@ -26,4 +26,4 @@ returns-in-Ok-clause-answer g c = λ log tells.
 pub returns-in-Ok-clause-works : goal.returns-in-Ok-clause-works
 returns-in-Ok-clause-works g c =
     works-enters c.args.search.now c.args.self.now c.enter.new.self c.args.folder c.in-Ok.children.names c.enter.result (g.T.Tree.fault_count c.args.tree.now) (g.T.Tree.fault_count c.list.new.self)
-    c.in-Ok.ensures.cause.later c.enter.ensures.entered c.enter.ensures.few
+    c.in-Ok.ensures.cause.later c.enter.ensures.entered c.enter.ensures.waits c.enter.ensures.few

@@ -1,5 +1,5 @@
 -- What the matcher finds is what the text means.
-use Rattle.std.proofs.Common.{◌≡◌, List, Some, option_map, sym, ap, ◌∙◌}
+use Rattle.std.proofs.Common.{◌≡◌, Some, option_map, sym, ap, ◌∙◌}
 use Rattle.regex.specs.declared.bytes.matcher.Match.{Match}
 use Rattle.regex.specs.Bytes.{matcher_pattern}
 use Rattle.line_search.specs.Lines.{line_place}

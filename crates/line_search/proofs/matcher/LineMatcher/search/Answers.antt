@@ -1,5 +1,5 @@
 -- A line is searched where it ends within the part; what is found in none of them is sought behind them.
-use Rattle.std.proofs.Common.{◌≡◌, ◌-◌, ◌+◌, Some, None, length, take, drop, refl, ap, subst, ◌∙◌, arith, length-drop}
+use Rattle.std.proofs.Common.{◌≡◌, Some, None, length, take, drop, refl, ap, subst, ◌∙◌, arith, length-drop}
 use Rattle.std.specs.Prelude.{nat_lt}
 use Rattle.line_search.specs.Lines.{first_line, line_place}
 use Rattle.line_search.specs.Parts.{IsLine}
