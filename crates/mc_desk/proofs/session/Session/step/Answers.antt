@@ -1,8 +1,8 @@
 -- A step is written down as it was made; a closed desk's job never waits.
-use Rattle.std.proofs.Common.{rules, ◌≡◌, ◌+◌, ◌^◌, ◌≤◌, ◌||◌, Option, None, Some, List, refl, ap, sym, ◌∙◌, ◌∷◌, ◌<◌, length, subst, true, false, arith}
-use Rattle.std.specs.Prelude.{if◌then◌else◌}
+use Rattle.std.proofs.Common.{rules, Result, Ok, Err, ◌≡◌, ◌+◌, ◌^◌, ◌≤◌, ◌||◌, Option, None, Some, List, refl, ap, sym, ◌∙◌, ◌∷◌, ◌<◌, length, subst, true, false, arith}
+use Rattle.std.specs.Prelude.{if◌then◌else◌, OnOk, is_err}
 use Rattle.std.specs.Option.{option_map}
-use Rattle.std.proofs.lemmas.Bool.{both_ways}
+use Rattle.std.proofs.lemmas.Bool.{both_ways, true≢false}
 use Rattle.mc_text.specs.Routes.{Route}
 use Rattle.job_reports.specs.declared.report.Did.TheVariants.{Ended}
 use Rattle.job_reports.specs.declared.report.Ending.TheVariants.{NoMemory}
@@ -47,6 +47,11 @@ invariant_of-self-then-is_err g c =
       spawner = c.self.invariant.spawner;
     }
 
+-- what holds where a call wasn't refused
+not_refused : {T E P : Type 0} (r : Result T E) → is_err r ≡ false → OnOk r P → P
+not_refused (Ok x) done on = on
+not_refused (Err e) done on = absurd (true≢false done)
+
 pub invariant_of-self-2 : goal.invariant_of-self-2
 invariant_of-self-2 g c =
     let inside = c.self.inside in
@@ -59,10 +64,11 @@ invariant_of-self-2 g c =
     let more : c.note-2.new.self.newest ≡ entry c.args.seat calls count 0 (Step c.in-Some.job.id did) ∷ inside.log.newest =
     c.note-2.ensures.added ∙ (ap (λ n. entry c.args.seat calls count 0 (Step n did) ∷ c.reserve.new.self.newest) c.id-id.ensures
     ∙ ap (λ es. entry c.args.seat calls count 0 (Step c.in-Some.job.id did) ∷ es) c.reserve.ensures.same) in
-    let had : 3 ≤ c.reserve.new.self.spare = search rules in
+    let granted : is_err c.reserve.result ≡ false = sym c.is_err.ensures.value ∙ c.if-is_err.false in
+    let had : 3 ≤ c.reserve.new.self.spare = not_refused c.reserve.result granted c.reserve.ensures.room in
     let kept = c.note-2.ensures.room in
     let room : 2 ≤ c.note-2.new.self.spare = omega (arith, had, kept) in
-    let bounded : length c.reserve.new.self.newest + 3 ≤ 2 ^ 56 = search rules in
+    let bounded : length c.reserve.new.self.newest + 3 ≤ 2 ^ 56 = not_refused c.reserve.result granted c.reserve.ensures.bounded in
     let fits : length inside.log.newest + 3 ≤ 2 ^ 56 = subst (λ es. length es + 3 ≤ 2 ^ 56) c.reserve.ensures.same bounded in
     let job : c.left.result ≡ if_closed inside.standing.closed (if ends did then None else Some c.step-did.new.self) =
     c.left.ensures ∙ ap (λ b. if_closed inside.standing.closed (if b then None else Some c.step-did.new.self)) c.is_end-ended.ensures in
