@@ -455,6 +455,50 @@ def check_dirty_folder(program, base, check):
         check(f"{what} has its box", b"r Retry  b Abort" in told)
 
 
+def check_folders(program, base, check):
+    """A folder is deleted with all that lies in it, and nothing that its links lead to."""
+    beside, folder = os.path.join(base, "beside"), os.path.join(base, "folders")
+    os.mkdir(beside)
+    make_file(os.path.join(beside, "x"), 3, 0o600)
+    before = facts(os.path.join(beside, "x"))
+    for number in range(10):
+        inner = os.path.join(folder, "top", f"漢字 {number}", "in")
+        os.makedirs(inner)
+        for at in range(18):
+            make_file(os.path.join(inner, f"f{at}"), at, (at * 0o25) & 0o755)
+        os.symlink(os.path.join(beside, "x"), os.path.join(inner, "link"))
+        os.symlink(beside, os.path.join(inner, "way"))
+        os.mkfifo(os.path.join(inner, "pipe"))
+        os.chmod(os.path.join(folder, "top", f"漢字 {number}"), 0o700 | number)
+    make_file(os.path.join(folder, "u"), 1, 0o644)
+    status, _, same = run(program, [folder], [DOWN, F8, F10, F10])
+    check("a box that is shut deletes no folder", status == 0 and same and sorted(os.listdir(folder)) == ["top", "u"])
+    status, _, same = run(program, [folder], [DOWN, F8, ENTER, F10])
+    check("a folder is deleted with all that lies in it", status == 0 and same and os.listdir(folder) == ["u"])
+    check("what its links lead to stays", os.listdir(beside) == ["x"] and facts(os.path.join(beside, "x")) == before)
+
+
+def check_kept_folder(program, base, check):
+    """What can't be removed is asked about; where it is skipped, it stays with the folders around it, and all else goes."""
+    user = None
+    if os.geteuid() == 0:  # root may remove all
+        user = SOMEBODY
+        program = for_somebody(program, base)
+    folder = os.path.join(base, "kept")
+    top, shut, other = (os.path.join(folder, "top", *names) for names in ([], ["m"], ["z"]))
+    for inner in (shut, other):
+        os.makedirs(inner)
+        make_file(os.path.join(inner, "x"), 2, 0o644)
+    make_file(os.path.join(top, "a"), 2, 0o644)
+    os.chmod(shut, 0o500)
+    if user is not None:
+        for path in (folder, top, shut, other):
+            os.chown(path, user, user)
+    status, told, same = run(program, [folder], [DOWN, F8, ENTER, b"s", F10], user=user)
+    check("what can't be removed is asked about", b"permission denied" in told and os.fsencode(os.path.join(shut, "x")) in told)
+    check("what is skipped stays, with the folders around it", status == 0 and same and os.listdir(top) == ["m"] and os.listdir(shut) == ["x"])
+
+
 def check_part_left(program, base, check):
     """A part that can't be removed is told; a message is closed by Enter, not by F10."""
     user = None
@@ -546,11 +590,8 @@ def main():
         check("the file is deleted", os.listdir(folder) == [])
         check("the terminal is as it was", same)
 
-        os.mkdir(os.path.join(base, "b"))
-        os.mkdir(os.path.join(base, "b", "d"))
-        status, _, _ = run(program, [os.path.join(base, "b")], [DOWN, F8, ENTER, F10])
-        check("a folder is not deleted", status == 0 and os.path.isdir(os.path.join(base, "b", "d")))
-
+        check_folders(program, base, check)
+        check_kept_folder(program, base, check)
         check_copies(program, base, check)
         check_frames(program, base, check)
         check_panels(program, base, check)
