@@ -329,10 +329,7 @@ def check_panels(program, base, check):
 
 def check_closed_folder(program, base, check):
     """A folder that may not be read is refused, over the panel as it was."""
-    user = None
-    if os.geteuid() == 0:  # root may read all
-        user = SOMEBODY
-        program = for_somebody(program, base)
+    user, program = for_somebody(program, base)
     top = os.path.join(base, "closed")
     os.makedirs(os.path.join(top, "in"))
     os.chmod(os.path.join(top, "in"), 0o700)
@@ -358,19 +355,18 @@ def check_long_path(program, base, check):
 
 
 def for_somebody(program, base):
-    """The program where somebody else may run it."""
+    """Somebody as whom the program runs where this is root, who may read and remove all; and the program where he may run it."""
+    if os.geteuid() != 0:
+        return None, program
     os.chmod(base, 0o755)
     copy = shutil.copy(program, os.path.join(base, "program"))
     os.chmod(copy, 0o755)
-    return copy
+    return SOMEBODY, copy
 
 
 def check_set_id_bits(program, base, check):
     """The system takes set-id bits from a file at a write by somebody who isn't root."""
-    user = None
-    if os.geteuid() == 0:
-        user = SOMEBODY
-        program = for_somebody(program, base)
+    user, program = for_somebody(program, base)
     for mode in (0o4755, 0o2755, 0o6711):
         folders = [os.path.join(base, f"{side}{mode:o}") for side in "st"]
         for folder in folders:
@@ -432,10 +428,7 @@ def check_signals(starter, base, check):
 
 def check_dirty_folder(program, base, check):
     """A folder that may be changed and not read can't be synced: what an aborted deletion left there comes first."""
-    user = None
-    if os.geteuid() == 0:  # root may read all
-        user = SOMEBODY
-        program = for_somebody(program, base)
+    user, program = for_somebody(program, base)
 
     for name, mode, left in [("left", 0o300, ["y"]), ("mended", 0o700, [])]:
         folder = os.path.join(base, name)
@@ -480,10 +473,7 @@ def check_folders(program, base, check):
 
 def check_kept_folder(program, base, check):
     """What can't be removed is asked about; where it is skipped, it stays with the folders around it, and all else goes."""
-    user = None
-    if os.geteuid() == 0:  # root may remove all
-        user = SOMEBODY
-        program = for_somebody(program, base)
+    user, program = for_somebody(program, base)
     folder = os.path.join(base, "kept")
     top, shut, other = (os.path.join(folder, "top", *names) for names in ([], ["m"], ["z"]))
     for inner in (shut, other):
@@ -501,10 +491,7 @@ def check_kept_folder(program, base, check):
 
 def check_part_left(program, base, check):
     """A part that can't be removed is told; a message is closed by Enter, not by F10."""
-    user = None
-    if os.geteuid() == 0:  # root may remove all
-        user = SOMEBODY
-        program = for_somebody(program, base)
+    user, program = for_somebody(program, base)
     source, target = (os.path.join(base, f"{side} of a part") for side in ("source", "target"))
     file = os.path.join(source, "x")
     os.mkdir(source)
