@@ -1,0 +1,6 @@
+mod Beginnings
+mod Counting
+mod Fallings
+mod InPlaces
+mod Placed
+mod TakenUp

@@ -1,0 +1,55 @@
+-- What a step does with what it takes up.
+use Rattle.std.proofs.Common.{◌≡◌, ℕ, refl, sym, ◌∙◌, subst, inl, inr, false, Option, Some, None}
+use Rattle.std.specs.Prelude.{◌⊎◌}
+use Rattle.mc_text.specs.Routes.{Route}
+use Rattle.tree_trait.specs.Change.{CallLog, current}
+use Rattle.tree_trait.specs.Answers.{IfKnown}
+use Rattle.job_reports.specs.declared.job.Pair.{Pair}
+use Rattle.job_reports.specs.declared.report.Trouble.{Trouble}
+use Rattle.job_reports.specs.declared.report.Did.TheVariants as common
+use Rattle.job_reports.specs.Stops.{out_of_memory_at}
+use Rattle.file_copy.specs.Copying as file
+use Rattle.file_copy.specs.PartNames.{IsChosen}
+use Rattle.tree_copy.specs.declared.due.Due.TheVariants.{Thing}
+use Rattle.tree_copy.specs.declared.looking.Taken.TheVariants as taken
+use Rattle.tree_copy.specs.declared.item.Item.{Item}
+use Rattle.tree_copy.specs.declared.item.Item.TheVariants.{Next}
+use Rattle.tree_copy.specs.declared.report.CopyDid.{CopyDid}
+use Rattle.tree_copy.specs.declared.report.CopyStep.{CopyStep}
+use Rattle.tree_copy.specs.declared.report.CopyDid.TheVariants.{Common}
+use Rattle.tree_copy.specs.Standing.{Seen, due}
+use Rattle.tree_copy.specs.Steps.{Advances, AdvancesNext, GoesOn, Leaves, LinkWorks, RunsOut, WhyStopped, WorksOn, link_begun}
+use Rattle.tree_copy.specs.Taking.{IsInReach, IsTaken}
+
+module _ (unclaimed : Route → Type 0) (old new : Seen) (did : CopyDid) (before mid after : Option CallLog) (same : mid ≡ before) where
+  pub ran_out : RunsOut old new did mid after → GoesOn unclaimed old new did before after
+  ran_out out = inl record { trouble = out_of_memory_at false; says = out.0; why = inr (inr (inr refl)); apart = refl; same = out.2 ∙ same; stands = out.1 }
+
+  -- looks were stopped
+  pub stopped_so : (t : Trouble) → WhyStopped unclaimed old t before → did ≡ Common (common.Troubled t) → t.barrier ≡ false → after ≡ mid → new ≡ old → GoesOn unclaimed old new did before after
+  stopped_so t why says apart made stands = inl record { trouble = t; says = says; why = why; apart = apart; same = made ∙ same; stands = stands }
+
+  module _ (pair : Pair) (next : due old ≡ Thing pair) (reach : IsInReach old.levels.left (Thing pair)) where
+    pub took_link : (part : Route) → IfKnown before (λ log. IsTaken (current log) pair taken.Link)
+        → IfKnown before (λ log. IsChosen (current log) unclaimed (file.places old.job pair.source pair.target) part)
+        → RunsOut old new did mid after ⊎ LinkWorks (link_begun pair part) old new did mid after → GoesOn unclaimed old new did before after
+    took_link part is chosen (inl out) = ran_out out
+    took_link part is chosen (inr works) = inr (inr (inl record {
+      pair = pair;
+      part = part;
+      next = next;
+      reach = reach;
+      is = is;
+      chosen = chosen;
+      works = subst (λ (x : Option CallLog). LinkWorks (link_begun pair part) old new did x after) same works;
+    }))
+
+-- where nothing is at work, a piece of a step is one of any
+pub next_advances : (unclaimed : Route → Type 0) (old new : Seen) (i : Item) (r : Option CopyStep) (before after : Option CallLog) (f0 f1 : ℕ) → old.item ≡ Next → i ≡ Next
+    → AdvancesNext unclaimed (record old { item = i }) new r before after f0 f1 → Advances unclaimed old new r before after f0 f1
+next_advances unclaimed old new i None before after f0 f1 free is a = (free, subst (λ (j : Item). Leaves (record old { item = j }) new) (is ∙ sym free) a.0, a.1, a.2)
+next_advances unclaimed old new i (Some stepped) before after f0 f1 free is a = (
+  subst (λ (j : Item). WorksOn j unclaimed old new stepped.did before after) (sym free)
+      (subst (λ (j : Item). GoesOn unclaimed (record old { item = j }) new stepped.did before after) (is ∙ sym free) a.0),
+  a.1,
+)

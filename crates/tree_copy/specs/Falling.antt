@@ -1,0 +1,57 @@
+-- Each thing that is decided leaves fewer.
+use Rattle.std.specs.Prelude.{◌≡◌, ◌<◌, ◌≤◌, ℕ, ⊤, Bool, true, false, List, [], ◌∷◌, length, Option}
+use Rattle.mc_text.specs.Routes.{Route}
+use Rattle.tree_trait.specs.Change.{CallLog}
+use Rattle.job_reports.specs.declared.report.Did.TheVariants as common
+use Rattle.folder_copy.specs.declared.stage.Stage.{Stage}
+use Rattle.folder_copy.specs.declared.stage.Stage.TheVariants.{Make, Fill, Close, Done}
+use Rattle.subtree_walk.specs.Ranks.{rank}
+use Rattle.tree_copy.specs.declared.item.Item.{Item}
+use Rattle.tree_copy.specs.declared.item.Item.TheVariants.{Next, File, Link, Stays}
+use Rattle.tree_copy.specs.declared.level.Level.{Level}
+use Rattle.tree_copy.specs.declared.report.CopyDid.{CopyDid}
+use Rattle.tree_copy.specs.declared.report.CopyDid.TheVariants.{Common, Set}
+use Rattle.tree_copy.specs.Levels.{Levels, walked}
+use Rattle.tree_copy.specs.Standing.{Seen}
+use Rattle.tree_copy.specs.Steps.{CopySteps}
+
+-- a file or a link at work has the next name
+abbrev pub HasName : Item → Levels → Type 0
+HasName Next l = ⊤
+HasName (File f) l = 1 ≤ length l.inner.names.names
+HasName (Link k) l = 1 ≤ length l.inner.names.names
+HasName (Stays part) l = ⊤
+
+-- a folder that is open stands at its target
+abbrev pub is_made : Stage → Bool
+is_made (Make mode) = false
+is_made (Fill owed) = true
+is_made (Close owed) = true
+is_made Done = true
+
+abbrev pub AllMade : Level → List Level → Type 0
+AllMade inner [] = is_made inner.copy.stage ≡ true
+AllMade inner (outer ∷ around) = (is_made inner.copy.stage ≡ true) × AllMade outer around
+
+-- what holds of a copy that was begun by `new`, and after each step of it
+pub record IsSteady (c : Seen) : Type 0 where
+  pub named : HasName c.item c.levels
+  pub made : AllMade c.levels.inner c.levels.around
+
+-- how many steps the walk has left at most, whatever the tree lists
+abbrev pub things_left : Seen → ℕ
+things_left c = rank (walked c.levels)
+
+-- a thing was placed, or a folder made
+abbrev pub decides : CopyDid → Bool
+decides (Common (common.Placed path)) = true
+decides (Common (common.Made path)) = true
+decides (Common did) = false
+decides (Set path) = false
+
+-- No step leaves more things, and each that places a thing or makes a folder leaves fewer.
+abbrev pub FallingLaw : Type 0
+FallingLaw =
+    (free : Route → Bool) (old new : Seen) (did : CopyDid) (calls : ℕ) (before after : Option CallLog) (faults faults_after : ℕ)
+    → CopySteps (λ path. free path ≡ true) old new did calls before after faults faults_after → IsSteady old
+    → IsSteady new × (things_left new ≤ things_left old) × (decides did ≡ true → things_left new < things_left old)

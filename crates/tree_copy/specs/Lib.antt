@@ -1,0 +1,11 @@
+pub mod Levels
+pub mod Progress
+pub mod Reports
+pub mod Standing
+pub mod Steps
+pub mod Taking
+pub mod Skipping
+pub mod Beginning
+pub mod Ending
+pub mod Falling
+pub mod InPlace

@@ -1,0 +1,272 @@
+-- What a step of a tree's copy reports, where the copy stands then, and what it says of the tree's calls. The copies of a file, of a link
+-- and of a folder itself say each what their steps may report and call; here stands which of them is at work, on which paths, and when.
+use Rattle.std.specs.Prelude.{◌≡◌, ◌⊎◌, ℕ, suc, zero, ◌^◌, ◌≤◌, ⊤, Bool, true, false, List, [], length, Option, Some, None}
+use Rattle.mc_text.specs.Routes.{Route}
+use Rattle.tree_trait.specs.Change.{CallLog, current}
+use Rattle.tree_trait.specs.Answers.{IfKnown, HasRisen, IsAscending}
+use Rattle.job_reports.specs.declared.job.Pair.{Pair}
+use Rattle.job_reports.specs.declared.report.Trouble.{Trouble}
+use Rattle.job_reports.specs.declared.report.Did.{Did}
+use Rattle.job_reports.specs.declared.report.Did.TheVariants as common
+use Rattle.job_reports.specs.declared.report.Ending.TheVariants.{Finished}
+use Rattle.job_reports.specs.CallRuns.{HasMore}
+use Rattle.job_reports.specs.Stops.{out_of_memory_at}
+use Rattle.file_copy.specs.Copying as file
+use Rattle.file_copy.specs.Copying.{Copying}
+use Rattle.file_copy.specs.CopyCalls.{CopyCalls}
+use Rattle.file_copy.specs.CopySteps.{Falls as FileFalls}
+use Rattle.file_copy.specs.LastSteps.{left_at}
+use Rattle.file_copy.specs.PartNames.{IsChosen, NameStops}
+use Rattle.file_copy.specs.declared.stage.FolderState.TheVariants as names_state
+use Rattle.link_copy.specs.LinkCopying as link
+use Rattle.link_copy.specs.LinkCopying.{LinkCopying}
+use Rattle.link_copy.specs.LinkSteps.{Falls as LinkFalls, LinkCalls}
+use Rattle.link_copy.specs.declared.stage.Stage.{Stage as LinkStage}
+use Rattle.link_copy.specs.declared.stage.Stage.TheVariants as link_stage
+use Rattle.folder_copy.specs.FolderCopying as folder
+use Rattle.folder_copy.specs.FolderCopying.{FolderCopying}
+use Rattle.folder_copy.specs.FolderSteps.{Falls as FolderFalls, FolderCalls}
+use Rattle.folder_copy.specs.declared.stage.FolderDid.{FolderDid}
+use Rattle.folder_copy.specs.declared.stage.Stage.TheVariants as folder_stage
+use Rattle.folder_copy.specs.declared.stage.NamesState.TheVariants as folder_names
+use Rattle.subtree_walk.specs.Places.{opened}
+use Rattle.tree_copy.specs.declared.due.Due.TheVariants.{End, Thing}
+use Rattle.tree_copy.specs.declared.item.Item.{Item}
+use Rattle.tree_copy.specs.declared.item.Item.TheVariants.{Next, File, Link, Stays}
+use Rattle.tree_copy.specs.declared.looking.Taken.TheVariants as taken
+use Rattle.tree_copy.specs.declared.progress.Progress.{Progress}
+use Rattle.tree_copy.specs.declared.progress.Progress.TheVariants.{UnderWay, Decided, Anew}
+use Rattle.tree_copy.specs.declared.report.CopyDid.{CopyDid}
+use Rattle.tree_copy.specs.declared.report.CopyDid.TheVariants.{Common}
+use Rattle.tree_copy.specs.declared.report.CopyStep.{CopyStep}
+use Rattle.tree_copy.specs.Levels.{IsLeft, closed, dirtied, made_levels, owes, passed, with_copy}
+use Rattle.tree_copy.specs.Progress.{link_progress, progress}
+use Rattle.tree_copy.specs.Reports.{IsFault, IsToldAs}
+use Rattle.tree_copy.specs.Standing.{Seen, after_report, due}
+use Rattle.tree_copy.specs.Taking.{DueStops, IsInReach, IsTaken, LooksStop}
+
+-- a step can be made: no part is left that could not be removed
+abbrev pub IsWorkable : Item → Type 0
+IsWorkable Next = ⊤
+IsWorkable (File f) = left_at f.stage ≡ None
+IsWorkable (Link l) = (link_progress l.stage ≡ UnderWay) × (link.is_ready l.stage l.folder ≡ true)
+IsWorkable (Stays part) = ⊥
+
+-- the part of a link's copy was not tried in vain to be removed
+abbrev pub stays_ready : LinkStage → Bool
+stays_ready link_stage.Left = false
+stays_ready link_stage.Make = true
+stays_ready link_stage.Place = true
+stays_ready (link_stage.Clean follows) = true
+stays_ready link_stage.Again = true
+stays_ready link_stage.Decided = true
+
+-- The copy of a file or a link goes on while its part stands; what is decided is passed; what is to be begun again is taken up anew.
+abbrev pub settled : Progress → Item → Seen → Seen
+settled UnderWay item c = record c { item = item }
+settled Decided item c = record c { levels = passed false c.levels }
+settled Anew item c = c
+
+-- a name in the target of the folder that is worked was changed, if one was, and this was reported
+abbrev pub noted : CopyDid → Bool → Seen → Seen
+noted did changed c = record c { stage = after_report did c.stage; levels = dirtied changed c.levels }
+
+-- where the copy stands after a step of a file's copy
+abbrev pub after_file : CopyDid → Copying → Seen → Seen
+after_file did f c = settled (progress f.stage) (File f) (noted did (file.is_dirty f.folder) c)
+
+-- where the copy stands after a step of a link's copy
+abbrev pub after_link : CopyDid → LinkCopying → Seen → Seen
+after_link did l c = settled (link_progress l.stage) (Link l) (noted did (link.is_dirty l.folder) c)
+
+-- nothing is at work yet
+abbrev pub idle : Seen → Seen
+idle c = record c { item = Next }
+
+-- a step of this file's copy
+pub record FileWorks (unclaimed : Route → Type 0) (f : Copying) (old new : Seen) (did : CopyDid) (before after : Option CallLog) : Type 0 where
+  pub moved : Copying
+  pub report : Did
+  pub says : did ≡ Common report
+  pub tells : file.Tells f report moved
+  pub called : IfKnown before (λ log. CopyCalls unclaimed f report moved log after)
+  pub falls : FileFalls report f moved
+  pub stands : new ≡ after_file did moved (idle old)
+
+-- a step of this link's copy
+pub record LinkWorks (l : LinkCopying) (old new : Seen) (did : CopyDid) (before after : Option CallLog) : Type 0 where
+  pub moved : LinkCopying
+  pub report : Did
+  pub says : did ≡ Common report
+  pub tells : link.Tells l report moved
+  pub called : IfKnown before (λ log. LinkCalls l report log after)
+  pub falls : LinkFalls report l moved
+  pub stands : new ≡ after_link did moved (idle old)
+
+-- a file is taken up
+pub record TakesFile (unclaimed : Route → Type 0) (old new : Seen) (did : CopyDid) (before after : Option CallLog) : Type 0 where
+  pub pair : Pair
+  pub next : due old ≡ Thing pair
+  pub reach : IsInReach old.levels.left (Thing pair)
+  pub is : IfKnown before (λ log. IsTaken (current log) pair taken.File)
+  pub works : FileWorks unclaimed (file.begun old.job pair.source pair.target) old new did before after
+
+-- the copy of the link at these paths, by way of this part
+abbrev pub link_begun : Pair → Route → LinkCopying
+link_begun pair part = link.copying (link.places pair.source pair.target part) link_stage.Make names_state.Synced
+
+-- a link is taken up; its part has the first name that is free
+pub record TakesLink (unclaimed : Route → Type 0) (old new : Seen) (did : CopyDid) (before after : Option CallLog) : Type 0 where
+  pub pair : Pair
+  pub part : Route
+  pub next : due old ≡ Thing pair
+  pub reach : IsInReach old.levels.left (Thing pair)
+  pub is : IfKnown before (λ log. IsTaken (current log) pair taken.Link)
+  pub chosen : IfKnown before (λ log. IsChosen (current log) unclaimed (file.places old.job pair.source pair.target) part)
+  pub works : LinkWorks (link_begun pair part) old new did before after
+
+-- a folder is made, and gone into
+pub record FolderMakes (pair : Pair) (names : List (List ℕ)) (mode : ℕ) (old new : Seen) (did : CopyDid) (before after : Option CallLog) : Type 0 where
+  pub few : length names ≤ 2 ^ 64
+  pub moved : FolderCopying
+  pub report : FolderDid
+  pub says : IsToldAs report did
+  pub tells : folder.Tells (folder.copying pair.source pair.target (folder_stage.Make mode) folder_names.Synced) report moved
+  pub called : IfKnown before (λ log. FolderCalls (folder.copying pair.source pair.target (folder_stage.Make mode) folder_names.Synced) report log after)
+  pub stands : new ≡ record old { stage = after_report did old.stage; levels = made_levels moved.stage (opened pair.source names) moved old.levels }
+
+-- a folder is taken up
+pub record TakesFolder (old new : Seen) (did : CopyDid) (before after : Option CallLog) : Type 0 where
+  pub pair : Pair
+  pub names : List (List ℕ)
+  pub mode : ℕ
+  pub next : due old ≡ Thing pair
+  pub reach : IsInReach old.levels.left (Thing pair)
+  pub is : IfKnown before (λ log. IsTaken (current log) pair (taken.Folder names mode))
+  pub in_order : IsAscending names
+  pub works : FolderMakes pair names mode old new did before after
+
+-- a step at a folder whose children are decided
+pub record FolderEnds (old new : Seen) (did : CopyDid) (before after : Option CallLog) : Type 0 where
+  pub moved : FolderCopying
+  pub report : FolderDid
+  pub says : IsToldAs report did
+  pub tells : folder.Tells old.levels.inner.copy report moved
+  pub called : IfKnown before (λ log. FolderCalls old.levels.inner.copy report log after)
+  pub falls : FolderFalls report old.levels.inner.copy moved
+  pub stands : new ≡ record old { stage = after_report did old.stage; levels = with_copy moved old.levels }
+
+-- all is copied or was left, and synced
+pub record Finishes (old new : Seen) (did : CopyDid) : Type 0 where
+  pub last : old.levels.around ≡ []
+  pub says : did ≡ Common (common.Ended Finished None)
+  pub stands : new ≡ old
+
+-- where the copy stands once the children of the folder that is worked are decided
+abbrev pub at_end : Seen → Seen
+at_end c = record c { levels = closed c.levels }
+
+-- the folder still owes something: its mode, or its sync
+abbrev pub has_debt : Seen → Bool
+has_debt c = owes c.levels.inner.copy.stage c.levels.inner.copy.names
+
+-- at the end of a folder comes what it owes, and then, where it is the outermost, the end of all
+abbrev pub WorksAtEnd : Seen → Seen → CopyDid → Option CallLog → Option CallLog → Type 0
+WorksAtEnd old new did before after =
+    (due old ≡ End)
+    × (((has_debt (at_end old) ≡ true) × FolderEnds (at_end old) new did before after)
+    ⊎ ((has_debt (at_end old) ≡ false) × Finishes (at_end old) new did × (after ≡ before)))
+
+-- A thing can't be taken up: it is out of reach; a look at it is stopped; it is a link for whose part there is no name; or there is no
+-- memory.
+abbrev pub WhyStopped : (Route → Type 0) → Seen → Trouble → Option CallLog → Type 0
+WhyStopped unclaimed c t before =
+    DueStops c t
+    ⊎ ((pair : Pair) × (due c ≡ Thing pair) × IsInReach c.levels.left (Thing pair) × IfKnown before (λ log. LooksStop (current log) pair t))
+    ⊎ ((pair : Pair) × (due c ≡ Thing pair) × IsInReach c.levels.left (Thing pair)
+    × IfKnown before (λ log. IsTaken (current log) pair taken.Link × NameStops (current log) unclaimed (file.places c.job pair.source pair.target) t.cause t.path))
+    ⊎ (t ≡ out_of_memory_at false)
+
+-- a trouble before any call that changes the tree
+pub record Stops (unclaimed : Route → Type 0) (old new : Seen) (did : CopyDid) (before after : Option CallLog) : Type 0 where
+  pub trouble : Trouble
+  pub says : did ≡ Common (common.Troubled trouble)
+  pub why : WhyStopped unclaimed old trouble before
+  pub apart : trouble.barrier ≡ false
+  pub same : after ≡ before
+  pub stands : new ≡ old
+
+-- What a step does with the next name, or the end of a folder.
+abbrev pub GoesOn : (Route → Type 0) → Seen → Seen → CopyDid → Option CallLog → Option CallLog → Type 0
+GoesOn unclaimed old new did before after =
+    Stops unclaimed old new did before after
+    ⊎ TakesFile unclaimed old new did before after
+    ⊎ TakesLink unclaimed old new did before after
+    ⊎ TakesFolder old new did before after
+    ⊎ WorksAtEnd old new did before after
+
+-- What a step does, by what is at work.
+abbrev pub WorksOn : Item → (Route → Type 0) → Seen → Seen → CopyDid → Option CallLog → Option CallLog → Type 0
+WorksOn Next unclaimed old new did before after = GoesOn unclaimed old new did before after
+WorksOn (File f) unclaimed old new did before after = FileWorks unclaimed f old new did before after
+WorksOn (Link l) unclaimed old new did before after = LinkWorks l old new did before after
+WorksOn (Stays part) unclaimed old new did before after = ⊥
+
+-- there is no memory, and nothing was done
+abbrev pub RunsOut : Seen → Seen → CopyDid → Option CallLog → Option CallLog → Type 0
+RunsOut old new did before after = (did ≡ Common (common.Troubled (out_of_memory_at false))) × (new ≡ old) × (after ≡ before)
+
+-- A step counts its calls, at most three, and reports a fault only where the tree's count has risen.
+pub record Counts (did : CopyDid) (calls : ℕ) (before after : Option CallLog) (faults faults_after : ℕ) : Type 0 where
+  pub counted : IfKnown before (λ log. IfKnown after (HasMore log calls))
+  pub few : calls ≤ 3
+  pub unknown : before ≡ None → after ≡ None
+  pub later : faults ≤ faults_after
+  pub fault : IsFault did → HasRisen faults faults_after
+
+-- the folder around the one that is worked is worked again
+pub record Returns (old new : Seen) : Type 0 where
+  pub left : IsLeft old.levels new.levels
+  pub stands : new ≡ record old { levels = new.levels }
+
+-- a folder that owes nothing is left, without a report
+pub record Leaves (old new : Seen) : Type 0 where
+  pub next : due old ≡ End
+  pub done : has_debt (at_end old) ≡ false
+  pub returns : Returns (at_end old) new
+
+-- a folder is left, and the outermost is the last
+abbrev pub LeavesOrFinishes : Seen → Seen → Option CopyStep → Type 0
+LeavesOrFinishes old new None = Returns old new
+LeavesOrFinishes old new (Some stepped) = Finishes old new stepped.did × (stepped.calls ≡ 0)
+
+-- so many folders are left, one after the other
+abbrev pub LeavesAll : ℕ → Seen → Seen → Type 0
+LeavesAll zero old new = new ≡ old
+LeavesAll (suc n) old new = (mid : Seen) × LeavesAll n old mid × (mid.item ≡ Next) × Leaves mid new
+
+-- The next piece of a step at the end of a folder: it is left, or something is done that is reported.
+abbrev pub AdvancesEnd : Seen → Seen → Option CopyStep → Option CallLog → Option CallLog → ℕ → ℕ → Type 0
+AdvancesEnd old new None before after faults faults_after = Leaves old new × (after ≡ before) × (faults ≤ faults_after)
+AdvancesEnd old new (Some stepped) before after faults faults_after =
+    WorksAtEnd old new stepped.did before after × Counts stepped.did stepped.calls before after faults faults_after
+
+-- The next piece of a step where nothing is at work: a folder is left, or something is done that is reported.
+abbrev pub AdvancesNext : (Route → Type 0) → Seen → Seen → Option CopyStep → Option CallLog → Option CallLog → ℕ → ℕ → Type 0
+AdvancesNext unclaimed old new None before after faults faults_after = Leaves old new × (after ≡ before) × (faults ≤ faults_after)
+AdvancesNext unclaimed old new (Some stepped) before after faults faults_after =
+    GoesOn unclaimed old new stepped.did before after × Counts stepped.did stepped.calls before after faults faults_after
+
+-- the same of any piece of a step
+abbrev pub Advances : (Route → Type 0) → Seen → Seen → Option CopyStep → Option CallLog → Option CallLog → ℕ → ℕ → Type 0
+Advances unclaimed old new None before after faults faults_after = (old.item ≡ Next) × Leaves old new × (after ≡ before) × (faults ≤ faults_after)
+Advances unclaimed old new (Some stepped) before after faults faults_after =
+    WorksOn old.item unclaimed old new stepped.did before after × Counts stepped.did stepped.calls before after faults faults_after
+
+-- A step: folders that owe nothing are left, and then something is done that is reported.
+pub record CopySteps (unclaimed : Route → Type 0) (old new : Seen) (did : CopyDid) (calls : ℕ) (before after : Option CallLog) (faults faults_after : ℕ) : Type 0 where
+  pub folders : ℕ
+  pub mid : Seen
+  pub leaves : LeavesAll folders old mid
+  pub works : WorksOn mid.item unclaimed mid new did before after
+  pub counts : Counts did calls before after faults faults_after

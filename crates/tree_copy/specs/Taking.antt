@@ -1,0 +1,129 @@
+-- What a copy takes up next, and what stops it before anything is changed.
+use Rattle.std.specs.Prelude.{◌≡◌, ◌≢◌, ◌⊎◌, ◌<◌, ◌≤◌, ℕ, ⊤, false, List, ◌∷◌, length, Option, Some, None, Result, Ok, Err}
+use Rattle.mc_text.specs.Routes.{Route, spelled}
+use Rattle.mc_text.specs.declared.kind.Kind.{Kind}
+use Rattle.mc_text.specs.declared.kind.Kind.TheVariants as kind
+use Rattle.tree_trait.specs.declared.file_system.FileSystem.{FileSystem}
+use Rattle.tree_trait.specs.declared.calls.Children.{Children}
+use Rattle.tree_trait.specs.declared.calls.TreeError.TheVariants as refused
+use Rattle.tree_trait.specs.Calls.{Stat, ListFolder}
+use Rattle.tree_trait.specs.FileSystem.{node}
+use Rattle.tree_trait.specs.Change.{found}
+use Rattle.tree_trait.specs.Refusals.{refusal_of}
+use Rattle.tree_trait.specs.Answers.{IsAscending, IsListing}
+use Rattle.job_reports.specs.declared.job.Pair.{Pair}
+use Rattle.job_reports.specs.declared.report.Cause.{Cause}
+use Rattle.job_reports.specs.declared.report.Cause.TheVariants.{Tree, TargetKind, SpecialSource, TooDeep, PartTaken, TooLong, Unnamed, Changed, Memory}
+use Rattle.job_reports.specs.declared.report.Trouble.{Trouble}
+use Rattle.job_reports.specs.Paths.{folder_of}
+use Rattle.job_reports.specs.Reading.{IsRefusedWith, StatStops, TargetStops}
+use Rattle.job_reports.specs.Stops.{IsTroubleWithPath, out_of_memory_at}
+use Rattle.tree_copy.specs.declared.due.Due.{Due}
+use Rattle.tree_copy.specs.declared.due.Due.TheVariants.{End, Thing}
+use Rattle.tree_copy.specs.declared.looking.Taken.{Taken}
+use Rattle.tree_copy.specs.declared.looking.Taken.TheVariants as taken
+use Rattle.tree_copy.specs.Standing.{Seen, due, pair_of}
+
+-- a path has at most so many bytes (PATH_MAX of 4,096)
+abbrev pub IsShort : Route → Type 0
+IsShort path = length (spelled path) ≤ 4096
+
+-- a thing is taken up where the copy may go down a level more, and both paths can be told
+abbrev pub IsInReach : ℕ → Due → Type 0
+IsInReach left End = ⊤
+IsInReach left (Thing pair) = (1 ≤ left) × IsShort pair.source × IsShort pair.target
+
+-- The trouble of a thing that is not in reach: it lies too deep, or its path, or that of its target, is too long. A source whose path is
+-- too long can't be named, so its folder is.
+abbrev pub ReachStops : Pair → ℕ → Trouble → Type 0
+ReachStops pair left t =
+    (IsTroubleWithPath TooLong (folder_of pair.source) t × (4096 < length (spelled pair.source)))
+    ⊎ (IsTroubleWithPath TooDeep pair.source t × (left ≡ 0) × IsShort pair.source)
+    ⊎ (IsTroubleWithPath TooLong pair.source t × (1 ≤ left) × IsShort pair.source × (4096 < length (spelled pair.target)))
+    ⊎ (t ≡ out_of_memory_at false)
+
+-- the same of the next name
+abbrev pub DueStops : Seen → Trouble → Type 0
+DueStops c t = (name : List ℕ) × (rest : List (List ℕ)) × (c.levels.inner.names.names ≡ name ∷ rest) × ReachStops (pair_of c name) c.levels.left t
+
+-- what is taken up, or the trouble of it
+abbrev pub Dues : Seen → Result Due Trouble → Type 0
+Dues c (Ok next) = (next ≡ due c) × IsInReach c.levels.left next
+Dues c (Err t) = DueStops c t
+
+-- the path of a name in a folder is too long, and another path is named; or there is no memory
+abbrev pub Joins : Route → Route → Result Route Trouble → Type 0
+Joins path named (Ok joined) = (joined ≡ path) × IsShort path
+Joins path named (Err t) = (IsTroubleWithPath TooLong named t × (4096 < length (spelled path))) ⊎ (t ≡ out_of_memory_at false)
+
+-- a thing of this kind stands at the source
+abbrev pub SourceIs : FileSystem → Pair → Kind → Type 0
+SourceIs s pair k = (refusal_of s (Stat pair.source) ≡ None) × ((node s (found s pair.source)).kind ≡ k)
+
+-- nothing stands at the target
+abbrev pub IsFree : FileSystem → Pair → Type 0
+IsFree s pair = refusal_of s (Stat pair.target) ≡ Some refused.Missing
+
+-- a thing that is no file stands at the source: a file is looked at by its own copy
+abbrev pub SourceIsNoFile : FileSystem → Pair → Type 0
+SourceIsNoFile s pair = (k : Kind) × SourceIs s pair k × (k ≢ kind.File)
+
+-- the listing of a folder is refused
+abbrev pub ListStops : FileSystem → Route → Cause → Option Route → Type 0
+ListStops s folder (Tree e) named = (named ≡ Some folder) × IsRefusedWith s (ListFolder folder) e
+ListStops s folder Memory named = named ≡ None
+ListStops s folder (TargetKind k) named = ⊥
+ListStops s folder SpecialSource named = ⊥
+ListStops s folder TooDeep named = ⊥
+ListStops s folder PartTaken named = ⊥
+ListStops s folder TooLong named = ⊥
+ListStops s folder (Unnamed count) named = ⊥
+ListStops s folder (Changed said got) named = ⊥
+
+-- The trouble of a folder that is to be listed: that is refused, or not all its names can be shown.
+abbrev pub FolderStops : FileSystem → Route → Trouble → Type 0
+FolderStops s folder t =
+    ListStops s folder t.cause t.path
+    ⊎ ((count : ℕ) × (0 < count) × ((node s (found s folder)).unnamed ≡ count) × IsTroubleWithPath (Unnamed count) folder t)
+
+-- the trouble of the look at a target: it is refused, or something stands there
+abbrev pub TargetRefuses : FileSystem → Pair → Trouble → Type 0
+TargetRefuses s pair t =
+    TargetStops s pair.target t.cause t.path
+    ⊎ ((refusal_of s (Stat pair.target) ≡ None) × IsTroubleWithPath (TargetKind (node s (found s pair.target)).kind) pair.target t)
+
+-- The trouble of looks at a thing, in their order: at the source; at the target, unless it is a file, whose copy looks there; the source is
+-- a special file; it is a folder that can't be listed.
+abbrev pub LooksStop : FileSystem → Pair → Trouble → Type 0
+LooksStop s pair t =
+    StatStops s pair.source t.cause t.path
+    ⊎ (SourceIsNoFile s pair × TargetRefuses s pair t)
+    ⊎ (SourceIs s pair kind.Other × IsFree s pair × IsTroubleWithPath SpecialSource pair.source t)
+    ⊎ (SourceIs s pair kind.Folder × IsFree s pair × FolderStops s pair.source t)
+
+-- all names of a folder, each of which can be shown
+abbrev pub Lists : FileSystem → Route → List (List ℕ) → Type 0
+Lists s folder names = (refusal_of s (ListFolder folder) ≡ None) × IsListing s (found s folder) (record { names = names; unnamed = 0 })
+
+-- what is taken up is a file; a link, or a folder with these names and this mode, at whose target nothing stands
+abbrev pub IsTaken : FileSystem → Pair → Taken → Type 0
+IsTaken s pair taken.File = SourceIs s pair kind.File
+IsTaken s pair taken.Link = SourceIs s pair kind.Link × IsFree s pair
+IsTaken s pair (taken.Folder names mode) =
+    SourceIs s pair kind.Folder × IsFree s pair × Lists s pair.source names × (mode ≡ (node s (found s pair.source)).mode)
+
+-- what looks at a thing come to
+abbrev pub Looks : FileSystem → Pair → Result Taken Trouble → Type 0
+Looks s pair (Ok what) = IsTaken s pair what
+Looks s pair (Err t) = LooksStop s pair t
+
+-- names come in byte order, each once, and a mode has twelve bits
+abbrev pub IsSound : Taken → Type 0
+IsSound taken.File = ⊤
+IsSound taken.Link = ⊤
+IsSound (taken.Folder names mode) = IsAscending names × (mode ≤ 0o7777)
+
+-- the names of a listing, or the trouble where some can't be shown
+abbrev pub IsShown : Route → Children → Result (List (List ℕ)) Trouble → Type 0
+IsShown folder children (Ok names) = (names ≡ children.names) × (children.unnamed ≡ 0)
+IsShown folder children (Err t) = (0 < children.unnamed) × IsTroubleWithPath (Unnamed children.unnamed) folder t

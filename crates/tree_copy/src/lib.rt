@@ -1,0 +1,29 @@
+//! The copy of a thing with all that lies in it, step by step, over any tree.
+#![tactic(auto)]
+
+mod copy;
+mod due;
+mod ending;
+mod item;
+mod laws;
+mod level;
+mod looking;
+mod making;
+mod progress;
+mod report;
+mod skipping;
+mod stack;
+mod taking;
+mod working;
+
+pub use copy::{Named, Stage, TreeCopy};
+pub use due::Due;
+pub use item::Item;
+pub use laws::{
+    a_copy_begins_in_its_place, a_copy_keeps_to_its_place, each_decision_leaves_fewer_things,
+};
+pub use level::Level;
+pub use looking::Taken;
+pub use progress::Progress;
+pub use report::{CopyDid, CopyStep};
+pub use stack::Stack;

@@ -1,0 +1,201 @@
+//! The next thing is taken up, or the end of a folder is worked.
+ghost use Rattle.std.specs.Prelude.{◌≡◌, ◌⊎◌, true, IfOk};
+ghost use Rattle.tree_trait.specs.Change.{current};
+ghost use Rattle.tree_trait.specs.Answers.{IfKnown};
+ghost use Rattle.file_copy.specs.Copying.{begun as file_begun, places};
+ghost use Rattle.tree_copy.specs.Standing.{due, seen};
+ghost use Rattle.tree_copy.specs.Steps.{AdvancesNext, Counts, FileWorks, GoesOn, IsWorkable, LinkWorks, RunsOut, link_begun};
+ghost use Rattle.tree_copy.specs.Taking.{IsInReach, IsSound, IsTaken};
+
+use crate::copy::TreeCopy;
+use crate::due::Due;
+use crate::item::Item;
+use crate::looking::{Taken, look_at_pair};
+use crate::report::{CopyStep, stopped};
+use file_copy::{FileCopy, Item as Places, PartTest, choose_part};
+use job_reports::{Pair, out_of_memory};
+use link_copy::LinkCopy;
+use mc_text::{NoMemory, Path};
+use std::alloc::Global;
+use tree_trait::Tree;
+
+impl TreeCopy {
+    /// The next name, or the end of the folder that is worked.
+    pub(crate) fn go_on<T: Tree, P: PartTest>(
+        &mut self,
+        alloc: Global,
+        tree: &mut T,
+        parts: &P,
+    ) -> Option<CopyStep>
+        requires free { self.old.item ≡ Item.Next }
+        ensures advances { AdvancesNext (λ path. P.is_free parts.now path ≡ true) (seen self.old) (seen self.new) result
+            (T.contents tree.old) (T.contents tree.new) (T.fault_count tree.old) (T.fault_count tree.new) }
+        ensures workable { IsWorkable self.new.item }
+    {
+        match self.due(alloc) {
+            Ok(next) => self.go_on_with(alloc, tree, parts, next),
+            Err(trouble) => Some(stopped(trouble)),
+        }
+    }
+
+    fn go_on_with<T: Tree, P: PartTest>(
+        &mut self,
+        alloc: Global,
+        tree: &mut T,
+        parts: &P,
+        next: Due,
+    ) -> Option<CopyStep>
+        requires free { self.old.item ≡ Item.Next }
+        requires next { next ≡ due (seen self.old) }
+        requires reach { IsInReach self.old.stack.levels.left next }
+        ensures advances { AdvancesNext (λ path. P.is_free parts.now path ≡ true) (seen self.old) (seen self.new) result
+            (T.contents tree.old) (T.contents tree.new) (T.fault_count tree.old) (T.fault_count tree.new) }
+        ensures workable { IsWorkable self.new.item }
+    {
+        match next {
+            Due::End => self.end_folder(alloc, tree),
+            Due::Thing(pair) => Some(self.take_up(alloc, tree, parts, pair)),
+        }
+    }
+
+    /// Looks at a thing, and begins its copy.
+    fn take_up<T: Tree, P: PartTest>(
+        &mut self,
+        alloc: Global,
+        tree: &mut T,
+        parts: &P,
+        pair: Pair,
+    ) -> CopyStep
+        requires free { self.old.item ≡ Item.Next }
+        requires next { due (seen self.old) ≡ Due.Thing pair }
+        requires reach { IsInReach self.old.stack.levels.left (Due.Thing pair) }
+        ensures works { GoesOn (λ path. P.is_free parts.now path ≡ true) (seen self.old) (seen self.new) result.did (T.contents tree.old) (T.contents tree.new) }
+        ensures counts { Counts result.did result.calls (T.contents tree.old) (T.contents tree.new) (T.fault_count tree.old) (T.fault_count tree.new) }
+        ensures workable { IsWorkable self.new.item }
+    {
+        match look_at_pair(alloc, tree, &pair) {
+            Ok(taken) => self.begin(alloc, tree, parts, pair, taken),
+            Err(trouble) => stopped(trouble),
+        }
+    }
+
+    /// Begins the copy of a thing that was looked at.
+    fn begin<T: Tree, P: PartTest>(
+        &mut self,
+        alloc: Global,
+        tree: &mut T,
+        parts: &P,
+        pair: Pair,
+        taken: Taken,
+    ) -> CopyStep
+        requires free { self.old.item ≡ Item.Next }
+        requires next { due (seen self.old) ≡ Due.Thing pair }
+        requires reach { IsInReach self.old.stack.levels.left (Due.Thing pair) }
+        requires known { IfKnown (T.contents tree.old) (λ log. IsTaken (current log) pair taken) }
+        requires sound { IsSound taken }
+        ensures works { GoesOn (λ path. P.is_free parts.now path ≡ true) (seen self.old) (seen self.new) result.did (T.contents tree.old) (T.contents tree.new) }
+        ensures counts { Counts result.did result.calls (T.contents tree.old) (T.contents tree.new) (T.fault_count tree.old) (T.fault_count tree.new) }
+        ensures workable { IsWorkable self.new.item }
+    {
+        match taken {
+            Taken::File => self.begin_file(alloc, tree, parts, pair),
+            Taken::Link => self.begin_link(alloc, tree, parts, pair),
+            Taken::Folder { names, mode } => self.make_folder(alloc, tree, pair, names, mode),
+        }
+    }
+
+    /// The first step of a file's copy.
+    fn begin_file<T: Tree, P: PartTest>(
+        &mut self,
+        alloc: Global,
+        tree: &mut T,
+        parts: &P,
+        pair: Pair,
+    ) -> CopyStep
+        requires free { self.old.item ≡ Item.Next }
+        requires next { due (seen self.old) ≡ Due.Thing pair }
+        ensures works { RunsOut (seen self.old) (seen self.new) result.did (T.contents tree.old) (T.contents tree.new)
+            ⊎ FileWorks (λ path. P.is_free parts.now path ≡ true) (file_begun self.old.job pair.source pair.target) (seen self.old) (seen self.new) result.did (T.contents tree.old) (T.contents tree.new) }
+        ensures counts { Counts result.did result.calls (T.contents tree.old) (T.contents tree.new) (T.fault_count tree.old) (T.fault_count tree.new) }
+        ensures workable { IsWorkable self.new.item }
+    {
+        match self.file_copy(alloc, pair) {
+            Ok(copy) => self.work_file(alloc, tree, parts, copy),
+            Err(NoMemory) => stopped(out_of_memory(false)),
+        }
+    }
+
+    fn file_copy(&self, alloc: Global, pair: Pair) -> Result<FileCopy, NoMemory>
+        requires next { due (seen self.now) ≡ Due.Thing pair }
+        ensures { IfOk result (λ copy. copy ≡ file_begun self.now.job pair.source pair.target) }
+    {
+        let source_folder = self.stack.source().copy(alloc)?;
+        let folder = self.stack.target().copy(alloc)?;
+        Ok(FileCopy::new(self.job, pair.source, source_folder, pair.target, folder))
+    }
+    /// The first step of a link's copy, by way of a part whose name is free.
+    fn begin_link<T: Tree, P: PartTest>(
+        &mut self,
+        alloc: Global,
+        tree: &mut T,
+        parts: &P,
+        pair: Pair,
+    ) -> CopyStep
+        requires free { self.old.item ≡ Item.Next }
+        requires next { due (seen self.old) ≡ Due.Thing pair }
+        requires reach { IsInReach self.old.stack.levels.left (Due.Thing pair) }
+        requires taken { IfKnown (T.contents tree.old) (λ log. IsTaken (current log) pair Taken.Link) }
+        ensures works { GoesOn (λ path. P.is_free parts.now path ≡ true) (seen self.old) (seen self.new) result.did (T.contents tree.old) (T.contents tree.new) }
+        ensures counts { Counts result.did result.calls (T.contents tree.old) (T.contents tree.new) (T.fault_count tree.old) (T.fault_count tree.new) }
+        ensures workable { IsWorkable self.new.item }
+    {
+        let places = match self.places_of(alloc, &pair) {
+            Ok(places) => places,
+            Err(NoMemory) => return stopped(out_of_memory(false)),
+        };
+        match choose_part(alloc, tree, parts, &places) {
+            Ok(part) => self.make_link(alloc, tree, pair, part),
+            Err(trouble) => stopped(trouble),
+        }
+    }
+
+    fn make_link<T: Tree>(
+        &mut self,
+        alloc: Global,
+        tree: &mut T,
+        pair: Pair,
+        part: Path,
+    ) -> CopyStep
+        requires free { self.old.item ≡ Item.Next }
+        requires next { due (seen self.old) ≡ Due.Thing pair }
+        ensures works { RunsOut (seen self.old) (seen self.new) result.did (T.contents tree.old) (T.contents tree.new)
+            ⊎ LinkWorks (link_begun pair part) (seen self.old) (seen self.new) result.did (T.contents tree.old) (T.contents tree.new) }
+        ensures counts { Counts result.did result.calls (T.contents tree.old) (T.contents tree.new) (T.fault_count tree.old) (T.fault_count tree.new) }
+        ensures workable { IsWorkable self.new.item }
+    {
+        match self.link_copy(alloc, pair, part) {
+            Ok(copy) => self.work_link(alloc, tree, copy),
+            Err(NoMemory) => stopped(out_of_memory(false)),
+        }
+    }
+
+    fn link_copy(&self, alloc: Global, pair: Pair, part: Path) -> Result<LinkCopy, NoMemory>
+        requires next { due (seen self.now) ≡ Due.Thing pair }
+        ensures { IfOk result (λ copy. copy ≡ link_begun pair part) }
+    {
+        let folder = self.stack.target().copy(alloc)?;
+        Ok(LinkCopy::new(pair.source, pair.target, folder, part))
+    }
+
+    /// The paths of a copy, as the name of a part is chosen by.
+    fn places_of(&self, alloc: Global, pair: &Pair) -> Result<Places, NoMemory>
+        requires next { due (seen self.now) ≡ Due.Thing pair.now }
+        ensures { IfOk result (λ item. item ≡ places self.now.job pair.now.source pair.now.target) }
+    {
+        let source = pair.source.copy(alloc)?;
+        let source_folder = self.stack.source().copy(alloc)?;
+        let target = pair.target.copy(alloc)?;
+        let folder = self.stack.target().copy(alloc)?;
+        Ok(Places::new(self.job, source, source_folder, target, folder))
+    }
+}
