@@ -10,7 +10,7 @@ use crate::reading::piece;
 use crate::subject::Subject;
 use memchr::{memchr, memrchr};
 use std::alloc::Global;
-use tree_trait::{Tree, TreeError};
+use tree_trait::{ReadTree, TreeError};
 
 /// The bytes that a search for a line's start or end reads at once.
 const LINE_PIECE: u64 = 4096;
@@ -19,7 +19,7 @@ const LINE_PIECE: u64 = 4096;
 const COUNTED_PIECE: usize = 65_536;
 
 /// Where the line of a byte begins. It reads back from there.
-pub fn line_begin<T: Tree>(
+pub fn line_begin<T: ReadTree>(
     alloc: Global,
     tree: &mut T,
     subject: &Subject,
@@ -47,7 +47,7 @@ pub fn line_begin<T: Tree>(
 }
 
 /// Where the line from a place on ends, behind its newline.
-pub fn line_end<T: Tree>(
+pub fn line_end<T: ReadTree>(
     alloc: Global,
     tree: &mut T,
     subject: &Subject,
@@ -81,7 +81,7 @@ pub fn line_end<T: Tree>(
 }
 
 /// Where a line begins that so many others stand before, or where the file ends. Each byte before it is read once.
-pub fn line_behind<T: Tree>(
+pub fn line_behind<T: ReadTree>(
     alloc: Global,
     tree: &mut T,
     subject: &Subject,

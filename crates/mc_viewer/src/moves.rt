@@ -16,10 +16,10 @@ use crate::state::{
 use crate::subject::Subject;
 use crate::walking::{row_below, row_holding};
 use std::alloc::Global;
-use tree_trait::{Tree, TreeError};
+use tree_trait::{ReadTree, TreeError};
 
 /// Where a step leads.
-pub fn moved<T: Tree>(
+pub fn moved<T: ReadTree>(
     alloc: Global,
     tree: &mut T,
     subject: &Subject,
@@ -54,7 +54,7 @@ pub fn moved<T: Tree>(
 }
 
 /// The row that holds a byte becomes the top.
-fn to_byte<T: Tree>(
+fn to_byte<T: ReadTree>(
     alloc: Global,
     tree: &mut T,
     subject: &Subject,
@@ -78,7 +78,7 @@ fn to_byte<T: Tree>(
 }
 
 /// The top moves so many rows down.
-fn down<T: Tree>(
+fn down<T: ReadTree>(
     alloc: Global,
     tree: &mut T,
     subject: &Subject,
@@ -103,7 +103,7 @@ fn down<T: Tree>(
 }
 
 /// The top moves so many rows up.
-fn up<T: Tree>(
+fn up<T: ReadTree>(
     alloc: Global,
     tree: &mut T,
     subject: &Subject,
@@ -128,7 +128,7 @@ fn up<T: Tree>(
 }
 
 /// The last rows become the page.
-fn to_end<T: Tree>(
+fn to_end<T: ReadTree>(
     alloc: Global,
     tree: &mut T,
     subject: &Subject,
@@ -153,7 +153,7 @@ fn to_end<T: Tree>(
 }
 
 /// The row becomes the top where a line begins that so many others stand before, or else the last row.
-fn to_line<T: Tree>(
+fn to_line<T: ReadTree>(
     alloc: Global,
     tree: &mut T,
     subject: &Subject,
@@ -178,7 +178,7 @@ fn to_line<T: Tree>(
 }
 
 /// So many rows down.
-fn rows_down<T: Tree>(
+fn rows_down<T: ReadTree>(
     alloc: Global,
     tree: &mut T,
     subject: &Subject,
@@ -207,7 +207,7 @@ fn rows_down<T: Tree>(
 }
 
 /// So many rows up.
-fn rows_up<T: Tree>(
+fn rows_up<T: ReadTree>(
     alloc: Global,
     tree: &mut T,
     subject: &Subject,

@@ -13,10 +13,10 @@ use crate::text::{row_text, window_bytes};
 use crate::walking::{row_end, row_holding};
 use mc_text::{Rows, Text};
 use std::alloc::Global;
-use tree_trait::{Tree, TreeError};
+use tree_trait::{ReadTree, TreeError};
 
 /// At most so many rows, from the one that holds the top on.
-pub fn page_rows<T: Tree>(
+pub fn page_rows<T: ReadTree>(
     alloc: Global,
     tree: &mut T,
     subject: &Subject,
@@ -40,7 +40,7 @@ pub fn page_rows<T: Tree>(
 }
 
 /// At most so many rows, from a row on.
-fn rows_from<T: Tree>(
+fn rows_from<T: ReadTree>(
     alloc: Global,
     tree: &mut T,
     subject: &Subject,
@@ -75,7 +75,7 @@ fn rows_from<T: Tree>(
 }
 
 /// What the row shows that begins at a place.
-fn shown_row<T: Tree>(
+fn shown_row<T: ReadTree>(
     alloc: Global,
     tree: &mut T,
     subject: &Subject,

@@ -8,10 +8,10 @@ use crate::subject::Subject;
 use crate::units::{front, rest_from};
 use mc_text::{Bytes, Path};
 use std::alloc::{AllocError, Global};
-use tree_trait::{Tree, TreeError};
+use tree_trait::{ReadTree, TreeError};
 
 /// At most so many of the bytes from a place on.
-pub fn piece<T: Tree>(
+pub fn piece<T: ReadTree>(
     alloc: Global,
     tree: &mut T,
     subject: &Subject,
@@ -34,7 +34,7 @@ pub fn piece<T: Tree>(
     }
 }
 
-fn file_piece<T: Tree>(
+fn file_piece<T: ReadTree>(
     alloc: Global,
     tree: &mut T,
     path: &Path,
@@ -66,7 +66,11 @@ fn part(alloc: Global, bytes: &[u8], at: u64, count: usize) -> Result<Vec<u8>, A
 }
 
 /// How many bytes there are. It tries to read one, so that what can't be read is refused.
-pub fn size_of<T: Tree>(alloc: Global, tree: &mut T, subject: &Subject) -> Result<u64, ViewError>
+pub fn size_of<T: ReadTree>(
+    alloc: Global,
+    tree: &mut T,
+    subject: &Subject,
+) -> Result<u64, ViewError>
     ensures shown { IfKnown (held (T.contents tree.old) subject.now) (λ bytes.
         IfOk result (λ size. size ≡ length bytes)) }
     ensures small { IfOk result (λ size. size ≤ 2 ^ 63) }
@@ -83,7 +87,7 @@ pub fn size_of<T: Tree>(alloc: Global, tree: &mut T, subject: &Subject) -> Resul
     }
 }
 
-fn file_size<T: Tree>(alloc: Global, tree: &mut T, path: &Path) -> Result<u64, ViewError>
+fn file_size<T: ReadTree>(alloc: Global, tree: &mut T, path: &Path) -> Result<u64, ViewError>
     ensures shown { IfKnown (held (T.contents tree.old) (Subject.File path.now)) (λ bytes.
         IfOk result (λ size. size ≡ length bytes)) }
     ensures small { IfOk result (λ size. size ≤ 2 ^ 63) }

@@ -16,11 +16,11 @@ use crate::walking::row_holding;
 use crate::window::sought;
 use line_search::Sought;
 use std::alloc::Global;
-use tree_trait::{Tree, TreeError};
+use tree_trait::{ReadTree, TreeError};
 
 /// Where a search from the top leads.
 #[tactic(auto, using(crate::proofs::SeekLemmas::missed_unread, crate::proofs::SeekLemmas::read_error_search, crate::proofs::SeekLemmas::unread, crate::proofs::SeekLemmas::once_read))]
-pub fn first_landing<T: Tree>(
+pub fn first_landing<T: ReadTree>(
     alloc: Global,
     tree: &mut T,
     subject: &Subject,
@@ -48,7 +48,7 @@ pub fn first_landing<T: Tree>(
 }
 
 /// Where a search begins: at the top, one over lines where the line of the top begins.
-fn search_start<T: Tree>(
+fn search_start<T: ReadTree>(
     alloc: Global,
     tree: &mut T,
     subject: &Subject,
@@ -86,7 +86,7 @@ fn lines_of(columns: u16) -> Layout
 
 /// Where a search behind what was found last leads.
 #[tactic(auto, using(crate::proofs::SeekLemmas::missed_unread, crate::proofs::SeekLemmas::read_error_search, crate::proofs::SeekLemmas::unread, crate::proofs::SeekLemmas::once_read))]
-pub fn next_landing<T: Tree>(
+pub fn next_landing<T: ReadTree>(
     alloc: Global,
     tree: &mut T,
     subject: &Subject,
@@ -117,7 +117,7 @@ pub fn next_landing<T: Tree>(
 
 /// Where the next search begins: behind the place that was found, one over lines behind the line of that. Behind the end there
 /// is nothing more.
-fn behind<T: Tree>(
+fn behind<T: ReadTree>(
     alloc: Global,
     tree: &mut T,
     subject: &Subject,
@@ -145,7 +145,7 @@ fn behind<T: Tree>(
 
 /// Where a search from a place on leads.
 #[tactic(auto, using(crate::proofs::SeekLemmas::missed_unread, crate::proofs::SeekLemmas::read_error_search))]
-fn land<T: Tree>(
+fn land<T: ReadTree>(
     alloc: Global,
     tree: &mut T,
     subject: &Subject,
@@ -176,7 +176,7 @@ fn land<T: Tree>(
 }
 
 /// The row that holds the place is the top.
-fn landed<T: Tree>(
+fn landed<T: ReadTree>(
     alloc: Global,
     tree: &mut T,
     subject: &Subject,

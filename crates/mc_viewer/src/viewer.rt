@@ -5,6 +5,8 @@ ghost use Rattle.mc_viewer.specs.Viewing.{held, IfRead, IsReadable, IsReadError,
 ghost use Rattle.mc_viewer.specs.Searches.{after_search, after_next, moved_on, IsMissed, IsSearchError};
 ghost use Rattle.mc_viewer.specs.Steps.{begun, page_of, after_step, NeedsNoLook};
 
+mod showing;
+
 use crate::error::ViewError;
 use crate::moves::moved;
 use crate::pages::page_rows;
@@ -16,7 +18,7 @@ use crate::subject::Subject;
 use mc_text::Rows;
 use std::alloc::Global;
 use std::marker::Model;
-use tree_trait::{Tree, TreeError};
+use tree_trait::{ReadTree, TreeError};
 
 /// A viewer. It keeps none of what it shows: each call reads what it needs, as it stands then. Contracts see what is viewed,
 /// and where the viewer stands, and what was found last.
@@ -40,15 +42,14 @@ impl Model for Viewer {
 
 impl Viewer {
     /// Begins at the top, with lines wrapped. What can't be read is refused.
-    pub fn start<T: Tree>(
+    pub fn start<T: ReadTree>(
         alloc: Global,
         tree: &mut T,
         subject: Subject,
         lines: u16,
         columns: u16,
     ) -> Result<Viewer, ViewError>
-        requires lines { (10 ≤ lines) × (lines ≤ 200) }
-        requires columns { (40 ≤ columns) × (columns ≤ 400) }
+        requires wide { 1 ≤ columns }
         ensures begun { IfOk result (λ viewer. viewer ≡ begun subject lines columns) }
         ensures readable { IfKnown (T.contents tree.old) (λ log. IfOk result (λ _. IsReadable log subject)) }
         ensures refused { IfKnown (T.contents tree.old) (λ log. IfErr result (AsTheTreeSays log subject)) }
@@ -74,7 +75,7 @@ impl Viewer {
     }
 
     /// The rows that are shown.
-    pub fn page<T: Tree>(&self, alloc: Global, tree: &mut T) -> Result<Rows, ViewError>
+    pub fn page<T: ReadTree>(&self, alloc: Global, tree: &mut T) -> Result<Rows, ViewError>
         ensures shown { IfKnown (held (T.contents tree.old) self.now.subject) (λ bytes.
             IfOk result (λ rows. rows ≡ page_of bytes self.now.state)) }
         ensures readable { IfKnown (T.contents tree.old) (λ log. IfOk result (λ _. IsReadable log self.now.subject)) }
@@ -95,7 +96,7 @@ impl Viewer {
     }
 
     /// Makes a step. A refused one leaves the viewer where it stood; one that needs no look makes none.
-    pub fn go<T: Tree>(
+    pub fn go<T: ReadTree>(
         &mut self,
         alloc: Global,
         tree: &mut T,
@@ -120,7 +121,7 @@ impl Viewer {
 
     /// Searches from the top on. What can't be read is refused before anything is sought. A search that fails leaves the viewer
     /// where it stood, and what was found before is still the last.
-    pub fn search<T: Tree>(
+    pub fn search<T: ReadTree>(
         &mut self,
         alloc: Global,
         tree: &mut T,
@@ -149,7 +150,7 @@ impl Viewer {
     }
 
     /// Searches once more, behind what was found last. Before that nothing is found, and nothing is looked at.
-    pub fn next<T: Tree>(&mut self, alloc: Global, tree: &mut T) -> Result<(), ViewError>
+    pub fn next<T: ReadTree>(&mut self, alloc: Global, tree: &mut T) -> Result<(), ViewError>
         ensures found { IfKnown (held (T.contents tree.old) self.old.subject) (λ bytes.
             OnOk result (after_next bytes self.old ≡ Ok self.new)) }
         ensures missed { IfKnown (held (T.contents tree.old) self.old.subject) (λ bytes.

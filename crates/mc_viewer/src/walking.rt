@@ -11,10 +11,10 @@ use crate::reading::piece;
 use crate::rows::wrapped_length;
 use crate::subject::Subject;
 use std::alloc::Global;
-use tree_trait::{Tree, TreeError};
+use tree_trait::{ReadTree, TreeError};
 
 /// Where the row from a place on ends.
-pub fn row_end<T: Tree>(
+pub fn row_end<T: ReadTree>(
     alloc: Global,
     tree: &mut T,
     subject: &Subject,
@@ -44,7 +44,7 @@ pub fn row_end<T: Tree>(
 
 /// Where the wrapped row from a place on ends. A character has four bytes at most, so it reads four for each column, and
 /// nine more.
-fn wrapped_end<T: Tree>(
+fn wrapped_end<T: ReadTree>(
     alloc: Global,
     tree: &mut T,
     subject: &Subject,
@@ -80,7 +80,7 @@ fn end_behind(at: u64, count: usize, size: u64) -> u64
 }
 
 /// The row that holds a byte, or the last row.
-pub fn row_holding<T: Tree>(
+pub fn row_holding<T: ReadTree>(
     alloc: Global,
     tree: &mut T,
     subject: &Subject,
@@ -110,7 +110,7 @@ pub fn row_holding<T: Tree>(
 }
 
 /// A row that begins at a byte or before it: where its line begins, or, in hexadecimal, at the multiple of sixteen.
-fn row_before<T: Tree>(
+fn row_before<T: ReadTree>(
     alloc: Global,
     tree: &mut T,
     subject: &Subject,
@@ -136,7 +136,7 @@ fn row_before<T: Tree>(
 }
 
 /// Goes from row to row, up to the one that holds a byte, or the last one.
-fn walk<T: Tree>(
+fn walk<T: ReadTree>(
     alloc: Global,
     tree: &mut T,
     subject: &Subject,
@@ -176,7 +176,7 @@ fn walk<T: Tree>(
 }
 
 /// The row behind a row, or that row where it is the last one.
-pub fn row_below<T: Tree>(
+pub fn row_below<T: ReadTree>(
     alloc: Global,
     tree: &mut T,
     subject: &Subject,

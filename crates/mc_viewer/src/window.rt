@@ -14,13 +14,13 @@ use line_search::{LineMatcher, LineRegex, PART_BYTES, Part, RegexError, Sought};
 use memchr::memmem::Finder;
 use std::alloc::Global;
 use std::convert::AsStr;
-use tree_trait::{Tree, TreeError};
+use tree_trait::{ReadTree, TreeError};
 
 /// The places of a piece at which a text is sought. It has as many bytes more as the text, so that it shows each place whole.
 const PIECE_PLACES: usize = 65_536;
 
 /// What a search from a place on comes to.
-pub fn sought<T: Tree>(
+pub fn sought<T: ReadTree>(
     alloc: Global,
     tree: &mut T,
     subject: &Subject,
@@ -44,7 +44,7 @@ pub fn sought<T: Tree>(
 }
 
 /// What a search for a text comes to. An empty one is nowhere.
-fn text_sought<T: Tree>(
+fn text_sought<T: ReadTree>(
     alloc: Global,
     tree: &mut T,
     subject: &Subject,
@@ -76,7 +76,7 @@ fn text_sought<T: Tree>(
 }
 
 /// Reads piece by piece, up to the first place where the finder's bytes stand.
-fn through_pieces<T: Tree>(
+fn through_pieces<T: ReadTree>(
     alloc: Global,
     tree: &mut T,
     subject: &Subject,
@@ -118,7 +118,7 @@ fn place_in(finder: &Finder<'_>, width: usize, piece: &[u8]) -> Option<usize>
 }
 
 /// What a search line by line comes to.
-fn lines_sought<T: Tree>(
+fn lines_sought<T: ReadTree>(
     alloc: Global,
     tree: &mut T,
     subject: &Subject,
@@ -144,7 +144,7 @@ fn lines_sought<T: Tree>(
 }
 
 /// What a search for a regular expression comes to.
-fn regex_sought<T: Tree>(
+fn regex_sought<T: ReadTree>(
     alloc: Global,
     tree: &mut T,
     subject: &Subject,
@@ -166,7 +166,7 @@ fn regex_sought<T: Tree>(
 }
 
 /// Reads part by part, each from the line on with which the one before ended, up to the first line in which something is found.
-fn through_lines<T: Tree>(
+fn through_lines<T: ReadTree>(
     alloc: Global,
     tree: &mut T,
     subject: &Subject,

@@ -2,6 +2,7 @@
 #![tactic(auto)]
 
 mod files;
+mod keyed;
 mod searches;
 mod steps;
 mod views;
@@ -17,6 +18,38 @@ use tree_trait::Tree;
 pub fn tell_rows(page: &mut Page, rows: &str) {
     match MemTree::new(page.alloc(), 0) {
         Ok(mut tree) => tell_in(page, &mut tree, rows),
+        Err(_error) => page.fail(),
+    }
+}
+
+/// Each row with what comes of it: the file that is viewed, the columns, its bytes, the keys.
+pub fn tell_key_rows(page: &mut Page, rows: &str) {
+    match MemTree::new(page.alloc(), 0) {
+        Ok(mut tree) => tell_keys_in(page, &mut tree, rows),
+        Err(_error) => page.fail(),
+    }
+}
+
+fn tell_keys_in<T: Tree>(page: &mut Page, tree: &mut T, rows: &str) {
+    files::plant_files(page, tree);
+    for row in rows.lines() {
+        page.put(row);
+        page.put(" => ");
+        tell_key_row(page, tree, row);
+        page.put("\n");
+    }
+}
+
+fn tell_key_row<T: Tree>(page: &mut Page, tree: &mut T, row: &str) {
+    let (name, fields) = two_fields(row, '|');
+    let (columns, fields) = two_fields(fields, '|');
+    let (bytes, words) = two_fields(fields, '|');
+    let columns = columns.parse().unwrap_or(0);
+    if !bytes.is_empty() {
+        files::write(page, tree, bytes);
+    }
+    match Path::parse(page.alloc(), name) {
+        Ok(path) => keyed::tell_keyed(page, tree, &path, columns, words),
         Err(_error) => page.fail(),
     }
 }

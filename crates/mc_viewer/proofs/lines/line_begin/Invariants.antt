@@ -5,9 +5,9 @@ use Rattle.mc_viewer.proofs.lines.line_begin.Given as goal
 
 abbrev pub invariant-loop-end : goal.invariant-loop-end
 invariant-loop-end g l = record {
-  same : g.T.Tree.contents l.tree ≡ g.T.Tree.contents l.fn.tree;
+  same : g.T.ReadTree.contents l.tree ≡ g.T.ReadTree.contents l.fn.tree;
   apart : is_output l.subject ≡ true → l.tree ≡ l.fn.tree;
-  later : g.T.Tree.fault_count l.fn.tree ≤ g.T.Tree.fault_count l.tree;
+  later : g.T.ReadTree.fault_count l.fn.tree ≤ g.T.ReadTree.fault_count l.tree;
   before : l.end ≤ l.at;
 }
 

@@ -6,10 +6,10 @@ use Rattle.mc_viewer.proofs.moves.rows_up.Given as goal
 
 abbrev pub invariant-loop : goal.invariant-loop
 invariant-loop g l = record {
-  same : g.T.Tree.contents l.tree ≡ g.T.Tree.contents l.fn.tree;
+  same : g.T.ReadTree.contents l.tree ≡ g.T.ReadTree.contents l.fn.tree;
   apart : is_output l.subject ≡ true → l.tree ≡ l.fn.tree;
-  later : g.T.Tree.fault_count l.fn.tree ≤ g.T.Tree.fault_count l.tree;
-  way : IfHeld (g.T.Tree.contents l.fn.tree) l.subject l.size (λ bytes.
+  later : g.T.ReadTree.fault_count l.fn.tree ≤ g.T.ReadTree.fault_count l.tree;
+  way : IfHeld (g.T.ReadTree.contents l.fn.tree) l.subject l.size (λ bytes.
       rows_up (l.count - l.counter) (all_rows l.layout.shape l.layout.columns bytes) l.row
       ≡ rows_up l.count (all_rows l.layout.shape l.layout.columns bytes) l.from);
 }

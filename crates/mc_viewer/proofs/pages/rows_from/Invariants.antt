@@ -7,10 +7,10 @@ use Rattle.mc_viewer.proofs.pages.rows_from.Given as goal
 
 abbrev pub invariant-loop-row : goal.invariant-loop-row
 invariant-loop-row g l = record {
-  same : g.T.Tree.contents l.tree ≡ g.T.Tree.contents l.fn.tree;
+  same : g.T.ReadTree.contents l.tree ≡ g.T.ReadTree.contents l.fn.tree;
   apart : is_output l.subject ≡ true → l.tree ≡ l.fn.tree;
-  later : g.T.Tree.fault_count l.fn.tree ≤ g.T.Tree.fault_count l.tree;
-  all : IfHeld (g.T.Tree.contents l.fn.tree) l.subject l.size (λ bytes.
+  later : g.T.ReadTree.fault_count l.fn.tree ≤ g.T.ReadTree.fault_count l.tree;
+  all : IfHeld (g.T.ReadTree.contents l.fn.tree) l.subject l.size (λ bytes.
       l.rows ++ map (shown_row l.layout bytes) (take l.left (row_starts l.layout.shape l.layout.columns l.row 0 (drop l.row bytes)))
       ≡ map (shown_row l.layout bytes) (take l.count (row_starts l.layout.shape l.layout.columns l.first 0 (drop l.first bytes))));
 }

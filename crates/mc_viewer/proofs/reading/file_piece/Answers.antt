@@ -18,7 +18,7 @@ returns-in_err-read-clause-refused g c = λ log known.
 pub returns-clause-shown : goal.returns-clause-shown
 returns-clause-shown g c = λ bytes known.
     let path = c.args.path.now in
-    let there = known-file (g.T.Tree.contents c.args.tree.now) path bytes known in
+    let there = known-file (g.T.ReadTree.contents c.args.tree.now) path bytes known in
     let len : length c.as_mut_slice.result.now ≡ c.args.count = omega (arith, ap length c.as_mut_slice.ensures.value, c.in_ok-bytes.ensures.len) in
     let into = c.read_at.new.into in
     let old = c.in_ok-bytes.bytes in

@@ -15,5 +15,5 @@ returns-in_err-meta-clause-refused g c = λ log known.
 
 pub returns-clause-shown : goal.returns-clause-shown
 returns-clause-shown g c = λ bytes known.
-    let there = known-file (g.T.Tree.contents c.args.tree.now) c.args.path.now bytes known in
+    let there = known-file (g.T.ReadTree.contents c.args.tree.now) c.args.path.now bytes known in
     (c.in_ok-meta.ensures.answer there.log (c.in_ok-file_piece.ensures.same ∙ there.is)).1.size ∙ ap length (sym there.holds)

@@ -6,12 +6,12 @@ use Rattle.mc_viewer.proofs.walking.walk.Given as goal
 
 abbrev pub invariant-loop-end : goal.invariant-loop-end
 invariant-loop-end g l = record {
-  same : g.T.Tree.contents l.tree ≡ g.T.Tree.contents l.fn.tree;
+  same : g.T.ReadTree.contents l.tree ≡ g.T.ReadTree.contents l.fn.tree;
   apart : is_output l.subject ≡ true → l.tree ≡ l.fn.tree;
-  later : g.T.Tree.fault_count l.fn.tree ≤ g.T.Tree.fault_count l.tree;
+  later : g.T.ReadTree.fault_count l.fn.tree ≤ g.T.ReadTree.fault_count l.tree;
   inside : l.row < l.size;
   before : l.row ≤ l.byte;
-  here : IfHeld (g.T.Tree.contents l.fn.tree) l.subject l.size (λ bytes.
+  here : IfHeld (g.T.ReadTree.contents l.fn.tree) l.subject l.size (λ bytes.
       IsRow l.layout.shape l.layout.columns bytes l.from → IsRow l.layout.shape l.layout.columns bytes l.row);
 }
 

@@ -6,11 +6,11 @@ use Rattle.mc_viewer.proofs.window.through_lines.Given as goal
 
 abbrev pub invariant-loop-at : goal.invariant-loop-at
 invariant-loop-at g l = record {
-  same : g.T.Tree.contents l.tree ≡ g.T.Tree.contents l.fn.tree;
+  same : g.T.ReadTree.contents l.tree ≡ g.T.ReadTree.contents l.fn.tree;
   apart : is_output l.subject ≡ true → l.tree ≡ l.fn.tree;
-  later : g.T.Tree.fault_count l.fn.tree ≤ g.T.Tree.fault_count l.tree;
+  later : g.T.ReadTree.fault_count l.fn.tree ≤ g.T.ReadTree.fault_count l.tree;
   keeps : l.matcher ≡ l.fn.matcher;
-  left : IfShorter (g.T.Tree.contents l.fn.tree) l.subject l.size (λ bytes.
+  left : IfShorter (g.T.ReadTree.contents l.fn.tree) l.subject l.size (λ bytes.
       in_lines l.fn.matcher l.at 0 (drop l.at bytes) ≡ in_lines l.fn.matcher l.from 0 (drop l.from bytes));
 }
 

@@ -6,10 +6,10 @@ use Rattle.mc_viewer.proofs.window.through_pieces.Given as goal
 
 abbrev pub invariant-loop-at : goal.invariant-loop-at
 invariant-loop-at g l = record {
-  same : g.T.Tree.contents l.tree ≡ g.T.Tree.contents l.fn.tree;
+  same : g.T.ReadTree.contents l.tree ≡ g.T.ReadTree.contents l.fn.tree;
   apart : is_output l.subject ≡ true → l.tree ≡ l.fn.tree;
-  later : g.T.Tree.fault_count l.fn.tree ≤ g.T.Tree.fault_count l.tree;
-  left : IfShorter (g.T.Tree.contents l.fn.tree) l.subject l.size (λ bytes.
+  later : g.T.ReadTree.fault_count l.fn.tree ≤ g.T.ReadTree.fault_count l.tree;
+  left : IfShorter (g.T.ReadTree.contents l.fn.tree) l.subject l.size (λ bytes.
       text_sought l.finder l.at (drop l.at bytes) ≡ text_sought l.finder l.from (drop l.from bytes));
 }
 

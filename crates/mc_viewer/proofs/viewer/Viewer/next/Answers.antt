@@ -13,7 +13,7 @@ viewing_of subject state last = record { subject = subject; state = state; last 
 
 pub returns-clause-found : goal.returns-clause-found
 returns-clause-found g c =
-    let contents = g.T.Tree.contents c.args.tree.now in
+    let contents = g.T.ReadTree.contents c.args.tree.now in
     let here = c.self.inside in
     let landing = c.in_ok-landing.landing in
     let last_is : c.moved_on.result ≡ moved_on here.last landing.place = c.moved_on.ensures ∙ ap (λ (l : Option Hit). moved_on l landing.place) c.take.ensures.value in

@@ -1,0 +1,5 @@
+pub mod BoxSizes
+mod DigitLemmas
+mod MotionLemmas
+mod OpeningLemmas
+pub mod UnknownKeys
