@@ -1,0 +1,2 @@
+mod NewFolders
+mod Sights

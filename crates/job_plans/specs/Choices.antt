@@ -1,0 +1,50 @@
+-- What choosing the thing that is selected comes to, and what planning a copy does.
+use Rattle.std.specs.Prelude.{◌≡◌, ◌≢◌, ℕ, true, false, List, [], ◌∷◌, Option}
+use Rattle.mc_text.specs.Routes.{Route}
+use Rattle.tree_trait.specs.declared.calls.TreeError.{TreeError}
+use Rattle.tree_trait.specs.declared.calls.TreeError.TheVariants.{Missing, Memory}
+use Rattle.tree_trait.specs.FileSystem.{View}
+use Rattle.job_reports.specs.Jobs.{is_workable}
+use Rattle.session_history.specs.declared.refusal.Refusal.{Refusal}
+use Rattle.session_history.specs.declared.refusal.Refusal.TheVariants.{Tree}
+use Rattle.job_plans.specs.declared.choosing.Opens.{Opens}
+use Rattle.job_plans.specs.declared.choosing.Choice.{Choice}
+use Rattle.job_plans.specs.declared.choosing.Choice.TheVariants.{NoSelection, Nothing, Thing, Refused}
+use Rattle.job_plans.specs.declared.copying.JobPlan.{JobPlan}
+use Rattle.job_plans.specs.declared.copying.JobPlan.TheVariants.{Begins, Refuses}
+use Rattle.job_plans.specs.Copies.{CopyRefused, IsVacant, MayAsk, copy_plan}
+
+-- a thing may be asked of by a box, or not, or the look at it was refused
+abbrev pub IsLook : Opens → Option View → Route → Choice → Type 0
+IsLook box tree path NoSelection = ⊥
+IsLook box tree path Nothing = MayAsk box tree path false
+IsLook box tree path (Thing chosen) = MayAsk box tree path true × (chosen.path ≡ path)
+IsLook box tree path (Refused refused e) = refused ≡ path
+
+-- of what is selected in a folder: there is nothing; or one thing, which is looked at; or there are several
+abbrev pub IsChoice : Opens → Option View → Route → List (List ℕ) → Choice → Type 0
+IsChoice box tree folder [] choice = choice ≡ NoSelection
+IsChoice box tree folder (name ∷ []) choice = IsLook box tree (name ∷ folder) choice
+IsChoice box tree folder (name ∷ other ∷ more) choice = choice ≡ Nothing
+
+-- what the look at the thing was refused
+abbrev pub choice_refusals : Choice → List Refusal
+choice_refusals NoSelection = []
+choice_refusals Nothing = []
+choice_refusals (Thing chosen) = []
+choice_refusals (Refused path e) = Tree path e ∷ []
+
+-- what planning a copy comes to: the plan, where nothing stands at its target, or why it is refused
+abbrev pub PlanLeads : Option View → Route → Route → JobPlan → Type 0
+PlanLeads tree path target (Begins plan) = IsVacant tree target × (plan ≡ copy_plan path target) × (is_workable plan ≡ true)
+PlanLeads tree path target (Refuses refusal) = CopyRefused tree target refusal
+
+-- what it was refused
+abbrev pub plan_refusals : JobPlan → List Refusal
+plan_refusals (Begins plan) = []
+plan_refusals (Refuses refusal) = refusal ∷ []
+
+-- what comes of a look at the target that was refused so
+abbrev pub AfterLook : TreeError → Route → Route → JobPlan → Type 0
+AfterLook e path target (Begins plan) = (e ≡ Missing) × (plan ≡ copy_plan path target) × (is_workable plan ≡ true)
+AfterLook e path target (Refuses refusal) = (refusal ≡ Tree target e) × (e ≢ Missing) × (e ≢ Memory)

@@ -1,0 +1,4 @@
+pub mod Choices
+pub mod Openings
+pub mod Replies
+pub mod Paintings
