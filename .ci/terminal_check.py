@@ -23,7 +23,8 @@ from terminal_screen import Screen
 
 UP, DOWN, HOME, END, TAB, INSERT = b"\x1b[A", b"\x1b[B", b"\x1b[H", b"\x1b[F", b"\t", b"\x1b[2~"
 BACK, FORWARD, AGAIN, SWAP = b"\x1by", b"\x1bu", b"\x12", b"\x15"
-F1, F5, F8, F10, ENTER, ESCAPE = b"\x1bOP", b"\x1b[15~", b"\x1b[19~", b"\x1b[21~", b"\r", b"\x1b\x1b"
+F1, F5, F7, F8, F9, F10, ENTER, ESCAPE = b"\x1bOP", b"\x1b[15~", b"\x1b[18~", b"\x1b[19~", b"\x1b[20~", b"\x1b[21~", b"\r", b"\x1b\x1b"
+EMPTY, HIDDEN = b"\x15", b"\x1b."
 COPY = [DOWN, F5, ENTER, ENTER]
 USAGE = b"usage: mc [-b] [-V] [-h] [-P FILE] [-v FILE | -e FILE | --drill N | DIR1 [DIR2]]"
 KEYS = b"F1 help  F2 menu  F3 view  F4 edit  F5 copy  F6 move  F7 mkdir  F8 delete  F9 options  F10 quit"
@@ -327,6 +328,126 @@ def check_panels(program, base, check):
     check("the tagged name is deleted, and not the current one", status == 0 and sorted(os.listdir(inside)) == ["f", "three"])
 
 
+OPTIONS = ["Listing full", "Listing brief", "Listing user", "Sort name", "Sort extension", "Sort size", "Sort time", "Unsorted",
+           "Reverse", "Filter", "Shell patterns"]
+
+
+def option(name):
+    """The keys that choose an option: F9, the row of that name, Enter."""
+    return F9 + DOWN * OPTIONS.index(name) + ENTER
+
+
+def bold_names(screen):
+    """The names in the left panel that are tagged."""
+    rows = [(row[2:16].strip(), screen.looks(number + 1)[1:39]) for number, row in enumerate(screen.rows()[:20])]
+    return [name for name, looks in rows if "b" in looks]
+
+
+def names_in(screen):
+    """The names in the left panel."""
+    return [row[1:15].strip() for row in left_panel(screen)[1]]
+
+
+def check_panel_boxes(program, base, check):
+    """Names tagged by a pattern, another order, format and filter, all by boxes; hidden names, and two panels compared."""
+    here, there = os.path.join(base, "bh"), os.path.join(base, "bt")
+    os.makedirs(os.path.join(here, "z"))
+    os.mkdir(there)
+    for number, (name, size) in enumerate([("a.c", 3), ("n.h", 1), ("b.c", 2), (".hid", 4)]):
+        for folder in (here, there):
+            path = os.path.join(folder, name)
+            make_file(path, size, 0o644)
+            os.utime(path, (LONG_AGO + number, LONG_AGO + number))
+
+    keys = [b"+", EMPTY + b"*.c", ENTER, b"*", b"-", ENTER, b"+", EMPTY + b"[a", ENTER, ENTER, ESCAPE]
+    status, told, same = run(program, [here, there], keys + [F10])
+    screens = told.screens
+    check("boxes of patterns end well", status == 0 and same and len(screens) == len(keys) + 1)
+    plain = screens[0].rows()
+    check("`+` asks what to tag, with a star at first", screens[1].rows() == with_box(plain, ["Select", "*"]))
+    check("a pattern tags what it finds", bold_names(screens[3]) == ["a.c", "b.c"] and screens[3].rows() == plain)
+    check("and `*` turns the tags round", bold_names(screens[4]) == [".hid", "n.h"])
+    check("`-` asks what not to tag", screens[5].rows() == with_box(plain, ["Unselect", "*"]))
+    check("and all tags are gone", bold_names(screens[6]) == [])
+    below = with_box(plain, ["Select", "[a"])
+    check("what is no pattern is refused, over its box", screens[9].rows() == with_box(below, ["bad pattern"]))
+    check("where it can be mended", screens[10].rows() == below and screens[11].rows() == plain)
+
+    keys = [F9, ESCAPE, option("Sort time"), option("Reverse"), option("Sort size"), option("Reverse")]
+    _, told, _ = run(program, [here, there], keys + [F10])
+    screens = told.screens
+    check("F9 lists the options", screens[1].rows() == with_box(plain, ["Options"] + OPTIONS))
+    check("the panel can be sorted by time", names_in(screens[3]) == ["..", "z", "a.c", "n.h", "b.c", ".hid"])
+    check("and the order turned round", names_in(screens[4]) == ["..", "z", ".hid", "b.c", "n.h", "a.c"])
+    check("which stays with another order", names_in(screens[5]) == ["..", "z", ".hid", "a.c", "b.c", "n.h"])
+    check("until it is turned back", names_in(screens[6]) == ["..", "z", "n.h", "b.c", "a.c", ".hid"])
+
+    keys = [option("Listing user"), EMPTY + b"half nam", ENTER, ENTER, EMPTY + b"half perm | name", ENTER]
+    keys += [option("Listing brief"), option("Listing user"), ESCAPE, option("Listing full")]
+    _, told, _ = run(program, [here, there], keys + [F10])
+    screens = told.screens
+    check("the format is asked for", screens[1].rows() == with_box(plain, ["Format", "half type name | size | mtime"]))
+    below = with_box(plain, ["Format", "half nam"])
+    check("one at fault is refused with its position", screens[3].rows() == with_box(below, ["position 5 is wrong"]))
+    rows = left_panel(screens[6])[1]
+    check("a format of the user's is shown", rows[1:3] == ["drwxr-xr-x|z", "-rw-r--r--|.hid"])
+    check("brief shows names alone", left_panel(screens[7])[1][1].startswith("/z"))
+    check("and the format is kept", "half perm | name" in screens[8].rows()[12])
+    check("the full one comes back", screens[10].rows() == plain)
+
+    keys = [option("Filter"), b"*.c", ENTER, option("Filter"), EMPTY, ENTER]
+    _, told, _ = run(program, [here, there], keys + [F10])
+    screens = told.screens
+    check("the filter is asked for", screens[1].rows() == with_box(plain, ["Filter", ""]))
+    check("it leaves the folders and what it finds", names_in(screens[3]) == ["..", "z", "a.c", "b.c"])
+    check("its text is kept", screens[4].rows() == with_box(screens[3].rows(), ["Filter", "*.c"]))
+    check("and an empty one takes it away", screens[6].rows() == plain)
+
+    keys = [option("Shell patterns"), b"+", EMPTY + b"^[ab]", ENTER, option("Shell patterns"), b"\\", ENTER]
+    _, told, _ = run(program, [here, there], keys + [F10])
+    check("regular expressions tag too", bold_names(told.screens[4]) == ["a.c", "b.c"])
+    check("and shell patterns come back", bold_names(told.screens[7]) == [])
+
+    _, told, _ = run(program, [here, there], [HIDDEN, HIDDEN, F10])
+    screens = told.screens
+    right = lambda screen: [row[41:79] for row in screen.rows()]
+    check("M-. shows hidden names in no panel", names_in(screens[1]) == ["..", "z", "a.c", "b.c", "n.h"] and not any(".hid" in row for row in right(screens[1])))
+    check("and again in both", screens[2].rows() == plain)
+
+    make_file(os.path.join(there, "a.c"), 5, 0o644)
+    os.utime(os.path.join(there, "a.c"), (LONG_AGO, LONG_AGO))
+    os.utime(os.path.join(there, "n.h"), (LONG_AGO + 9, LONG_AGO + 9))
+    os.remove(os.path.join(there, "b.c"))
+    _, told, _ = run(program, [here, there], [b"\x18", b"d", b"\x18", b"*", TAB, b"\x18\x18", b"d", F10])
+    screens = told.screens
+    right_bold = lambda screen: [row[42:55].strip() for number, row in enumerate(screen.rows()[:20]) if "b" in screen.looks(number + 1)[41:79]]
+    check("nothing is to be seen of C-x", screens[1].rows() == plain or screens[1].rows() == screens[0].rows())
+    check("C-x d tags what differs in both panels", bold_names(screens[2]) == ["a.c", "b.c"] and right_bold(screens[2]) == ["a.c", "n.h"])
+    check("behind C-x another key does nothing", bold_names(screens[4]) == bold_names(screens[2]))
+
+
+def check_new_folders(program, base, check):
+    """Folders that are made by keys, and what is refused."""
+    folder, other = os.path.join(base, "holds"), os.path.join(base, "other holds")
+    os.mkdir(folder)
+    os.mkdir(other)
+    make_file(os.path.join(folder, "a"), 3, 0o644)
+    status, told, same = run(program, [folder, other], [DOWN, F7, b"new", ENTER, F10])
+    asks, typed, made = told.screens[2:5]
+    check("F7 asks for a new folder", asks.rows() == with_box(told.screens[1].rows(), ["Make folder", ""]))
+    check("what is typed stands in the line", typed.rows() == with_box(told.screens[1].rows(), ["Make folder", "new"]))
+    mode = stat.S_IMODE(os.stat(os.path.join(folder, "new")).st_mode) if os.path.isdir(os.path.join(folder, "new")) else None
+    check("F7 makes a folder", status == 0 and same and mode == 0o755 and os.listdir(other) == [])
+    check("the panel shows it, with the cursor on the name where it was", [row[:4].rstrip() for row in left_panel(made)[1]] == ["/..", "/new", " a"] and left_panel(made)[2] == "a")
+
+    status, _, _ = run(program, [folder, other], [TAB, F7, b"below", ENTER, F7, os.fsencode(os.path.join(folder, "new", "in")), ENTER, F10])
+    check("it is made in the current panel's folder, or where the path leads", status == 0 and os.listdir(other) == ["below"] and os.listdir(os.path.join(folder, "new")) == ["in"])
+
+    for typed, words in [(b"a", b"already there"), (b"new", b"already there"), (b"no/such", b"no such file or folder"), (b"a/in", b"not a folder"), (b"~/in", b"bad mask"), (b"in/", b"bad mask")]:
+        status, told, _ = run(program, [folder, other], [F7, typed, ENTER, ENTER, F10, F10])
+        check(f"{typed.decode()} is refused", status == 0 and words in told and sorted(os.listdir(folder)) == ["a", "new"] and facts(os.path.join(folder, "a"))[1] == 0o644)
+
+
 def check_closed_folder(program, base, check):
     """A folder that may not be read is refused, over the panel as it was."""
     user, program = for_somebody(program, base)
@@ -582,6 +703,8 @@ def main():
         check_copies(program, base, check)
         check_frames(program, base, check)
         check_panels(program, base, check)
+        check_panel_boxes(program, base, check)
+        check_new_folders(program, base, check)
         check_closed_folder(program, base, check)
         check_long_path(program, base, check)
         check_dirty_folder(program, base, check)

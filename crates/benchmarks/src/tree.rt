@@ -4,7 +4,7 @@ use anyhow::{Result, bail};
 use host_tree::HostTree;
 use mc_text::{Kind, Path};
 use std::time::Instant;
-use tree_trait::Tree;
+use tree_trait::{ReadTree, Tree};
 
 /// The most bytes of a call that reads or writes.
 const CHUNK: usize = 65536;

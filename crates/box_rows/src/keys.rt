@@ -28,8 +28,7 @@ fn base_of(word: &str) -> Base {
     match word {
         "enter" => Base::Enter,
         "escape" => Base::Escape,
-        "F9" => Base::F(9),
-        "F10" => Base::F(10),
+        "space" => Base::Char(' '),
         "C-a" => Base::Ctrl(b'a'),
         "C-e" => Base::Ctrl(b'e'),
         "C-k" => Base::Ctrl(b'k'),
@@ -51,6 +50,14 @@ fn editing(word: &str) -> Base {
         "pgdn" => Base::PgDn,
         "delete" => Base::Delete,
         "backspace" => Base::Backspace,
+        _ => function_key(word),
+    }
+}
+
+/// A function key, or else a character.
+fn function_key(word: &str) -> Base {
+    match word.strip_prefix('F') {
+        Some(number) if !number.is_empty() => Base::F(number.parse().unwrap_or(0)),
         _ => first_character(word),
     }
 }

@@ -8,7 +8,9 @@ mod keys;
 mod painting;
 mod screens;
 
+pub use keys::keys_of;
 use row_page::{Page, two_fields};
+pub use screens::tell_screen;
 
 /// Each row with what comes of it.
 pub fn tell_rows(page: &mut Page, rows: &str) {

@@ -5,9 +5,9 @@ use Rattle.mc_text.specs.Routes.{Route, path_text, spelled}
 use Rattle.job_reports.specs.declared.report.Trouble.{Trouble}
 use Rattle.resolving.specs.declared.error.ResolveError.{ResolveError}
 use Rattle.resolving.specs.declared.error.ResolveError.TheVariants as resolve
-use Rattle.session_history.specs.declared.refusal.PlanError.TheVariants.{NoSelection, TargetThere, TargetTooLong, BadMask}
+use Rattle.session_history.specs.declared.refusal.PlanError.TheVariants.{NoSelection, TargetThere, TargetTooLong, BadMask, Target}
 use Rattle.session_history.specs.declared.refusal.Refusal.{Refusal}
-use Rattle.session_history.specs.declared.refusal.Refusal.TheVariants.{Tree, Resolve, Plan, Begin}
+use Rattle.session_history.specs.declared.refusal.Refusal.TheVariants.{Tree, Resolve, Plan, Begin, Typed}
 use Rattle.mc_dialogs.specs.InputKeys.{InputState}
 use Rattle.box_words.specs.declared.message.Message.{Message}
 use Rattle.box_words.specs.declared.message.Message.TheVariants.{Refused, PartLeft, OutOfMemory, Help}
@@ -30,7 +30,9 @@ refusal_path (Plan NoSelection) = None
 refusal_path (Plan (TargetThere path)) = Some path
 refusal_path (Plan TargetTooLong) = None
 refusal_path (Plan BadMask) = None
+refusal_path (Plan (Target e)) = resolve_path e
 refusal_path (Begin error) = None
+refusal_path (Typed error) = None
 
 -- a line with a path, where there is one
 abbrev pub path_lines : Option Route → List (List ℕ)
@@ -68,6 +70,10 @@ trouble_lines trouble = trouble_words trouble.cause ∷ option_map_or path_text 
 -- the line that asks for the source mask, as it opens
 abbrev pub mask_line : InputState
 mask_line = record { title = codes "Source mask"; before = codes "*"; behind = [] }
+
+-- the line that asks for a new folder's path, as it opens
+abbrev pub folder_line : InputState
+folder_line = record { title = codes "Make folder"; before = []; behind = [] }
 
 -- what a copy's destination is at first: the other panel's folder and a slash
 abbrev pub target_text : Route → List ℕ

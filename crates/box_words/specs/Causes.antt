@@ -8,11 +8,13 @@ use Rattle.resolving.specs.declared.error.ResolveError.TheVariants as resolve
 use Rattle.job_reports.specs.declared.report.Cause.{Cause}
 use Rattle.job_reports.specs.declared.report.Cause.TheVariants as cause
 use Rattle.session_history.specs.declared.refusal.PlanError.{PlanError}
-use Rattle.session_history.specs.declared.refusal.PlanError.TheVariants.{NoSelection, TargetThere, TargetTooLong, BadMask}
+use Rattle.session_history.specs.declared.refusal.PlanError.TheVariants.{NoSelection, TargetThere, TargetTooLong, BadMask, Target}
 use Rattle.session_history.specs.declared.refusal.BeginError.{BeginError}
 use Rattle.session_history.specs.declared.refusal.BeginError.TheVariants.{NoMoreIds}
+use Rattle.session_history.specs.declared.refusal.TypedError.{TypedError}
+use Rattle.session_history.specs.declared.refusal.TypedError.TheVariants.{BadPattern, BadFormat}
 use Rattle.session_history.specs.declared.refusal.Refusal.{Refusal}
-use Rattle.session_history.specs.declared.refusal.Refusal.TheVariants.{Tree, Resolve, Plan, Begin}
+use Rattle.session_history.specs.declared.refusal.Refusal.TheVariants.{Tree, Resolve, Plan, Begin, Typed}
 
 -- what is said of a refused call
 abbrev pub cause_words : TreeError → List ℕ
@@ -45,10 +47,16 @@ plan_words NoSelection = codes "nothing selected"
 plan_words (TargetThere path) = codes "already there"
 plan_words TargetTooLong = codes "path too long"
 plan_words BadMask = codes "bad mask"
+plan_words (Target e) = resolve_words e
 
 -- what is said of a job that can't be begun
 abbrev pub begin_words : BeginError → List ℕ
 begin_words NoMoreIds = codes "too many jobs"
+
+-- what is said of what was typed and can't be taken
+abbrev pub typed_words : TypedError → List ℕ
+typed_words BadPattern = codes "bad pattern"
+typed_words (BadFormat at) = codes "position " ++ (decimal at ++ codes " is wrong")
 
 -- what is said of a refusal
 abbrev pub refusal_words : Refusal → List ℕ
@@ -56,6 +64,7 @@ refusal_words (Tree path e) = cause_words e
 refusal_words (Resolve e) = resolve_words e
 refusal_words (Plan error) = plan_words error
 refusal_words (Begin error) = begin_words error
+refusal_words (Typed error) = typed_words error
 
 -- what is said of a job's trouble
 abbrev pub trouble_words : Cause → List ℕ

@@ -2,7 +2,7 @@
 ghost use Rattle.std.specs.Prelude.{◌≡◌, ◌∷◌, ◌++◌, [], IfOk};
 ghost use Rattle.std.specs.Option.{option_map_or};
 ghost use Rattle.mc_text.specs.Routes.{path_text as path_text_of};
-ghost use Rattle.box_words.specs.BoxLines.{delete_lines as lines_of_deletion, mask_line as line_of_mask, message_lines as lines_of_message, path_lines, resolve_path, target_line as line_of_target, target_text as text_of_target, trouble_letter_words, trouble_lines as lines_of_trouble};
+ghost use Rattle.box_words.specs.BoxLines.{delete_lines as lines_of_deletion, folder_line as line_of_folder, mask_line as line_of_mask, message_lines as lines_of_message, path_lines, resolve_path, target_line as line_of_target, target_text as text_of_target, trouble_letter_words, trouble_lines as lines_of_trouble};
 
 use crate::causes::{refusal_text, trouble_text};
 use crate::message::Message;
@@ -80,7 +80,7 @@ pub fn message_lines(alloc: Global, message: &Message) -> Result<Rows, NoMemory>
 fn refusal_lines(alloc: Global, refusal: &Refusal) -> Result<Rows, NoMemory>
     ensures { IfOk result (λ lines. lines ≡ lines_of_message (Message.Refused refusal.now)) }
 {
-    let words = Text::from_str(alloc, refusal_text(refusal))?;
+    let words = refusal_text(alloc, refusal)?;
     match refusal {
         Refusal::Tree(path, _) => words_and_path(alloc, words, path),
         Refusal::Resolve(error) => resolve_lines(alloc, words, error),
@@ -88,7 +88,9 @@ fn refusal_lines(alloc: Global, refusal: &Refusal) -> Result<Rows, NoMemory>
         Refusal::Plan(PlanError::TargetThere(path)) => words_and_path(alloc, words, path),
         Refusal::Plan(PlanError::TargetTooLong) => words_alone(alloc, words),
         Refusal::Plan(PlanError::BadMask) => words_alone(alloc, words),
+        Refusal::Plan(PlanError::Target(error)) => resolve_lines(alloc, words, error),
         Refusal::Begin(_) => words_alone(alloc, words),
+        Refusal::Typed(_) => words_alone(alloc, words),
     }
 }
 
@@ -164,6 +166,13 @@ pub fn target_line(alloc: Global, folder: &Path) -> Result<InputLine, NoMemory>
 {
     let text = target_text(alloc, folder)?;
     InputLine::new(alloc, "Copy to", text.as_str())
+}
+
+/// The line that asks for a new folder's path.
+pub fn folder_line(alloc: Global) -> Result<InputLine, NoMemory>
+    ensures { IfOk result (λ line. line ≡ line_of_folder) }
+{
+    InputLine::new(alloc, "Make folder", "")
 }
 
 /// A folder's path and a slash, for the root a slash alone.

@@ -1,11 +1,11 @@
 //! The texts of causes, as they are shown and printed.
 ghost use Rattle.std.specs.Prelude.{◌≡◌, IfOk};
-ghost use Rattle.box_words.specs.Causes.{begin_words, cause_words, plan_words, refusal_words, resolve_words, trouble_words};
+ghost use Rattle.box_words.specs.Causes.{begin_words, cause_words, plan_words, refusal_words, resolve_words, trouble_words, typed_words};
 
 use job_reports::Cause;
 use mc_text::{NoMemory, Text};
 use resolving::ResolveError;
-use session_history::{BeginError, PlanError, Refusal};
+use session_history::{BeginError, PlanError, Refusal, TypedError};
 use std::alloc::Global;
 use tree_trait::TreeError;
 
@@ -53,6 +53,7 @@ fn plan_text(error: &PlanError) -> &'static str
         PlanError::TargetThere(_) => "already there",
         PlanError::TargetTooLong => "path too long",
         PlanError::BadMask => "bad mask",
+        PlanError::Target(error) => resolve_text(error),
     }
 }
 
@@ -65,15 +66,33 @@ fn begin_text(error: BeginError) -> &'static str
     }
 }
 
+/// What is said of what was typed and can't be taken.
+fn typed_text(alloc: Global, error: TypedError) -> Result<Text, NoMemory>
+    ensures { IfOk result (λ text. text ≡ typed_words error) }
+{
+    match error {
+        TypedError::BadPattern => Text::from_str(alloc, "bad pattern"),
+        TypedError::BadFormat(at) => position_text(alloc, at),
+    }
+}
+
+/// What is said of a format whose fault stands at this byte.
+fn position_text(alloc: Global, at: usize) -> Result<Text, NoMemory>
+    ensures { IfOk result (λ text. text ≡ typed_words (TypedError.BadFormat at)) }
+{
+    Ok(Text(format!(in alloc; "position {at} is wrong")?))
+}
+
 /// What is said of a refusal.
-pub fn refusal_text(refusal: &Refusal) -> &'static str
-    ensures { result.now ≡ refusal_words refusal.now }
+pub fn refusal_text(alloc: Global, refusal: &Refusal) -> Result<Text, NoMemory>
+    ensures { IfOk result (λ text. text ≡ refusal_words refusal.now) }
 {
     match refusal {
-        Refusal::Tree(_, error) => cause_text(*error),
-        Refusal::Resolve(error) => resolve_text(error),
-        Refusal::Plan(error) => plan_text(error),
-        Refusal::Begin(error) => begin_text(*error),
+        Refusal::Tree(_, error) => Text::from_str(alloc, cause_text(*error)),
+        Refusal::Resolve(error) => Text::from_str(alloc, resolve_text(error)),
+        Refusal::Plan(error) => Text::from_str(alloc, plan_text(error)),
+        Refusal::Begin(error) => Text::from_str(alloc, begin_text(*error)),
+        Refusal::Typed(error) => typed_text(alloc, *error),
     }
 }
 

@@ -3,15 +3,15 @@
 
 mod box_lines;
 mod causes;
-mod dialog;
+mod chosen;
 mod message;
 mod replies;
 
 pub use box_lines::{
-    delete_lines, mask_line, message_lines, target_line, target_text, trouble_lines,
+    delete_lines, folder_line, mask_line, message_lines, target_line, target_text, trouble_lines,
 };
 pub use causes::{cause_text, resolve_text};
-pub use dialog::{Chosen, Dialog};
+pub use chosen::Chosen;
 pub use message::Message;
 pub use replies::{
     DeleteReply, LineReply, TroubleReply, closes_message, delete_reply_to, line_reply,

@@ -1,7 +1,7 @@
 -- A step of a deletion, as its machine makes it.
 use Rattle.std.proofs.Common.{◌≡◌, ◌⊎◌, ℕ, suc, zero, ◌+◌, ◌-◌, ◌<◌, ◌≤◌, Bool, true, false, not, List, [], ◌∷◌, length, refl, sym, ◌∙◌, ap, subst, inl, inr, Option, Some, None, Ok, Err, arith}
 use Rattle.std.specs.Prelude.{if◌then◌else◌, slice_get}
-use Rattle.std.proofs.lemmas.Bool.{or_left, true≢false, false≢true}
+use Rattle.std.proofs.lemmas.Bool.{and_parts, or_left, true≢false, false≢true}
 use Rattle.mc_text.specs.Routes.{Route, is_prefix, parent_of, same_path}
 use Rattle.tree_trait.specs.declared.calls.TreeError.{TreeError}
 use Rattle.tree_trait.specs.Calls.{RemoveFile, RemoveFolder}
@@ -16,7 +16,11 @@ use Rattle.job_reports.specs.declared.report.Ending.TheVariants.{Finished, Abort
 use Rattle.job_reports.specs.declared.report.Did.{Did}
 use Rattle.job_reports.specs.declared.report.Did.TheVariants.{Began, Chunk, Placed, Removed, Made, Kept, Skipped, Cleaned, Barrier, Troubled, Ended}
 use Rattle.job_reports.specs.Paths.{folder_of, without}
-use Rattle.job_reports.specs.Stops.{cause_of, sync_answer, trouble_at}
+use Rattle.job_reports.specs.Reports.{IsFault}
+use Rattle.job_reports.specs.Stops.{cause_of, out_of_memory_at, sync_answer, trouble_at}
+use Rattle.job_reports.specs.declared.report.StepResult.{StepResult}
+use Rattle.job_answers.specs.Skipping.{holds, kind_in}
+use Rattle.job_answers.specs.declared.skips.Skips.{Skips as Kinds}
 use Rattle.tree_deletion.specs.declared.deletion.Stage.{Stage}
 use Rattle.tree_deletion.specs.declared.deletion.Stage.TheVariants.{Begin, Going, Sync}
 use Rattle.tree_deletion.specs.declared.deletion.Deletion.{Deletion}
@@ -25,10 +29,13 @@ use Rattle.tree_deletion.specs.Folders.{IsOwn, IsOwnAt, is_of, joined}
 use Rattle.tree_deletion.specs.Inside.{IsInside}
 use Rattle.tree_deletion.specs.Standing.{End, Item, Thing, after_item, at_barrier, item}
 use Rattle.tree_deletion.specs.Steps.{IsProgress, KeepsRest, LastSteps, RemovalLeaves, Skips, SyncSteps, Syncs, TakesOff, Tries, WorkCalls, WorkLeaves, WorkSteps, Works, after_try as machine_try, next_try, path_of, removal_of}
-use Rattle.tree_deletion.proofs.Staying.{descends_inside, item_inside, skip_falls}
-use Rattle.copy_move.specs.Deletions.{Deleting, DeletionCalls, DeletionLeaves, IsAtStage, IsRefused, LastCalls, Tells, TellsTried, Winds, left_in, machine_of}
+use Rattle.tree_deletion.proofs.Staying.{descends_inside, item_inside, skip_falls, skip_inside, skip_less, work_inside}
+use Rattle.copy_move.specs.Deletions.{Deleting, DeletionCalls, DeletionLeaves, IsAtStage, IsRefused, LastCalls, Tells, TellsTried, Winds, is_passed_over, left_in, machine_of, passed_cause}
 use Rattle.copy_move.specs.Deletions as deletions
-use Rattle.copy_move.specs.DeletionSteps.{DeletionSkips, DeletionStep, LastDeletionStep, after_try}
+use Rattle.copy_move.specs.declared.run.Course.{Course}
+use Rattle.copy_move.specs.declared.run.Course.TheVariants.{GoesOn}
+use Rattle.copy_move.specs.Faults.{MeetsFault}
+use Rattle.copy_move.specs.DeletionSteps.{DeletionSkips, DeletionStep, Goes, LastDeletionStep, OrPassedOver, TriesNext, after_try, is_decided, step_result}
 
 -- a folder the fewer, where it is one of them
 pub fewer : (folder : Route) (dirty : List Route) → length (without folder dirty) ≤ length dirty
@@ -56,15 +63,15 @@ stands_among (first ∷ rest) zero folder h = inl (let e : folder ≡ first = cc
 stands_among (first ∷ rest) (suc at) folder h = inr (stands_among rest at folder h)
 
 -- the machine and what is seen of it
-abbrev pub seen : Deletion → ℕ → Deleting
-seen m tried = record { path = m.path; stage = m.stage; depth = m.depth; place = m.walk.place; tried = tried }
+abbrev pub seen : Deletion → ℕ → Kinds → Deleting
+seen m tried skips = record { path = m.path; stage = m.stage; depth = m.depth; place = m.walk.place; tried = tried; skips = skips }
 
 folder_is : (path folder : Route) → parent_of path ≡ Some folder → folder ≡ folder_of path
 folder_is [] folder h = absurd (let f : ⊥ = cc in f)
 folder_is (name ∷ up) folder h = let e : up ≡ folder = cc in sym e
 
-pub machine_is : (m : Deletion) (tried : ℕ) → parent_of m.path ≡ Some m.folder → m ≡ machine_of (seen m tried) m.walk.spare
-machine_is m tried h = ap (λ f. (let d : Deletion = record m { folder = f } in d)) (folder_is m.path m.folder h)
+pub machine_is : (m : Deletion) (tried : ℕ) (skips : Kinds) → parent_of m.path ≡ Some m.folder → m ≡ machine_of (seen m tried skips) m.walk.spare
+machine_is m tried skips h = ap (λ f. (let d : Deletion = record m { folder = f } in d)) (folder_is m.path m.folder h)
 
 sync_is : (stage : Stage) → at_barrier stage ≡ true → stage ≡ Sync
 sync_is Sync h = refl
@@ -72,14 +79,28 @@ sync_is Begin h = absurd (false≢true h)
 sync_is Going h = absurd (false≢true h)
 
 itself : (d : Deleting) → IsAtStage d d.stage d
-itself d = record { path_is = refl; stage_is = refl; tried_is = refl }
+itself d = record { path_is = refl; stage_is = refl; tried_is = refl; skips_is = refl }
+
+-- a report that isn't a skip tells of a fault where it is one
+pub met_by : (course : Course) (P : Did → Type 0) (did : Did) → ((path : Route) (cause : Cause) → P (Skipped path cause) → ⊥) → P did → MeetsFault course did → IsFault did
+met_by course P (Troubled trouble) none p h = h
+met_by course P (Skipped path cause) none p h = absurd (none path cause p)
+met_by course P (Began part) none p h = h
+met_by course P (Chunk count) none p h = h
+met_by course P (Placed path) none p h = h
+met_by course P (Removed path) none p h = h
+met_by course P (Made path) none p h = h
+met_by course P (Kept path) none p h = h
+met_by course P (Cleaned part) none p h = h
+met_by course P Barrier none p h = h
+met_by course P (Ended ending part) none p h = h
 
 -- a step that syncs
-module _ (m : Deletion) (tried : ℕ) (holds : parent_of m.path ≡ Some m.folder) (barrier : at_barrier m.stage ≡ true) (dirty dirty_after : List Route) (before after : Option CallLog) where
-  sync_tells : (did : Did) → Syncs m did dirty dirty_after before after → Tells (seen m tried) did (seen m tried)
-  sync_tells Barrier s = (sync_is m.stage barrier, itself (seen m tried))
-  sync_tells (Troubled trouble) (e, folder, own, is, left, called) = (ap (λ (t : Trouble). t.barrier) is ∙ sym barrier, itself (seen m tried))
-  sync_tells (Ended Finished part) (ending, part_is, none, same, after_is) = (sync_is m.stage barrier, part_is, itself (seen m tried))
+module _ (m : Deletion) (tried : ℕ) (skips : Kinds) (holds : parent_of m.path ≡ Some m.folder) (barrier : at_barrier m.stage ≡ true) (dirty dirty_after : List Route) (before after : Option CallLog) where
+  sync_tells : (did : Did) → Syncs m did dirty dirty_after before after → Tells (seen m tried skips) did (seen m tried skips)
+  sync_tells Barrier s = (sync_is m.stage barrier, itself (seen m tried skips))
+  sync_tells (Troubled trouble) (e, folder, own, is, left, called) = (ap (λ (t : Trouble). t.barrier) is ∙ sym barrier, itself (seen m tried skips))
+  sync_tells (Ended Finished part) (ending, part_is, none, same, after_is) = (sync_is m.stage barrier, part_is, itself (seen m tried skips))
   sync_tells (Ended Aborted part) (ending, part_is, none, same, after_is) = absurd (let f : ⊥ = cc in f)
   sync_tells (Ended Killed part) (ending, part_is, none, same, after_is) = absurd (let f : ⊥ = cc in f)
   sync_tells (Ended NoMemory part) (ending, part_is, none, same, after_is) = absurd (let f : ⊥ = cc in f)
@@ -94,7 +115,7 @@ module _ (m : Deletion) (tried : ℕ) (holds : parent_of m.path ≡ Some m.folde
 
   sync_calls : (did : Did) → Syncs m did dirty dirty_after before after → IfKnown before (λ log. DeletionCalls did log after)
   sync_calls Barrier (folder, own, left, called) log known = (folder, called log known)
-  sync_calls (Troubled trouble) (e, folder, own, is, left, called) log known = inr (e, ap (λ (t : Trouble). t.cause) is, deletions.RefusedSync folder (called log known))
+  sync_calls (Troubled trouble) (e, folder, own, is, left, called) log known = inr (e, inl (ap (λ (t : Trouble). t.cause) is), deletions.RefusedSync folder (called log known))
   sync_calls (Ended ending part) (ending_is, part_is, none, same, after_is) log known = after_is ∙ known
   sync_calls (Began part) s log known = absurd s
   sync_calls (Chunk count) s log known = absurd s
@@ -108,7 +129,7 @@ module _ (m : Deletion) (tried : ℕ) (holds : parent_of m.path ≡ Some m.folde
   own_is : (folder : Route) → IsOwn m.folder m.path dirty folder → IsOwn (folder_of m.path) m.path dirty folder
   own_is folder own = subst (λ up. IsOwn up m.path dirty folder) (folder_is m.path m.folder holds) own
 
-  sync_leaves : (did : Did) → Syncs m did dirty dirty_after before after → DeletionLeaves (seen m tried) did dirty dirty_after before after
+  sync_leaves : (did : Did) → Syncs m did dirty dirty_after before after → DeletionLeaves (seen m tried skips) did dirty dirty_after before after
   sync_leaves Barrier (folder, own, left, called) = (folder, own_is folder own, left, called)
   sync_leaves (Troubled trouble) (e, folder, own, is, left, called) = left
   sync_leaves (Ended ending part) (ending_is, part_is, none, same, after_is) = (subst (λ up. Rattle.tree_deletion.specs.Folders.NoneOf up m.path dirty) (folder_is m.path m.folder holds) none, same)
@@ -121,7 +142,7 @@ module _ (m : Deletion) (tried : ℕ) (holds : parent_of m.path ≡ Some m.folde
   sync_leaves (Skipped path cause) s = absurd s
   sync_leaves (Cleaned part) s = absurd s
 
-  no_progress : (did : Did) → Syncs m did dirty dirty_after before after → IsProgress did ≡ true → ⊥
+  no_progress : (did : Did) → Syncs m did dirty dirty_after before after → is_decided did ≡ true → ⊥
   no_progress (Removed path) s h = s
   no_progress (Kept path) s h = s
   no_progress Barrier s h = false≢true h
@@ -134,9 +155,9 @@ module _ (m : Deletion) (tried : ℕ) (holds : parent_of m.path ≡ Some m.folde
   no_progress (Skipped path cause) s h = s
   no_progress (Cleaned part) s h = s
 
-  pub step_syncs : (did : Did) (calls f0 f1 : ℕ) → SyncSteps m did calls dirty dirty_after before after f0 f1 → DeletionStep (seen m tried) (seen m tried) did calls dirty dirty_after before after f0 f1
+  pub step_syncs : (did : Did) (calls f0 f1 : ℕ) → SyncSteps m did calls dirty dirty_after before after f0 f1 → DeletionStep (seen m tried skips) (seen m tried skips) did calls dirty dirty_after before after f0 f1
   step_syncs did calls f0 f1 s = record {
-    goes = inr (m.walk.spare, subst (λ (x : Deletion). SyncSteps x did calls dirty dirty_after before after f0 f1) (machine_is m tried holds) s, refl);
+    goes = inr (m.walk.spare, subst (λ (x : Deletion). SyncSteps x did calls dirty dirty_after before after f0 f1) (machine_is m tried skips holds) s, refl);
     tells = sync_tells did s.syncs;
     called = sync_calls did s.syncs;
     leaves = sync_leaves did s.syncs;
@@ -145,7 +166,7 @@ module _ (m : Deletion) (tried : ℕ) (holds : parent_of m.path ≡ Some m.folde
     few = s.few;
     unknown = s.unknown;
     later = s.later;
-    fault = s.fault;
+    fault = λ h. s.fault (met_by GoesOn (λ d. Syncs m d dirty dirty_after before after) did (λ path cause x. x) s.syncs h);
   }
 
 -- on its way down a deletion keeps its stage
@@ -179,19 +200,19 @@ removal_leaves (Thing thing) path dirty dirty_after before after is leaves done 
 removal_leaves (End folder) path dirty dirty_after before after is leaves done = inr (leaves, λ log known. subst (λ p. Performs {A = Unit {0}} log (RemoveFolder p) (Ok tt) after) (sym is) (done log known))
 
 -- a step that works
-module _ (m new : Deletion) (tried : ℕ) (holds : parent_of m.path ≡ Some m.folder) (inside : IsInside m) (going : at_barrier m.stage ≡ false) where
+module _ (m new : Deletion) (tried : ℕ) (skips : Kinds) (holds : parent_of m.path ≡ Some m.folder) (inside : IsInside m) (going : at_barrier m.stage ≡ false) where
   module _ (mid : Deletion) (on : IsOnStage m mid) (within : IsInside mid) where
-    work_tells : (did : Did) → Works mid did new → Tells (seen m tried) did (seen new tried)
+    work_tells : (did : Did) → Works mid did new → Tells (seen m tried skips) did (seen new tried skips)
     work_tells (Removed path) (path_is, bare, d) = (
       going,
       subst (λ p. is_prefix p path ≡ true) on.path_is (subst (λ p. is_prefix mid.path p ≡ true) (sym path_is) (item_inside mid within)),
-      record { path_is = d.path_is ∙ on.path_is; stage_is = d.stage_is ∙ ap (λ p. after_item p path Going) on.path_is; tried_is = refl },
+      record { path_is = d.path_is ∙ on.path_is; stage_is = d.stage_is ∙ ap (λ p. after_item p path Going) on.path_is; tried_is = refl; skips_is = refl },
     )
     work_tells (Kept path) (path_is, spared, d) = (
       going,
-      record { path_is = d.path_is ∙ on.path_is; stage_is = d.stage_is ∙ (ap (λ p. after_item p path mid.stage) on.path_is ∙ ap (after_item m.path path) on.stage_is); tried_is = refl },
+      record { path_is = d.path_is ∙ on.path_is; stage_is = d.stage_is ∙ (ap (λ p. after_item p path mid.stage) on.path_is ∙ ap (after_item m.path path) on.stage_is); tried_is = refl; skips_is = refl },
     )
-    work_tells (Troubled trouble) (barrier, a) = (barrier ∙ sym going, record { path_is = a.path_is ∙ on.path_is; stage_is = a.stage_is ∙ on.stage_is; tried_is = refl })
+    work_tells (Troubled trouble) (barrier, a) = (barrier ∙ sym going, record { path_is = a.path_is ∙ on.path_is; stage_is = a.stage_is ∙ on.stage_is; tried_is = refl; skips_is = refl })
     work_tells (Began part) w = absurd w
     work_tells (Chunk count) w = absurd w
     work_tells (Placed path) w = absurd w
@@ -218,7 +239,7 @@ module _ (m new : Deletion) (tried : ℕ) (holds : parent_of m.path ≡ Some m.f
     work_calls (Removed path) log after w h = removal_called (item mid) path log after w.0 h.1
     work_calls (Kept path) log after w h = h
     work_calls (Troubled trouble) log after w (inl (same, stops)) = inl same
-    work_calls (Troubled trouble) log after w (inr (e, is, saw, h)) = inr (e, ap (λ (t : Trouble). t.cause) is, removal_refused (item mid) log e after h)
+    work_calls (Troubled trouble) log after w (inr (e, is, saw, h)) = inr (e, inl (ap (λ (t : Trouble). t.cause) is), removal_refused (item mid) log e after h)
     work_calls (Began part) log after w h = absurd w
     work_calls (Chunk count) log after w h = absurd w
     work_calls (Placed path) log after w h = absurd w
@@ -229,7 +250,7 @@ module _ (m new : Deletion) (tried : ℕ) (holds : parent_of m.path ≡ Some m.f
     work_calls (Ended ending part) log after w h = absurd w
 
     work_leaves : (did : Did) (dirty dirty_after : List Route) (before after : Option CallLog) → Works mid did new → WorkLeaves (item mid) did dirty dirty_after → IfKnown before (λ log. WorkCalls mid did log after)
-        → DeletionLeaves (seen m tried) did dirty dirty_after before after
+        → DeletionLeaves (seen m tried skips) did dirty dirty_after before after
     work_leaves (Removed path) dirty dirty_after before after w leaves called = removal_leaves (item mid) path dirty dirty_after before after w.0 leaves (λ log known. (called log known).1)
     work_leaves (Kept path) dirty dirty_after before after w leaves called = leaves
     work_leaves (Troubled trouble) dirty dirty_after before after w leaves called = leaves
@@ -252,30 +273,53 @@ module _ (m new : Deletion) (tried : ℕ) (holds : parent_of m.path ≡ Some m.f
     pub still_holds : parent_of new.path ≡ Some new.folder
     still_holds = ap parent_of same_place.0 ∙ (holds ∙ ap (λ f. Some f) (sym same_place.1))
 
-    pub step_works : DeletionStep (seen m tried) (seen new tried) did calls dirty dirty_after before after f0 f1
-    step_works =
+    -- the same step, as it is seen
+    pub on_way : WorkSteps (machine_of (seen m tried skips) m.walk.spare) new did calls dirty dirty_after before after f0 f1
+    on_way = subst (λ (x : Deletion). WorkSteps x new did calls dirty dirty_after before after f0 f1) (machine_is m tried skips holds) s
+
+    fewer_worked : (x : Did) → (IsProgress x ≡ true → left_in (seen new tried skips) < left_in (seen m tried skips)) → Works s.mid x new → is_decided x ≡ true → left_in (seen new tried skips) < left_in (seen m tried skips)
+    fewer_worked (Skipped path cause) falls w h = absurd w
+    fewer_worked (Removed path) falls w h = falls h
+    fewer_worked (Kept path) falls w h = falls h
+    fewer_worked (Troubled trouble) falls w h = falls h
+    fewer_worked (Made path) falls w h = falls h
+    fewer_worked (Began part) falls w h = falls h
+    fewer_worked (Chunk count) falls w h = falls h
+    fewer_worked (Placed path) falls w h = falls h
+    fewer_worked (Cleaned part) falls w h = falls h
+    fewer_worked Barrier falls w h = falls h
+    fewer_worked (Ended ending part) falls w h = falls h
+
+    pub worked_inside : IsInside new
+    worked_inside = work_inside m new did calls dirty dirty_after before after f0 f1 s inside
+
+    -- what it tells, and what it says of the dirty folders
+    pub worked_tells : Tells (seen m tried skips) did (seen new tried skips)
+    worked_tells = work_tells s.mid on_stage (descends_inside before m s.mid s.entered s.descends inside) did (let w = s.working in w.works)
+
+    pub worked_leaves : DeletionLeaves (seen m tried skips) did dirty dirty_after before after
+    worked_leaves = let w = s.working in work_leaves s.mid on_stage (descends_inside before m s.mid s.entered s.descends inside) did dirty dirty_after before after w.works w.leaves w.called
+
+    -- what was worked is reported
+    pub step_works : passed_cause skips did ≡ None → DeletionStep (seen m tried skips) (seen new tried skips) did calls dirty dirty_after before after f0 f1
+    step_works none =
         let w = s.working in
         let within = descends_inside before m s.mid s.entered s.descends inside in
         record {
-          goes = inl (
-            m.walk.spare,
-            new.walk.spare,
-            subst (λ (x : Deletion). WorkSteps x (machine_of (seen new tried) new.walk.spare) did calls dirty dirty_after before after f0 f1) (machine_is m tried holds)
-                (subst (λ (x : Deletion). WorkSteps m x did calls dirty dirty_after before after f0 f1) (machine_is new tried still_holds) s),
-          );
+          goes = inl (did, new, m.walk.spare, new.walk.spare, on_way, inl (none, refl, sym (machine_is new tried skips still_holds)));
           tells = work_tells s.mid on_stage within did w.works;
           called = λ log known. work_calls s.mid on_stage within did log after w.works (w.called log known);
           leaves = work_leaves s.mid on_stage within did dirty dirty_after before after w.works w.leaves w.called;
-          fewer = s.falls;
+          fewer = fewer_worked did s.falls w.works;
           counted = w.counted;
           few = w.few;
           unknown = w.unknown;
           later = w.later;
-          fault = w.fault;
+          fault = λ h. w.fault (met_by GoesOn (λ d. Works s.mid d new) did (λ path cause x. x) w.works h);
         }
 
 -- a skip
-module _ (cause : Cause) (m new : Deletion) (tried : ℕ) (inside : IsInside m) where
+module _ (cause : Cause) (m new : Deletion) (tried : ℕ) (skips : Kinds) (inside : IsInside m) where
   takes_keeps : (path : Route) (mid : Deletion) → TakesOff path m mid → KeepsRest m mid
   takes_keeps path mid (inl t) = t.1.1
   takes_keeps path mid (inr (long, l)) = l.rest
@@ -285,17 +329,172 @@ module _ (cause : Cause) (m new : Deletion) (tried : ℕ) (inside : IsInside m) 
       let k = takes_keeps path mid takes in (ap (λ (d : Deletion). d.path) new_is ∙ k.path_is, ap (λ (d : Deletion). d.folder) new_is ∙ k.folder_is)
   skip_keeps did (inr (did_is, new_is)) = (ap (λ (d : Deletion). d.path) new_is, ap (λ (d : Deletion). d.folder) new_is)
 
-  pub skip_made : (did : Did) → Skips cause m did new → DeletionSkips cause (seen m tried) did (seen new tried)
-  skip_made did s = record { skips = by s; no_more = skip_falls cause m new did s inside }
+  pub skip_made : (did : Did) → parent_of m.path ≡ Some m.folder → Skips cause m did new → DeletionSkips cause (seen m tried skips) did (seen new tried skips)
+  skip_made did holds s = record {
+    passes =
+        let k = skip_keeps did s in
+        let still : parent_of new.path ≡ Some new.folder = ap parent_of k.0 ∙ (holds ∙ ap (λ f. Some f) (sym k.1)) in (
+          m.walk.spare,
+          new.walk.spare,
+          subst (λ (x : Deletion). Skips cause x did (machine_of (seen new tried skips) new.walk.spare)) (machine_is m tried skips holds) (subst (λ (x : Deletion). Skips cause m did x) (machine_is new tried skips still) s),
+        );
+    skips = by s;
+    no_more = skip_falls cause m new did s inside;
+  }
     where
-      by : Skips cause m did new → ((path : Route) × (did ≡ Skipped path cause) × IsAtStage (seen m tried) (after_item m.path path m.stage) (seen new tried)) ⊎ ((did ≡ Troubled (Rattle.job_reports.specs.Stops.out_of_memory_at (at_barrier m.stage))) × (seen new tried ≡ seen m tried))
+      by : Skips cause m did new → ((path : Route) × (did ≡ Skipped path cause) × IsAtStage (seen m tried skips) (after_item m.path path m.stage) (seen new tried skips)) ⊎ ((did ≡ Troubled (Rattle.job_reports.specs.Stops.out_of_memory_at (at_barrier m.stage))) × (seen new tried skips ≡ seen m tried skips))
       by (inl (path, did_is, (mid, takes, new_is))) =
           let k = takes_keeps path mid takes in
-          inl (path, did_is, record { path_is = ap (λ (d : Deletion). d.path) new_is ∙ k.path_is; stage_is = ap (λ (d : Deletion). d.stage) new_is; tried_is = refl })
-      by (inr (did_is, new_is)) = inr (did_is, ap (λ (d : Deletion). seen d tried) new_is)
+          inl (path, did_is, record { path_is = ap (λ (d : Deletion). d.path) new_is ∙ k.path_is; stage_is = ap (λ (d : Deletion). d.stage) new_is; tried_is = refl; skips_is = refl })
+      by (inr (did_is, new_is)) = inr (did_is, ap (λ (d : Deletion). seen d tried skips) new_is)
+
+-- the trouble that is passed over
+passed_is : (skips : Kinds) (did : Did) (cause : Cause) → passed_cause skips did ≡ Some cause → (trouble : Trouble) × (did ≡ Troubled trouble) × (holds skips (kind_in cause) ≡ true) × (trouble.cause ≡ cause)
+passed_is skips (Troubled trouble) cause is = by (is_passed_over skips trouble) refl is
+  where
+    by : (b : Bool) → is_passed_over skips trouble ≡ b → (let o : Option Cause = if b then Some trouble.cause else None in o) ≡ Some cause
+        → (t : Trouble) × (Troubled trouble ≡ Troubled t) × (holds skips (kind_in cause) ≡ true) × (t.cause ≡ cause)
+    by true h is = let same : trouble.cause ≡ cause = cc in (trouble, refl, subst (λ c. holds skips (kind_in c) ≡ true) same (and_parts (not trouble.barrier) (holds skips (kind_in trouble.cause)) h).1, same)
+    by false h is = absurd (let f : ⊥ = cc in f)
+passed_is skips (Removed path) cause is = absurd (let f : ⊥ = cc in f)
+passed_is skips (Kept path) cause is = absurd (let f : ⊥ = cc in f)
+passed_is skips (Made path) cause is = absurd (let f : ⊥ = cc in f)
+passed_is skips (Began part) cause is = absurd (let f : ⊥ = cc in f)
+passed_is skips (Chunk count) cause is = absurd (let f : ⊥ = cc in f)
+passed_is skips (Placed path) cause is = absurd (let f : ⊥ = cc in f)
+passed_is skips (Skipped path why) cause is = absurd (let f : ⊥ = cc in f)
+passed_is skips (Cleaned part) cause is = absurd (let f : ⊥ = cc in f)
+passed_is skips Barrier cause is = absurd (let f : ⊥ = cc in f)
+passed_is skips (Ended ending part) cause is = absurd (let f : ⊥ = cc in f)
+
+-- it is the refusal of a removal, or comes before it
+work_refusal : (mid : Deletion) (trouble : Trouble) (log : CallLog) (after : Option CallLog) → WorkCalls mid (Troubled trouble) log after → (after ≡ Some log) ⊎ ((e : TreeError) × (trouble.cause ≡ cause_of e) × IsRefused log e after)
+work_refusal mid trouble log after (inl (same, stops)) = inl same
+work_refusal mid trouble log after (inr (e, is, saw, h)) = inr (e, ap (λ (t : Trouble). t.cause) is, removal_refused (item mid) log e after h)
+
+-- what is in such a trouble is passed over in the same step
+module _ (m worked new : Deletion) (tried : ℕ) (skips : Kinds) (names_folder : parent_of m.path ≡ Some m.folder) (inside : IsInside m) (going : at_barrier m.stage ≡ false) (did : Did) (calls : ℕ) (dirty dirty_after : List Route) (before after : Option CallLog)
+    (f0 f1 : ℕ) (s : WorkSteps m worked did calls dirty dirty_after before after f0 f1) where
+  within : IsInside worked
+  within = worked_inside m worked tried skips names_folder inside going did calls dirty dirty_after before after f0 f1 s
+
+  still_names : parent_of worked.path ≡ Some worked.folder
+  still_names = still_holds m worked tried skips names_folder inside going did calls dirty dirty_after before after f0 f1 s
+
+  module _ (cause : Cause) (rdid : Did) (passed : passed_cause skips did ≡ Some cause) (skip : Skips cause worked rdid new) where
+    trouble : (t : Trouble) × (did ≡ Troubled t) × (holds skips (kind_in cause) ≡ true) × (t.cause ≡ cause)
+    trouble = passed_is skips did cause passed
+
+    -- the machine stands where it stood when it met the trouble
+    stands : (trouble.0.barrier ≡ at_barrier m.stage) × IsAtStage (seen m tried skips) m.stage (seen worked tried skips)
+    stands = subst (λ d. Tells (seen m tried skips) d (seen worked tried skips)) trouble.1 (worked_tells m worked tried skips names_folder inside going did calls dirty dirty_after before after f0 f1 s)
+
+    refusal : (log : CallLog) → before ≡ Some log → (after ≡ Some log) ⊎ ((e : TreeError) × (trouble.0.cause ≡ cause_of e) × IsRefused log e after)
+    refusal log known = let w = s.working in work_refusal s.mid trouble.0 log after (subst (λ d. WorkCalls s.mid d log after) trouble.1 (w.called log known))
+
+    same_folders : dirty_after ≡ dirty
+    same_folders = subst (λ d. DeletionLeaves (seen m tried skips) d dirty dirty_after before after) trouble.1 (worked_leaves m worked tried skips names_folder inside going did calls dirty dirty_after before after f0 f1 s)
+
+    apart : at_barrier worked.stage ≡ false
+    apart = ap at_barrier stands.1.stage_is ∙ going
+
+    keeps : (new.path ≡ worked.path) × (new.folder ≡ worked.folder)
+    keeps = skip_keeps cause worked new tried skips within rdid skip
+
+    holds_then : parent_of new.path ≡ Some new.folder
+    holds_then = ap parent_of keeps.0 ∙ (still_names ∙ ap (λ f. Some f) (sym keeps.1))
+
+    goes_on : Goes (seen m tried skips) (seen new tried skips) rdid calls dirty dirty_after before after f0 f1
+    goes_on = inl (
+      did,
+      worked,
+      m.walk.spare,
+      new.walk.spare,
+      on_way m worked tried skips names_folder inside going did calls dirty dirty_after before after f0 f1 s,
+      inr (cause, passed, refl, subst (λ (x : Deletion). Skips cause worked rdid x) (machine_is new tried skips holds_then) skip),
+    )
+
+    -- it is reported with the cause of its trouble
+    reported : (path : Route) (mid : Deletion) → rdid ≡ Skipped path cause → TakesOff path worked mid → new ≡ record mid { stage = after_item worked.path path worked.stage }
+        → DeletionStep (seen m tried skips) (seen new tried skips) rdid calls dirty dirty_after before after f0 f1
+    reported path mid is takes new_is =
+        let w = s.working in
+        let at = stands.1 in
+        record {
+          goes = goes_on;
+          tells = subst (λ d. Tells (seen m tried skips) d (seen new tried skips)) (sym is) (
+            going,
+            trouble.2,
+            record {
+              path_is = keeps.0 ∙ at.path_is;
+              stage_is = ap (λ (d : Deletion). d.stage) new_is ∙ (ap (λ p. after_item p path worked.stage) at.path_is ∙ ap (after_item m.path path) at.stage_is);
+              tried_is = refl;
+              skips_is = refl;
+            },
+          );
+          called = λ log known. subst (λ d. DeletionCalls d log after) (sym is) (elim (refusal log known) [
+            | inl same ↦ inl same
+            | inr refused ↦ inr (refused.0, sym trouble.3 ∙ refused.1, refused.2)
+          ]);
+          leaves = subst (λ d. DeletionLeaves (seen m tried skips) d dirty dirty_after before after) (sym is) same_folders;
+          fewer = λ h. let less = skip_less path worked mid new apart takes new_is within in let most = s.no_more in omega (arith, less, most);
+          counted = w.counted;
+          few = w.few;
+          unknown = w.unknown;
+          later = w.later;
+          fault = λ h. w.fault (subst IsFault (sym trouble.1) (trouble.3 ∙ subst (MeetsFault GoesOn) is h));
+        }
+
+    -- there is no memory for that
+    forgotten : rdid ≡ Troubled (out_of_memory_at (at_barrier worked.stage)) → new ≡ worked → DeletionStep (seen m tried skips) (seen new tried skips) rdid calls dirty dirty_after before after f0 f1
+    forgotten is new_is =
+        let w = s.working in
+        let at = stands.1 in
+        let memory : rdid ≡ Troubled (out_of_memory_at false) = is ∙ ap (λ b. Troubled (out_of_memory_at b)) apart in
+        record {
+          goes = goes_on;
+          tells = subst (λ d. Tells (seen m tried skips) d (seen new tried skips)) (sym memory) (
+            sym going,
+            record {
+              path_is = ap (λ (d : Deletion). d.path) new_is ∙ at.path_is;
+              stage_is = ap (λ (d : Deletion). d.stage) new_is ∙ at.stage_is;
+              tried_is = refl;
+              skips_is = refl;
+            },
+          );
+          called = λ log known. subst (λ d. DeletionCalls d log after) (sym memory) (elim (refusal log known) [ inl same ↦ inl same | inr refused ↦ inr (refused.0, inr refl, refused.2) ]);
+          leaves = subst (λ d. DeletionLeaves (seen m tried skips) d dirty dirty_after before after) (sym memory) same_folders;
+          fewer = λ h. absurd (false≢true (sym (ap is_decided memory) ∙ h));
+          counted = w.counted;
+          few = w.few;
+          unknown = w.unknown;
+          later = w.later;
+          fault = λ h. absurd (let f : MeetsFault GoesOn (Troubled (out_of_memory_at false)) = subst (MeetsFault GoesOn) memory h in let no : ⊥ = cc in no);
+        }
+
+    pub passes_over : DeletionStep (seen m tried skips) (seen new tried skips) rdid calls dirty dirty_after before after f0 f1
+    passes_over = by skip
+      where
+        by : Skips cause worked rdid new → DeletionStep (seen m tried skips) (seen new tried skips) rdid calls dirty dirty_after before after f0 f1
+        by (inl (path, is, (mid, takes, new_is))) = reported path mid is takes new_is
+        by (inr (is, new_is)) = forgotten is new_is
+
+  -- either
+  pub works_or_passes : (result : StepResult) → OrPassedOver skips (step_result did calls) worked new result → DeletionStep (seen m tried skips) (seen new tried skips) result.did result.calls dirty dirty_after before after f0 f1
+  works_or_passes result (inl (none, result_is, new_is)) =
+      subst (λ (r : StepResult). DeletionStep (seen m tried skips) (seen new tried skips) r.did r.calls dirty dirty_after before after f0 f1) (sym result_is)
+      (subst (λ (x : Deletion). DeletionStep (seen m tried skips) (seen x tried skips) did calls dirty dirty_after before after f0 f1) (sym new_is)
+      (step_works m worked tried skips names_folder inside going did calls dirty dirty_after before after f0 f1 s none))
+  works_or_passes result (inr (cause, passed, count, skip)) =
+      subst (λ n. DeletionStep (seen m tried skips) (seen new tried skips) result.did n dirty dirty_after before after f0 f1) (sym count) (passes_over cause result.did passed skip)
+
+  -- and the machine stays in the thing
+  pub then_inside : (result : StepResult) → OrPassedOver skips (step_result did calls) worked new result → (parent_of new.path ≡ Some new.folder) × IsInside new
+  then_inside result (inl (none, result_is, new_is)) = (subst (λ (x : Deletion). parent_of x.path ≡ Some x.folder) (sym new_is) still_names, subst IsInside (sym new_is) within)
+  then_inside result (inr (cause, passed, count, skip)) = (holds_then cause result.did passed skip, skip_inside cause worked new result.did skip within)
 
 -- a last step
-module _ (ending : Ending) (m : Deletion) (from next : ℕ) (holds : parent_of m.path ≡ Some m.folder) (calls : ℕ) (left : Option TreeError) (dirty dirty_after : List Route) (before after : Option CallLog) (f0 f1 : ℕ) where
+module _ (ending : Ending) (m : Deletion) (from next : ℕ) (skips : Kinds) (holds : parent_of m.path ≡ Some m.folder) (calls : ℕ) (left : Option TreeError) (dirty dirty_after : List Route) (before after : Option CallLog) (f0 f1 : ℕ) where
   near_by : (e : Option TreeError) (at : ℕ) (folder : Route) → from ≤ at → at < length dirty → slice_get dirty at ≡ Some folder → dirty_after ≡ machine_try e folder dirty → next ≡ next_try e at
       → length dirty_after + (length dirty_after - next) < length dirty + (length dirty - from)
   near_by None at folder least few stands dirty_is next_is =
@@ -310,12 +509,16 @@ module _ (ending : Ending) (m : Deletion) (from next : ℕ) (holds : parent_of m
   try_is (Some e) folder h = h
 
   abbrev Last : Did → Type 0
-  Last did = LastDeletionStep ending (seen m from) (seen m next) did calls left dirty dirty_after before after f0 f1
+  Last did = LastDeletionStep ending (seen m from skips) (seen m next skips) did calls left dirty dirty_after before after f0 f1
+
+  tries_it : (did : Did) → LastSteps ending m from next did calls left dirty dirty_after before after f0 f1 → TriesNext ending (seen m from skips) (seen m next skips) did calls left dirty dirty_after before after f0 f1
+  tries_it did s = ((m.walk.spare, subst (λ (x : Deletion). LastSteps ending x from next did calls left dirty dirty_after before after f0 f1) (machine_is m from skips holds) s), refl)
 
   by_did : (did : Did) → LastSteps ending m from next did calls left dirty dirty_after before after f0 f1 → Tries ending m from next did left dirty dirty_after before after → Last did
   by_did Barrier s (at, folder, own, stands, dirty_is, next_is, called) = record {
+    tries = tries_it Barrier s;
     folder = folder;
-    tells = (refl, refl);
+    tells = (refl, refl, refl);
     called = λ log known. (folder, sync_answer left, called log known);
     own = subst (λ up. is_of up m.path folder ≡ true) (folder_is m.path m.folder holds) (subst (λ f. is_of m.folder m.path f ≡ true) (let e : own.kept ≡ folder = (let a = own.stands in let b = stands in let c : Some own.kept ≡ Some folder = sym a ∙ b in cc) in e) own.is);
     dirty_is = try_is left folder dirty_is;
@@ -328,8 +531,9 @@ module _ (ending : Ending) (m : Deletion) (from next : ℕ) (holds : parent_of m
     fault = s.fault;
   }
   by_did (Ended how part) s (none, how_is, part_is, left_is, dirty_is, next_is, after_is) = record {
+    tries = tries_it (Ended how part) s;
     folder = folder_of m.path;
-    tells = (how_is, part_is, refl, refl);
+    tells = (how_is, part_is, refl, refl, refl);
     called = λ log known. after_is ∙ known;
     own = or_left _ _ (same_path-self (folder_of m.path));
     dirty_is = dirty_is;

@@ -23,7 +23,7 @@ use Rattle.file_copy.specs.declared.stage.FolderState.{FolderState}
 use Rattle.file_copy.specs.declared.stage.FolderState.TheVariants.{Synced, Dirty}
 use Rattle.job_reports.specs.CallRuns.{HasMore}
 use Rattle.file_copy.specs.CopyCalls.{CopyCalls}
-use Rattle.job_reports.specs.Reports.{IsFault, ends}
+use Rattle.job_reports.specs.Reports.{ends}
 use Rattle.file_copy.specs.Copying.{Copying, IsSound, Tells}
 use Rattle.job_reports.specs.Paths.{folder_of, without}
 use Rattle.file_copy.specs.Copying as copying
@@ -32,21 +32,21 @@ use Rattle.file_copy.specs.LastSteps.{Winds, WindsOn}
 use Rattle.job_reports.specs.Stops.{out_of_memory_at, calls_made_for, cause_of, trouble_at}
 use Rattle.tree_deletion.specs.Folders.{is_one_of, joined}
 use Rattle.tree_deletion.specs.Standing.{at_barrier as deletion_barrier}
-use Rattle.tree_deletion.specs.Steps.{IsProgress}
 use Rattle.copy_move.specs.declared.work.Work.{Work}
 use Rattle.copy_move.specs.declared.work.Work.TheVariants.{Copy, Delete, Make}
 use Rattle.copy_move.specs.declared.run.Course.{Course}
 use Rattle.copy_move.specs.declared.run.Course.TheVariants.{GoesOn, InTrouble, OwedSyncFailed, Skips, Ends}
 use Rattle.copy_move.specs.Deletions.{Deleting, left_in}
 use Rattle.copy_move.specs.Deletions as deletions
-use Rattle.copy_move.specs.DeletionSteps.{DeletionSkips, DeletionStep, LastDeletionStep, after_try}
+use Rattle.copy_move.specs.DeletionSteps.{DeletionSkips, DeletionStep, LastDeletionStep, after_try, is_decided}
 use Rattle.copy_move.specs.Jobs.{Running, CallsOn, PassesOver, TellsOn, course_after, is_fresh}
 use Rattle.copy_move.specs.Ranks.{copy_rank, rank_at, rank_on, tries_left}
 use Rattle.copy_move.specs.Settling.{NoneOwed, with_change}
-use Rattle.copy_move.specs.Steps.{LeavesDirty, OwnStep, OwedSyncStep, SkipSteps, Walks, WindingStep, WorkSkips, WorkSteps, WorkWindsUp, step_made}
+use Rattle.copy_move.specs.Steps.{LastWalks, LeavesDirty, OwnStep, OwedSyncStep, SkipSteps, SkipWalks, Walks, WalksOn, WindingStep, WorkSkips, WorkSteps, WorkWindsUp, step_made}
 use Rattle.job_reports.proofs.Runs.{risen_before}
 use Rattle.job_reports.proofs.Tried.{counts_try, tries_few}
-use Rattle.copy_move.proofs.DeletionRuns.{fewer, one_fewer}
+use Rattle.copy_move.specs.Faults.{MeetsFault}
+use Rattle.copy_move.proofs.DeletionRuns.{fewer, met_by, one_fewer}
 use Rattle.copy_move.proofs.Falling.{copy_falls, last_copy_falls, passing_falls, trouble_falls, waiting_falls}
 use Rattle.copy_move.proofs.RunSteps.{run_ends, run_goes}
 
@@ -175,7 +175,7 @@ module _ (unclaimed : Route → Type 0) (c new : Copying) (did : Did) (calls : �
     few = s.few;
     unknown = s.unknown;
     later = s.later;
-    fault = s.fault;
+    fault = λ h. s.fault (met_by GoesOn (λ d. Tells c d new) did (λ path cause x. x) s.tells h);
     falls = λ going.
         let low = copy_falls c new did s.tells sound going in
         let more = subst (λ xs. length xs ≤ length dirty + 1) (sym leaves) (one_more (copying.is_dirty c.folder) (copying.is_dirty new.folder) (folder_of c.target) dirty) in
@@ -243,6 +243,7 @@ pub copy_winds_up : (ending : Ending) (c new : Copying) (did : Did) (calls : ℕ
     → folder ≡ folder_of new.target → dirty_after ≡ after_try did left folder dirty → WorkWindsUp ending (Copy c) (Copy new) did calls left dirty dirty_after before after f0 f1
 copy_winds_up ending c new did calls left folder dirty dirty_after before after f0 f1 w folder_is leaves = record {
   tells = w.tells;
+  walks = tt;
   called = w.called;
   folder = folder;
   own = subst (λ f. Rattle.mc_text.specs.Routes.same_path f (folder_of c.target) ≡ true) (sym (folder_is ∙ ap folder_of (copy_winds_there ending c new did w.tells))) (same_path-self (folder_of c.target));
@@ -264,7 +265,7 @@ module _ (unclaimed : Route → Type 0) (d new : Deleting) (did : Did) (calls : 
   removal_more : (path : Route) → length (without path (joined (folder_of path) dirty)) ≤ length dirty + 1
   removal_more path = let less = fewer path (joined (folder_of path) dirty) in let more = joined_more (folder_of path) dirty in omega (arith, less, more)
 
-  falls_by : (x : Did) → deletions.Tells d x new → deletions.DeletionLeaves d x dirty dirty_after before after → (IsProgress x ≡ true → left_in new < left_in d) → ends x ≡ false
+  falls_by : (x : Did) → deletions.Tells d x new → deletions.DeletionLeaves d x dirty dirty_after before after → (is_decided x ≡ true → left_in new < left_in d) → ends x ≡ false
       → rank_at dirty_after (course_after x) (Delete new) < rank_at dirty GoesOn (Delete d)
   falls_by (Removed path) t (inl h) less going = let low = less refl in let more = subst (λ xs. length xs ≤ length dirty + 1) (sym h.0) (joined_more (folder_of path) dirty) in omega (arith, low, more)
   falls_by (Removed path) t (inr h) less going = let low = less refl in let more = subst (λ xs. length xs ≤ length dirty + 1) (sym h.0) (removal_more path) in omega (arith, low, more)
@@ -280,7 +281,7 @@ module _ (unclaimed : Route → Type 0) (d new : Deleting) (did : Did) (calls : 
   falls_by (Chunk count) t h less going = absurd t
   falls_by (Placed path) t h less going = absurd t
   falls_by (Made made) t h less going = absurd t
-  falls_by (Skipped path cause) t h less going = absurd t
+  falls_by (Skipped path cause) t h less going = let low = less refl in let same = ap length h in omega (arith, low, same)
   falls_by (Cleaned part) t h less going = absurd t
 
   pub deletion_steps : DeletionStep d new did calls dirty dirty_after before after f0 f1 → WorkSteps unclaimed (Delete d) (Delete new) did calls dirty dirty_after before after f0 f1
@@ -301,6 +302,7 @@ pub deletion_winds_up : (ending : Ending) (d new : Deleting) (did : Did) (calls 
     → WorkWindsUp ending (Delete d) (Delete new) did calls left dirty dirty_after before after f0 f1
 deletion_winds_up ending d new did calls left dirty dirty_after before after f0 f1 s = record {
   tells = s.tells;
+  walks = s.tries;
   called = s.called;
   folder = s.folder;
   own = s.own;
@@ -317,10 +319,12 @@ deletion_winds_up ending d new did calls left dirty dirty_after before after f0 
 -- a skip
 pub copy_skips : (cause : Cause) (c new : Copying) (did : Did) → Rattle.file_copy.specs.CopySteps.Skips cause c did new → WorkSkips cause (Copy c) did (Copy new)
 copy_skips cause c new did (inl (did_is, new_is)) = record {
+  walks = tt;
   skips = inl (c.source, did_is, (refl, new_is));
   falls = subst (λ d. rank_on (course_after d) (Copy new) < 10) (sym did_is) (subst (λ (n : Copying). copy_rank n.stage n.folder < 10) (sym new_is) (passing_falls c.stage c.folder));
 }
 copy_skips cause c new did (inr (did_is, new_is)) = record {
+  walks = tt;
   skips = inr (did_is, ap Copy new_is);
   falls = subst (λ d. rank_on (course_after d) (Copy new) < 10) (sym did_is) (subst (λ (n : Copying). rank_on (InTrouble Memory) (Copy n) < 10) (sym new_is) (waiting_falls (Copy c)));
 }
@@ -330,10 +334,12 @@ deletion_skips cause d new did s = by s.skips
   where
     by : ((path : Route) × (did ≡ Skipped path cause) × deletions.IsAtStage d (Rattle.tree_deletion.specs.Standing.after_item d.path path d.stage) new) ⊎ ((did ≡ Troubled (out_of_memory_at (deletion_barrier d.stage))) × (new ≡ d)) → WorkSkips cause (Delete d) did (Delete new)
     by (inl (path, did_is, a)) = record {
+      walks = s.passes;
       skips = inl (path, did_is, a);
       falls = subst (λ x. rank_on (course_after x) (Delete new) < rank_on (Skips cause) (Delete d)) (sym did_is) (let most = s.no_more in omega (arith, most));
     }
     by (inr (did_is, new_is)) = record {
+      walks = s.passes;
       skips = inr (did_is, ap Delete new_is);
       falls = subst (λ x. rank_on (course_after x) (Delete new) < rank_on (Skips cause) (Delete d)) (sym did_is) (omega arith);
     }
@@ -367,7 +373,7 @@ module _ (unclaimed : Route → Type 0) (did : Did) (calls : ℕ) (dirty dirty_a
             (ap (λ n. let r : Running = record { id = n; work = work; course = course } in r) number ∙ ap (λ c. let r : Running = record job { work = work; course = c } in r) course_is);
         settled = λ now fresh. settled fresh;
         leaves = subst (λ c. LeavesDirty c job.work did work dirty dirty_after before after) (sym goes) s.leaves;
-        walks = λ now. s.walks;
+        walks = subst (λ c. WalksOn c job.work work did calls dirty dirty_after before after f0 f1) (sym goes) s.walks;
         winds = λ ending ends. absurd (ends_not ending (sym ends ∙ goes));
         falls = λ going. subst (λ c. rank_at dirty_after c work < rank_at dirty job.course job.work) (sym course_is) (subst (λ c. rank_at dirty_after (course_after did) work < rank_at dirty c job.work) (sym goes) (s.falls going));
       }
@@ -379,7 +385,7 @@ module _ (unclaimed : Route → Type 0) (did : Did) (calls : ℕ) (dirty dirty_a
     settled = λ goes fresh. absurd (ends_not ending (sym ends ∙ goes));
     leaves = subst (λ c. LeavesDirty c job.work did new.work dirty dirty_after before after) (sym ends)
         (record { refusal = w.left; folder = w.winds.folder; own = w.winds.own; dirty_is = w.winds.dirty_is; tried = w.winds.synced });
-    walks = λ goes. absurd (ends_not ending (sym ends ∙ goes));
+    walks = subst (λ c. WalksOn c job.work new.work did calls dirty dirty_after before after f0 f1) (sym ends) (w.left, w.winds.walks);
     winds = λ how is. subst (λ e. WindingStep e (step_made job new did calls dirty dirty_after before after f0 f1)) (same_ending ending how (sym ends ∙ is)) w;
     falls = λ going.
         subst (λ c. rank_at dirty_after c new.work < rank_at dirty job.course job.work) (sym (ap (λ (r : Running). r.course) w.new_is ∙ ends))
@@ -391,7 +397,7 @@ module _ (unclaimed : Route → Type 0) (contents : Option CallLog) (dirty : Lis
   pub skipped_step : (cause : Cause) (job new : Running) (did : Did) (calls : ℕ) → job.course ≡ Skips cause → SkipSteps cause job new did calls → OwnStep unclaimed (step_made job new did calls dirty dirty contents contents f f)
   skipped_step cause job new did calls skips s = by (let k = s.skips in k.skips)
     where
-      built : TellsOn (Skips cause) job did new → (IsFault did → ⊥) → OwnStep unclaimed (step_made job new did calls dirty dirty contents contents f f)
+      built : TellsOn (Skips cause) job did new → (MeetsFault (Skips cause) did → ⊥) → OwnStep unclaimed (step_made job new did calls dirty dirty contents contents f f)
       built tells quiet = record {
         own = record {
           tells = subst (λ c. TellsOn c job did new) (sym skips) tells;
@@ -400,11 +406,12 @@ module _ (unclaimed : Route → Type 0) (contents : Option CallLog) (dirty : Lis
           few = let none = s.none in omega (arith, none);
           unknown = λ h. h;
           later = omega arith;
-          fault = λ h. absurd (quiet h);
+          fault = λ h. absurd (quiet (subst (λ c. MeetsFault c did) skips h));
         };
         settled = λ goes fresh. absurd (skips_not cause (sym skips ∙ goes));
         leaves = subst (λ c. LeavesDirty c job.work did new.work dirty dirty contents contents) (sym skips) refl;
-        walks = λ goes. absurd (skips_not cause (sym skips ∙ goes));
+        walks = subst (λ c. WalksOn c job.work new.work did calls dirty dirty contents contents f f) (sym skips)
+            (subst (λ (r : Running). SkipWalks cause job.work did r.work) (sym s.new_is) (let k = s.skips in k.walks));
         winds = λ ending ends. absurd (skips_no_end cause ending (sym skips ∙ ends));
         falls = λ going.
             let low = (let k = s.skips in k.falls) in
@@ -416,10 +423,10 @@ module _ (unclaimed : Route → Type 0) (contents : Option CallLog) (dirty : Lis
       by : ((path : Route) × (did ≡ Skipped path cause) × PassesOver job.work path s.work) ⊎ ((did ≡ Troubled (out_of_memory_at (Rattle.copy_move.specs.Jobs.at_barrier job.work))) × (s.work ≡ job.work)) → OwnStep unclaimed (step_made job new did calls dirty dirty contents contents f f)
       by (inl (path, did_is, passes)) =
           built (inl (path, s.work, did_is, passes, s.new_is ∙ ap (λ d. let r : Running = record job { work = s.work; course = course_after d } in r) did_is))
-          (λ fault. subst (λ d. IsFault d → ⊥) (sym did_is) (λ h. h) fault)
+          (λ fault. subst (λ d. MeetsFault (Skips cause) d → ⊥) (sym did_is) (λ h. h) fault)
       by (inr (did_is, same)) =
           built (inr (did_is, s.new_is ∙ (ap (λ w. let r : Running = record job { work = w; course = course_after did } in r) same ∙ ap (λ d. let r : Running = record job { course = course_after d } in r) did_is)))
-          (λ fault. subst (λ d. IsFault d → ⊥) (sym did_is) (λ h. absurd cc) fault)
+          (λ fault. subst (λ d. MeetsFault (Skips cause) d → ⊥) (sym did_is) (λ h. absurd cc) fault)
 
 -- a last step of the work
 pub winding_step : (ending : Ending) (id : ℕ) (old work : Work) (course : Course) (job : Running) (did : Did) (calls : ℕ) (left : Option TreeError) (dirty dirty_after : List Route) (before after : Option CallLog) (f0 f1 : ℕ)
@@ -446,7 +453,7 @@ module _ (folder : Route) (dirty dirty_after : List Route) (job : Running) (goes
     few = omega (arith, count);
     unknown = unknown;
     later = later;
-    fault = λ h. absurd (subst IsFault is h);
+    fault = λ h. absurd (subst (MeetsFault job.course) is h);
   }
 
   pub refused_folder : (e : TreeError) (did : Did) (calls : ℕ) (new : Running) → did ≡ Troubled (trouble_at e folder true) → calls ≡ calls_made_for (Err e) → new ≡ record job { course = OwedSyncFailed (cause_of e) } → dirty_after ≡ dirty
@@ -461,7 +468,7 @@ module _ (folder : Route) (dirty dirty_after : List Route) (job : Running) (goes
     few = let most = tries_few (Err e) in omega (arith, count, most);
     unknown = unknown;
     later = later;
-    fault = λ h. risen (fault-cause e (subst IsFault is h));
+    fault = λ h. risen (fault-cause e (subst (MeetsFault job.course) is h));
   }
 
 -- a step after looks at the tree, which may have met faults
@@ -470,7 +477,9 @@ walks_later (Copy c) new did calls dirty dirty_after before after f0 f1 f2 later
 walks_later (Make m) new did calls dirty dirty_after before after f0 f1 f2 later w = tt
 walks_later (Delete d) (Copy new) did calls dirty dirty_after before after f0 f1 f2 later w = absurd w
 walks_later (Delete d) (Make new) did calls dirty dirty_after before after f0 f1 f2 later w = absurd w
-walks_later (Delete d) (Delete new) did calls dirty dirty_after before after f0 f1 f2 later (inl (spare, spare_after, s)) = inl (
+walks_later (Delete d) (Delete new) did calls dirty dirty_after before after f0 f1 f2 later (inl (worked, mid, spare, spare_after, s, passed)) = inl (
+  worked,
+  mid,
   spare,
   spare_after,
   record {
@@ -488,7 +497,9 @@ walks_later (Delete d) (Delete new) did calls dirty dirty_after before after f0 
       fault = λ h. risen_before f0 f1 f2 later (w.fault h);
     };
     falls = s.falls;
+    no_more = s.no_more;
   },
+  passed,
 )
 walks_later (Delete d) (Delete new) did calls dirty dirty_after before after f0 f1 f2 later (inr (spare, s, same)) = inr (
   spare,
@@ -503,12 +514,42 @@ walks_later (Delete d) (Delete new) did calls dirty dirty_after before after f0 
   same,
 )
 
+last_walks_later : (ending : Ending) (old new : Work) (did : Did) (calls : ℕ) (left : Option TreeError) (dirty dirty_after : List Route) (before after : Option CallLog) (f0 f1 f2 : ℕ) → f0 ≤ f1
+    → LastWalks ending old new did calls left dirty dirty_after before after f1 f2 → LastWalks ending old new did calls left dirty dirty_after before after f0 f2
+last_walks_later ending (Copy c) new did calls left dirty dirty_after before after f0 f1 f2 later w = tt
+last_walks_later ending (Make m) new did calls left dirty dirty_after before after f0 f1 f2 later w = tt
+last_walks_later ending (Delete d) (Copy new) did calls left dirty dirty_after before after f0 f1 f2 later w = absurd w
+last_walks_later ending (Delete d) (Make new) did calls left dirty dirty_after before after f0 f1 f2 later w = absurd w
+last_walks_later ending (Delete d) (Delete new) did calls left dirty dirty_after before after f0 f1 f2 later ((spare, s), same) = (
+  (
+    spare,
+    record {
+      tries = s.tries;
+      counted = s.counted;
+      few = s.few;
+      unknown = s.unknown;
+      later = let more = s.later in omega (arith, later, more);
+      fault = λ h. risen_before f0 f1 f2 later (s.fault h);
+    },
+  ),
+  same,
+)
+
+on_later : (course : Course) (old new : Work) (did : Did) (calls : ℕ) (dirty dirty_after : List Route) (before after : Option CallLog) (f0 f1 f2 : ℕ) → f0 ≤ f1
+    → WalksOn course old new did calls dirty dirty_after before after f1 f2 → WalksOn course old new did calls dirty dirty_after before after f0 f2
+on_later GoesOn old new did calls dirty dirty_after before after f0 f1 f2 later w = walks_later old new did calls dirty dirty_after before after f0 f1 f2 later w
+on_later (InTrouble cause) old new did calls dirty dirty_after before after f0 f1 f2 later w = absurd w
+on_later (OwedSyncFailed cause) old new did calls dirty dirty_after before after f0 f1 f2 later w = absurd w
+on_later (Skips cause) old new did calls dirty dirty_after before after f0 f1 f2 later w = w
+on_later (Ends ending) old new did calls dirty dirty_after before after f0 f1 f2 later (left, w) = (left, last_walks_later ending old new did calls left dirty dirty_after before after f0 f1 f2 later w)
+
 winding_later : (ending : Ending) (job new : Running) (did : Did) (calls : ℕ) (dirty dirty_after : List Route) (before after : Option CallLog) (f0 f1 f2 : ℕ) → f0 ≤ f1
     → WindingStep ending (step_made job new did calls dirty dirty_after before after f1 f2) → WindingStep ending (step_made job new did calls dirty dirty_after before after f0 f2)
 winding_later ending job new did calls dirty dirty_after before after f0 f1 f2 later w = record {
   left = w.left;
   winds = record {
     tells = w.winds.tells;
+    walks = last_walks_later ending job.work new.work did calls w.left dirty dirty_after before after f0 f1 f2 later w.winds.walks;
     called = w.winds.called;
     folder = w.winds.folder;
     own = w.winds.own;
@@ -538,7 +579,7 @@ own_later unclaimed job new did calls dirty dirty_after first before after f0 f1
   };
   settled = o.settled;
   leaves = o.leaves;
-  walks = λ goes. walks_later job.work new.work did calls dirty dirty_after before after f0 f1 f2 later (o.walks goes);
+  walks = on_later job.course job.work new.work did calls dirty dirty_after before after f0 f1 f2 later o.walks;
   winds = λ ending ends. winding_later ending job new did calls dirty dirty_after before after f0 f1 f2 later (o.winds ending ends);
   falls = o.falls;
 }

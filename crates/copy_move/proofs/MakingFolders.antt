@@ -17,7 +17,7 @@ use Rattle.job_reports.specs.Stops.{out_of_memory_at}
 use Rattle.copy_move.specs.declared.making.MakingStage.{MakingStage}
 use Rattle.copy_move.specs.declared.making.MakingStage.TheVariants as making
 use Rattle.copy_move.specs.declared.work.Work.TheVariants.{Make}
-use Rattle.copy_move.specs.declared.run.Course.TheVariants.{InTrouble}
+use Rattle.copy_move.specs.declared.run.Course.TheVariants.{GoesOn, InTrouble}
 use Rattle.copy_move.specs.DeletionSteps.{after_try}
 use Rattle.copy_move.specs.Makings.{Making, MakingCalls, Tells, Winds, is_dirty, is_fresh}
 use Rattle.copy_move.specs.MakingSteps.{LastMakingStep, MakingSkips, MakingStep}
@@ -25,6 +25,7 @@ use Rattle.copy_move.specs.Jobs.{course_after}
 use Rattle.copy_move.specs.Ranks.{making_rank, rank_on, tries_left}
 use Rattle.copy_move.specs.Settling.{with_change}
 use Rattle.copy_move.specs.Steps.{WorkSkips, WorkSteps, WorkWindsUp}
+use Rattle.copy_move.proofs.DeletionRuns.{met_by}
 use Rattle.copy_move.proofs.Falling.{last_making_falls, making_falls, unmade_falls, waiting_falls}
 use Rattle.copy_move.proofs.FolderSteps.{one_more, same_log, tried_more, tries_after, weighs_less}
 
@@ -95,7 +96,7 @@ module _ (unclaimed : Route → Type 0) (m new : Making) (did : Did) (calls : �
     few = let few = s.few in omega (arith, few);
     unknown = s.unknown;
     later = s.later;
-    fault = s.fault;
+    fault = λ h. s.fault (met_by GoesOn (λ d. Tells m d new) did (λ path cause x. x) s.tells h);
     falls = λ going.
         let low = making_falls m new did s.tells going in
         let more = subst (λ xs. length xs ≤ length dirty + 1) (sym leaves) (one_more (is_dirty m.stage) (is_dirty new.stage) (folder_of m.path) dirty) in
@@ -138,6 +139,7 @@ pub making_winds_up : (ending : Ending) (m new : Making) (did : Did) (calls : �
     → dirty_after ≡ after_try did left (folder_of m.path) dirty → WorkWindsUp ending (Make m) (Make new) did calls left dirty dirty_after before after f0 f1
 making_winds_up ending m new did calls left dirty dirty_after before after f0 f1 w leaves = record {
   tells = w.tells;
+  walks = tt;
   called = w.called;
   folder = folder_of m.path;
   own = same_path-self (folder_of m.path);
@@ -157,10 +159,12 @@ making_winds_up ending m new did calls left dirty dirty_after before after f0 f1
 -- a skip
 pub making_skips : (cause : Cause) (m new : Making) (did : Did) → MakingSkips cause m did new → WorkSkips cause (Make m) did (Make new)
 making_skips cause m new did (inl (did_is, new_is)) = record {
+  walks = tt;
   skips = inl (m.path, did_is, (refl, new_is));
   falls = subst (λ d. rank_on (course_after d) (Make new) < 10) (sym did_is) (subst (λ (n : Making). making_rank n.stage < 10) (sym new_is) (unmade_falls m.stage));
 }
 making_skips cause m new did (inr (did_is, new_is)) = record {
+  walks = tt;
   skips = inr (did_is, ap Make new_is);
   falls = subst (λ d. rank_on (course_after d) (Make new) < 10) (sym did_is) (subst (λ (n : Making). rank_on (InTrouble Memory) (Make n) < 10) (sym new_is) (waiting_falls (Make m)));
 }

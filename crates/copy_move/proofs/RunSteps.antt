@@ -11,7 +11,9 @@ use Rattle.copy_move.specs.declared.work.Work.{Work}
 use Rattle.copy_move.specs.declared.work.Work.TheVariants.{Copy, Delete, Make}
 use Rattle.copy_move.specs.declared.run.Course.TheVariants.{GoesOn, Ends}
 use Rattle.copy_move.specs.Jobs.{Running, TellsOn, CallsOn, WorkWinds, course_after}
+use Rattle.copy_move.specs.Faults.{MeetsFault}
 use Rattle.copy_move.specs.Steps.{StepsOn, WorkSteps, WorkWindsUp}
+use Rattle.copy_move.proofs.DeletionRuns.{met_by}
 
 -- no last step reports a fault
 quiet_end : (ending : Ending) (old new : Work) (did : Did) → WorkWinds ending old did new → IsFault did → ⊥
@@ -48,7 +50,7 @@ module _ (unclaimed : Route → Type 0) (job new : Running) (did : Did) (calls :
         few = s.few;
         unknown = s.unknown;
         later = s.later;
-        fault = s.fault;
+        fault = λ h. s.fault (subst (λ c. MeetsFault c did) course h);
       }
 
   pub run_ends : (ending : Ending) (own work : Work) (left : Option TreeError) → own ≡ job.work → job.course ≡ Ends ending → WorkWindsUp ending own work did calls left dirty dirty_after before after faults faults_after
@@ -61,5 +63,5 @@ module _ (unclaimed : Route → Type 0) (job new : Running) (did : Did) (calls :
         few = let few = s.few in omega (arith, few);
         unknown = s.unknown;
         later = s.later;
-        fault = λ h. absurd (quiet_end ending job.work work did s.tells h);
+        fault = λ h. let met = subst (λ c. MeetsFault c did) course h in absurd (quiet_end ending job.work work did s.tells (met_by (Ends ending) (λ d. MeetsFault (Ends ending) d) did (λ path cause x. x) met met));
       }

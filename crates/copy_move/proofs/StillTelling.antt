@@ -61,7 +61,8 @@ deletion_tells (Chunk count) log after h = absurd h
 deletion_tells (Placed path) log after h = absurd h
 deletion_tells (Made made) log after h = absurd h
 deletion_tells (Kept kept) log after h = (log, h)
-deletion_tells (Skipped path cause) log after h = absurd h
+deletion_tells (Skipped path cause) log after (inl h) = (log, h)
+deletion_tells (Skipped path cause) log after (inr (e, is, h)) = refused_tells log e after h
 deletion_tells (Cleaned part) log after h = absurd h
 
 -- a making

@@ -5,6 +5,7 @@ use Rattle.std.specs.Option.{option_map}
 use Rattle.mc_text.specs.Routes.{Route, parent_of}
 use Rattle.tree_trait.specs.declared.calls.TreeError.{TreeError}
 use Rattle.std.proofs.lemmas.Bool.{false≢true}
+use Rattle.job_reports.specs.declared.report.Cause.{Cause}
 use Rattle.job_reports.specs.declared.report.Cause.TheVariants.{Memory}
 use Rattle.job_reports.specs.declared.report.Trouble.{Trouble}
 use Rattle.job_reports.specs.declared.report.Ending.{Ending}
@@ -41,7 +42,7 @@ use Rattle.copy_move.specs.Deletions.{Deleting, IsAtStage}
 use Rattle.copy_move.specs.Deletions as deletions
 use Rattle.copy_move.specs.Makings.{Making}
 use Rattle.copy_move.specs.Makings as makings
-use Rattle.copy_move.specs.Jobs.{Running, JobTells, TellsOn, WorkTells, WorkWinds, answered, answered_on, at_barrier, copies, course_after, deletes, first_work, is_fresh, makes, PassesOver, taken_anew}
+use Rattle.copy_move.specs.Jobs.{Running, JobTells, TellsOn, WorkTells, WorkWinds, answered, answered_on, at_barrier, copies, course_after, deletes, first_work, is_fresh, makes, PassesOver, taken_anew, with_skips}
 use Rattle.job_reports.specs.Reports.{ends}
 use Rattle.copy_move.specs.Told.{after_step, course_told, if_closed, running, skipped, stage_told, synced, told, work_told}
 
@@ -65,11 +66,16 @@ skipped_stage_told at.Decided = refl
 
 -- a deletion at this stage is told so, wherever its walk stands
 abbrev told_at : Deleting → DeletionStage → Work
-told_at d stage = Delete (record { path = d.path; stage = stage; depth = Top; place = unopened; tried = 0 })
+told_at d stage = Delete (record { path = d.path; stage = stage; depth = Top; place = unopened; tried = 0; skips = d.skips })
+
+told_same : (d new : Deleting) → new.path ≡ d.path → new.skips ≡ d.skips → told_at d new.stage ≡ work_told (Delete new)
+told_same d new path_is skips_is =
+    ap (λ p. Delete (record { path = p; stage = new.stage; depth = Top; place = unopened; tried = 0; skips = d.skips })) (sym path_is)
+    ∙ ap (λ k. Delete (record { path = new.path; stage = new.stage; depth = Top; place = unopened; tried = 0; skips = k })) (sym skips_is)
 
 stage_is_told : (d new : Deleting) (stage : DeletionStage) → IsAtStage d stage new → told_at d stage ≡ work_told (Delete new)
 stage_is_told d new stage at =
-    ap (told_at d) (sym at.stage_is) ∙ ap (λ p. Delete (record { path = p; stage = new.stage; depth = Top; place = unopened; tried = 0 })) (sym at.path_is)
+    ap (told_at d) (sym at.stage_is) ∙ told_same d new at.path_is at.skips_is
 
 skipped_told : (work new : Work) (path : Route) → PassesOver work path new → skipped path (work_told work) ≡ work_told new
 skipped_told (Copy c) (Copy new) path (path_is, new_is) = ap (λ stage. Copy (record c { stage = stage })) (skipped_stage_told c.stage) ∙ ap (λ n. work_told (Copy n)) (sym new_is)
@@ -191,7 +197,7 @@ deletion_told id old new (Began part) t h = absurd t
 deletion_told id old new (Chunk count) t h = absurd t
 deletion_told id old new (Placed path) t h = absurd t
 deletion_told id old new (Made made) t h = absurd t
-deletion_told id old new (Skipped path cause) t h = absurd t
+deletion_told id old new (Skipped path cause) (going, passes, at) h = ap (λ w. Some (job_of id w GoesOn)) (stage_is_told old new (after_item old.path path old.stage) at)
 deletion_told id old new (Cleaned part) t h = absurd t
 
 -- a making that goes on
@@ -229,8 +235,7 @@ copy_winds id ending old new (Troubled trouble) t h = absurd t
 
 deletion_winds : (id : ℕ) (ending : Ending) (old new : Deleting) (did : Did) → deletions.Winds ending old did new → ends did ≡ false
     → after_step did (told (job_of id (Delete old) (Ends ending))) ≡ Some (told (job_of id (Delete new) (Ends ending)))
-deletion_winds id ending old new Barrier (path_is, stage_is) h = ap (λ w. Some (job_of id w (Ends ending)))
-    (ap (told_at old) (sym stage_is) ∙ ap (λ p. Delete (record { path = p; stage = new.stage; depth = Top; place = unopened; tried = 0 })) (sym path_is))
+deletion_winds id ending old new Barrier (path_is, stage_is, skips_is) h = ap (λ w. Some (job_of id w (Ends ending))) (ap (told_at old) (sym stage_is) ∙ told_same old new path_is skips_is)
 deletion_winds id ending old new (Ended how part) t h = absurd cc
 deletion_winds id ending old new (Began part) t h = absurd t
 deletion_winds id ending old new (Chunk count) t h = absurd t
@@ -307,6 +312,11 @@ step_told job new Barrier t = sym (told_follows job new Barrier t refl)
 step_told job new (Troubled trouble) t = sym (told_follows job new (Troubled trouble) t refl)
 step_told job new (Ended ending part) t = refl
 
+skips_told : (cause : Cause) (work : Work) → work_told (with_skips cause work) ≡ with_skips cause (work_told work)
+skips_told cause (Copy c) = refl
+skips_told cause (Delete d) = refl
+skips_told cause (Make m) = refl
+
 -- an answer, and the beginning of a job, are told whole
 pub answered_told : (answer : Answer) (job : Running) → told (answered answer job) ≡ answered answer (told job)
 answered_told answer job = answers job.course answer
@@ -314,7 +324,7 @@ answered_told answer job = answers job.course answer
     answers : (course : Course) (answer : Answer) → told (answered_on course answer (job_of job.id job.work course)) ≡ answered_on course answer (told (job_of job.id job.work course))
     answers (InTrouble cause) Retry = ap (λ w. job_of job.id w GoesOn) (sym (anew_told job.work))
     answers (InTrouble cause) Skip = refl
-    answers (InTrouble cause) SkipAll = refl
+    answers (InTrouble cause) SkipAll = ap (λ w. job_of job.id w (Skips cause)) (skips_told cause job.work)
     answers (InTrouble cause) Abort = refl
     answers (OwedSyncFailed cause) Retry = ap (λ w. job_of job.id w GoesOn) (sym (anew_told job.work))
     answers (OwedSyncFailed cause) Skip = refl

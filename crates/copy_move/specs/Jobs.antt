@@ -3,7 +3,9 @@
 use Rattle.std.specs.Prelude.{◌≡◌, ◌⊎◌, ℕ, ⊤, Bool, true, false, ◌&&◌, is_some, [], ◌∷◌, Option, Some, None, if◌then◌else◌}
 use Rattle.mc_text.specs.Routes.{Route, parent_of}
 use Rattle.tree_trait.specs.Change.{CallLog}
+use Rattle.job_reports.specs.declared.report.Cause.{Cause}
 use Rattle.job_reports.specs.declared.report.Cause.TheVariants.{Memory}
+use Rattle.job_answers.specs.Skipping.{kind_in, with_kind}
 use Rattle.job_reports.specs.declared.report.Ending.{Ending}
 use Rattle.job_reports.specs.declared.report.Ending.TheVariants.{Aborted}
 use Rattle.job_reports.specs.declared.report.Did.{Did}
@@ -98,6 +100,12 @@ abbrev pub taken_anew : Work → Work
 taken_anew (Copy c) = Copy (record c { stage = copying.taken_anew c.stage })
 taken_anew (Delete d) = Delete d
 taken_anew (Make m) = Make m
+
+-- The work once troubles of this kind are passed over without a question. One that copies or makes one thing comes to no later one.
+abbrev pub with_skips : Cause → Work → Work
+with_skips cause (Copy c) = Copy c
+with_skips cause (Delete d) = Delete (record d { skips = with_kind (kind_in cause) d.skips })
+with_skips cause (Make m) = Make m
 
 -- the part that stands
 abbrev pub part_of : Work → Option Route
@@ -200,7 +208,7 @@ JobCalls unclaimed job did new log after = CallsOn unclaimed job.course job did 
 abbrev pub answered_on : Course → Answer → Running → Running
 answered_on (InTrouble cause) Retry job = record job { work = taken_anew job.work; course = GoesOn }
 answered_on (InTrouble cause) Skip job = record job { course = Skips cause }
-answered_on (InTrouble cause) SkipAll job = record job { course = Skips cause }
+answered_on (InTrouble cause) SkipAll job = record job { work = with_skips cause job.work; course = Skips cause }
 answered_on (InTrouble cause) Abort job = record job { course = Ends Aborted }
 answered_on (OwedSyncFailed cause) Retry job = record job { work = taken_anew job.work; course = GoesOn }
 answered_on (OwedSyncFailed cause) Skip job = job

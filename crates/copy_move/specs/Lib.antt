@@ -1,4 +1,5 @@
 pub mod DeletionSteps
+pub mod Faults
 pub mod Deletions
 pub mod Makings
 pub mod MakingSteps

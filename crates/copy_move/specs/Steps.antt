@@ -10,7 +10,7 @@ use Rattle.tree_trait.specs.CrashImages.{Among}
 use Rattle.job_reports.specs.declared.report.Did.{Did}
 use Rattle.job_reports.specs.declared.report.Ending.{Ending}
 use Rattle.job_reports.specs.CallRuns.{HasMore}
-use Rattle.job_reports.specs.Reports.{IsFault, ends}
+use Rattle.job_reports.specs.Reports.{ends}
 use Rattle.job_reports.specs.declared.report.Cause.{Cause}
 use Rattle.job_reports.specs.declared.report.Did.TheVariants.{Barrier, Skipped, Troubled}
 use Rattle.job_reports.specs.Stops.{out_of_memory_at, cause_of, trouble_at}
@@ -18,14 +18,15 @@ use Rattle.copy_move.specs.declared.work.Work.{Work}
 use Rattle.copy_move.specs.declared.run.Course.{Course}
 use Rattle.copy_move.specs.declared.work.Work.TheVariants.{Copy, Delete, Make}
 use Rattle.copy_move.specs.declared.run.Course.TheVariants.{GoesOn, InTrouble, OwedSyncFailed, Skips, Ends}
-use Rattle.copy_move.specs.DeletionSteps.{Goes, after_try}
+use Rattle.copy_move.specs.Faults.{MeetsFault}
+use Rattle.copy_move.specs.DeletionSteps.{Goes, Passes, TriesNext, after_try}
 use Rattle.copy_move.specs.Jobs.{Running, JobTells, JobCalls, PassesOver, WorkTells, WorkCalls, WorkWinds, WorkLastCalls, at_barrier, course_after, is_fresh}
 use Rattle.copy_move.specs.Settling.{NoneOwed, TellsFolder, WorkLeaves, is_own}
 use Rattle.job_reports.specs.Paths.{without}
 use Rattle.copy_move.specs.Ranks.{rank_at, rank_on, rank_with}
 
 -- A step of a job: what it reports is allowed, the job is then as it says, it made the calls of the tree that it says, at
--- most three of which change the tree, and it reports a fault only where the tree's count has risen.
+-- most three of which change the tree, and it reports a fault, or passes something over for one, only where the tree's count has risen.
 pub record StepsOn (unclaimed : Route → Type 0) (old new : Running) (did : Did) (calls : ℕ) (before after : Option CallLog) (faults faults_after : ℕ) : Type 0 where
   pub tells : JobTells old did new
   pub called : IfKnown before (λ log. JobCalls unclaimed old did new log after)
@@ -33,7 +34,7 @@ pub record StepsOn (unclaimed : Route → Type 0) (old new : Running) (did : Did
   pub few : calls ≤ 3
   pub unknown : before ≡ None → after ≡ None
   pub later : faults ≤ faults_after
-  pub fault : IsFault did → HasRisen faults faults_after
+  pub fault : MeetsFault old.course did → HasRisen faults faults_after
 
 -- A last step tries one folder that the job may have changed, and leaves it dirty where that one try of its sync was refused.
 pub record LastLeaves (old : Work) (did : Did) (dirty dirty_after : List Route) (before after : Option CallLog) : Type 0 where
@@ -78,6 +79,32 @@ Walks (Delete d) (Make new) did calls dirty dirty_after before after faults faul
 Walks (Make m) new did calls dirty dirty_after before after faults faults_after = ⊤
 Walks (Delete d) (Delete new) did calls dirty dirty_after before after faults faults_after = Goes d new did calls dirty dirty_after before after faults faults_after
 
+-- what it does where something is passed over
+abbrev pub SkipWalks : Cause → Work → Did → Work → Type 0
+SkipWalks cause (Copy c) did new = ⊤
+SkipWalks cause (Delete d) did (Copy new) = ⊥
+SkipWalks cause (Delete d) did (Make new) = ⊥
+SkipWalks cause (Delete d) did (Delete new) = Passes cause d did new
+SkipWalks cause (Make m) did new = ⊤
+
+-- what it does in a last step
+abbrev pub LastWalks : Ending → Work → Work → Did → ℕ → Option TreeError → List Route → List Route → Option CallLog → Option CallLog → ℕ → ℕ → Type 0
+LastWalks ending (Copy c) new did calls left dirty dirty_after before after faults faults_after = ⊤
+LastWalks ending (Delete d) (Copy new) did calls left dirty dirty_after before after faults faults_after = ⊥
+LastWalks ending (Delete d) (Make new) did calls left dirty dirty_after before after faults faults_after = ⊥
+LastWalks ending (Delete d) (Delete new) did calls left dirty dirty_after before after faults faults_after =
+    TriesNext ending d new did calls left dirty dirty_after before after faults faults_after
+LastWalks ending (Make m) new did calls left dirty dirty_after before after faults faults_after = ⊤
+
+-- what it does in a step of a job that goes so
+abbrev pub WalksOn : Course → Work → Work → Did → ℕ → List Route → List Route → Option CallLog → Option CallLog → ℕ → ℕ → Type 0
+WalksOn GoesOn old new did calls dirty dirty_after before after faults faults_after = Walks old new did calls dirty dirty_after before after faults faults_after
+WalksOn (InTrouble cause) old new did calls dirty dirty_after before after faults faults_after = ⊥
+WalksOn (OwedSyncFailed cause) old new did calls dirty dirty_after before after faults faults_after = ⊥
+WalksOn (Skips cause) old new did calls dirty dirty_after before after faults faults_after = SkipWalks cause old did new
+WalksOn (Ends ending) old new did calls dirty dirty_after before after faults faults_after =
+    (left : Option TreeError) × LastWalks ending old new did calls left dirty dirty_after before after faults faults_after
+
 -- A piece of work, likewise. Fewer steps are left then, and at most three where it is refused.
 pub record WorkSteps (unclaimed : Route → Type 0) (old new : Work) (did : Did) (calls : ℕ) (dirty dirty_after : List Route) (before after : Option CallLog) (faults faults_after : ℕ) : Type 0 where
   pub tells : WorkTells old did new
@@ -88,13 +115,14 @@ pub record WorkSteps (unclaimed : Route → Type 0) (old new : Work) (did : Did)
   pub few : calls ≤ 3
   pub unknown : before ≡ None → after ≡ None
   pub later : faults ≤ faults_after
-  pub fault : IsFault did → HasRisen faults faults_after
+  pub fault : MeetsFault GoesOn did → HasRisen faults faults_after
   pub falls : ends did ≡ false → rank_at dirty_after (course_after did) new < rank_at dirty GoesOn old
 
 -- One of the last pieces of work. It tells the refusal of a sync that was tried in vain, a fault only where the count of faults
 -- has risen.
 pub record WorkWindsUp (ending : Ending) (old new : Work) (did : Did) (calls : ℕ) (left : Option TreeError) (dirty dirty_after : List Route) (before after : Option CallLog) (faults faults_after : ℕ) : Type 0 where
   pub tells : WorkWinds ending old did new
+  pub walks : LastWalks ending old new did calls left dirty dirty_after before after faults faults_after
   pub called : IfKnown before (λ log. WorkLastCalls old did log after)
   pub folder : Route
   pub own : is_own old folder ≡ true
@@ -109,6 +137,7 @@ pub record WorkWindsUp (ending : Ending) (old new : Work) (did : Did) (calls : �
 
 -- A skip reports what was left, or that there is no memory for the report, and then it changes nothing. Fewer steps are left then.
 pub record WorkSkips (cause : Cause) (old : Work) (did : Did) (new : Work) : Type 0 where
+  pub walks : SkipWalks cause old did new
   pub skips : ((path : Route) × (did ≡ Skipped path cause) × PassesOver old path new) ⊎ ((did ≡ Troubled (out_of_memory_at (at_barrier old))) × (new ≡ old))
   pub falls : rank_on (course_after did) new < rank_on (Skips cause) old
 
@@ -125,13 +154,13 @@ pub record WindingStep (ending : Ending) (step : StepMade) : Type 0 where
   pub winds : WorkWindsUp ending step.old.work step.new.work step.did step.calls left step.dirty step.dirty_after step.before step.after step.faults step.faults_after
   pub new_is : step.new ≡ record step.old { work = step.new.work }
 
--- A step of the job's own: one that may make its first change is made only where no dirty folder is owed, a deletion goes on as its
+-- A step of the job's own: one that may make its first change is made only where no dirty folder is owed, a deletion does what its
 -- machine does, and a job that is to end makes one of its last steps. But for an end fewer steps are left.
 pub record OwnStep (unclaimed : Route → Type 0) (step : StepMade) : Type 0 where
   pub own : StepsOn unclaimed step.old step.new step.did step.calls step.before step.after step.faults step.faults_after
   pub settled : step.old.course ≡ GoesOn → is_fresh step.old.work ≡ true → IfKnown step.before (λ log. NoneOwed (current log) step.old.work step.dirty)
   pub leaves : LeavesDirty step.old.course step.old.work step.did step.new.work step.dirty step.dirty_after step.before step.after
-  pub walks : step.old.course ≡ GoesOn → Walks step.old.work step.new.work step.did step.calls step.dirty step.dirty_after step.before step.after step.faults step.faults_after
+  pub walks : WalksOn step.old.course step.old.work step.new.work step.did step.calls step.dirty step.dirty_after step.before step.after step.faults step.faults_after
   pub winds : (ending : Ending) → step.old.course ≡ Ends ending → WindingStep ending step
   pub falls : ends step.did ≡ false → rank_with step.dirty_after (Some step.new) < rank_with step.dirty (Some step.old)
 
@@ -165,7 +194,7 @@ pub record OwedSyncStep (step : StepMade) : Type 0 where
   pub few : step.calls ≤ 1
   pub unknown : step.before ≡ None → step.after ≡ None
   pub later : step.faults ≤ step.faults_after
-  pub fault : IsFault step.did → HasRisen step.faults step.faults_after
+  pub fault : MeetsFault step.old.course step.did → HasRisen step.faults step.faults_after
 
 -- what a step of a job may be: one of its own, or the sync of a folder that an ended job left
 abbrev pub RunStep : (Route → Type 0) → StepMade → Type 0

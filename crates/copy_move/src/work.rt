@@ -1,6 +1,6 @@
 //! What a job does: it copies a file, deletes a thing with all that lies in it, or makes a folder. One machine for each.
 ghost use Rattle.std.specs.Prelude.{◌≡◌, option_map, true};
-ghost use Rattle.copy_move.specs.Jobs.{IsGoing, at_barrier, is_fresh, part_of, taken_anew as anew};
+ghost use Rattle.copy_move.specs.Jobs.{IsGoing, at_barrier, is_fresh, part_of, taken_anew as anew, with_skips};
 ghost use Rattle.copy_move.specs.Settling.{changed_folder, is_within};
 ghost use Rattle.copy_move.specs.Steps.{WorkSkips, WorkSteps, WorkWindsUp};
 
@@ -54,6 +54,19 @@ impl Work {
             Work::Copy(copy) => copy.skip(alloc, cause),
             Work::Delete(deletion) => deletion.skip(alloc, cause),
             Work::Make(making) => making.skip(alloc, cause),
+        }
+    }
+
+    /// From now on troubles of this kind are passed over without a question.
+    pub(crate) fn skip_all(&mut self, cause: Cause)
+        requires going { IsGoing self.old }
+        ensures skips { self.new ≡ with_skips cause self.old }
+        ensures going { IsGoing self.new }
+    {
+        match self {
+            Work::Copy(_) => {}
+            Work::Delete(deletion) => deletion.skip_all(cause),
+            Work::Make(_) => {}
         }
     }
 

@@ -1,7 +1,7 @@
 //! A tree whose files shrink after they were looked at.
 use mc_text::{Path, Text};
 use std::alloc::Global;
-use tree_trait::{Children, Meta, Tree, TreeError};
+use tree_trait::{Children, Meta, ReadTree, Tree, TreeError};
 
 /// A tree that says what size its files have, but gives no byte of them from `end` on. It tells nothing of what it holds: that
 /// would be a lie.
@@ -23,7 +23,7 @@ impl<T> Shrunk<T> {
     }
 }
 
-impl<T: Tree> Tree for Shrunk<T> {
+impl<T: ReadTree> ReadTree for Shrunk<T> {
     ghost use Rattle.std.specs.Prelude.{None};
 
     ghost contents = { λ s. None };
@@ -53,6 +53,12 @@ impl<T: Tree> Tree for Shrunk<T> {
         self.inner.read_link(alloc, path)
     }
 
+    fn faults(&self) -> u64 {
+        self.inner.faults()
+    }
+}
+
+impl<T: Tree> Tree for Shrunk<T> {
     fn make_file(&mut self, alloc: Global, path: &Path, mode: u16) -> Result<(), TreeError> {
         self.inner.make_file(alloc, path, mode)
     }
@@ -97,9 +103,5 @@ impl<T: Tree> Tree for Shrunk<T> {
 
     fn sync_folder(&mut self, alloc: Global, path: &Path) -> Result<(), TreeError> {
         self.inner.sync_folder(alloc, path)
-    }
-
-    fn faults(&self) -> u64 {
-        self.inner.faults()
     }
 }

@@ -1,11 +1,10 @@
-//! Walks through every moment of five sessions, of which one deletes a file, one a folder, one copies a file, one deletes two files of which
-//! the first is left unsynced, and one copies a file whose target is left so, and deletes the source; and of two in which
-//! folders are made. It walks through the crash images of each: what is left then? The expected lines stand in `stdout`.
+//! Walks through every moment of seven sessions, of which one deletes a file, one a folder, one copies a file, one deletes two files of which
+//! the first is left unsynced, one copies a file whose target is left so, and deletes the source, one makes a folder, and one makes
+//! two of which the first is left unsynced. It walks through the crash images of each: what is left then? The expected lines stand in `stdout`.
 #![tactic(auto)]
 
 mod images;
 mod judging;
-mod makings;
 mod scenes;
 mod sessions;
 

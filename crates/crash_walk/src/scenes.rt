@@ -1,8 +1,7 @@
-//! The sessions: the trees that they begin with, and their keys, or the folders that they make.
+//! The sessions: the trees that they begin with, and their keys.
 ghost use Rattle.std.specs.Prelude.{◌≡◌, []};
 
 use crate::images::walk;
-use crate::makings::after_makings;
 use crate::sessions::after_keys;
 use anyhow::{Result, bail};
 use mc_text::Path;
@@ -97,8 +96,15 @@ const COPYING_AND_DELETING: &[u8] = b"\x1b[B\x1b[15~\r\rb\x1b[19~\r\x1b[21~";
 /// from what is read, synced and renamed.
 const REFUSED_TARGET_SYNCS: &[u64] = &[18, 19];
 
-/// The calls that are the first sync, after the making, and the one of the last steps.
-const REFUSED_FOLDER_SYNCS: &[u64] = &[2, 3];
+/// F7, n, Enter, F10.
+const MAKING: &[u8] = b"\x1b[18~n\r\x1b[21~";
+
+/// F7, n, Enter, b in the box of the refused sync, F7, m, Enter, F10.
+const MAKING_BOTH: &[u8] = b"\x1b[18~n\rb\x1b[18~m\r\x1b[21~";
+
+/// The calls that are the sync after the making, and the one of the last steps. Before them comes the opening: for each panel a look at
+/// its path and a listing; then the key's looks at the folder and at the path in it, and the making.
+const REFUSED_FOLDER_SYNCS: &[u64] = &[8, 9];
 
 /// The lines of a session: its title, and what is left at each moment.
 pub fn scene_lines(alloc: Global, scene: Scene) -> Result<Vec<String>> {
@@ -148,13 +154,13 @@ fn left_target(alloc: Global) -> Result<MemTree> {
 
 fn new_folder(alloc: Global) -> Result<MemTree> {
     let tree = empty_folder(alloc)?;
-    after_makings(alloc, tree, &["/a/n"])
+    after_keys(alloc, tree, "/a", "/a", MAKING)
 }
 
 fn left_new_folder(alloc: Global) -> Result<MemTree> {
     let mut tree = empty_folder(alloc)?;
     tree.fail_calls(alloc, REFUSED_FOLDER_SYNCS)?;
-    after_makings(alloc, tree, &["/a/n", "/a/m"])
+    after_keys(alloc, tree, "/a", "/a", MAKING_BOTH)
 }
 
 /// The empty folder `/a`.

@@ -9,7 +9,7 @@ use std::marker::Model;
 
 /// The paths of a copy, and the number of its job.
 #[derive(Debug, Drop)]
-pub(crate) struct Item {
+pub struct Item {
     job: u32,
     source: Path,
     source_folder: Path,
@@ -31,13 +31,7 @@ impl Model for Item {
 
 impl Item {
     /// The two folders hold the source and the target.
-    pub(crate) fn new(
-        job: u32,
-        source: Path,
-        source_folder: Path,
-        target: Path,
-        folder: Path,
-    ) -> Item
+    pub fn new(job: u32, source: Path, source_folder: Path, target: Path, folder: Path) -> Item
         requires source { parent_of source ≡ Some source_folder }
         requires target { parent_of target ≡ Some folder }
         ensures { result ≡ places job source target }
@@ -51,32 +45,32 @@ impl Item {
         }
     }
 
-    pub(crate) fn job(&self) -> u32
+    pub fn job(&self) -> u32
         ensures { result ≡ self.now.job }
     {
         self.job
     }
 
-    pub(crate) fn source(&self) -> &Path
+    pub fn source(&self) -> &Path
         ensures { result.now ≡ self.now.source }
     {
         &self.source
     }
 
-    pub(crate) fn target(&self) -> &Path
+    pub fn target(&self) -> &Path
         ensures { result.now ≡ self.now.target }
     {
         &self.target
     }
 
-    pub(crate) fn source_folder(&self) -> &Path
+    pub fn source_folder(&self) -> &Path
         ensures { result.now ≡ folder_of self.now.source }
     {
         &self.source_folder
     }
 
     /// The folder that holds the target, and the part beside it.
-    pub(crate) fn folder(&self) -> &Path
+    pub fn folder(&self) -> &Path
         ensures { result.now ≡ folder_of self.now.target }
     {
         &self.folder

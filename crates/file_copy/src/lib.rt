@@ -13,5 +13,7 @@ mod winding;
 mod work;
 
 pub use copy::FileCopy;
-pub use part_name::PartTest;
+pub use item::Item;
+pub use looks::{look, look_at_target};
+pub use part_name::{PartTest, choose_part};
 pub use stage::{FolderState, Next, SourceFacts, Stage};

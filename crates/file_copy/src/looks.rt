@@ -46,7 +46,7 @@ pub(crate) fn looks<T: Tree>(
 }
 
 /// What stands at a path.
-fn look<T: Tree>(alloc: Global, tree: &mut T, path: &Path) -> Result<Meta, Trouble>
+pub fn look<T: Tree>(alloc: Global, tree: &mut T, path: &Path) -> Result<Meta, Trouble>
     ensures known { IfKnown (T.contents tree.old) (λ log. MatchResult result
         (λ meta. (refusal_of (current log) (Stat path.now) ≡ None) × IsMeta (current log) path.now meta)
         (λ trouble. StatStops (current log) path.now trouble.cause trouble.path)) }
@@ -61,7 +61,7 @@ fn look<T: Tree>(alloc: Global, tree: &mut T, path: &Path) -> Result<Meta, Troub
 }
 
 /// What stands at the target, if anything does.
-fn look_at_target<T: Tree>(
+pub fn look_at_target<T: Tree>(
     alloc: Global,
     tree: &mut T,
     path: &Path,

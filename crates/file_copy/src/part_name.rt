@@ -25,7 +25,7 @@ pub trait PartTest {
 }
 
 /// The path of the part. `TooLong` where the first name that is free gives a path that is too long.
-pub(crate) fn choose_part<T: Tree, P: PartTest>(
+pub fn choose_part<T: Tree, P: PartTest>(
     alloc: Global,
     tree: &mut T,
     parts: &P,

@@ -9,7 +9,7 @@ ghost use Rattle.find_file.specs.FoundList.{holds};
 use mc_text::Path;
 use memchr::memmem::Finder;
 use std::alloc::{AllocError, Global};
-use tree_trait::{Tree, TreeError};
+use tree_trait::{ReadTree, TreeError};
 
 /// The most bytes that a file has.
 const FILE_BYTES: u64 = 1 << 63;
@@ -19,7 +19,7 @@ const PIECE_BYTES: usize = 65536;
 
 /// Whether a file holds these bytes, of which there are some. It is read piece by piece up to the first place, and as many
 /// bytes are kept from one piece to the next as may begin a place.
-pub fn file_holds<T: Tree>(
+pub fn file_holds<T: ReadTree>(
     alloc: Global,
     tree: &mut T,
     path: &Path,
@@ -36,7 +36,7 @@ pub fn file_holds<T: Tree>(
 }
 
 /// Reads a file from its beginning to the first place where the finder's bytes stand, or to its end.
-fn read_through<T: Tree>(
+fn read_through<T: ReadTree>(
     alloc: Global,
     tree: &mut T,
     path: &Path,
@@ -76,7 +76,7 @@ fn read_through<T: Tree>(
 }
 
 /// The next piece of a file from an offset on, of at most so many bytes. At the file's end there is none.
-fn next_piece<T: Tree>(
+fn next_piece<T: ReadTree>(
     alloc: Global,
     tree: &mut T,
     path: &Path,

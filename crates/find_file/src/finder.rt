@@ -13,7 +13,7 @@ use crate::walk::Walk;
 use mc_text::{Bytes, NoMemory, Path};
 use std::alloc::Global;
 use tagging::Pattern;
-use tree_trait::Tree;
+use tree_trait::ReadTree;
 
 /// A search that runs. It holds the names of one folder a level, and nothing of what lies below them.
 #[derive(Debug, Drop)]
@@ -54,7 +54,7 @@ impl Finder {
     }
 
     /// The next answer. Where memory is short nothing is lost: the next call goes on.
-    pub fn next<T: Tree>(&mut self, alloc: Global, tree: &mut T) -> Result<Found, NoMemory>
+    pub fn next<T: ReadTree>(&mut self, alloc: Global, tree: &mut T) -> Result<Found, NoMemory>
         // An answer is the first of what is yet to be found; or the device failed at the next look or listing.
         ensures first { IfKnown (T.contents tree.old) (λ log.
             IsFirst (yet_to_find (current log) self.old) result (yet_to_find (current log) self.new)) }

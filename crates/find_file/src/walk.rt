@@ -21,7 +21,7 @@ use mc_text::{Kind, Names, NoMemory, Path, PathError};
 use std::alloc::Global;
 use std::mem;
 use subtree_walk::Around;
-use tree_trait::{Tree, TreeError};
+use tree_trait::{ReadTree, TreeError};
 
 /// What a walk does next, before it goes on with the children of the folder that is worked.
 #[derive(Debug, Drop)]
@@ -54,7 +54,7 @@ impl Walk {
     }
 
     /// Does what is next: at most a look and a read, or a listing.
-    pub fn step<T: Tree>(
+    pub fn step<T: ReadTree>(
         &mut self,
         alloc: Global,
         tree: &mut T,
@@ -156,7 +156,7 @@ impl Walk {
     }
 
     /// Looks at a thing.
-    fn look<T: Tree>(
+    fn look<T: ReadTree>(
         &mut self,
         alloc: Global,
         tree: &mut T,
@@ -193,7 +193,7 @@ impl Walk {
     }
 
     /// Reads a file, where the pattern finds its name and a content is looked for.
-    fn read<T: Tree>(
+    fn read<T: ReadTree>(
         &mut self,
         alloc: Global,
         tree: &mut T,
@@ -222,7 +222,7 @@ impl Walk {
     }
 
     /// Lists a folder.
-    fn list<T: Tree>(
+    fn list<T: ReadTree>(
         &mut self,
         alloc: Global,
         tree: &mut T,

@@ -11,6 +11,7 @@ impl Sections for Libraries {
     fn tell(page: &mut Page, name: &str, rows: &str) {
         match name {
             "viewer" => viewer_rows::tell_rows(page, rows),
+            "viewing" => viewer_rows::tell_key_rows(page, rows),
             "finding" => finding_rows::tell_rows(page, rows),
             "panels" => pair_rows::tell_rows(page, rows),
             "editor" => edit_rows::tell_rows(page, rows),

@@ -33,10 +33,13 @@ use Rattle.history_laws.specs.Replayed.{log_prefix}
 use Rattle.session_history.specs.Entries.{calls_in}
 use Rattle.history_laws.specs.Traces.{EventLeads, StepLeads, WorkLeads}
 use Rattle.history_laws.proofs.Beginnings.{goes_then}
+use Rattle.job_reports.specs.Jobs.{folder_changed}
+use Rattle.history_laws.proofs.Sources.{folder_is as item_folder}
 use Rattle.history_laws.proofs.Done.{IsFound, found_moment, same_item}
 use Rattle.history_laws.proofs.Finished.{AreTidy, IsTidyJob, traced_tidy}
 use Rattle.history_laws.proofs.Prefixes.{told_of}
-use Rattle.history_laws.proofs.Histories.{only_job, traced_reached}
+use Rattle.history_laws.proofs.Going.{only_job}
+use Rattle.history_laws.proofs.Histories.{traced_reached}
 use Rattle.history_laws.proofs.JobKnows.{StageKnows, WorkKnows}
 use Rattle.history_laws.proofs.Knowing.{Said}
 use Rattle.history_laws.proofs.Moments.{prefix_is, log_of, traced_count}
@@ -122,8 +125,10 @@ module _ (opening : CallLog) (tree : IsTree (current opening)) (settled : all_se
           (subst (λ js. JobsKnow (told_of opening f.before older r.part) f.was.dirty r.marks (current f.before) js) jobs_is r.knows)
 
       folder_is : folder ≡ changed_folder job.work
-      folder_is = h.within ∙ same_item opening tree settled end e older job (live_jobs older) r.part h.item (subst (λ js. HasLive (live_jobs older) js r.part) jobs_is r.live)
-          (subst (λ n. live_item n (live_jobs older) ≡ Some h.item) (sym id_is) h.its)
+      folder_is =
+          let same = same_item opening tree settled end e older job (live_jobs older) r.part h.item (subst (λ js. HasLive (live_jobs older) js r.part) jobs_is r.live)
+          (subst (λ n. live_item n (live_jobs older) ≡ Some h.item) (sym id_is) h.its) in
+          h.within ∙ (ap folder_changed (sym same) ∙ item_folder job.work)
 
       by : (named waited : Bool) → names_path e.what path ≡ named → name_waits f.before path ≡ waited → Calm
       by true waited named_is waited_is = inl named_is

@@ -202,15 +202,21 @@ module _ (told : Said) (dirty dirty_after : List Route) (marks : Marks) (log now
   deletion_tells d new (Chunk count) knows tells done settled leaves = absurd tells
   deletion_tells d new (Placed path) knows tells done settled leaves = absurd tells
   deletion_tells d new (Made made) knows tells done settled leaves = absurd tells
-  deletion_tells d new (Skipped path cause) knows tells done settled leaves = absurd tells
+  deletion_tells d new (Skipped path cause) knows (going, passes, at) done settled leaves =
+      subst (λ routes. Comes told told routes log now (λ m. WorkKnows told routes m (current now) GoesOn (Delete new))) (sym leaves)
+      (comes_refused told dirty marks log now GoesOn (Delete new) kept (stays GoesOn GoesOn d new _ knows at (still_going path d) dirty) (by done))
+    where
+      by : DeletionCalls (Skipped path cause) log (Some now) → (now ≡ log) ⊎ (now ≡ with_change log Rattle.tree_trait.specs.Change.Nothing)
+      by (inl same) = inl (some_log now log same)
+      by (inr (e, is, refused)) = refused_by e refused
   deletion_tells d new (Cleaned part) knows tells done settled leaves = absurd tells
 
   pub deletion_winds : (d new : Deleting) (ending : Ending) (did : Did) (left : Option TreeError) (folder : Route) → WorkKnows told dirty marks (current log) (Ends ending) (Delete d) → Winds ending d did new
       → TellsTried did left folder log (Some now) → LastCalls did log (Some now) → dirty_after ≡ after_try did left folder dirty
       → Steps did (Ends ending) (Delete d) (Delete new)
-  deletion_winds d new ending Barrier left folder (name, none, known) (path_is, stage_is) answer calls leaves =
+  deletion_winds d new ending Barrier left folder (name, none, known) (path_is, stage_is, skips_is) answer calls leaves =
       tried folder left (Ends ending) (Delete new) (λ routes. (subst HasName (sym path_is) name, none, λ is. moved d new path_is (known (sym stage_is ∙ is)))) answer leaves
-  deletion_winds d new ending (Ended how part) left folder knows (how_is, part_is, path_is, stage_is) answer calls leaves =
+  deletion_winds d new ending (Ended how part) left folder knows (how_is, part_is, path_is, stage_is, skips_is) answer calls leaves =
       subst (λ o. Steps (Ended how o) (Ends ending) (Delete d) (Delete new)) (sym part_is) (ends (Delete d) knows.1 leaves (some_log now log calls))
   deletion_winds d new ending (Began part) left folder knows tells answer calls leaves = absurd tells
   deletion_winds d new ending (Chunk count) left folder knows tells answer calls leaves = absurd tells

@@ -1,41 +1,42 @@
 -- What a finished job did stays done, in the words of the history: its entry tells of the job that was live then.
 use Rattle.std.proofs.Common.{◌≡◌, ℕ, ◌+◌, Bool, true, false, List, [], ◌∷◌, ◌++◌, length, refl, sym, ◌∙◌, ap, subst, inl, inr, Option, Some, None, arith, append-nil, append_assoc}
 use Rattle.std.specs.Prelude.{is_some, if◌then◌else◌}
-use Rattle.std.specs.Option.{option_map}
-use Rattle.std.proofs.lemmas.Bool.{both_ways, eq-eqb, false≢true, true≢false}
+use Rattle.std.proofs.lemmas.Bool.{eq-eqb}
 use Rattle.mc_text.specs.Routes.{Route}
 use Rattle.tree_trait.specs.declared.file_system.FileSystem.{FileSystem}
-use Rattle.tree_trait.specs.FileSystem.{Spot, Value, find, node, value, value_at}
+use Rattle.tree_trait.specs.FileSystem.{Spot, find, value_at}
 use Rattle.tree_trait.specs.Shape.{IsTree}
 use Rattle.tree_trait.specs.Change.{Change, CallLog, current}
 use Rattle.tree_trait.specs.CrashImages.{Among, IsCrashImage, all_settled}
 use Rattle.job_reports.specs.declared.report.Ending.TheVariants.{Finished}
 use Rattle.job_reports.specs.declared.report.Did.TheVariants.{Ended}
 use Rattle.job_reports.specs.Paths.{folder_of}
-use Rattle.job_reports.specs.Jobs.{Item, folder_changed}
+use Rattle.job_reports.specs.Jobs.{Item}
 use Rattle.session_history.specs.declared.history.Event.TheVariants.{Step}
 use Rattle.session_history.specs.declared.history.Entry.{Entry}
 use Rattle.copy_move.specs.Jobs.{Running}
-use Rattle.copy_move.specs.Settling.{changed_folder}
+use Rattle.copy_move.specs.declared.work.Work.{Work}
+use Rattle.copy_move.specs.declared.work.Work.TheVariants.{Copy, Delete, Make}
+use Rattle.copy_move.specs.Settling.{is_own}
 use Rattle.copy_move.specs.Steps.{SyncsFolder}
 use Rattle.history_laws.specs.Doubt.{is_unsettled}
-use Rattle.session_history.specs.LiveJobs.{IsLivePart, LiveJob, after_event, after_report, live_jobs, live_item}
+use Rattle.session_history.specs.LiveJobs.{LiveJob, live_item, live_jobs}
 use Rattle.session_history.specs.Named.{has_changed, named_after, named_parts, IsUnnamedSince, names_path}
 use Rattle.history_laws.specs.Replayed.{log_prefix, replayed_tree}
 use Rattle.session_history.specs.Entries.{IsMoment, calls_in}
-use Rattle.history_laws.specs.Safe.{IsPart, IsSafe}
-use Rattle.history_laws.specs.Staying.{DoneLaw, HasFinished}
+use Rattle.history_laws.specs.Safe.{IsPart}
+use Rattle.history_laws.specs.Staying.{DoneLaw, HasFinished, may_change}
 use Rattle.history_laws.specs.Traces.{EventLeads, IsTraced, Stand, StepLeads, WorkLeads}
-use Rattle.history_laws.proofs.Prefixes.{folders_event, folders_since, folders_told, replayed_more, told_of}
-use Rattle.history_laws.proofs.Finished.{finished_folder}
-use Rattle.history_laws.proofs.Histories.{enters, only_job, traced_reached}
-use Rattle.history_laws.proofs.Lasting.{finished_stays, replayed_since}
-use Rattle.history_laws.proofs.Moments.{IsShown, prefix_is, log_of, replay_law, session_law, shown_moment, sure_moment, traced_count}
+use Rattle.history_laws.proofs.Prefixes.{told_of}
+use Rattle.history_laws.proofs.Going.{only_job}
+use Rattle.history_laws.proofs.Histories.{enters, traced_reached}
+use Rattle.history_laws.proofs.Holding.{holds_since}
+use Rattle.history_laws.proofs.Lasting.{finished_stays_law}
+use Rattle.history_laws.proofs.Moments.{log_of, prefix_is, traced_count}
 use Rattle.history_laws.proofs.Reports.{HasLive}
-use Rattle.history_laws.proofs.Resting.{name_sure}
-use Rattle.history_laws.proofs.Sources.{folder_is, item_in}
-use Rattle.history_laws.proofs.Staying.{event_part, stays_law}
-use Rattle.history_laws.proofs.Stepped.{folders_by, more}
+use Rattle.history_laws.proofs.Sources.{item_in}
+use Rattle.history_laws.proofs.Stepped.{more}
+use Rattle.history_laws.proofs.Unnamed.{replayed_since}
 
 -- what is unnamed since an entry is unnamed since those before it, where the entry doesn't name it
 since_before : (e : Entry) (older g : List Entry) (path : Route) → names_path e.what path ≡ false → IsUnnamedSince (e ∷ older) path g → IsUnnamedSince older path g
@@ -114,15 +115,19 @@ module _ (opening : CallLog) (tree : IsTree (current opening)) (settled : all_se
     pub jobs_is : was.jobs ≡ job ∷ []
     pub id_is : job.id ≡ id
     pub works : WorkLeads job (Ended Finished part) new was.dirty after.dirty before now
-    pub within : folder ≡ changed_folder job.work
+    pub within : is_own job.work folder ≡ true
 
   -- the item that the history tells of is that of the live job
-  pub same_item : (job : Running) (live : List LiveJob) (part : Option Route) (item : Item) → HasLive live (job ∷ []) part → live_item job.id live ≡ Some item → folder_changed item ≡ changed_folder job.work
+  pub same_item : (job : Running) (live : List LiveJob) (part : Option Route) (item : Item) → HasLive live (job ∷ []) part → live_item job.id live ≡ Some item → item_in job.work ≡ item
   same_item job live part item is its =
       let first : Some (item_in job.work) ≡ Some item =
-      sym (ap (λ b. if b then Some (item_in job.work) else None) (eq-eqb job.id job.id refl)) ∙ (sym (ap (live_item job.id) is) ∙ its) in
-      let same : item_in job.work ≡ item = cc in
-      sym (ap folder_changed same) ∙ folder_is job.work
+      sym (ap (λ b. if b then Some (item_in job.work) else None) (eq-eqb job.id job.id refl)) ∙ (sym (ap (live_item job.id) is) ∙ its) in cc
+
+  -- and so are the folders of its own
+  own_changed : (work : Work) (folder : Route) → may_change (item_in work) folder ≡ true → is_own work folder ≡ true
+  own_changed (Copy c) folder h = h
+  own_changed (Delete d) folder h = h
+  own_changed (Make m) folder h = h
 
   ender : (folder : Route) (h : HasFinished e older folder) (f : IsFound) → IsEnder f.was f.after f.before f.now h.part h.id folder
   ender folder h f = by (subst (λ w. EventLeads f.was w f.after f.before f.now) h.ended f.leads)
@@ -137,7 +142,8 @@ module _ (opening : CallLog) (tree : IsTree (current opening)) (settled : all_se
             jobs_is = one.0;
             id_is = one.1;
             works = works;
-            within = h.within ∙ same_item job (live_jobs older) r.part h.item (subst (λ js. HasLive (live_jobs older) js r.part) one.0 r.live) (subst (λ n. live_item n (live_jobs older) ≡ Some h.item) (sym one.1) h.its);
+            within = own_changed job.work folder (subst (λ i. may_change i folder ≡ true)
+                (sym (same_item job (live_jobs older) r.part h.item (subst (λ js. HasLive (live_jobs older) js r.part) one.0 r.live) (subst (λ n. live_item n (live_jobs older) ≡ Some h.item) (sym one.1) h.its))) h.within);
           }
 
       none : (job new : Running) (synced : Route) → SyncsFolder job synced (Ended Finished h.part) new f.was.dirty f.after.dirty (Some f.before) (Some f.now) → IsEnder f.was f.after f.before f.now h.part h.id folder
@@ -153,59 +159,14 @@ module _ (opening : CallLog) (tree : IsTree (current opening)) (settled : all_se
       by : EventLeads f.was (Step h.id (Ended Finished h.part)) f.after f.before f.now → IsEnder f.was f.after f.before f.now h.part h.id folder
       by s = of_step s.job s.new s.its s.leads
 
-  -- where the job has ended none is live
-  none_live : (folder : Route) (h : HasFinished e older folder) (f : IsFound) → live_jobs (e ∷ older) ≡ []
-  none_live folder h f =
-      let i = ender folder h f in
-      let r = traced_reached opening tree settled older f.was f.before f.traced in
-      ap (λ w. after_event w (live_jobs older)) h.ended ∙ gone (live_jobs older) i.job r.part i.id_is (subst (λ js. HasLive (live_jobs older) js r.part) i.jobs_is r.live)
-    where
-      gone : (live : List LiveJob) (job : Running) (part : Option Route) → job.id ≡ h.id → HasLive live (job ∷ []) part → after_report h.id (Ended Finished h.part) live ≡ []
-      gone live job part id_is is =
-          ap (after_report h.id (Ended Finished h.part)) is ∙ ap (λ b. (let xs : List LiveJob = if b then [] else (let l : LiveJob = record { id = job.id; item = item_in job.work; part = part } in l) ∷ [] in xs)) (eq-eqb job.id h.id id_is)
-
--- a path that no entry names is the part of a live job only if it was one
-live_since : (older g : List Entry) (path : Route) → IsUnnamedSince older path g → IsLivePart (live_jobs g) path → IsLivePart (live_jobs older) path
-live_since older [] path same live = subst (λ x. IsLivePart (live_jobs x) path) (sym same) live
-live_since older (e ∷ g) path (inl same) live = subst (λ x. IsLivePart (live_jobs x) path) (sym same) live
-live_since older (e ∷ g) path (inr (unnamed, since)) live = live_since older g path since (event_part path e.what (live_jobs g) unnamed live)
-
-none_of : (o : Option ℕ) → is_some o ≡ false → o ≡ None
-none_of None h = refl
-none_of (Some i) h = absurd (true≢false h)
-
--- where nothing can be seen nothing stands
-none_stands : (s : FileSystem) (path : Route) (v : Option Value) → value_at s path ≡ v → v ≡ None → is_some (find s path) ≡ true → ⊥
-none_stands s path v is none stands = by (find s path) stands (is ∙ none)
-  where
-    by : (o : Option ℕ) → is_some o ≡ true → option_map (λ i. value (node s i)) o ≡ None → ⊥
-    by (Some i) some h = absurd (let f : ⊥ = cc in f)
-    by None some h = false≢true some
-
 module _ (opening now : CallLog) (newest : List Entry) (stand : Stand) (tree : IsTree (current opening)) (settled : all_settled opening.changes ≡ true) (traced : IsTraced opening newest stand now)
     (e : Entry) (older standing coming : List Entry) (calls : ℕ) (path : Route) (image : FileSystem) (h : HasFinished e older (folder_of path)) (bare : names_path e.what path ≡ false)
-    (moment : IsMoment newest standing coming calls) (since : IsUnnamedSince (e ∷ older) path standing) (later : IsUnnamedSince (e ∷ older) path coming)
-    (since_folder : IsUnnamedSince (e ∷ older) (folder_of path) standing) (later_folder : IsUnnamedSince (e ∷ older) (folder_of path) coming) (left : IsCrashImage now (length opening.changes + calls) image) where
+    (moment : IsMoment newest standing coming calls) (since : IsUnnamedSince (e ∷ older) path standing) (later : IsUnnamedSince (e ∷ older) path coming) (left : IsCrashImage now (length opening.changes + calls) image) where
   abbrev Holds : Type 0
   Holds = value_at image path ≡ (replayed_tree opening now older path).value
 
   found : IsFound opening tree settled now e older
   found = found_moment opening tree settled now e older path newest standing coming stand calls now [] traced (ap (log_of now) (sym (append-nil now.changes))) moment since
-
-  -- its folder was on the disk then
-  in_folder : folders_told opening (e ∷ older) (folder_of path) ≡ true
-  in_folder =
-      let f = found in
-      let by = ender opening tree settled now e older (folder_of path) h f in
-      ap (λ w. folders_event w (live_jobs older) (folders_told opening older) (folder_of path)) h.ended
-      ∙ (ap (λ o. Rattle.std.specs.Option.option_map_or (λ item. folders_by (Ended Finished h.part) (folder_changed item) (folders_told opening older)) o (folders_told opening older) (folder_of path)) h.its
-      ∙ (ap (folders_told opening older) by.within ∙ finished_folder opening tree settled older f.was f.before by.job f.traced by.jobs_is (subst (λ i. has_changed i older ≡ true) (sym by.id_is) h.changed)))
-
-  still_stands : folders_told opening standing (folder_of path) ≡ true
-  still_stands = folders_since opening (e ∷ older) standing (folder_of path) since_folder in_folder
-
-  still_comes : folders_told opening coming (folder_of path) ≡ true
-  still_comes = folders_since opening (e ∷ older) coming (folder_of path) later_folder in_folder
 
   -- a path that was never named as a part
   of_unnamed : (Among (named_parts older) path → ⊥) → Holds
@@ -214,17 +175,10 @@ module _ (opening now : CallLog) (newest : List Entry) (stand : Stand) (tree : I
       let by = ender opening tree settled now e older (folder_of path) h f in
       let n = traced_count opening f.before older f.was f.traced in
       let at_start : log_prefix opening (calls_in older) now ≡ f.before = prefix_is opening now (calls_in older) f.before f.rest f.end_is (omega (arith, n)) in
-      finished_stays opening now f.now newest older standing coming f.was stand (let a : Stand = f.after in a.dirty) by.job by.new h.part calls path image tree settled traced
+      finished_stays_law opening now f.now newest older standing coming f.was stand (let a : Stand = f.after in a.dirty) by.job by.new h.part calls path image tree settled traced
       (subst (λ (l : CallLog). IsTraced opening older f.was l) (sym at_start) f.traced)
       by.jobs_is (subst (λ (l : CallLog). WorkLeads by.job (Ended Finished h.part) by.new (let w : Stand = f.was in w.dirty) (let a : Stand = f.after in a.dirty) l f.now) (sym at_start) by.works)
-      (subst (λ i. has_changed i older ≡ true) (sym by.id_is) h.changed) by.within unnamed moment (since_before e older standing path bare since) (since_before e older coming path bare later) still_stands still_comes left
-
-  -- a path at which nothing stood when the job had ended, and of which nothing waited
-  abbrev at_end : CallLog
-  at_end = log_prefix opening e.calls now
-
-  no_live : IsLivePart (live_jobs (e ∷ older)) path → ⊥
-  no_live live = let l = subst (λ jobs. IsLivePart jobs path) (none_live opening tree settled now e older (folder_of path) h found) live in l.1
+      (subst (λ i. has_changed i older ≡ true) (sym by.id_is) h.changed) by.within unnamed moment (since_before e older standing path bare since) (since_before e older coming path bare later) left
 
   told_same : (replayed_tree opening now (e ∷ older) path) ≡ replayed_tree opening now older path
   told_same = replayed_since opening now older (e ∷ older) path (inr (bare, since_self older))
@@ -233,43 +187,12 @@ module _ (opening now : CallLog) (newest : List Entry) (stand : Stand) (tree : I
       since_self [] = refl
       since_self (x ∷ xs) = inl refl
 
-  -- the history says that nothing stands there
-  told_none : is_some (find (current at_end) path) ≡ false → (replayed_tree opening now (e ∷ older) path).value ≡ None
-  told_none none =
-      let f = found in
-      let c = f.calls in
-      let r = traced_reached opening tree settled (e ∷ older) f.stand f.now f.whole in
-      let at : at_end ≡ f.now = prefix_is opening now e.calls f.now f.later f.later_is (omega (arith, c)) in
-      let shown = (replay_law opening f.now (e ∷ older) f.stand tree settled f.whole).shows path no_live in
-      let same : replayed_tree opening now (e ∷ older) path ≡ replayed_tree opening f.now (e ∷ older) path =
-      ap (λ (l : CallLog). replayed_tree opening l (e ∷ older) path) f.later_is ∙ ap (λ v. v path) (replayed_more opening f.now f.later (e ∷ older) r.within) in
-      ap (λ (s : Spot). s.value) (same ∙ sym shown) ∙ ap (λ (o : Option ℕ). option_map (λ i. value (node (current f.now) i)) o) (none_of _ (subst (λ (l : CallLog). is_some (find (current l) path) ≡ false) at none))
+  -- a path at which nothing stood when the job had ended, and of which nothing waited
+  abbrev at_end : CallLog
+  at_end = log_prefix opening e.calls now
 
   of_gone : is_some (find (current at_end) path) ≡ false → is_unsettled at_end path ≡ false → Holds
-  of_gone none sure_then =
-      elim (session_law opening now newest standing coming stand calls image tree settled traced moment left) [ inl safe ↦ by standing since safe | inr safe ↦ by coming later safe ]
-    where
-      sure : is_unsettled (log_prefix opening calls now) path ≡ false
-      sure = sure_moment opening now newest standing coming stand calls path tree settled traced moment still_stands still_comes
-          (stays_law opening now newest (e ∷ older) standing coming stand calls path tree settled traced moment since later (name_sure (log_prefix opening e.calls now) path sure_then) no_live)
-
-      gone_by : (g : List Entry) → IsUnnamedSince (e ∷ older) path g → IsShown opening now (log_prefix opening calls now) g → is_some (find (current (log_prefix opening calls now)) path) ≡ true → ⊥
-      gone_by g unnamed_since shown =
-          none_stands (current (log_prefix opening calls now)) path _
-          (ap (λ (s : Spot). s.value) (shown path (λ live. no_live (live_since (e ∷ older) g path unnamed_since live)) ∙ replayed_since opening now (e ∷ older) g path unnamed_since))
-          (told_none none)
-
-      gone : is_some (find (current (log_prefix opening calls now)) path) ≡ true → ⊥
-      gone = elim (shown_moment opening now newest standing coming stand calls tree settled traced moment) [ inl shown ↦ gone_by standing since shown | inr shown ↦ gone_by coming later shown ]
-
-      no_part : (g : List Entry) → IsPart g (log_prefix opening calls now) path → ⊥
-      no_part g part = elim part.stays [ inl stands ↦ gone stands | inr waits ↦ both_ways _ sure waits ]
-
-      by : (g : List Entry) → IsUnnamedSince (e ∷ older) path g → IsSafe opening now g (log_prefix opening calls now) image → Holds
-      by g unnamed_since safe = elim (safe path (no_part g)) [
-        | inl told ↦ told ∙ ap (λ (s : Spot). s.value) (replayed_since opening now (e ∷ older) g path unnamed_since ∙ told_same)
-        | inr doubt ↦ absurd (both_ways _ sure doubt.0)
-      ]
+  of_gone none sure = holds_since opening now newest (e ∷ older) standing coming stand calls path image tree settled traced moment since later sure (inr none) left ∙ ap (λ (s : Spot). s.value) told_same
 
   still_named : Among (named_parts older) path → Among (named_parts (e ∷ older)) path
   still_named named = subst (λ w. Among (named_after w (named_parts older)) path) (sym h.ended) named
@@ -280,6 +203,6 @@ module _ (opening now : CallLog) (newest : List Entry) (stand : Stand) (tree : I
   by_part no_part false false stands_is waits_is = of_gone stands_is waits_is
 
 pub done_law : DoneLaw
-done_law opening now newest stand tree settled traced e older standing coming calls path image h no_part bare moment since later since_folder later_folder left =
-    by_part opening now newest stand tree settled traced e older standing coming calls path image h bare moment since later since_folder later_folder left no_part (is_some (find (current (log_prefix opening e.calls now)) path)) (is_unsettled (log_prefix opening e.calls now) path)
+done_law opening now newest stand tree settled traced e older standing coming calls path image h no_part bare moment since later left =
+    by_part opening now newest stand tree settled traced e older standing coming calls path image h bare moment since later left no_part (is_some (find (current (log_prefix opening e.calls now)) path)) (is_unsettled (log_prefix opening e.calls now) path)
     refl refl

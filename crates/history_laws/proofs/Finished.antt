@@ -2,14 +2,15 @@
 use Rattle.std.proofs.Common.{◌≡◌, ◌⊎◌, ℕ, Bool, true, false, not, List, [], ◌∷◌, refl, sym, ◌∙◌, ap, subst, inl, inr, Option, Some, None}
 use Rattle.std.specs.Prelude.{◌==◌, ◌||◌, ◌&&◌, if◌then◌else◌, map}
 use Rattle.std.specs.Option.{option_map_or}
-use Rattle.std.proofs.lemmas.Bool.{true≢false, false≢true, both_ways, eq-eqb, and_parts, false_from_ne_true, or_left}
+use Rattle.std.proofs.lemmas.Bool.{true≢false, false≢true, both_ways, eq-eqb, and_parts, false_from_ne_true, or_cases}
 use Rattle.mc_text.specs.Routes.{Route, is_prefix, same_path}
 use Rattle.tree_trait.specs.Shape.{IsTree}
 use Rattle.tree_trait.specs.Change.{CallLog, current}
 use Rattle.tree_trait.specs.CrashImages.{Among, all_settled}
-use Rattle.tree_trait.proofs.Visible.{same_path-self}
+use Rattle.tree_trait.proofs.Visible.{same_path-self, same_path-true}
 use Rattle.job_reports.specs.declared.report.Ending.{Ending}
 use Rattle.job_reports.specs.declared.report.Ending.TheVariants.{Finished, Aborted}
+use Rattle.job_reports.specs.declared.report.Cause.{Cause}
 use Rattle.job_reports.specs.declared.report.Did.{Did}
 use Rattle.job_reports.specs.declared.report.Did.TheVariants.{Began, Chunk, Placed, Removed, Made, Kept, Skipped, Cleaned, Barrier, Troubled, Ended}
 use Rattle.job_reports.specs.Stops.{cause_of, trouble_at}
@@ -32,14 +33,14 @@ use Rattle.copy_move.specs.declared.making.MakingStage.TheVariants as making
 use Rattle.copy_move.specs.declared.work.Work.TheVariants.{Copy, Delete, Make}
 use Rattle.copy_move.specs.Makings.{Making}
 use Rattle.copy_move.specs.Makings as makings
-use Rattle.copy_move.specs.Jobs.{PassesOver, Running, TellsOn, WorkTells, answered_on, closed_course, closed_job, course_after, first_work, taken_anew}
+use Rattle.copy_move.specs.Jobs.{PassesOver, Running, TellsOn, WorkTells, answered_on, closed_course, closed_job, course_after, first_work, taken_anew, with_skips}
 use Rattle.job_reports.specs.Reports.{ends}
-use Rattle.copy_move.specs.Settling.{WorkLeaves, changed_folder, with_change}
+use Rattle.copy_move.specs.Settling.{WorkLeaves, changed_folder, is_own, with_change}
 use Rattle.copy_move.proofs.FolderSteps.{copy_stays}
 use Rattle.copy_move.proofs.MakingFolders.{making_stays}
 use Rattle.job_reports.specs.Paths.{folder_of, without}
 use Rattle.copy_move.specs.Steps.{LeavesDirty, SyncsFolder}
-use Rattle.history_laws.specs.Doubt.{name_waits}
+use Rattle.history_laws.specs.Doubt.{is_unsettled, name_waits}
 use Rattle.history_laws.specs.Owed.{FinishedLaw}
 use Rattle.session_history.specs.Named.{begins_change, changed_after, has_changed}
 use Rattle.session_history.specs.LiveJobs.{live_item, live_jobs}
@@ -47,8 +48,9 @@ use Rattle.session_history.specs.Entries.{is_closed}
 use Rattle.copy_move.specs.Told.{running}
 use Rattle.history_laws.specs.Traces.{EventLeads, IsTraced, Stand, SyncLeads, WorkLeads, before_others, if_closed, ordered, with_job}
 use Rattle.history_laws.proofs.Beginnings.{folder_stays}
-use Rattle.history_laws.proofs.Histories.{IsReached, only_job, traced_reached}
-use Rattle.history_laws.proofs.Owing.{in_filter, owed_law}
+use Rattle.history_laws.proofs.Going.{only_job}
+use Rattle.history_laws.proofs.Histories.{IsReached, traced_reached}
+use Rattle.history_laws.proofs.Owing.{in_filter, own_folder, owed_law}
 use Rattle.history_laws.proofs.Reports.{HasLive, with_one}
 use Rattle.history_laws.proofs.Resting.{sure_path}
 use Rattle.history_laws.proofs.Sources.{folder_is, folder_same, item_in, tells_same}
@@ -85,7 +87,7 @@ making_dirty m new (Troubled trouble) t h = absurd (false≢true h)
 making_dirty m new (Ended ending part) t h = absurd (false≢true h)
 
 -- a folder that was synced is no longer listed
-not_listed : (up : Route) (routes : List Route) → Among (without up routes) up → ⊥
+pub not_listed : (up : Route) (routes : List Route) → Among (without up routes) up → ⊥
 not_listed up [] among = among
 not_listed up (first ∷ routes) among = by (same_path first up) refl among (not_listed up routes)
   where
@@ -233,6 +235,17 @@ anew_tidy (Copy c) dirty t = t
 anew_tidy (Delete d) dirty t = tt
 anew_tidy (Make m) dirty t = t
 
+-- nor does it once a kind of trouble is passed over
+skips_dirty : (why : Cause) (work : Work) → (has_begun (with_skips why work) ≡ has_begun work) × (changed_folder (with_skips why work) ≡ changed_folder work)
+skips_dirty why (Copy c) = (refl, refl)
+skips_dirty why (Delete d) = (refl, refl)
+skips_dirty why (Make m) = (refl, refl)
+
+skips_tidy : (why : Cause) (work : Work) (dirty : List Route) → TidyFolder work dirty → TidyFolder (with_skips why work) dirty
+skips_tidy why (Copy c) dirty t = t
+skips_tidy why (Delete d) dirty t = tt
+skips_tidy why (Make m) dirty t = t
+
 some_end : (a b : Ending) → (let c : Course = Ends a in c) ≡ Ends b → b ≡ a
 some_end a b h = cc
 
@@ -240,7 +253,8 @@ answer_tidy : (opening : CallLog) (g : List Entry) (dirty : List Route) (job : R
 answer_tidy opening g dirty job (InTrouble why) is Retry t =
     let a = anew_dirty job.work in kept_tidy opening g dirty job (record job { work = taken_anew job.work; course = GoesOn }) refl a.0 a.1 (anew_tidy job.work dirty) (λ going. subst IsGoing (sym is) tt) (λ ending e. no_end GoesOn ending tt e) t
 answer_tidy opening g dirty job (InTrouble why) is Skip t = kept_tidy opening g dirty job (record job { course = Skips why }) refl refl refl (λ t. t) (λ going. subst IsGoing (sym is) tt) (λ ending e. no_end (Skips why) ending tt e) t
-answer_tidy opening g dirty job (InTrouble why) is SkipAll t = kept_tidy opening g dirty job (record job { course = Skips why }) refl refl refl (λ t. t) (λ going. subst IsGoing (sym is) tt) (λ ending e. no_end (Skips why) ending tt e) t
+answer_tidy opening g dirty job (InTrouble why) is SkipAll t =
+    let a = skips_dirty why job.work in kept_tidy opening g dirty job (record job { work = with_skips why job.work; course = Skips why }) refl a.0 a.1 (skips_tidy why job.work dirty) (λ going. subst IsGoing (sym is) tt) (λ ending e. no_end (Skips why) ending tt e) t
 answer_tidy opening g dirty job (InTrouble why) is Abort t = kept_tidy opening g dirty job (record job { course = Ends Aborted }) refl refl refl (λ t. t) (λ going. absurd going) (λ ending e. some_end Aborted ending e) t
 answer_tidy opening g dirty job (OwedSyncFailed why) is Retry t =
     let a = anew_dirty job.work in kept_tidy opening g dirty job (record job { work = taken_anew job.work; course = GoesOn }) refl a.0 a.1 (anew_tidy job.work dirty) (λ going. subst IsGoing (sym is) tt) (λ ending e. no_end GoesOn ending tt e) t
@@ -406,23 +420,24 @@ done_making making.Finish h = refl
 done_making making.PassedOver h = refl
 
 done_work : (old new next : Work) (part : Option Route) (dirty dirty_after : List Route) (before after : Option CallLog) → WorkTells old (Ended Finished part) new → WorkLeaves old (Ended Finished part) next dirty dirty_after before after
-    → TidyFolder old dirty → Among dirty (changed_folder old) → ⊥
-done_work (Copy c) (Copy new) next part dirty dirty_after before after (stage, synced, part_is, new_is) leaves tidy among = tidy (ap copying.is_dirty synced) among
-done_work (Copy c) (Delete new) next part dirty dirty_after before after t leaves tidy among = t
-done_work (Delete d) (Copy new) next part dirty dirty_after before after t leaves tidy among = t
-done_work (Copy c) (Make new) next part dirty dirty_after before after t leaves tidy among = t
-done_work (Delete d) (Make new) next part dirty dirty_after before after t leaves tidy among = t
-done_work (Make m) (Copy new) next part dirty dirty_after before after t leaves tidy among = t
-done_work (Make m) (Delete new) next part dirty dirty_after before after t leaves tidy among = t
-done_work (Make m) (Make new) next part dirty dirty_after before after (is_done, part_is, new_is) leaves tidy among = tidy (done_making m.stage is_done) among
-done_work (Delete d) (Delete new) (Copy next) part dirty dirty_after before after t leaves tidy among = leaves
-done_work (Delete d) (Delete new) (Make next) part dirty dirty_after before after t leaves tidy among = leaves
-done_work (Delete d) (Delete new) (Delete next) part dirty dirty_after before after t leaves tidy among =
-    both_ways _ (leaves.0 (folder_of d.path) among) (or_left (same_path (folder_of d.path) (folder_of d.path)) (is_prefix d.path (folder_of d.path)) (same_path-self (folder_of d.path)))
+    → TidyFolder old dirty → (q : Route) → is_own old q ≡ true → Among dirty q → ⊥
+done_work (Copy c) (Copy new) next part dirty dirty_after before after (stage, synced, part_is, new_is) leaves tidy q own among =
+    tidy (ap copying.is_dirty synced) (subst (λ x. Among dirty x) (same_path-true q (folder_of c.target) own) among)
+done_work (Copy c) (Delete new) next part dirty dirty_after before after t leaves tidy q own among = t
+done_work (Delete d) (Copy new) next part dirty dirty_after before after t leaves tidy q own among = t
+done_work (Copy c) (Make new) next part dirty dirty_after before after t leaves tidy q own among = t
+done_work (Delete d) (Make new) next part dirty dirty_after before after t leaves tidy q own among = t
+done_work (Make m) (Copy new) next part dirty dirty_after before after t leaves tidy q own among = t
+done_work (Make m) (Delete new) next part dirty dirty_after before after t leaves tidy q own among = t
+done_work (Make m) (Make new) next part dirty dirty_after before after (is_done, part_is, new_is) leaves tidy q own among =
+    tidy (done_making m.stage is_done) (subst (λ x. Among dirty x) (same_path-true q (folder_of m.path) own) among)
+done_work (Delete d) (Delete new) (Copy next) part dirty dirty_after before after t leaves tidy q own among = leaves
+done_work (Delete d) (Delete new) (Make next) part dirty dirty_after before after t leaves tidy q own among = leaves
+done_work (Delete d) (Delete new) (Delete next) part dirty dirty_after before after t leaves tidy q own among = both_ways _ (leaves.0 q among) own
 
 wound_up : (ending : Ending) (old new : Work) (part : Option Route) → Rattle.copy_move.specs.Jobs.WorkWinds ending old (Ended Finished part) new → Finished ≡ ending
 wound_up ending (Copy c) (Copy new) part (none, synced, how_is, part_is, new_is) = how_is
-wound_up ending (Delete d) (Delete new) part (how_is, part_is, path_is, stage_is) = how_is
+wound_up ending (Delete d) (Delete new) part (how_is, part_is, path_is, stage_is, skips_is) = how_is
 wound_up ending (Make m) (Make new) part (off, how_is, part_is, new_is) = how_is
 wound_up ending (Copy c) (Delete new) part t = absurd t
 wound_up ending (Copy c) (Make new) part t = absurd t
@@ -432,14 +447,14 @@ wound_up ending (Make m) (Copy new) part t = absurd t
 wound_up ending (Make m) (Delete new) part t = absurd t
 
 finished_tidy : (opening : CallLog) (g : List Entry) (dirty dirty_after : List Route) (job new : Running) (part : Option Route) (before after : Option CallLog) (course : Course) → job.course ≡ course → TellsOn course job (Ended Finished part) new
-    → LeavesDirty course job.work (Ended Finished part) new.work dirty dirty_after before after → IsTidyJob opening g dirty job → has_changed job.id g ≡ true → Among dirty (changed_folder job.work) → ⊥
-finished_tidy opening g dirty dirty_after job new part before after GoesOn is (work, tells, new_is) leaves t changed among =
-    done_work job.work work new.work part dirty dirty_after before after tells leaves (t.tidy changed (subst IsGoing (sym is) tt)) among
-finished_tidy opening g dirty dirty_after job new part before after (InTrouble why) is tells leaves t changed among = tells
-finished_tidy opening g dirty dirty_after job new part before after (OwedSyncFailed why) is tells leaves t changed among = tells
-finished_tidy opening g dirty dirty_after job new part before after (Skips why) is (inl (path, work, did_is, passes, new_is)) leaves t changed among = let f : ⊥ = cc in f
-finished_tidy opening g dirty dirty_after job new part before after (Skips why) is (inr (did_is, new_is)) leaves t changed among = let f : ⊥ = cc in f
-finished_tidy opening g dirty dirty_after job new part before after (Ends ending) is (work, winds, new_is) leaves t changed among =
+    → LeavesDirty course job.work (Ended Finished part) new.work dirty dirty_after before after → IsTidyJob opening g dirty job → has_changed job.id g ≡ true → (q : Route) → is_own job.work q ≡ true → Among dirty q → ⊥
+finished_tidy opening g dirty dirty_after job new part before after GoesOn is (work, tells, new_is) leaves t changed q own among =
+    done_work job.work work new.work part dirty dirty_after before after tells leaves (t.tidy changed (subst IsGoing (sym is) tt)) q own among
+finished_tidy opening g dirty dirty_after job new part before after (InTrouble why) is tells leaves t changed q own among = tells
+finished_tidy opening g dirty dirty_after job new part before after (OwedSyncFailed why) is tells leaves t changed q own among = tells
+finished_tidy opening g dirty dirty_after job new part before after (Skips why) is (inl (path, work, did_is, passes, new_is)) leaves t changed q own among = let f : ⊥ = cc in f
+finished_tidy opening g dirty dirty_after job new part before after (Skips why) is (inr (did_is, new_is)) leaves t changed q own among = let f : ⊥ = cc in f
+finished_tidy opening g dirty dirty_after job new part before after (Ends ending) is (work, winds, new_is) leaves t changed q own among =
     let e : Finished ≡ Aborted = wound_up ending job.work work part winds ∙ t.aborted ending is in let f : ⊥ = cc in f
 
 -- so its folder is known to be on the disk
@@ -449,10 +464,29 @@ finished_folder opening tree settled newest stand now job traced jobs_is changed
     let tidy : IsTidyJob opening newest stand.dirty job = subst (λ js. AreTidy opening newest stand.dirty js) jobs_is (traced_tidy opening tree settled newest stand now traced) in
     tidy.stands changed
 
+-- a folder of its own is the one that holds what it changes, or lies in one of its own
+own_above : (work : Work) (up : Route) → is_own work up ≡ true → (up ≡ changed_folder work) ⊎ (is_own work (folder_of up) ≡ true)
+own_above (Copy c) up own = inl (same_path-true up (folder_of c.target) own)
+own_above (Make m) up own = inl (same_path-true up (folder_of m.path) own)
+own_above (Delete d) up own = elim (or_cases (same_path up (folder_of d.path)) (is_prefix d.path up) own) [
+  | inl here ↦ inl (same_path-true up (folder_of d.path) here)
+  | inr within ↦ inr (own_folder d up (folder_of up) within refl)
+]
+
+-- so where that one isn't in doubt, and nothing waits in one of its own, nothing there is
+own_settled : (log : CallLog) (work : Work) → is_unsettled log (changed_folder work) ≡ false → ((p : Route) → is_own work (folder_of p) ≡ true → name_waits log p ≡ false) → (path : Route) → is_own work (folder_of path) ≡ true
+    → is_unsettled log path ≡ false
+own_settled log work firm calm [] own = refl
+own_settled log work firm calm (name ∷ up) own = by (own_settled log work firm calm up) (own_above work up own)
+  where
+    by : (is_own work (folder_of up) ≡ true → is_unsettled log up ≡ false) → (up ≡ changed_folder work) ⊎ (is_own work (folder_of up) ≡ true) → is_unsettled log (name ∷ up) ≡ false
+    by above (inl here) = sure_path log (name ∷ up) (subst (λ q. is_unsettled log q ≡ false) (sym here) firm) (calm (name ∷ up) own)
+    by above (inr within) = sure_path log (name ∷ up) (above within) (calm (name ∷ up) own)
+
 pub finished_law : FinishedLaw
-finished_law opening now after newest stand dirty job new part path tree settled traced jobs_is works changed folder =
+finished_law opening now after newest stand dirty job new part path tree settled traced jobs_is works changed own =
     let r = traced_reached opening tree settled newest stand now traced in
-    let firm = r.kept.known.stand (folder_of path) (ap (folders_told opening newest) folder ∙ finished_folder opening tree settled newest stand now job traced jobs_is changed) in
-    sure_path now path firm.sure (false_from_ne_true (name_waits now path) (λ waits.
-    finished_tidy opening newest stand.dirty dirty job new part (Some now) (Some after) job.course refl works.tells works.leaves (subst (λ js. AreTidy opening newest stand.dirty js) jobs_is (traced_tidy opening tree settled newest stand now traced)) changed
-    (subst (λ q. Among stand.dirty q) folder (owed_law opening now newest stand path tree settled traced waits))))
+    let firm = r.kept.known.stand (changed_folder job.work) (finished_folder opening tree settled newest stand now job traced jobs_is changed) in
+    let tidy : IsTidyJob opening newest stand.dirty job = subst (λ js. AreTidy opening newest stand.dirty js) jobs_is (traced_tidy opening tree settled newest stand now traced) in
+    own_settled now job.work firm.sure (λ p within. false_from_ne_true (name_waits now p) (λ waits.
+    finished_tidy opening newest stand.dirty dirty job new part (Some now) (Some after) job.course refl works.tells works.leaves tidy changed (folder_of p) within (owed_law opening now newest stand p tree settled traced waits))) path own

@@ -1,7 +1,7 @@
 -- By induction over a history: what is known holds where each entry ends, and before each call of it.
-use Rattle.std.proofs.Common.{◌≡◌, ℕ, ◌+◌, Bool, true, false, ◌||◌, List, [], ◌∷◌, length, take, refl, sym, ◌∙◌, ap, subst, inl, inr, Option, Some, None, arith, append-nil}
-use Rattle.std.specs.Prelude.{map, ◌==◌, if◌then◌else◌}
-use Rattle.std.specs.Option.{option_map_or, option_map}
+use Rattle.std.proofs.Common.{◌≡◌, ℕ, ◌+◌, Bool, true, false, ◌||◌, List, [], ◌∷◌, length, take, refl, sym, ◌∙◌, ap, subst, inl, Option, Some, None, arith}
+use Rattle.std.specs.Prelude.{if◌then◌else◌}
+use Rattle.std.specs.Option.{option_map_or}
 use Rattle.std.proofs.lemmas.Bool.{false≢true, eq-eqb}
 use Rattle.std.proofs.Math.Seq.{take-length}
 use Rattle.mc_text.specs.Routes.{Route}
@@ -16,40 +16,23 @@ use Rattle.job_reports.specs.Jobs.{folder_changed}
 use Rattle.history_laws.specs.Doubt.{is_pending, is_unsettled}
 use Rattle.tree_trait.specs.FileSystem.{find}
 use Rattle.job_reports.specs.declared.report.Did.{Did}
-use Rattle.job_reports.specs.declared.report.Ending.TheVariants.{NoMemory}
 use Rattle.job_reports.specs.declared.report.Did.TheVariants.{Ended}
 use Rattle.job_reports.specs.declared.report.Did.TheVariants as reported
-use Rattle.job_reports.specs.declared.answer.Answer.{Answer}
-use Rattle.job_reports.specs.declared.answer.Answer.TheVariants.{Retry, Skip, SkipAll, Abort}
 use Rattle.session_history.specs.declared.history.Event.{Event}
 use Rattle.session_history.specs.declared.history.Event.TheVariants.{Key, Look, Began, Order, Step, Closed}
-use Rattle.session_history.specs.declared.history.JobOrder.{JobOrder}
-use Rattle.session_history.specs.declared.history.JobOrder.TheVariants.{Answered}
 use Rattle.session_history.specs.declared.history.Entry.{Entry}
-use Rattle.copy_move.specs.declared.run.Course.{Course}
-use Rattle.copy_move.specs.declared.run.Course.TheVariants.{GoesOn, InTrouble, OwedSyncFailed, Skips, Ends}
-use Rattle.copy_move.specs.declared.work.Work.{Work}
-use Rattle.copy_move.specs.declared.work.Work.TheVariants.{Copy, Delete, Make}
-use Rattle.file_copy.specs.declared.stage.Stage.{Stage}
-use Rattle.file_copy.specs.declared.stage.Stage.TheVariants as at
-use Rattle.file_copy.specs.Copying.{Copying}
-use Rattle.file_copy.specs.Copying as copying
-use Rattle.copy_move.specs.Jobs.{Running, answered, answered_on, closed_course, closed_job, first_work, taken_anew}
+use Rattle.copy_move.specs.Jobs.{Running}
 use Rattle.session_history.specs.Entries.{is_closed}
-use Rattle.copy_move.specs.Told.{running}
-use Rattle.tree_trait.specs.declared.file_system.FileSystem.{FileSystem}
-use Rattle.session_history.specs.LiveJobs.{LiveJob, after_event, after_report, live, live_jobs, live_item}
+use Rattle.session_history.specs.LiveJobs.{after_event, live_jobs, live_item}
 use Rattle.history_laws.specs.Replayed.{earlier_tree, log_prefix, replayed_step, replayed_tree}
-use Rattle.history_laws.specs.Traces.{EventLeads, Follows, IsJob, IsTraced, Stand, StepLeads, begun, if_closed, ordered, unless_ended, with_job}
+use Rattle.history_laws.specs.Traces.{EventLeads, Follows, IsTraced, Stand, if_closed}
 use Rattle.history_laws.proofs.Prefixes.{AreWithin, earlier_more, folders_event, folders_told, replayed_more, said_by, told_of, told_with, within_more}
-use Rattle.history_laws.proofs.JobKnows.{StageKnows, WorkKnows, work_course}
-use Rattle.history_laws.proofs.JobLeads.{sync_leads, work_leads}
-use Rattle.history_laws.proofs.JobSteps.{gives_up}
+use Rattle.history_laws.proofs.Going.{Goes, closed_know, closed_live, event_goes}
 use Rattle.history_laws.proofs.Knowing.{Said, IsKept, anywhere}
 use Rattle.history_laws.proofs.Pending.{pending_settled, within_settled}
-use Rattle.history_laws.proofs.Reports.{HasLive, JobsKnow, first_knows, knows_after, live_after, with_one}
-use Rattle.history_laws.proofs.Sources.{IsSame, answer_same, first_item, item_in, tells_same}
-use Rattle.history_laws.proofs.Stepped.{AreMids, Comes, doubt_by, folders_by, more, part_after, said_after}
+use Rattle.history_laws.proofs.Reports.{HasLive, JobsKnow}
+use Rattle.history_laws.proofs.Sources.{item_in}
+use Rattle.history_laws.proofs.Stepped.{AreMids, doubt_by, folders_by, more, part_after, said_after}
 
 -- what holds after these entries
 pub record IsReached (opening : CallLog) (g : List Entry) (stand : Stand) (now : CallLog) : Type 0 where
@@ -85,115 +68,35 @@ pub record IsEntered (opening : CallLog) (older : List Entry) (calls : ℕ) (wha
   pub knows : JobsKnow (told_with opening now older calls what part) after.dirty marks (current now) after.jobs
   pub live : HasLive (after_event what (live_jobs older)) after.jobs part
 
-no_more : (log : CallLog) → log ≡ more log []
-no_more log = ap (λ xs. (let l : CallLog = record log { changes = xs } in l)) (sym (append-nil log.changes))
-
-anew_stage : (told : Said) (m : Marks) (s : FileSystem) (course : Course) (c : Copying) (stage : Stage) → StageKnows told m s course c stage
-    → StageKnows told m s GoesOn (record c { stage = copying.taken_anew stage }) (copying.taken_anew stage)
-anew_stage told m s course c at.Begin k = k
-anew_stage told m s course c (at.Fill part said done) k = (k.0, (k.1.0, k.1.1))
-anew_stage told m s course c (at.Clean part follows) k = k
-anew_stage told m s course c (at.Left part) k = k
-anew_stage told m s course c at.Decided k = k
-
-anew_knows : (told : Said) (dirty : List Route) (m : Marks) (s : FileSystem) (course : Course) (work : Work) → WorkKnows told dirty m s course work → WorkKnows told dirty m s GoesOn (taken_anew work)
-anew_knows told dirty m s course (Copy c) (name, listed, stage) = (name, listed, anew_stage told m s course c c.stage stage)
-anew_knows told dirty m s course (Delete d) k = k
-anew_knows told dirty m s course (Make w) k = k
-
-module _ (told : Said) (dirty : List Route) (marks : Marks) (s : FileSystem) where
-  abbrev Knows : Running → Type 0
-  Knows job = WorkKnows told dirty marks s job.course job.work
-
-  on_course : (course other : Course) (work : Work) → (other ≡ GoesOn → ⊥) → WorkKnows told dirty marks s course work → WorkKnows told dirty marks s other work
-  on_course course other work off k = work_course told dirty marks s course other work (λ e. absurd (off e)) k
-
-  answer_knows : (course : Course) (answer : Answer) (job : Running) → job.course ≡ course → Knows job → Knows (answered_on course answer job)
-  answer_knows (InTrouble why) Retry job is k = anew_knows told dirty marks s job.course job.work k
-  answer_knows (InTrouble why) Skip job is k = on_course job.course (Skips why) job.work (λ e. let f : ⊥ = cc in f) k
-  answer_knows (InTrouble why) SkipAll job is k = on_course job.course (Skips why) job.work (λ e. let f : ⊥ = cc in f) k
-  answer_knows (InTrouble why) Abort job is k = on_course job.course (Ends Rattle.job_reports.specs.declared.report.Ending.TheVariants.Aborted) job.work (λ e. let f : ⊥ = cc in f) k
-  answer_knows (OwedSyncFailed why) Retry job is k = anew_knows told dirty marks s job.course job.work k
-  answer_knows (OwedSyncFailed why) Skip job is k = k
-  answer_knows (OwedSyncFailed why) SkipAll job is k = k
-  answer_knows (OwedSyncFailed why) Abort job is k = on_course job.course (Ends Rattle.job_reports.specs.declared.report.Ending.TheVariants.Aborted) job.work (λ e. let f : ⊥ = cc in f) k
-  answer_knows GoesOn answer job is k = k
-  answer_knows (Skips why) answer job is k = k
-  answer_knows (Ends ending) answer job is k = k
-
-  order_by : (b : Bool) (answer : Answer) (job : Running) → Knows job → Knows (if◌then◌else◌ b (answered answer job) job)
-  order_by true answer job k = answer_knows job.course answer job refl k
-  order_by false answer job k = k
-
-  order_knows : (id : ℕ) (order : JobOrder) (job : Running) → Knows job → Knows (ordered id order job)
-  order_knows id (Answered answer) job k = order_by (job.id == id) answer job k
-
-  orders_know : (id : ℕ) (order : JobOrder) (jobs : List Running) → JobsKnow told dirty marks s jobs → JobsKnow told dirty marks s (map (ordered id order) jobs)
-  orders_know id order [] k = k
-  orders_know id order (job ∷ []) k = order_knows id order job k
-  orders_know id order (job ∷ other ∷ jobs) k = absurd k
-
-  closed_by : (course : Course) → closed_course course ≡ GoesOn → course ≡ GoesOn
-  closed_by GoesOn e = refl
-  closed_by (InTrouble why) e = absurd (let f : ⊥ = cc in f)
-  closed_by (OwedSyncFailed why) e = absurd (let f : ⊥ = cc in f)
-  closed_by (Skips why) e = absurd (let f : ⊥ = cc in f)
-  closed_by (Ends ending) e = absurd (let f : ⊥ = cc in f)
-
-  closed_know : (jobs : List Running) → JobsKnow told dirty marks s jobs → JobsKnow told dirty marks s (map closed_job jobs)
-  closed_know [] k = k
-  closed_know (job ∷ []) k = work_course told dirty marks s job.course (closed_course job.course) job.work (closed_by job.course) k
-  closed_know (job ∷ other ∷ jobs) k = absurd k
-
-order_same : (id : ℕ) (order : JobOrder) (job : Running) → IsSame job (ordered id order job)
-order_same id (Answered answer) job = by (job.id == id)
-  where
-    by : (b : Bool) → IsSame job (if◌then◌else◌ b (answered answer job) job)
-    by true = answer_same answer job
-    by false = (refl, refl)
-
-same_live : (live : List LiveJob) (part : Option Route) (job new : Running) → IsSame job new → HasLive live (job ∷ []) part → HasLive live (new ∷ []) part
-same_live live part job new same is =
-    is ∙ (ap (λ n. (let l : LiveJob = record { id = n; item = item_in job.work; part = part } in l) ∷ []) (sym same.0)
-    ∙ ap (λ i. (let l : LiveJob = record { id = new.id; item = i; part = part } in l) ∷ []) (sym same.1))
-
-orders_live : (live : List LiveJob) (part : Option Route) (id : ℕ) (order : JobOrder) (jobs : List Running) → HasLive live jobs part → HasLive live (map (ordered id order) jobs) part
-orders_live live part id order [] h = h
-orders_live live part id order (job ∷ []) h = same_live live part job (ordered id order job) (order_same id order job) h
-orders_live live part id order (job ∷ other ∷ jobs) h = absurd h
-
-closed_live : (live : List LiveJob) (part : Option Route) (jobs : List Running) → HasLive live jobs part → HasLive live (map closed_job jobs) part
-closed_live live part [] h = h
-closed_live live part (job ∷ []) h = h
-closed_live live part (job ∷ other ∷ jobs) h = absurd h
-
--- the one job that is live
-pub only_job : (id : ℕ) (jobs : List Running) (job : Running) (told : Said) (dirty : List Route) (marks : Marks) (s : FileSystem) → IsJob id jobs job → JobsKnow told dirty marks s jobs → (jobs ≡ job ∷ []) × (job.id ≡ id)
-only_job id [] job told dirty marks s is k = absurd is
-only_job id (first ∷ []) job told dirty marks s (inl here) k = (ap (λ j. j ∷ []) (sym here.1), ap (λ (j : Running). j.id) here.1 ∙ here.0)
-only_job id (first ∷ []) job told dirty marks s (inr none) k = absurd none
-only_job id (first ∷ other ∷ jobs) job told dirty marks s is k = absurd k
-
 module _ (opening : CallLog) (older : List Entry) (calls : ℕ) (was : Stand) (before : CallLog) (r : IsReached opening older was before) where
   abbrev told : Said
   told = told_of opening before older r.part
 
-  -- no call was made
-  abbrev Quiet : Event → Stand → CallLog → Type 0
-  Quiet what after now = IsEntered opening older calls what told before after now
+  abbrev Entered : Event → Stand → CallLog → Type 0
+  Entered what after now = IsEntered opening older calls what told before after now
 
-  quiet : (what : Event) (after : Stand) → told_with opening before older calls what r.part ≡ told → after_event what (live_jobs older) ≡ live_jobs older → after.dirty ≡ was.dirty
-      → JobsKnow told was.dirty r.marks (current before) after.jobs → HasLive (live_jobs older) after.jobs r.part → Quiet what after before
-  quiet what after same live_same dirty_same knows live_is = record {
-    made = [];
-    now_is = no_more before;
-    mids = tt;
-    part = r.part;
-    marks = r.marks;
-    kept = subst (λ t. IsKept t after.dirty r.marks before) (sym same) (subst (λ d. IsKept told d r.marks before) (sym dirty_same) r.kept);
-    knows = subst (λ t. JobsKnow t after.dirty r.marks (current before) after.jobs) (sym same) (subst (λ d. JobsKnow told d r.marks (current before) after.jobs) (sym dirty_same) knows);
-    live = subst (λ l. HasLive l after.jobs r.part) (sym live_same) live_is;
+  abbrev Led : Event → Stand → CallLog → Type 0
+  Led what after now = Goes told (live_jobs older) was before r.marks r.kept r.knows r.live what after now
+
+  -- where the history says then what is known
+  entered : (what : Event) (after : Stand) (now : CallLog) (part : Option Route) → (n : Led what after now) → part ≡ (let x : Led what after now = n in x.said_then.part)
+      → told_with opening now older calls what part ≡ (let x : Led what after now = n in x.said_then) → Entered what after now
+  entered what after now part n part_is same = record {
+    made = n.made;
+    now_is = n.now_is;
+    mids = n.mids;
+    part = part;
+    marks = n.marks_then;
+    kept = subst (λ t. IsKept t after.dirty n.marks_then now) (sym same) n.kept_then;
+    knows = subst (λ t. JobsKnow t after.dirty n.marks_then (current now) after.jobs) (sym same) n.knows_then;
+    live = subst (λ p. HasLive (after_event what (live_jobs older)) after.jobs p) (sym part_is) n.live_then;
   }
+
+  -- no call was made
+  quiet : (what : Event) (after : Stand) (now : CallLog) → now ≡ before → (n : Led what after now) → (let x : Led what after now = n in x.said_then) ≡ told
+      → told_with opening before older calls what r.part ≡ told → Entered what after now
+  quiet what after now none n then_is same =
+      entered what after now r.part n (sym (ap (λ (s : Said). s.part) then_is)) (ap (λ (l : CallLog). told_with opening l older calls what r.part) none ∙ (same ∙ sym then_is))
 
   -- a job steps
   module _ (now : CallLog) (id : ℕ) (did : Did) (counts : length now.changes ≡ length opening.changes + calls) (job : Running) (jobs_is : was.jobs ≡ job ∷ []) (id_is : job.id ≡ id) where
@@ -221,106 +124,20 @@ module _ (opening : CallLog) (older : List Entry) (calls : ℕ) (was : Stand) (b
         ∙ (ap (λ o. said_by (option_map_or (λ item. folders_by did (folder_changed item) (folders_told opening older)) o (folders_told opening older)) (replayed_step now did (Some (item_in job.work)) (replayed_tree opening before older)) (Rattle.history_laws.specs.Replayed.keeping (Rattle.session_history.specs.Named.changed_by did) (replayed_tree opening before older) (earlier_tree opening before older)) (Rattle.session_history.specs.Named.named_by did (Rattle.session_history.specs.Named.named_parts older)) (part_after did r.part)) item_is
         ∙ ap (λ d. (let t : Said = record (said_after now did job.work told) { doubt = d } in t)) (sym (doubt_anywhere did r.part)))
 
-    job_knows : WorkKnows told was.dirty r.marks (current before) job.course job.work
-    job_knows = subst (λ js. JobsKnow told was.dirty r.marks (current before) js) jobs_is r.knows
+    stepped : (after : Stand) (n : Led (Step id did) after now) → (let x : Led (Step id did) after now = n in x.said_then) ≡ said_after now did job.work told → Entered (Step id did) after now
+    stepped after n then_is =
+        entered (Step id did) after now (part_after did r.part) n (sym (ap (λ (s : Said). s.part) then_is)) (told_is n.made n.now_is ∙ sym then_is)
 
-    entered : (dirty_after : List Route) (jobs : List Running) (knows : Marks → Type 0) → Comes told (said_after now did job.work told) dirty_after before now knows
-        → ((m : Marks) → knows m → JobsKnow (said_after now did job.work told) dirty_after m (current now) jobs) → HasLive (after_report id did (live_jobs older)) jobs (part_after did r.part)
-        → Quiet (Step id did) (let st : Stand = record { jobs = jobs; dirty = dirty_after } in st) now
-    entered dirty_after jobs knows come known_of live_is =
-        let same = told_is come.made come.now_is in
-        record {
-          made = come.made;
-          now_is = come.now_is;
-          mids = come.mids;
-          part = part_after did r.part;
-          marks = come.marks;
-          kept = subst (λ t. IsKept t dirty_after come.marks now) (sym same) come.kept;
-          knows = subst (λ t. JobsKnow t dirty_after come.marks (current now) jobs) (sym same) (known_of come.marks come.known_of);
-          live = live_is;
-        }
-
-    -- the live jobs then
-    live_then : (new : Running) → IsSame job new → HasLive (after_report id did (live_jobs older)) (Rattle.history_laws.specs.Traces.before_others (unless_ended did new) []) (part_after did r.part)
-    live_then new same =
-        subst (λ l. HasLive (after_report id did l) (Rattle.history_laws.specs.Traces.before_others (unless_ended did new) []) (part_after did r.part)) (sym job_live)
-        (subst (λ n. HasLive (after_report n did ((let l : LiveJob = record { id = job.id; item = item_in job.work; part = r.part } in l) ∷ [])) (Rattle.history_laws.specs.Traces.before_others (unless_ended did new) []) (part_after did r.part)) id_is
-        (live_after job.id (item_in job.work) r.part new same.0 (sym same.1) did))
-
-    jobs_then : (new : Option Running) (jobs : List Running) → jobs ≡ with_job id new was.jobs → jobs ≡ Rattle.history_laws.specs.Traces.before_others new []
-    jobs_then new jobs is = is ∙ (ap (with_job id new) jobs_is ∙ (ap (λ n. with_job n new (job ∷ [])) (sym id_is) ∙ with_one job new))
-
-    pub stepped : (dirty_after : List Route) (jobs : List Running) (after : Option Running) → StepLeads job did after was.dirty dirty_after before now → jobs ≡ with_job id after was.jobs
-        → Quiet (Step id did) (let st : Stand = record { jobs = jobs; dirty = dirty_after } in st) now
-    stepped dirty_after jobs after (inl (new, inl works, after_is)) is =
-        subst (λ js. Quiet (Step id did) (let st : Stand = record { jobs = js; dirty = dirty_after } in st) now) (sym (jobs_then after jobs is ∙ ap (λ o. Rattle.history_laws.specs.Traces.before_others o []) after_is))
-        (entered dirty_after _ _ (work_leads told was.dirty dirty_after r.marks before now r.kept job new did job_knows works)
-        (λ m k. knows_after (said_after now did job.work told) dirty_after m (current now) new did k) (live_then new (tells_same job new did works.tells)))
-    stepped dirty_after jobs after (inl (new, inr syncs, after_is)) is =
-        subst (λ js. Quiet (Step id did) (let st : Stand = record { jobs = js; dirty = dirty_after } in st) now) (sym (jobs_then after jobs is ∙ ap (λ o. Rattle.history_laws.specs.Traces.before_others o []) after_is))
-        (entered dirty_after _ _ (sync_leads told was.dirty dirty_after r.marks before now r.kept job new did job_knows syncs)
-        (λ m k. knows_after (said_after now did job.work told) dirty_after m (current now) new did k) (live_then new (settled_same syncs.synced)))
-      where
-        settled_same : Rattle.copy_move.specs.Steps.SyncsFolder job syncs.folder did new was.dirty dirty_after (Some before) (Some now) → IsSame job new
-        settled_same (inl s) = (ap (λ (x : Running). x.id) s.new_is, ap (λ (x : Running). item_in x.work) s.new_is)
-        settled_same (inr s) = (ap (λ (x : Running). x.id) s.new_is, ap (λ (x : Running). item_in x.work) s.new_is)
-    stepped dirty_after jobs after (inr (gives, after_is)) is =
-        subst (λ js. Quiet (Step id did) (let st : Stand = record { jobs = js; dirty = dirty_after } in st) now) (sym (jobs_then after jobs is ∙ ap (λ o. Rattle.history_laws.specs.Traces.before_others o []) after_is))
-        (entered dirty_after [] _ (gives_up told was.dirty dirty_after r.marks before now r.kept job.work job.course did job_knows gives.did_is gives.same gives.none) (λ m k. k)
-        (subst (λ x. HasLive (after_report id x (live_jobs older)) [] (part_after x r.part)) (sym gives.did_is) (ended (Rattle.copy_move.specs.Jobs.part_of job.work))))
-      where
-        ended : (left : Option Route) → HasLive (after_report id (Ended NoMemory left) (live_jobs older)) [] None
-        ended left =
-            ap (after_report id (Ended NoMemory left)) job_live ∙ ap (λ b. if◌then◌else◌ b [] ((let l : LiveJob = record { id = job.id; item = item_in job.work; part = r.part } in l) ∷ [])) (eq-eqb job.id id id_is)
-
-  -- a job begins
-  begins : (id : ℕ) (plan : Rattle.job_reports.specs.declared.job.Job.Job) (background : Bool) → was.jobs ≡ [] → (o : Option Work) → first_work id plan ≡ o
-      → Quiet (Began id plan background) (record was { jobs = begun id plan }) before
-  begins id plan background none o is = record {
-    made = [];
-    now_is = no_more before;
-    mids = tt;
-    part = r.part;
-    marks = r.marks;
-    kept = r.kept;
-    knows = subst (λ x. JobsKnow told was.dirty r.marks (current before) (option_map_or (λ w. running id w ∷ []) x [])) (sym is) (knows_of o is);
-    live = subst (λ x. HasLive (option_map_or (λ i. live id i ∷ live_jobs older) x (live_jobs older)) (begun id plan) r.part) (sym (first_item id plan))
-        (subst (λ x. HasLive (option_map_or (λ i. live id i ∷ live_jobs older) (option_map item_in x) (live_jobs older)) (option_map_or (λ w. running id w ∷ []) x []) r.part) (sym is) (live_of o));
-  }
+  pub enters : (what : Event) (after : Stand) (now : CallLog) → EventLeads was what after before now → length now.changes ≡ length opening.changes + calls → Entered what after now
+  enters what after now leads counts = by what leads (event_goes told (live_jobs older) was before r.marks r.kept r.knows r.live what after now leads)
     where
-      no_part : r.part ≡ None
-      no_part = subst (λ js. JobsKnow told was.dirty r.marks (current before) js) none r.knows
-
-      no_live : live_jobs older ≡ []
-      no_live = subst (λ js. HasLive (live_jobs older) js r.part) none r.live
-
-      knows_of : (o : Option Work) → first_work id plan ≡ o → JobsKnow told was.dirty r.marks (current before) (option_map_or (λ w. running id w ∷ []) o [])
-      knows_of None is = no_part
-      knows_of (Some w) is = first_knows told was.dirty r.marks (current before) no_part id plan w is
-
-      live_of : (o : Option Work) → HasLive (option_map_or (λ i. live id i ∷ live_jobs older) (option_map item_in o) (live_jobs older)) (option_map_or (λ w. running id w ∷ []) o []) r.part
-      live_of None = no_live
-      live_of (Some w) = ap (λ l. live id (item_in w) ∷ l) no_live ∙ ap (λ p. (let l : LiveJob = record { id = id; item = item_in w; part = p } in l) ∷ []) (sym no_part)
-
-  pub enters : (what : Event) (after : Stand) (now : CallLog) → EventLeads was what after before now → length now.changes ≡ length opening.changes + calls → Quiet what after now
-  enters (Step id did) after now s counts =
-      let one = only_job id was.jobs s.job told was.dirty r.marks (current before) s.its r.knows in
-      stepped now id did counts s.job one.0 one.1 after.dirty after.jobs s.new s.leads s.jobs_is
-  enters (Began id plan background) after now s counts =
-      subst (λ (l : CallLog). Quiet (Began id plan background) after l) (sym s.now_is)
-      (subst (λ (x : Stand). Quiet (Began id plan background) x before) (sym s.after_is) (begins id plan background s.none_live (first_work id plan) refl))
-  enters (Order id order) after now s counts =
-      subst (λ (l : CallLog). Quiet (Order id order) after l) (sym s.now_is)
-      (subst (λ (x : Stand). Quiet (Order id order) x before) (sym s.after_is)
-      (quiet (Order id order) (record was { jobs = map (ordered id order) was.jobs }) refl refl refl (orders_know told was.dirty r.marks (current before) id order was.jobs r.knows)
-      (orders_live (live_jobs older) r.part id order was.jobs r.live)))
-  enters (Key key time refusals lost) after now s counts =
-      subst (λ (l : CallLog). Quiet (Key key time refusals lost) after l) (sym s.now_is)
-      (subst (λ (x : Stand). Quiet (Key key time refusals lost) x before) (sym s.after_is) (quiet (Key key time refusals lost) was refl refl refl r.knows r.live))
-  enters (Look refusals) after now s counts =
-      subst (λ (l : CallLog). Quiet (Look refusals) after l) (sym s.now_is) (subst (λ (x : Stand). Quiet (Look refusals) x before) (sym s.after_is) (quiet (Look refusals) was refl refl refl r.knows r.live))
-  enters Closed after now s counts =
-      subst (λ (l : CallLog). Quiet Closed after l) (sym s.now_is) (subst (λ (x : Stand). Quiet Closed x before) (sym s.after_is) (quiet Closed was refl refl refl r.knows r.live))
+      by : (what : Event) → EventLeads was what after before now → Led what after now → Entered what after now
+      by (Step id did) s n = let t = n.then_is in stepped now id did counts t.0 t.1 t.2 after n t.3
+      by (Began id plan background) s n = quiet (Began id plan background) after now s.now_is n n.then_is refl
+      by (Order id order) s n = quiet (Order id order) after now s.now_is n n.then_is refl
+      by (Key key time refusals lost) s n = quiet (Key key time refusals lost) after now s.now_is n n.then_is refl
+      by (Look refusals) s n = quiet (Look refusals) after now s.now_is n n.then_is refl
+      by Closed s n = quiet Closed after now s.now_is n n.then_is refl
 
 -- a session that is closed
 close_reached : (opening : CallLog) (g : List Entry) (b : Bool) (after : Stand) (now : CallLog) → IsReached opening g after now → IsReached opening g (if_closed b after) now

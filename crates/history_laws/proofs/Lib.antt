@@ -8,8 +8,13 @@ pub mod DeletionSteps
 pub mod Done
 pub mod Emptied
 pub mod Example
+pub mod ExampleParts
 pub mod Filling
 pub mod Finished
+pub mod FinishedExample
+pub mod FolderExample
+pub mod Going
+pub mod Holding
 pub mod Prefixes
 pub mod Histories
 pub mod Intact
@@ -35,3 +40,4 @@ pub mod Sources
 pub mod Staying
 pub mod Stepped
 pub mod Unchanged
+pub mod Unnamed

@@ -129,7 +129,7 @@ own_or_before (Delete d) (Delete next) (Delete new) did q dirty dirty_after befo
     by (Chunk count) t h = absurd t
     by (Placed path) t h = absurd t
     by (Made path) t h = absurd t
-    by (Skipped path why) t h = absurd t
+    by (Skipped path why) t h = inr (subst (λ xs. Among xs q) h among)
     by (Cleaned part) t h = absurd t
 
 pub first_change_law : FirstChangeLaw
@@ -152,6 +152,7 @@ step_law job new did calls dirty dirty_after log now faults faults_after (inl ow
     called = let s = own.own in s.called log refl;
     settled = λ goes fresh. own.settled goes fresh log refl;
     leaves = own.leaves;
+    walks = (calls, faults, faults_after, own.walks);
   }),
   refl,
 )

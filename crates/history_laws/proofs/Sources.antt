@@ -8,6 +8,7 @@ use Rattle.job_reports.specs.declared.job.Job.TheVariants as plan
 use Rattle.job_reports.specs.Jobs.{Item, Copies, Removes, Makes, folder_changed, item_of}
 use Rattle.job_reports.specs.declared.report.Ending.{Ending}
 use Rattle.job_reports.specs.declared.report.Ending.TheVariants.{Finished, Aborted, Killed, NoMemory}
+use Rattle.job_reports.specs.declared.report.Cause.{Cause}
 use Rattle.job_reports.specs.declared.report.Did.{Did}
 use Rattle.job_reports.specs.declared.report.Did.TheVariants.{Began, Chunk, Placed, Removed, Made, Kept, Skipped, Cleaned, Barrier, Troubled, Ended}
 use Rattle.file_copy.specs.Copying.{Copying, Tells}
@@ -22,7 +23,7 @@ use Rattle.copy_move.specs.Deletions.{Deleting}
 use Rattle.copy_move.specs.Deletions as deletions
 use Rattle.copy_move.specs.Makings.{Making}
 use Rattle.copy_move.specs.Makings as makings
-use Rattle.copy_move.specs.Jobs.{PassesOver, Running, JobTells, TellsOn, WorkTells, WorkWinds, answered, answered_on, copies, deletes, first_work, makes, taken_anew}
+use Rattle.copy_move.specs.Jobs.{PassesOver, Running, JobTells, TellsOn, WorkTells, WorkWinds, answered, answered_on, copies, deletes, first_work, makes, taken_anew, with_skips}
 use Rattle.copy_move.specs.Settling.{changed_folder}
 
 -- what a work is at, whatever its stage
@@ -84,7 +85,7 @@ deletion_paths d new (Chunk count) t = absurd t
 deletion_paths d new (Placed path) t = absurd t
 deletion_paths d new (Made made) t = absurd t
 deletion_paths d new (Kept path) (going, at) = ap Removes at.path_is
-deletion_paths d new (Skipped path why) t = absurd t
+deletion_paths d new (Skipped path why) (going, passes, at) = ap Removes at.path_is
 deletion_paths d new (Cleaned part) t = absurd t
 
 making_paths : (m new : Making) (did : Did) → makings.Tells m did new → item_in (Make new) ≡ item_in (Make m)
@@ -117,8 +118,8 @@ copy_winds ending c new (Skipped path why) t = absurd t
 copy_winds ending c new (Troubled trouble) t = absurd t
 
 deletion_winds : (ending : Ending) (d new : Deleting) (did : Did) → deletions.Winds ending d did new → item_in (Delete new) ≡ item_in (Delete d)
-deletion_winds ending d new Barrier (path_is, stage_is) = ap Removes path_is
-deletion_winds ending d new (Ended how part) (how_is, part_is, path_is, stage_is) = ap Removes path_is
+deletion_winds ending d new Barrier (path_is, stage_is, skips_is) = ap Removes path_is
+deletion_winds ending d new (Ended how part) (how_is, part_is, path_is, stage_is, skips_is) = ap Removes path_is
 deletion_winds ending d new (Began part) t = absurd t
 deletion_winds ending d new (Chunk count) t = absurd t
 deletion_winds ending d new (Placed path) t = absurd t
@@ -194,10 +195,15 @@ on_same old new did (Ends ending) (work, winds, new_is) = (ap (λ (x : Running).
 pub tells_same : (old new : Running) (did : Did) → JobTells old did new → IsSame old new
 tells_same old new did t = on_same old new did old.course t
 
+skips_paths : (why : Cause) (work : Work) → item_in (with_skips why work) ≡ item_in work
+skips_paths why (Copy c) = refl
+skips_paths why (Delete d) = refl
+skips_paths why (Make m) = refl
+
 answer_on : (course : Course) (answer : Answer) (job : Running) → IsSame job (answered_on course answer job)
 answer_on (InTrouble why) Retry job = (refl, anew_paths job.work)
 answer_on (InTrouble why) Skip job = (refl, refl)
-answer_on (InTrouble why) SkipAll job = (refl, refl)
+answer_on (InTrouble why) SkipAll job = (refl, skips_paths why job.work)
 answer_on (InTrouble why) Abort job = (refl, refl)
 answer_on (OwedSyncFailed why) Retry job = (refl, anew_paths job.work)
 answer_on (OwedSyncFailed why) Skip job = (refl, refl)

@@ -32,7 +32,8 @@ use Rattle.session_history.specs.Named.{IsUnnamedSince, names, names_path}
 use Rattle.history_laws.specs.Staying.{StaysLaw}
 use Rattle.history_laws.specs.Traces.{EventLeads, IsTraced, Stand, StepLeads}
 use Rattle.history_laws.proofs.Prefixes.{told_of}
-use Rattle.history_laws.proofs.Histories.{IsReached, enters, only_job, traced_reached}
+use Rattle.history_laws.proofs.Going.{only_job}
+use Rattle.history_laws.proofs.Histories.{IsReached, enters, traced_reached}
 use Rattle.history_laws.proofs.JobKnows.{HasPart, StageKnows, WorkKnows}
 use Rattle.history_laws.proofs.JobLeads.{sync_leads, work_leads}
 use Rattle.history_laws.proofs.JobSteps.{gives_up}
@@ -234,7 +235,7 @@ module _ (path : Route) where
   event_part (Look refusals) jobs unnamed h = h
   event_part Closed jobs unnamed h = h
 
-since_longer : (older g : List Entry) (path : Route) → IsUnnamedSince older path g → length older ≤ length g
+pub since_longer : (older g : List Entry) (path : Route) → IsUnnamedSince older path g → length older ≤ length g
 since_longer older [] path same = let n = ap (λ (xs : List Entry). length xs) same in omega (arith, n)
 since_longer older (e ∷ g) path (inl same) = let n = ap (λ (xs : List Entry). length xs) same in omega (arith, n)
 since_longer older (e ∷ g) path (inr (unnamed, since)) = let n = since_longer older g path since in omega (arith, n)

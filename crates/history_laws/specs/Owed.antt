@@ -30,19 +30,20 @@ abbrev pub IsApart : CallLog → Route → Route → Type 0
 IsApart log folder other =
     (refusal_of (current log) (Stat other) ≡ Some Missing) ⊎ ((number : ℕ) × IsMountOf (current log) folder number × (IsMountOf (current log) other number → ⊥))
 
--- Once a job has made its first change, each change that isn't on the disk yet is in a folder of its own, or on another mount.
+-- Once a job has made its first change, each change that isn't on the disk yet is in a folder of its own, on another mount, or in a folder
+-- that was removed.
 abbrev pub FirstChangeLaw : Type 0
 FirstChangeLaw = (opening log now : CallLog) (older newest : List Entry) (was stand : Stand) (job new : Running) (did : Did) (path : Route)
     → IsTree (current opening) → all_settled opening.changes ≡ true → IsTraced opening older was log → IsTraced opening newest stand now
     → WorkLeads job did new was.dirty stand.dirty log now → job.course ≡ GoesOn → is_fresh job.work ≡ true → name_waits now path ≡ true
     → (is_own job.work (folder_of path) ≡ true) ⊎ IsApart log (changed_folder job.work) (folder_of path)
 
--- A job that has changed something, and whose step is that it is finished, has left nothing that is in doubt in the folder that holds
--- what it placed or removed.
+-- A job that has changed something, and whose step is that it is finished, has left nothing that is in doubt in a folder of its own: in
+-- the one that holds what it placed, made or removed, and of a deletion in each that it deleted or kept.
 abbrev pub FinishedLaw : Type 0
 FinishedLaw = (opening now after : CallLog) (newest : List Entry) (stand : Stand) (dirty : List Route) (job new : Running) (part : Option Route) (path : Route)
     → IsTree (current opening) → all_settled opening.changes ≡ true → IsTraced opening newest stand now → stand.jobs ≡ job ∷ [] → WorkLeads job (Ended Finished part) new stand.dirty dirty now after
-    → has_changed job.id newest ≡ true → folder_of path ≡ changed_folder job.work → is_unsettled now path ≡ false
+    → has_changed job.id newest ≡ true → is_own job.work (folder_of path) ≡ true → is_unsettled now path ≡ false
 
 -- The machine's own step is one of which such a history tells.
 abbrev pub StepLaw : Type 0

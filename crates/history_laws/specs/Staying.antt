@@ -1,7 +1,7 @@
 -- What is on the disk stays on the disk until an entry names it again; so what a finished job did stays done. Histories stand
 -- newest first here.
-use Rattle.std.specs.Prelude.{◌≡◌, ℕ, ◌+◌, true, false, List, [], ◌∷◌, length, Option, Some}
-use Rattle.mc_text.specs.Routes.{Route}
+use Rattle.std.specs.Prelude.{◌≡◌, ℕ, ◌+◌, Bool, true, false, ◌||◌, List, [], ◌∷◌, length, Option, Some}
+use Rattle.mc_text.specs.Routes.{Route, is_prefix, same_path}
 use Rattle.tree_trait.specs.declared.file_system.FileSystem.{FileSystem}
 use Rattle.tree_trait.specs.FileSystem.{value_at}
 use Rattle.tree_trait.specs.Shape.{IsTree}
@@ -12,9 +12,9 @@ use Rattle.job_reports.specs.declared.report.Ending.TheVariants.{Finished}
 use Rattle.job_reports.specs.Paths.{folder_of}
 use Rattle.session_history.specs.declared.history.Event.TheVariants.{Step}
 use Rattle.session_history.specs.declared.history.Entry.{Entry}
-use Rattle.job_reports.specs.Jobs.{Item, folder_changed}
+use Rattle.job_reports.specs.Jobs.{Item, Copies, Removes, Makes}
 use Rattle.copy_move.specs.Jobs.{Running}
-use Rattle.copy_move.specs.Settling.{changed_folder}
+use Rattle.copy_move.specs.Settling.{is_own}
 use Rattle.history_laws.specs.Doubt.{name_waits}
 use Rattle.session_history.specs.LiveJobs.{IsLivePart, live_jobs, live_item}
 use Rattle.session_history.specs.Named.{has_changed, named_parts, names_path, IsUnnamedSince}
@@ -33,17 +33,24 @@ StaysLaw = (opening now : CallLog) (newest older standing coming : List Entry) (
     → name_waits (log_prefix opening calls now) path ≡ false
 
 -- Where the older entries ended a job has changed something, and its step is that it is finished. From then on, at each
--- moment, inside a call too, each path of its folder holds after any crash what the history said then, until an entry names
--- it, or that folder; but for paths that were named as parts.
+-- moment, inside a call too, each path in a folder of its own holds after any crash what the history said then, until an entry names
+-- it, also where its folder goes; but for paths that were named as parts.
 abbrev pub FinishedStaysLaw : Type 0
 FinishedStaysLaw = (opening now after : CallLog) (newest older standing coming : List Entry) (was stand : Stand) (dirty : List Route) (job new : Running) (part : Option Route) (calls : ℕ) (path : Route) (image : FileSystem)
     → IsTree (current opening) → all_settled opening.changes ≡ true → IsTraced opening newest stand now → IsTraced opening older was (log_prefix opening (calls_in older) now)
-    → was.jobs ≡ job ∷ [] → WorkLeads job (Ended Finished part) new was.dirty dirty (log_prefix opening (calls_in older) now) after → has_changed job.id older ≡ true → folder_of path ≡ changed_folder job.work → (Among (named_parts older) path → ⊥)
-    → IsMoment newest standing coming calls → IsUnnamedSince older path standing → IsUnnamedSince older path coming
-    → IsUnnamedSince older (folder_of path) standing → IsUnnamedSince older (folder_of path) coming → IsCrashImage now (length opening.changes + calls) image
+    → was.jobs ≡ job ∷ [] → WorkLeads job (Ended Finished part) new was.dirty dirty (log_prefix opening (calls_in older) now) after → has_changed job.id older ≡ true → is_own job.work (folder_of path) ≡ true → (Among (named_parts older) path → ⊥)
+    → IsMoment newest standing coming calls → IsUnnamedSince older path standing → IsUnnamedSince older path coming → IsCrashImage now (length opening.changes + calls) image
     → value_at image path ≡ (replayed_tree opening now older path).value
 
--- This entry, after the older ones, is the report of a job that it is finished, which has changed something in this folder.
+-- a folder in which a job may change names: the one that holds what it places, makes or removes; where it deletes, also the thing
+-- itself and what lies in it
+abbrev pub may_change : Item → Route → Bool
+may_change (Copies source target) folder = same_path folder (folder_of target)
+may_change (Removes path) folder = same_path folder (folder_of path) || is_prefix path folder
+may_change (Makes path) folder = same_path folder (folder_of path)
+
+-- This entry, after the older ones, is the report of a job that it is finished, which has changed something, and which may have changed
+-- names in this folder.
 pub record HasFinished (e : Entry) (older : List Entry) (folder : Route) : Type 0 where
   pub id : ℕ
   pub part : Option Route
@@ -51,18 +58,18 @@ pub record HasFinished (e : Entry) (older : List Entry) (folder : Route) : Type 
   pub ended : e.what ≡ Step id (Ended Finished part)
   pub changed : has_changed id older ≡ true
   pub its : live_item id (live_jobs older) ≡ Some item
-  pub within : folder ≡ folder_changed item
+  pub within : may_change item folder ≡ true
 
 -- The same in the words of the history alone: once a job that has changed something has reported that it is finished, each
--- path of its folder holds after a crash at any later moment, inside a call too, what the history said then, until an entry
--- names it, or that folder; but for a part that still stood there then or whose last change wasn't on the disk, and a part that its end names.
--- So a finished copy leaves none of the parts that it made.
+-- path in a folder of its own holds after a crash at any later moment, inside a call too, what the history said then, until an entry
+-- names it; but for a part that still stood there then or whose last change wasn't on the disk, and a part that its end names. So a
+-- finished copy leaves none of the parts that it made, and nothing that a finished deletion removed comes back, also where its folder
+-- goes later; what stays in a folder that was kept, stays.
 abbrev pub StaysDone : CallLog → CallLog → List Entry → Type 0
 StaysDone opening now newest =
     (e : Entry) (older standing coming : List Entry) (calls : ℕ) (path : Route) (image : FileSystem)
     → HasFinished e older (folder_of path) → (IsPart (e ∷ older) (log_prefix opening e.calls now) path → ⊥) → names_path e.what path ≡ false
     → IsMoment newest standing coming calls → IsUnnamedSince (e ∷ older) path standing → IsUnnamedSince (e ∷ older) path coming
-    → IsUnnamedSince (e ∷ older) (folder_of path) standing → IsUnnamedSince (e ∷ older) (folder_of path) coming
     → IsCrashImage now (length opening.changes + calls) image → value_at image path ≡ (replayed_tree opening now older path).value
 
 abbrev pub DoneLaw : Type 0

@@ -23,7 +23,8 @@ pub fn where_doubt_lies()
     ensures { OwedLaw }
 {}
 
-/// Once a job has made its first change, each change that isn't on the disk yet is in its own folder, or on another mount.
+/// Once a job has made its first change, each change that isn't on the disk yet is in a folder of its own, on another mount, or in a folder
+/// that was removed.
 pub fn what_a_first_change_leaves_in_doubt()
     ensures { FirstChangeLaw }
 {}
@@ -34,7 +35,7 @@ pub fn what_a_first_change_calms()
     ensures { CalmLaw }
 {}
 
-/// A job that may report that it is finished, and has changed something, has left nothing in its folder that isn't on the disk.
+/// A job that may report that it is finished, and has changed something, has left nothing in a folder of its own that isn't on the disk.
 pub fn what_a_finished_job_leaves()
     ensures { FinishedLaw }
 {}
@@ -44,7 +45,8 @@ pub fn what_stays_on_the_disk()
     ensures { StaysLaw }
 {}
 
-/// What a job that is finished did in its folder stays done: no crash at a later moment brings back what a path held before.
+/// What a job that is finished did in its folders stays done: no crash at a later moment brings back what a path held before, until an
+/// entry names that path.
 pub fn what_a_finished_job_did_stays()
     ensures { FinishedStaysLaw }
 {}

@@ -1,6 +1,6 @@
 //! The tree of the machine's files.
 ghost use Rattle.std.specs.Prelude.{◌≡◌, None};
-ghost use Rattle.tree_trait.specs.Answers.{HasCause};
+ghost use Rattle.tree_trait.specs.Answers.{HasCause, count_after};
 
 use crate::faults::Faults;
 use crate::kinds::Wanted;
@@ -10,7 +10,7 @@ use std::alloc::{AllocGlobal, Global};
 use std::marker::Model;
 use std::os::unix::fs::FileExt;
 use std::rt::Files;
-use tree_trait::{Children, Meta, Tree, TreeError};
+use tree_trait::{Children, Meta, ReadTree, Tree, TreeError};
 
 /// The files of the machine. Contracts see how often a call has failed. It tells nothing of what it holds.
 #[derive(Drop)]
@@ -44,6 +44,7 @@ impl<R: Files> HostTree<R> {
     fn counted<T>(&mut self, answer: Result<T, TreeError>) -> Result<T, TreeError>
         ensures same { result ≡ answer }
         ensures cause { HasCause TreeError.Fault self.old self.new result }
+        ensures counts { self.new ≡ count_after self.old result }
     {
         if matches!(answer, Err(TreeError::Fault)) {
             self.faults.raise();
@@ -52,7 +53,7 @@ impl<R: Files> HostTree<R> {
     }
 }
 
-impl<R: Files> Tree for HostTree<R>
+impl<R: Files> ReadTree for HostTree<R>
 where
     R::File: FileExt,
 {
@@ -86,6 +87,15 @@ where
         self.counted(said)
     }
 
+    fn faults(&self) -> u64 {
+        self.faults.count()
+    }
+}
+
+impl<R: Files> Tree for HostTree<R>
+where
+    R::File: FileExt,
+{
     fn make_file(&mut self, alloc: Global, path: &Path, mode: u16) -> Result<(), TreeError> {
         let made = self.machine.make_file(alloc, path, mode);
         self.counted(made)
@@ -140,9 +150,5 @@ where
     fn sync_folder(&mut self, alloc: Global, path: &Path) -> Result<(), TreeError> {
         let settled = self.machine.sync(alloc, path, Wanted::Folder);
         self.counted(settled)
-    }
-
-    fn faults(&self) -> u64 {
-        self.faults.count()
     }
 }

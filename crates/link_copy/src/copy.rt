@@ -60,6 +60,18 @@ impl LinkCopy {
         self.places.part()
     }
 
+    /// The path of the part, where the copy is given up.
+    pub fn into_part(self) -> Path
+        ensures { result ≡ self.part }
+    {
+        let LinkCopy {
+            places,
+            stage: _,
+            folder: _,
+        } = self;
+        places.into_part()
+    }
+
     /// Whether the part stands.
     pub fn has_part(&self) -> bool
         ensures { result ≡ has_part self.now.stage }

@@ -65,4 +65,10 @@ impl Places {
     {
         &self.part
     }
+
+    pub(crate) fn into_part(self) -> Path
+        ensures { result ≡ self.part }
+    {
+        self.part
+    }
 }

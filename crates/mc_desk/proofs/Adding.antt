@@ -37,13 +37,13 @@ use Rattle.history_laws.proofs.Reports.{with_one}
 use Rattle.job_reports.specs.Jobs.{is_workable}
 use Rattle.mc_ui.specs.LiveJobs.{takes_answer}
 use Rattle.mc_ui.specs.Screens.{Begins, Answers, Ends, LookLeads, Screen}
-use Rattle.mc_ui.specs.Refused.{has_fault}
+use Rattle.job_plans.specs.Refused.{has_fault}
 use Rattle.mc_desk.specs.Tallies.{Tally, faults_in, can_step, end_unseen_event, next_id, news_left}
 use Rattle.mc_desk.specs.Desks.{Seen, noted, stand_of, stand_with, with_end}
 use Rattle.mc_desk.specs.LiveRows.{row_of, rows_told, trouble_told}
 use Rattle.mc_desk.specs.Granting.{KeyWorks}
 use Rattle.mc_desk.specs.Shown.{DrawsFrame, PutsNothing, frame_due, none_before}
-use Rattle.mc_desk.specs.Sessions.{MayEnd}
+use Rattle.mc_desk.specs.Sessions.{MayEnd, StepFault}
 use Rattle.mc_desk.proofs.Answering.{part_told, waits_told}
 use Rattle.mc_desk.proofs.Keeping.{Adds, Leads, before}
 
@@ -341,7 +341,7 @@ module _ (contents contents_after : Option CallLog) (faults : ℕ) (old new : Se
         counts = record {
           seat = main;
           later = let l = s.later in omega (arith, l, had, now);
-          fault = λ h. let risen = s.fault h in omega (arith, risen, had, now);
+          fault = λ h. let risen = s.fault (subst (λ j. StepFault j did) told_is h) in omega (arith, risen, had, now);
           calls = omega (arith, calls_is);
           most = let few = s.few in omega (arith, calls_is, few);
         };
@@ -373,7 +373,7 @@ module _ (contents contents_after : Option CallLog) (faults : ℕ) (old new : Se
     counts = record {
       seat = main;
       later = let l = s.later in omega (arith, l, had, now);
-      fault = λ h. let risen = s.fault h in omega (arith, risen, had, now);
+      fault = λ h. let risen = s.fault (subst (λ j. StepFault j did) told_is h) in omega (arith, risen, had, now);
       calls = omega (arith, calls_is);
       most = let few = s.few in omega (arith, calls_is, few);
     };
@@ -423,7 +423,7 @@ module _ (contents contents_after : Option CallLog) (faults : ℕ) (old new : Se
     tally = tally ∙ stepped_tally old.tally _ _ _ _ old.tally.calls (none_left old.tally.closed ∙ ap (if_closed old.tally.closed) (sym (ap (λ j. option_and_then (after_step (Ended NoMemory part)) j) told_is))) refl;
     told = ap (λ (t : Tally). t.job) tally ∙ sym (ap (option_map told) job);
     timely = may_end old settled;
-    counts = record { seat = main; later = later; fault = λ h. absurd h; calls = omega arith; most = omega arith };
+    counts = record { seat = main; later = later; fault = λ h. absurd (subst (λ x. StepFault x (Ended NoMemory part)) told_is h); calls = omega arith; most = omega arith };
     leads = (same_noted old new screen quit, (told live, told_is, refl, inr (inl (waits_told live ∙ ready, ap (Ended NoMemory) (part_is ∙ sym (part_told live))))));
     caused = λ log known. tt;
     traced = leads_on contents contents_after same old new (entry seat old.tally.calls count 0 (Step live.id (Ended NoMemory part))) None refl

@@ -71,7 +71,7 @@ pub record Adds (contents contents_after : Option CallLog) (faults : ℕ) (old n
   pub tally : new.tally ≡ after_entry e old.tally
   pub told : new.tally.job ≡ option_map told new.job
   pub timely : IsTimely e.what (noted old)
-  pub counts : Counts (faults_in faults old.newest) old.tally.calls e
+  pub counts : Counts (faults_in faults old.newest) old.tally.calls old.tally.job e
   pub leads : EventLeads (before contents old) e.what (noted new)
   pub caused : IfKnown contents (HasCauses e.what)
   pub traced : Leads contents contents_after old new e
@@ -143,7 +143,7 @@ module _ (faults : ℕ) (old new : Seen) (e : Entry) where
       written.session,
       record {
         timely = adds.timely;
-        counts = subst (λ n. Counts (faults_in faults old.newest) n e) (ap (λ (t : Tally). t.calls) written.tally) adds.counts;
+        counts = subst (λ (t : Tally). Counts (faults_in faults old.newest) t.calls t.job e) written.tally adds.counts;
         leads = subst (λ t. EventLeads (let b : Before = record { contents = contents; tally = t; rows = rows_told old.newest; news = news_left old.newest; screen = noted old } in b) e.what (noted new)) written.tally
             adds.leads;
         caused = adds.caused;

@@ -13,7 +13,7 @@ use Rattle.session_history.specs.Refusals.{AreRefused}
 use Rattle.copy_move.specs.Told.{told}
 use Rattle.mc_ui.specs.Screens.{LookLeads, Screen}
 use Rattle.box_words.specs.declared.message.Message.{Message}
-use Rattle.mc_ui.specs.Refused.{has_fault}
+use Rattle.job_plans.specs.Refused.{has_fault}
 use Rattle.mc_desk.specs.declared.starts.Start.{Start}
 use Rattle.mc_desk.specs.declared.standing.Due.{Due}
 use Rattle.mc_desk.specs.declared.standing.Standing.{Standing}

@@ -109,7 +109,7 @@ module _ (job : Option Running) (newest older : List Entry) (dirty dirty_after :
   deletion_moves live d new before after is work (Chunk bytes) did_is t h = absurd t
   deletion_moves live d new before after is work (Placed path) did_is t h = absurd t
   deletion_moves live d new before after is work (Made made) did_is t h = absurd t
-  deletion_moves live d new before after is work (Skipped path cause) did_is t h = absurd t
+  deletion_moves live d new before after is work (Skipped path cause) did_is t h = inl h
   deletion_moves live d new before after is work (Cleaned part) did_is t h = absurd t
 
   work_moves : (live : Running) (old work new : Work) (before after : Option CallLog) → job ≡ Some live → live.work ≡ old → work ≡ new → WorkTells old did work → WorkLeaves old did new dirty dirty_after before after → Moves

@@ -30,7 +30,7 @@ use Rattle.history_laws.specs.Traces.{IsUnclaimed}
 use Rattle.mc_ui.specs.LiveJobs.{takes_answer}
 use Rattle.mc_ui.specs.Screens.{Screen, Begins, Answers, LookLeads}
 use Rattle.box_words.specs.declared.message.Message.{Message}
-use Rattle.mc_ui.specs.Refused.{has_fault}
+use Rattle.job_plans.specs.Refused.{has_fault}
 use Rattle.mc_desk.specs.Tallies.{Tally, faults_in, can_step, next_id, news_left}
 use Rattle.mc_desk.specs.declared.starts.Start.{Start}
 use Rattle.mc_desk.specs.LiveRows.{row_of, rows_of, rows_told, trouble_told}

@@ -26,7 +26,7 @@ use Rattle.copy_move.specs.Jobs.{MayAnswer, Running, answered, answered_on, firs
 use Rattle.copy_move.specs.Told.{running, told}
 use Rattle.mc_ui.specs.LiveJobs.{can_answer, takes_answer}
 use Rattle.mc_ui.specs.Screens.{Answers, Begins, Screen}
-use Rattle.mc_ui.specs.Refused.{has_fault}
+use Rattle.job_plans.specs.Refused.{has_fault}
 use Rattle.mc_desk.specs.declared.starts.Start.{Start}
 use Rattle.mc_desk.specs.declared.granting.Deed.{Deed}
 use Rattle.mc_desk.specs.declared.granting.Deed.TheVariants as deed

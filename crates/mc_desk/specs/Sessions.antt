@@ -8,18 +8,19 @@ use Rattle.job_reports.specs.declared.answer.Answer.{Answer}
 use Rattle.job_reports.specs.declared.job.Job.{Job}
 use Rattle.job_reports.specs.declared.row.JobRow.{JobRow}
 use Rattle.job_reports.specs.Jobs.{is_workable}
-use Rattle.job_reports.specs.Reports.{IsFault}
 use Rattle.session_history.specs.declared.history.Event.{Event}
 use Rattle.session_history.specs.declared.history.Event.TheVariants.{Key, Look, Began, Order, Step, Closed}
 use Rattle.session_history.specs.declared.history.JobOrder.TheVariants.{Answered}
 use Rattle.session_history.specs.declared.history.Entry.{Entry}
+use Rattle.job_reports.specs.declared.report.Did.{Did}
 use Rattle.copy_move.specs.Jobs.{Running}
+use Rattle.copy_move.specs.Faults.{MeetsFault}
 use Rattle.copy_move.specs.Told.{IsAllowedStep}
 use Rattle.session_history.specs.Refusals.{AreRefused}
 use Rattle.session_history.specs.Entries.{calls_in, last_id}
 use Rattle.history_laws.specs.Traces.{Follows, Stand, at_rest, nothing_live}
 use Rattle.box_words.specs.declared.message.Message.{Message}
-use Rattle.mc_ui.specs.Refused.{has_fault}
+use Rattle.job_plans.specs.Refused.{has_fault}
 use Rattle.mc_ui.specs.LiveJobs.{takes_answer}
 use Rattle.mc_ui.specs.Screens.{Screen, Planned, Begins, Answers, Ends, LookLeads, opened_screen}
 use Rattle.panel_pair.specs.Openings.{OpensBoth}
@@ -77,14 +78,19 @@ EventLeads was (Step id did) after =
     (after ≡ was.screen) × ((live : Running) × (was.tally.job ≡ Some live) × (id ≡ live.id) × IsAllowedStep live did)
 EventLeads was Closed after = after ≡ was.screen
 
--- an event tells of a fault of the tree
-abbrev pub TellsFault : Event → Type 0
-TellsFault (Key key now refusals lost) = has_fault refusals ≡ true
-TellsFault (Look refusals) = has_fault refusals ≡ true
-TellsFault (Began id plan background) = ⊥
-TellsFault (Order id order) = ⊥
-TellsFault (Step id did) = IsFault did
-TellsFault Closed = ⊥
+-- the report of the live job tells of a fault of the tree: also where it goes on, and passes over something for one
+abbrev pub StepFault : Option Running → Did → Type 0
+StepFault None did = ⊥
+StepFault (Some live) did = MeetsFault live.course did
+
+-- an event tells of a fault of the tree, where this job is live
+abbrev pub TellsFault : Option Running → Event → Type 0
+TellsFault job (Key key now refusals lost) = has_fault refusals ≡ true
+TellsFault job (Look refusals) = has_fault refusals ≡ true
+TellsFault job (Began id plan background) = ⊥
+TellsFault job (Order id order) = ⊥
+TellsFault job (Step id did) = StepFault job did
+TellsFault job Closed = ⊥
 
 -- nothing that was asked for waits to be carried out, but the end of the session
 abbrev pub MayEnd : Option Planned → Type 0
@@ -102,10 +108,10 @@ IsTimely Closed before = MayEnd before.planned
 
 -- The counts of an entry. It is the main thread's, since there is no other yet. The tree's faults don't fall, and rise where the
 -- entry tells of one. Only a step makes changing calls, and at most three.
-pub record Counts (failed made : ℕ) (e : Entry) : Type 0 where
+pub record Counts (failed made : ℕ) (job : Option Running) (e : Entry) : Type 0 where
   pub seat : e.seat ≡ 0
   pub later : failed ≤ e.faults
-  pub fault : TellsFault e.what → HasRisen failed e.faults
+  pub fault : TellsFault job e.what → HasRisen failed e.faults
   pub calls : made ≤ e.calls
   pub most : e.calls ≤ made + most_calls e.what
 
@@ -140,7 +146,7 @@ pub record SessionState : Type 0 where
 -- an entry after older ones leads from what these came to
 pub record Enters (opening : Option CallLog) (faults : ℕ) (e : Entry) (older : List Entry) (was now : SessionState) : Type 0 where
   pub timely : IsTimely e.what was.screen
-  pub counts : Counts (faults_in faults older) (calls_in older) e
+  pub counts : Counts (faults_in faults older) (calls_in older) (let t : Tally = tally older in t.job) e
   pub leads : EventLeads (before_entry was.contents older was.screen) e.what now.screen
   pub caused : IfKnown was.contents (HasCauses e.what)
   pub traced : Traces opening e older was.stand was.contents now.stand now.contents

@@ -1,7 +1,7 @@
 //! What the desk does about what a key asks.
 ghost use Rattle.std.specs.Prelude.{◌≡◌, ◌∷◌, [], true, IfOk, OnErr, Some};
 ghost use Rattle.job_reports.specs.Jobs.{is_workable};
-ghost use Rattle.mc_ui.specs.Reading.{ReadsTree};
+ghost use Rattle.job_plans.specs.Reading.{ReadsTree};
 ghost use Rattle.mc_ui.specs.Screens.{is_request};
 ghost use Rattle.mc_desk.specs.declared.granting.Granted.{Granted as GrantedType};
 ghost use Rattle.mc_desk.specs.Granting.{CanBeWorked, IsGranted, IsWorked, told_of};

@@ -19,7 +19,7 @@ mod terminal;
 pub use desk::Desk;
 pub use log::Log;
 pub use mc_ui::{
-    Ask, Choice, Chosen, CopyPlan, Dialog, KeyAct, Told, Ui, choose, plan_copy, resolve_text,
+    Ask, Choice, Chosen, Dialog, JobPlan, KeyAct, Told, Ui, choose, plan_copy, resolve_text,
 };
 pub use panel_pair::Side;
 pub use replies::{DeskError, DeskReply, Ended, Refused, StepReply};

@@ -84,9 +84,19 @@ impl ListBox {
         Ok(shut)
     }
 
-    /// Paints it over the screen that it was made for. Where memory is wanting, a part of it may stand.
+    /// What it would answer to a key. It stays as it is.
+    pub fn answer_to(&self, key: Key) -> Shut
+        ensures { result ≡ list_shut self.now key }
+    {
+        if key.meta {
+            return Shut::Stay;
+        }
+        self.shut_by(key.base)
+    }
+
+    /// Paints it over a screen; on one of the lines that it was made for all that it shows has room. Where memory is wanting, a part
+    /// of it may stand.
     pub fn paint(&self, alloc: Global, grid: &mut Grid) -> Result<(), NoMemory>
-        requires { grid.old.lines ≡ self.now.lines }
         ensures { OnOk result (grid.new ≡ with_box grid.old (list_lines self.now)) }
     {
         let mut lines = Vec::new(alloc);

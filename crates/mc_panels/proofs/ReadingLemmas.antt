@@ -1,5 +1,5 @@
 -- What a refused reading is told as, and how many rows a listing has.
-use Rattle.std.proofs.Common.{◌≡◌, ℕ, ◌+◌, ◌<◌, ◌≤◌, ◌^◌, Bool, true, false, if◌then◌else◌, List, [], ◌∷◌, ◌++◌, length, map, filter, Option, Some, None, Err, refl, sym, ap, ◌∙◌, arith, length-append}
+use Rattle.std.proofs.Common.{◌≡◌, ◌⊎◌, inl, inr, ℕ, ◌+◌, ◌<◌, ◌≤◌, ◌^◌, Bool, true, false, if◌then◌else◌, List, [], ◌∷◌, ◌++◌, length, map, filter, Option, Some, None, Err, refl, sym, ap, ◌∙◌, arith, length-append}
 use Rattle.std.proofs.lemmas.List.{length-map}
 use Rattle.std.proofs.lemmas.List.Sorted.{length_permutation}
 use Rattle.mc_text.specs.Routes.{Route}
@@ -7,8 +7,10 @@ use Rattle.tree_trait.specs.declared.calls.TreeError.{TreeError}
 use Rattle.tree_trait.specs.declared.calls.TreeError.TheVariants as tree
 use Rattle.tree_trait.specs.Calls.{ListFolder}
 use Rattle.tree_trait.specs.Change.{CallLog, current}
-use Rattle.tree_trait.specs.Answers.{Reads}
-use Rattle.resolving.specs.Errors.{refused_by, CarriesCause}
+use Rattle.tree_trait.specs.Answers.{Reads, count_after}
+use Rattle.resolving.specs.declared.error.ResolveError.{ResolveError}
+use Rattle.resolving.specs.declared.error.ResolveError.TheVariants.{Tree, Fault, Memory}
+use Rattle.resolving.specs.Errors.{refused_by, CarriesCause, count_told}
 use Rattle.panel_listing.specs.declared.item.Item.{Item}
 use Rattle.panel_listing.specs.declared.wish.Wish.{Wish}
 use Rattle.panel_listing.specs.Orders.{is_shown, AreArranged}
@@ -46,6 +48,35 @@ carries_cause path tree.Mounted = tt
 carries_cause path tree.CrossMount = tt
 carries_cause path tree.NoSpace = tt
 carries_cause path tree.Special = tt
+
+-- a fault of it is told as one, and nothing else is
+pub refusal_counts : (A B : Type 0) (count : ℕ) (folder : Route) (e : TreeError) (told : ResolveError) → (told ≡ Memory) ⊎ (told ≡ refused_by folder e)
+    → (e ≡ tree.Fault → told ≡ Fault) → count_after {T = B} count (Err e) ≡ count_told {A = A} count (Err told)
+refusal_counts A B count folder e told is fault = go e is fault
+  where
+    other : (e : TreeError) → (told ≡ Memory) ⊎ (told ≡ Tree folder e) → count ≡ count_told {A = A} count (Err told)
+    other e (inl is) = rw is refl
+    other e (inr is) = rw is refl
+
+    memory : (told ≡ Memory) ⊎ (told ≡ Memory) → count ≡ count_told {A = A} count (Err told)
+    memory (inl is) = rw is refl
+    memory (inr is) = rw is refl
+
+    go : (e : TreeError) → (told ≡ Memory) ⊎ (told ≡ refused_by folder e) → (e ≡ tree.Fault → told ≡ Fault)
+        → count_after {T = B} count (Err e) ≡ count_told {A = A} count (Err told)
+    go tree.Fault is fault = rw (fault refl) refl
+    go tree.Memory is fault = memory is
+    go tree.Missing is fault = other tree.Missing is
+    go tree.NotFolder is fault = other tree.NotFolder is
+    go tree.Denied is fault = other tree.Denied is
+    go tree.Exists is fault = other tree.Exists is
+    go tree.IsFolder is fault = other tree.IsFolder is
+    go tree.NotEmpty is fault = other tree.NotEmpty is
+    go tree.IntoItself is fault = other tree.IntoItself is
+    go tree.Mounted is fault = other tree.Mounted is
+    go tree.CrossMount is fault = other tree.CrossMount is
+    go tree.NoSpace is fault = other tree.NoSpace is
+    go tree.Special is fault = other tree.Special is
 
 filter-short : {A : Type 0} (p : A → Bool) (xs : List A) → length (filter p xs) ≤ length xs
 filter-short p [] = omega arith

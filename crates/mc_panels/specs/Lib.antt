@@ -10,3 +10,4 @@ pub mod Selections
 pub mod Arrangements
 pub mod Windows
 pub mod Comparisons
+pub mod Hidings

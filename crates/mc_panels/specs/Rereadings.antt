@@ -1,9 +1,10 @@
 -- What reading folders again makes of panels (own, after mc(1), "Keys": ctrl-r; a panel whose folder can't be read stays as it was).
-use Rattle.std.specs.Prelude.{◌≡◌, ℕ, ◌-◌, ◌<◌, ◌≤◌, ◌^◌, length, Option, Some, None, Result, Ok, Err, ⊤}
+use Rattle.std.specs.Prelude.{◌≡◌, ℕ, ◌-◌, ◌<◌, ◌≤◌, ◌^◌, length, Option, Some, None, Result, Ok, Err, ◌≢◌}
 use Rattle.std.specs.FinSet as set
 use Rattle.mc_text.specs.Routes.{Route}
 use Rattle.tree_trait.specs.Change.{CallLog}
 use Rattle.resolving.specs.declared.error.ResolveError.{ResolveError}
+use Rattle.resolving.specs.declared.error.ResolveError.TheVariants.{Memory}
 use Rattle.panel_listing.specs.Orders.{AreArranged}
 use Rattle.panel_listing.specs.Listings.{Listed, rows_in}
 use Rattle.mc_panels.specs.declared.rereading.Attempt.{Attempt}
@@ -26,9 +27,15 @@ pub record IsFresh (p : PanelState) (fresh : FreshRead) : Type 0 where
   pub row_is : fresh.row ≡ row_among fresh.listing p
   pub tags_are : fresh.tags ≡ set.items (kept_tags (tag_set p) fresh.listing.items)
 
+-- so did this come of reading the folder of a panel; want of memory is no refusal of it
 abbrev pub IsAttempt : PanelState → Attempt → Type 0
 IsAttempt p (Read fresh) = IsFresh p fresh
-IsAttempt p (Refused e) = ⊤
+IsAttempt p (Refused e) = e ≢ Memory
+
+-- what was read, or the refusal
+abbrev pub tried : Attempt → Result FreshRead ResolveError
+tried (Read fresh) = Ok fresh
+tried (Refused e) = Err e
 
 -- why it was not read, if it wasn't
 abbrev pub refusal_in : Attempt → Option ResolveError

@@ -3,7 +3,7 @@ ghost use Rattle.std.specs.Prelude.{◌≡◌, ◌<◌, ◌^◌, None, length, I
 ghost use Rattle.mc_text.specs.Routes.{last_of};
 ghost use Rattle.tree_trait.specs.Refusals.{holder};
 ghost use Rattle.tree_trait.specs.Answers.{IfKnown, HasCause};
-ghost use Rattle.resolving.specs.Errors.{CarriesCause};
+ghost use Rattle.resolving.specs.Errors.{CarriesCause, count_told};
 ghost use Rattle.panel_listing.specs.Orders.{AreArranged};
 ghost use Rattle.panel_listing.specs.Listings.{rows_in};
 ghost use Rattle.mc_panels.specs.Readings.{ShowsFolder, outcome, went_to, gone_to, shown_anew};
@@ -18,7 +18,7 @@ use panel_listing::Listing;
 use resolving::{ResolveError, resolve_folder};
 use std::alloc::Global;
 use std::convert::AsStr;
-use tree_trait::Tree;
+use tree_trait::ReadTree;
 
 /// Whether a key led to a folder.
 #[derive(Clone, Copy, Debug, Drop, PartialEq, Eq)]
@@ -39,7 +39,7 @@ pub enum Way {
 impl Panel {
     /// Enters the folder of the current row, or the one that a link there leads to. From `..` the cursor comes to stand on
     /// the folder that was left. Where it is refused the panel stays as it was.
-    pub fn enter<T: Tree>(
+    pub fn enter<T: ReadTree>(
         &mut self,
         alloc: Global,
         tree: &mut T,
@@ -51,6 +51,7 @@ impl Panel {
         ensures answer { IfKnown (T.contents tree.old) (λ log. Reads (way_of self.old) log self.old (outcome result self.new)) }
         ensures same { T.contents tree.new ≡ T.contents tree.old }
         ensures cause { HasCause ResolveError.Fault (T.fault_count tree.old) (T.fault_count tree.new) result }
+        ensures counts { T.fault_count tree.new ≡ count_told (T.fault_count tree.old) result }
         ensures carried { IfErr result CarriesCause }
     {
         match self.way() {
@@ -61,7 +62,7 @@ impl Panel {
     }
 
     /// Goes to a folder, whose path has no links. Its own folder is read again.
-    pub fn go_to<T: Tree>(
+    pub fn go_to<T: ReadTree>(
         &mut self,
         alloc: Global,
         tree: &mut T,
@@ -74,6 +75,7 @@ impl Panel {
         ensures answer { IfKnown (T.contents tree.old) (λ log. ShowsFolder log folder (outcome result self.new)) }
         ensures same { T.contents tree.new ≡ T.contents tree.old }
         ensures cause { HasCause ResolveError.Fault (T.fault_count tree.old) (T.fault_count tree.new) result }
+        ensures counts { T.fault_count tree.new ≡ count_told (T.fault_count tree.old) result }
         ensures carried { IfErr result CarriesCause }
     {
         if folder.same(&self.folder) {
@@ -83,7 +85,7 @@ impl Panel {
     }
 
     /// Goes back to the folder that was shown before this one, if there is one.
-    pub fn back<T: Tree>(
+    pub fn back<T: ReadTree>(
         &mut self,
         alloc: Global,
         tree: &mut T,
@@ -95,6 +97,7 @@ impl Panel {
         ensures answer { IfKnown (T.contents tree.old) (λ log. ShowsNext log self.old.visits.behind (outcome result self.new)) }
         ensures same { T.contents tree.new ≡ T.contents tree.old }
         ensures cause { HasCause ResolveError.Fault (T.fault_count tree.old) (T.fault_count tree.new) result }
+        ensures counts { T.fault_count tree.new ≡ count_told (T.fault_count tree.old) result }
         ensures carried { IfErr result CarriesCause }
     {
         let Some(folder) = self.visits.behind() else {
@@ -108,7 +111,7 @@ impl Panel {
     }
 
     /// Goes forward to the folder that was gone back from last, if there is one.
-    pub fn forward<T: Tree>(
+    pub fn forward<T: ReadTree>(
         &mut self,
         alloc: Global,
         tree: &mut T,
@@ -120,6 +123,7 @@ impl Panel {
         ensures answer { IfKnown (T.contents tree.old) (λ log. ShowsNext log self.old.visits.ahead (outcome result self.new)) }
         ensures same { T.contents tree.new ≡ T.contents tree.old }
         ensures cause { HasCause ResolveError.Fault (T.fault_count tree.old) (T.fault_count tree.new) result }
+        ensures counts { T.fault_count tree.new ≡ count_told (T.fault_count tree.old) result }
         ensures carried { IfErr result CarriesCause }
     {
         let Some(folder) = self.visits.ahead() else {
@@ -145,7 +149,7 @@ impl Panel {
     }
 
     /// Goes to the folder above, with the cursor on the folder that is left.
-    fn go_up<T: Tree>(
+    fn go_up<T: ReadTree>(
         &mut self,
         alloc: Global,
         tree: &mut T,
@@ -157,6 +161,7 @@ impl Panel {
         ensures answer { IfKnown (T.contents tree.old) (λ log. Reads Way.Up log self.old (outcome result self.new)) }
         ensures same { T.contents tree.new ≡ T.contents tree.old }
         ensures cause { HasCause ResolveError.Fault (T.fault_count tree.old) (T.fault_count tree.new) result }
+        ensures counts { T.fault_count tree.new ≡ count_told (T.fault_count tree.old) result }
         ensures carried { IfErr result CarriesCause }
     {
         let above = above(alloc, &self.folder)?;
@@ -166,7 +171,7 @@ impl Panel {
     }
 
     /// Goes into the folder of the current row, or along its link.
-    fn go_into<T: Tree>(
+    fn go_into<T: ReadTree>(
         &mut self,
         alloc: Global,
         tree: &mut T,
@@ -178,6 +183,7 @@ impl Panel {
         ensures answer { IfKnown (T.contents tree.old) (λ log. Reads Way.Into log self.old (outcome result self.new)) }
         ensures same { T.contents tree.new ≡ T.contents tree.old }
         ensures cause { HasCause ResolveError.Fault (T.fault_count tree.old) (T.fault_count tree.new) result }
+        ensures counts { T.fault_count tree.new ≡ count_told (T.fault_count tree.old) result }
         ensures carried { IfErr result CarriesCause }
     {
         let name = self.current_text(alloc)?;
@@ -187,7 +193,7 @@ impl Panel {
     }
 
     /// Goes to another folder, with the cursor on a name there.
-    fn change_to<T: Tree>(
+    fn change_to<T: ReadTree>(
         &mut self,
         alloc: Global,
         tree: &mut T,
@@ -201,6 +207,7 @@ impl Panel {
         ensures answer { IfKnown (T.contents tree.old) (λ log. ShowsFolder log folder (outcome result self.new)) }
         ensures same { T.contents tree.new ≡ T.contents tree.old }
         ensures cause { HasCause ResolveError.Fault (T.fault_count tree.old) (T.fault_count tree.new) result }
+        ensures counts { T.fault_count tree.new ≡ count_told (T.fault_count tree.old) result }
         ensures carried { IfErr result CarriesCause }
     {
         let found = read_folder(alloc, tree, &folder, &self.wish)?;

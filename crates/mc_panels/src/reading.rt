@@ -1,7 +1,7 @@
 //! Reading the folder of a panel.
 ghost use Rattle.std.specs.Prelude.{◌≡◌, ◌<◌, ◌^◌, ◌⊎◌, length, None, IfOk, IfErr, OnOk, OnErr};
 ghost use Rattle.tree_trait.specs.Answers.{IfKnown, HasCause};
-ghost use Rattle.resolving.specs.Errors.{CarriesCause, refused_by};
+ghost use Rattle.resolving.specs.Errors.{CarriesCause, count_told, refused_by};
 ghost use Rattle.panel_listing.specs.Orders.{AreArranged};
 ghost use Rattle.panel_listing.specs.Listings.{rows_in};
 ghost use Rattle.mc_panels.specs.Readings.{ListsFolder, ShowsFolder, outcome, first_wish, opened_panel, read_again};
@@ -15,16 +15,21 @@ use panel_listing::{Listing, Order, Wish, read_listing};
 use resolving::ResolveError;
 use std::alloc::Global;
 use tagging::Tags;
-use tree_trait::{Tree, TreeError};
+use tree_trait::{ReadTree, TreeError};
 
 impl Panel {
     /// The panel of a folder, whose path has no links: by name, hidden names too, without a filter, in the full format,
     /// the cursor on the first row.
-    pub fn open<T: Tree>(alloc: Global, tree: &mut T, folder: Path) -> Result<Panel, ResolveError>
+    pub fn open<T: ReadTree>(
+        alloc: Global,
+        tree: &mut T,
+        folder: Path,
+    ) -> Result<Panel, ResolveError>
         ensures opened { IfOk result (λ panel. panel ≡ opened_panel folder panel.listing) }
         ensures answer { IfKnown (T.contents tree.old) (λ log. ShowsFolder log folder result) }
         ensures same { T.contents tree.new ≡ T.contents tree.old }
         ensures cause { HasCause ResolveError.Fault (T.fault_count tree.old) (T.fault_count tree.new) result }
+        ensures counts { T.fault_count tree.new ≡ count_told (T.fault_count tree.old) result }
         ensures carried { IfErr result CarriesCause }
     {
         let wish = first_wish();
@@ -43,7 +48,7 @@ impl Panel {
     }
 
     /// Reads its folder again. The cursor stays on its name, or else on its row; tags stay on names that are still there.
-    pub fn read_again<T: Tree>(
+    pub fn read_again<T: ReadTree>(
         &mut self,
         alloc: Global,
         tree: &mut T,
@@ -55,6 +60,7 @@ impl Panel {
         ensures answer { IfKnown (T.contents tree.old) (λ log. ShowsFolder log self.old.folder (outcome result self.new)) }
         ensures same { T.contents tree.new ≡ T.contents tree.old }
         ensures cause { HasCause ResolveError.Fault (T.fault_count tree.old) (T.fault_count tree.new) result }
+        ensures counts { T.fault_count tree.new ≡ count_told (T.fault_count tree.old) result }
         ensures carried { IfErr result CarriesCause }
     {
         let fresh = self.read_fresh(alloc, tree)?;
@@ -76,7 +82,7 @@ fn first_wish() -> Wish
 }
 
 /// Reads a folder. What is refused is told with the folder's path.
-pub fn read_folder<T: Tree>(
+pub fn read_folder<T: ReadTree>(
     alloc: Global,
     tree: &mut T,
     folder: &Path,
@@ -87,6 +93,7 @@ pub fn read_folder<T: Tree>(
     ensures small { IfOk result (λ listing. length (rows_in listing) < 2 ^ 60) }
     ensures same { T.contents tree.new ≡ T.contents tree.old }
     ensures cause { HasCause ResolveError.Fault (T.fault_count tree.old) (T.fault_count tree.new) result }
+    ensures counts { T.fault_count tree.new ≡ count_told (T.fault_count tree.old) result }
     ensures carried { IfErr result CarriesCause }
 {
     match read_listing(alloc, tree, folder, wish) {
@@ -100,7 +107,8 @@ pub fn read_folder<T: Tree>(
 
 /// What a refused call at a path is told as.
 fn refused(alloc: Global, path: &Path, error: TreeError) -> ResolveError
-    ensures { (result ≡ ResolveError.Memory) ⊎ (result ≡ refused_by path.now error) }
+    ensures told { (result ≡ ResolveError.Memory) ⊎ (result ≡ refused_by path.now error) }
+    ensures fault { error ≡ TreeError.Fault → result ≡ ResolveError.Fault }
 {
     match error {
         TreeError::Fault => ResolveError::Fault,

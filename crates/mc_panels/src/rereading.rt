@@ -1,9 +1,9 @@
 //! Folders that are read again: first they are read, and then the panels take what was read.
 ghost use Rattle.std.specs.Prelude.{◌≡◌, ◌<◌, ◌≤◌, ◌^◌, Some, IfOk, IfErr};
 ghost use Rattle.tree_trait.specs.Answers.{IfKnown, HasCause, HasRisen};
-ghost use Rattle.resolving.specs.Errors.{CarriesCause};
+ghost use Rattle.resolving.specs.Errors.{CarriesCause, count_told};
 ghost use Rattle.mc_panels.specs.Readings.{ListsFolder, read_again};
-ghost use Rattle.mc_panels.specs.Rereadings.{listed_in, IsFresh, IsAttempt, ShowsAttempt, refusal_in, taken};
+ghost use Rattle.mc_panels.specs.Rereadings.{listed_in, IsFresh, IsAttempt, ShowsAttempt, refusal_in, taken, tried};
 
 use crate::fresh::Fresh;
 use crate::kept::kept_tags;
@@ -14,7 +14,7 @@ use crate::searching::row_from;
 use mc_text::NoMemory;
 use resolving::ResolveError;
 use std::alloc::Global;
-use tree_trait::Tree;
+use tree_trait::ReadTree;
 
 /// What reading a folder again came to: what it held then, or why it could not be read.
 #[derive(Drop)]
@@ -26,7 +26,7 @@ pub enum Attempt {
 impl Panel {
     /// Reads its folder again. The panel stays as it is.
     #[tactic(auto, using(crate::proofs::TagLemmas::read_back))]
-    pub(crate) fn read_fresh<T: Tree>(
+    pub(crate) fn read_fresh<T: ReadTree>(
         &self,
         alloc: Global,
         tree: &mut T,
@@ -35,6 +35,7 @@ impl Panel {
         ensures answer { IfKnown (T.contents tree.old) (λ log. ListsFolder log self.now.folder (listed_in result)) }
         ensures same { T.contents tree.new ≡ T.contents tree.old }
         ensures cause { HasCause ResolveError.Fault (T.fault_count tree.old) (T.fault_count tree.new) result }
+        ensures counts { T.fault_count tree.new ≡ count_told (T.fault_count tree.old) result }
         ensures carried { IfErr result CarriesCause }
     {
         let name = self.name_copy(alloc)?;
@@ -59,12 +60,14 @@ impl Panel {
     }
 
     /// Reads its folder again, unless that is refused. The panel stays as it is. It takes a look for each child.
-    pub fn try_reading<T: Tree>(&self, alloc: Global, tree: &mut T) -> Result<Attempt, NoMemory>
+    pub fn try_reading<T: ReadTree>(&self, alloc: Global, tree: &mut T) -> Result<Attempt, NoMemory>
         ensures attempt { IfOk result (IsAttempt self.now) }
         ensures answer { IfKnown (T.contents tree.old) (λ log. IfOk result (ShowsAttempt log self.now.folder)) }
         ensures same { T.contents tree.new ≡ T.contents tree.old }
         ensures later { T.fault_count tree.old ≤ T.fault_count tree.new }
         ensures fault { IfOk result (λ attempt. refusal_in attempt ≡ Some ResolveError.Fault → HasRisen (T.fault_count tree.old) (T.fault_count tree.new)) }
+        ensures counts { IfOk result (λ attempt. T.fault_count tree.new ≡ count_told (T.fault_count tree.old) (tried attempt)) }
+        ensures unread { IfErr result (λ _. T.fault_count tree.new ≡ T.fault_count tree.old) }
     {
         match self.read_fresh(alloc, tree) {
             Ok(fresh) => Ok(Attempt::Read(fresh)),

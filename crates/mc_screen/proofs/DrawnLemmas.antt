@@ -32,7 +32,7 @@ half-stroke columns pen change half = ap (λ test. if test then [] else lead col
 half-stays : (pen : Pen) (change : Change) → is_right_half change.cell.glyph ≡ true → pen_after pen change ≡ pen
 half-stays pen change half =
     ap (λ test. if test then pen else if is_printable (glyph_text change.cell.glyph) then Typing change.at (glyph_columns change.cell.glyph) change.cell.attr
-    else Behind change.at (glyph_columns change.cell.glyph)) half
+    else Behind change.at (glyph_columns change.cell.glyph) change.cell.attr) half
 
 half-skipped : (columns : ℕ) (pen : Pen) (has_drawn : Bool) (at : ℕ) (d h : Cell) (cs fs : List Cell) → is_right_half h.glyph ≡ true
     → drawing columns pen (changes_from has_drawn at (d ∷ cs) (h ∷ fs)) ≡ drawing columns pen (changes_from has_drawn (at + 1) cs fs)

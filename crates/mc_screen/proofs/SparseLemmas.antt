@@ -105,6 +105,7 @@ module _ (was frame : CellGrid) (some : 1 ≤ frame.columns) (short : frame.line
   follow-lead change Approaches.Place rest is all =
       subst (AllFollow MayStand) (sym (append_assoc (place (change.at / frame.columns + 1) (change.at % frame.columns + 1)) (look change.cell.attr) rest))
       (follow-place change (look change.cell.attr ++ rest) is (follow-look change.cell.attr rest all))
+  follow-lead change Approaches.Move rest is all = follow-place change rest is all
   follow-lead change Approaches.Look rest is all = follow-look change.cell.attr rest all
   follow-lead change Approaches.Type rest is all = all
 
@@ -142,15 +143,15 @@ module _ (was frame : CellGrid) (some : 1 ≤ frame.columns) (short : frame.line
     printable = is_printable (glyph_text change.cell.glyph)
 
     after : Bool → Pen
-    after test = if test then Away else if printable then Typing change.at (glyph_columns change.cell.glyph) change.cell.attr else Behind change.at (glyph_columns change.cell.glyph)
+    after test = if test then Away else if printable then Typing change.at (glyph_columns change.cell.glyph) change.cell.attr else Behind change.at (glyph_columns change.cell.glyph) change.cell.attr
 
     by_half : (test : Bool) → BeginPlacing (segments (drawing frame.columns Away changes))
         → BeginPlacing (segments ((if test then [] else (place (change.at / frame.columns + 1) (change.at % frame.columns + 1) ++ look change.cell.attr) ++ glyph_text change.cell.glyph)
-        ++ drawing frame.columns (if test then Away else if is_printable (glyph_text change.cell.glyph) then Typing change.at (glyph_columns change.cell.glyph) change.cell.attr else Behind change.at (glyph_columns change.cell.glyph)) changes))
+        ++ drawing frame.columns (if test then Away else if is_printable (glyph_text change.cell.glyph) then Typing change.at (glyph_columns change.cell.glyph) change.cell.attr else Behind change.at (glyph_columns change.cell.glyph) change.cell.attr) changes))
     by_half true more = more
     by_half false more =
         let placing = place (change.at / frame.columns + 1) (change.at % frame.columns + 1) in
-        let rest = drawing frame.columns (if is_printable (glyph_text change.cell.glyph) then Typing change.at (glyph_columns change.cell.glyph) change.cell.attr else Behind change.at (glyph_columns change.cell.glyph)) changes in
+        let rest = drawing frame.columns (if is_printable (glyph_text change.cell.glyph) then Typing change.at (glyph_columns change.cell.glyph) change.cell.attr else Behind change.at (glyph_columns change.cell.glyph) change.cell.attr) changes in
         subst (λ (bytes : List ℕ). BeginPlacing (segments bytes))
         (sym (append_assoc (placing ++ look change.cell.attr) (glyph_text change.cell.glyph) rest ∙ append_assoc placing (look change.cell.attr) (glyph_text change.cell.glyph ++ rest)))
         (begins-placing change (look change.cell.attr ++ (glyph_text change.cell.glyph ++ rest)) all.0)

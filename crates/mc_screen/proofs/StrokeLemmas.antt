@@ -18,7 +18,7 @@ use Rattle.mc_screen.specs.declared.strokes.Pen.TheVariants.{Away, Behind, Typin
 use Rattle.mc_screen.specs.declared.strokes.Approach.{Approach}
 use Rattle.mc_screen.specs.declared.strokes.Approach.TheVariants as Approaches
 use Rattle.mc_screen.specs.Changes.{is_same_attr}
-use Rattle.mc_screen.specs.DrawnBytes.{glyph_text, is_printable, look, place, is_here, approach_to, lead, stroke, pen_after, drawing}
+use Rattle.mc_screen.specs.DrawnBytes.{glyph_text, is_printable, look, place, is_here, place_as, approach_to, lead, stroke, pen_after, drawing}
 use Rattle.mc_screen.proofs.EscapeLemmas.{segments-plain, first_segment}
 use Rattle.mc_screen.proofs.PrintableLemmas.{ArePrintable}
 use Rattle.mc_screen.proofs.ReadingLemmas.{Leads, AreApart, after_glyph, placed_at, leads-look, leads-place, leads-glyph}
@@ -39,30 +39,42 @@ same_attr Reverse Bold is = absurd (cc)
 -- what the pen says of the place and of the look before a change
 abbrev pub IsHereAt : ℕ → Pen → ℕ → Type 0
 IsHereAt columns Away at = ⊥
-IsHereAt columns (Behind last width) at = is_here columns last width at ≡ true
+IsHereAt columns (Behind last width attr) at = is_here columns last width at ≡ true
 IsHereAt columns (Typing last width attr) at = is_here columns last width at ≡ true
 
 abbrev pub IsTypingAs : Pen → Attr → Type 0
 IsTypingAs Away attr = ⊥
-IsTypingAs (Behind last width) attr = ⊥
+IsTypingAs (Behind last width attr) other = ⊥
 IsTypingAs (Typing last width attr) other = attr ≡ other
+
+abbrev pub IsLookingAs : Pen → Attr → Type 0
+IsLookingAs Away attr = ⊥
+IsLookingAs (Behind last width attr) other = attr ≡ other
+IsLookingAs (Typing last width attr) other = attr ≡ other
 
 abbrev pub Approached : ℕ → Pen → Change → Approach → Type 0
 Approached columns pen change Approaches.Place = ⊤
+Approached columns pen change Approaches.Move = IsLookingAs pen change.cell.attr
 Approached columns pen change Approaches.Look = IsHereAt columns pen change.at
 Approached columns pen change Approaches.Type = IsHereAt columns pen change.at × (IsTypingAs pen change.cell.attr × (is_printable (glyph_text change.cell.glyph) ≡ true))
 
+placed_as : (columns : ℕ) (pen : Pen) (attr : Attr) (change : Change) → ((other : Attr) → attr ≡ other → IsLookingAs pen other) → Approached columns pen change (place_as attr change)
+placed_as columns pen attr change looks = by_test (is_same_attr attr change.cell.attr) refl where
+  by_test : (test : Bool) → is_same_attr attr change.cell.attr ≡ test → Approached columns pen change (if test then Approaches.Move else Approaches.Place)
+  by_test true is = looks change.cell.attr (same_attr attr change.cell.attr is)
+  by_test false is = tt
+
 pub approached : (columns : ℕ) (pen : Pen) (change : Change) → Approached columns pen change (approach_to columns pen change)
 approached columns Away change = tt
-approached columns (Behind last width) change = by_test (is_here columns last width change.at) refl where
+approached columns (Behind last width attr) change = by_test (is_here columns last width change.at) refl where
   by_test : (test : Bool) → is_here columns last width change.at ≡ test
-      → Approached columns (Behind last width) change (if test then Approaches.Look else Approaches.Place)
+      → Approached columns (Behind last width attr) change (if test then Approaches.Look else place_as attr change)
   by_test true is = is
-  by_test false is = tt
+  by_test false is = placed_as columns (Behind last width attr) attr change (λ other same. same)
 approached columns (Typing last width attr) change = by_tests (is_here columns last width change.at) (is_same_attr attr change.cell.attr && is_printable (glyph_text change.cell.glyph)) refl refl where
   by_tests : (here typed : Bool) → is_here columns last width change.at ≡ here → (is_same_attr attr change.cell.attr && is_printable (glyph_text change.cell.glyph)) ≡ typed
-      → Approached columns (Typing last width attr) change (if not here then Approaches.Place else if typed then Approaches.Type else Approaches.Look)
-  by_tests false typed is as_before = tt
+      → Approached columns (Typing last width attr) change (if not here then place_as attr change else if typed then Approaches.Type else Approaches.Look)
+  by_tests false typed is as_before = placed_as columns (Typing last width attr) attr change (λ other same. same)
   by_tests true false is as_before = is
   by_tests true true is as_before = (
     is,
@@ -75,7 +87,7 @@ approached columns (Typing last width attr) change = by_tests (is_here columns l
 -- the first text of what is drawn behind a pen
 abbrev pub IsFirst : Pen → List ℕ → Type 0
 IsFirst Away segment = segment ≡ []
-IsFirst (Behind last width) segment = segment ≡ []
+IsFirst (Behind last width attr) segment = segment ≡ []
 IsFirst (Typing last width attr) segment = ArePrintable segment
 
 abbrev pub Begins : Pen → List (List ℕ) → Type 0
@@ -84,7 +96,7 @@ Begins pen (segment ∷ more) = IsFirst pen segment
 
 none-first : (pen : Pen) → IsFirst pen []
 none-first Away = refl
-none-first (Behind last width) = refl
+none-first (Behind last width attr) = refl
 none-first (Typing last width attr) = tt
 
 begins-look : (pen : Pen) (attr : Attr) (rest : List ℕ) → Begins pen (segments (look attr ++ rest))
@@ -96,7 +108,7 @@ begins-look pen Reverse rest = none-first pen
 begins-typed : (pen : Pen) (attr : Attr) (text rest : List ℕ) → IsTypingAs pen attr → is_printable text ≡ true → ((segment : List ℕ) (more : List (List ℕ)) → segments rest ≡ segment ∷ more → ArePrintable segment)
     → Begins pen (segments (text ++ rest))
 begins-typed Away attr text rest typing printable typed = absurd typing
-begins-typed (Behind last width) attr text rest typing printable typed = absurd typing
+begins-typed (Behind last width attr') attr text rest typing printable typed = absurd typing
 begins-typed (Typing last width attr') attr [] rest typing printable typed = absurd (cc)
 begins-typed (Typing last width attr') attr (byte ∷ other ∷ bytes) rest typing printable typed = absurd (cc)
 begins-typed (Typing last width attr') attr (byte ∷ []) rest typing printable typed =
@@ -110,13 +122,14 @@ begins-typed (Typing last width attr') attr (byte ∷ []) rest typing printable 
 -- what is drawn behind a character that is typed begins with such, or with an escape
 typed-first : (pen : Pen) (segment : List ℕ) (more : List (List ℕ)) (all : List (List ℕ)) → Begins pen all → all ≡ segment ∷ more → ArePrintable segment
 typed-first Away segment more all begins is = let none : segment ≡ [] = subst (Begins Away) is begins in subst ArePrintable (sym none) tt
-typed-first (Behind last width) segment more all begins is = let none : segment ≡ [] = subst (Begins (Behind last width)) is begins in subst ArePrintable (sym none) tt
+typed-first (Behind last width attr) segment more all begins is = let none : segment ≡ [] = subst (Begins (Behind last width attr)) is begins in subst ArePrintable (sym none) tt
 typed-first (Typing last width attr) segment more all begins is = subst (Begins (Typing last width attr)) is begins
 
 begins-lead : (columns : ℕ) (pen : Pen) (change : Change) (rest : List ℕ) (how : Approach) → Approached columns pen change how
     → ((segment : List ℕ) (more : List (List ℕ)) → segments rest ≡ segment ∷ more → ArePrintable segment)
     → Begins pen (segments ((lead columns how change ++ glyph_text change.cell.glyph) ++ rest))
 begins-lead columns pen change rest Approaches.Place is typed = none-first pen
+begins-lead columns pen change rest Approaches.Move is typed = none-first pen
 begins-lead columns pen change rest Approaches.Look is typed =
     subst (λ (bytes : List ℕ). Begins pen (segments bytes)) (sym (append_assoc (look change.cell.attr) (glyph_text change.cell.glyph) rest)) (begins-look pen change.cell.attr (glyph_text change.cell.glyph ++ rest))
 begins-lead columns pen change rest Approaches.Type is typed = begins-typed pen change.cell.attr (glyph_text change.cell.glyph) rest is.1.0 is.1.1 typed
@@ -128,7 +141,7 @@ drawing-begins columns pen (change ∷ changes) = by_half (is_right_half change.
       → Begins (pen_after pen change) (segments (drawing columns (pen_after pen change) changes))
       → Begins pen (segments ((if test then [] else lead columns (approach_to columns pen change) change ++ glyph_text change.cell.glyph) ++ drawing columns (pen_after pen change) changes))
   by_half true is same next =
-      let stays : pen ≡ pen_after pen change = sym (ap (λ test. if test then pen else if is_printable (glyph_text change.cell.glyph) then Typing change.at (glyph_columns change.cell.glyph) change.cell.attr else Behind change.at (glyph_columns change.cell.glyph)) is) in
+      let stays : pen ≡ pen_after pen change = sym (ap (λ test. if test then pen else if is_printable (glyph_text change.cell.glyph) then Typing change.at (glyph_columns change.cell.glyph) change.cell.attr else Behind change.at (glyph_columns change.cell.glyph) change.cell.attr) is) in
       subst (λ (p : Pen). Begins pen (segments (drawing columns p changes))) stays same
   by_half false is same next =
       begins-lead columns pen change (drawing columns (pen_after pen change) changes) (approach_to columns pen change) (approached columns pen change)
@@ -138,9 +151,9 @@ drawing-begins columns pen (change ∷ changes) = by_half (is_right_half change.
 drawn-apart_after : (pen : Pen) (change : Change) (rest : List (List ℕ)) → is_right_half change.cell.glyph ≡ false → Begins (pen_after pen change) rest → AreApart (glyph_text change.cell.glyph) rest
 drawn-apart_after pen change [] no_half begins = absurd begins
 drawn-apart_after pen change (segment ∷ more) no_half begins = by_test (is_printable (glyph_text change.cell.glyph)) refl
-    (subst (λ (test : Bool). IsFirst (if test then pen else if is_printable (glyph_text change.cell.glyph) then Typing change.at (glyph_columns change.cell.glyph) change.cell.attr else Behind change.at (glyph_columns change.cell.glyph)) segment) no_half begins) where
+    (subst (λ (test : Bool). IsFirst (if test then pen else if is_printable (glyph_text change.cell.glyph) then Typing change.at (glyph_columns change.cell.glyph) change.cell.attr else Behind change.at (glyph_columns change.cell.glyph) change.cell.attr) segment) no_half begins) where
       by_test : (test : Bool) → is_printable (glyph_text change.cell.glyph) ≡ test
-          → IsFirst (if test then Typing change.at (glyph_columns change.cell.glyph) change.cell.attr else Behind change.at (glyph_columns change.cell.glyph)) segment
+          → IsFirst (if test then Typing change.at (glyph_columns change.cell.glyph) change.cell.attr else Behind change.at (glyph_columns change.cell.glyph) change.cell.attr) segment
           → (segment ≡ []) ⊎ ((is_printable (glyph_text change.cell.glyph) ≡ true) × ArePrintable segment)
       by_test true is first = inr (is, first)
       by_test false is first = inl first
@@ -151,7 +164,7 @@ IsStanding columns next at room = (at ≡ next) × ((next % columns ≡ 0 → �
 
 abbrev pub Stands : ℕ → Pen → ℕ → ℕ → Attr → Type 0
 Stands columns Away at room mode = ⊤
-Stands columns (Behind last width) at room mode = IsStanding columns (last + width) at room
+Stands columns (Behind last width attr) at room mode = IsStanding columns (last + width) at room × (mode ≡ attr)
 Stands columns (Typing last width attr) at room mode = IsStanding columns (last + width) at room × (mode ≡ attr)
 
 -- a place is that of its row and column
@@ -207,21 +220,25 @@ stands-here columns last width at at' room here stands =
 
 pub stands-at : (columns : ℕ) (pen : Pen) (at at' room : ℕ) (mode : Attr) → IsHereAt columns pen at → Stands columns pen at' room mode → (at' ≡ at) × (room ≡ columns - at % columns)
 stands-at columns Away at at' room mode here stands = absurd here
-stands-at columns (Behind last width) at at' room mode here stands = stands-here columns last width at at' room here stands
+stands-at columns (Behind last width attr) at at' room mode here stands = stands-here columns last width at at' room here stands.0
 stands-at columns (Typing last width attr) at at' room mode here stands = stands-here columns last width at at' room here stands.0
 
 stands-typing : (columns : ℕ) (pen : Pen) (attr : Attr) (at room : ℕ) (mode : Attr) → IsTypingAs pen attr → Stands columns pen at room mode → mode ≡ attr
 stands-typing columns Away attr at room mode typing stands = absurd typing
-stands-typing columns (Behind last width) attr at room mode typing stands = absurd typing
+stands-typing columns (Behind last width attr') attr at room mode typing stands = absurd typing
 stands-typing columns (Typing last width attr') attr at room mode typing stands = stands.1 ∙ typing
 
+stands-looking : (columns : ℕ) (pen : Pen) (attr : Attr) (at room : ℕ) (mode : Attr) → IsLookingAs pen attr → Stands columns pen at room mode → mode ≡ attr
+stands-looking columns Away attr at room mode looking stands = absurd looking
+stands-looking columns (Behind last width attr') attr at room mode looking stands = stands.1 ∙ looking
+stands-looking columns (Typing last width attr') attr at room mode looking stands = stands.1 ∙ looking
+
 module _ (lines columns : ℕ) (some : 1 ≤ columns) (short : lines < 65536) (narrow : columns < 65536) where
-  -- what stands before a change brings the terminal to its place and look
-  leads-lead : (cells : List Cell) (at room : ℕ) (mode : Attr) (pen : Pen) (change : Change) (rest : List ℕ) (new : TerminalState) (how : Approach)
-      → change.at < lines * columns → Approached columns pen change how → Stands columns pen at room mode
-      → Leads (state lines columns cells change.at (columns - change.at % columns) change.cell.attr) rest new
-      → Leads (state lines columns cells at room mode) (lead columns how change ++ rest) new
-  leads-lead cells at room mode pen change rest new Approaches.Place within is stands leads =
+  -- a placement brings the terminal to the place of a change, and leaves its look
+  leads-placement : (cells : List Cell) (at room : ℕ) (mode : Attr) (change : Change) (rest : List ℕ) (new : TerminalState) → change.at < lines * columns
+      → Leads (state lines columns cells change.at (columns - change.at % columns) mode) rest new
+      → Leads (state lines columns cells at room mode) (place (change.at / columns + 1) (change.at % columns + 1) ++ rest) new
+  leads-placement cells at room mode change rest new within leads =
       let row = change.at / columns + 1 in
       let column = change.at % columns + 1 in
       let low : change.at % columns < columns = omega arith in
@@ -229,12 +246,25 @@ module _ (lines columns : ℕ) (some : 1 ≤ columns) (short : lines < 65536) (n
       let there : state lines columns cells change.at (columns - change.at % columns) mode ≡ placed_at t row column =
       sym (ap (λ n. state lines columns cells n (columns - (column - 1)) mode) (placed-there columns change.at)
       ∙ ap (λ n. state lines columns cells change.at (columns - n) mode) (let same : column - 1 ≡ change.at % columns = omega arith in same)) in
+      leads-place t new row column rest (omega arith) (row-within lines columns change.at within) (omega arith) (omega arith) short narrow
+      (subst (λ (s : TerminalState). Leads s rest new) there leads)
+
+  -- what stands before a change brings the terminal to its place and look
+  leads-lead : (cells : List Cell) (at room : ℕ) (mode : Attr) (pen : Pen) (change : Change) (rest : List ℕ) (new : TerminalState) (how : Approach)
+      → change.at < lines * columns → Approached columns pen change how → Stands columns pen at room mode
+      → Leads (state lines columns cells change.at (columns - change.at % columns) change.cell.attr) rest new
+      → Leads (state lines columns cells at room mode) (lead columns how change ++ rest) new
+  leads-lead cells at room mode pen change rest new Approaches.Place within is stands leads =
       let looks : Leads (state lines columns cells change.at (columns - change.at % columns) mode) (look change.cell.attr ++ rest) new =
       leads-look (state lines columns cells change.at (columns - change.at % columns) mode) new change.cell.attr rest leads in
-      let placed : Leads t (place row column ++ (look change.cell.attr ++ rest)) new =
-      leads-place t new row column (look change.cell.attr ++ rest) (omega arith) (row-within lines columns change.at within) (omega arith) (omega arith) short narrow
-      (subst (λ (s : TerminalState). Leads s (look change.cell.attr ++ rest) new) there looks) in
-      subst (λ (bytes : List ℕ). Leads t bytes new) (sym (append_assoc (place row column) (look change.cell.attr) rest)) placed
+      let placed = leads-placement cells at room mode change (look change.cell.attr ++ rest) new within looks in
+      subst (λ (bytes : List ℕ). Leads (state lines columns cells at room mode) bytes new)
+      (sym (append_assoc (place (change.at / columns + 1) (change.at % columns + 1)) (look change.cell.attr) rest)) placed
+  leads-lead cells at room mode pen change rest new Approaches.Move within is stands leads =
+      let looks = stands-looking columns pen change.cell.attr at room mode is stands in
+      let same : state lines columns cells change.at (columns - change.at % columns) change.cell.attr ≡ state lines columns cells change.at (columns - change.at % columns) mode =
+      sym (ap (λ a. state lines columns cells change.at (columns - change.at % columns) a) looks) in
+      leads-placement cells at room mode change rest new within (subst (λ (s : TerminalState). Leads s rest new) same leads)
   leads-lead cells at room mode pen change rest new Approaches.Look within is stands leads =
       let here = stands-at columns pen change.at at room mode is stands in
       let same : state lines columns cells change.at (columns - change.at % columns) mode ≡ state lines columns cells at room mode =
@@ -271,9 +301,9 @@ module _ (lines columns : ℕ) (some : 1 ≤ columns) (short : lines < 65536) (n
   pub stands-after : (pen : Pen) (change : Change) → is_right_half change.cell.glyph ≡ false → glyph_columns change.cell.glyph ≤ columns - change.at % columns
       → Stands columns (pen_after pen change) (change.at + glyph_columns change.cell.glyph) (columns - change.at % columns - glyph_columns change.cell.glyph) change.cell.attr
   stands-after pen change no_half fits =
-      subst (λ (test : Bool). Stands columns (if test then pen else if is_printable (glyph_text change.cell.glyph) then Typing change.at (glyph_columns change.cell.glyph) change.cell.attr else Behind change.at (glyph_columns change.cell.glyph))
+      subst (λ (test : Bool). Stands columns (if test then pen else if is_printable (glyph_text change.cell.glyph) then Typing change.at (glyph_columns change.cell.glyph) change.cell.attr else Behind change.at (glyph_columns change.cell.glyph) change.cell.attr)
       (change.at + glyph_columns change.cell.glyph) (columns - change.at % columns - glyph_columns change.cell.glyph) change.cell.attr) (sym no_half) (by_test (is_printable (glyph_text change.cell.glyph))) where
-        by_test : (test : Bool) → Stands columns (if test then Typing change.at (glyph_columns change.cell.glyph) change.cell.attr else Behind change.at (glyph_columns change.cell.glyph))
+        by_test : (test : Bool) → Stands columns (if test then Typing change.at (glyph_columns change.cell.glyph) change.cell.attr else Behind change.at (glyph_columns change.cell.glyph) change.cell.attr)
             (change.at + glyph_columns change.cell.glyph) (columns - change.at % columns - glyph_columns change.cell.glyph) change.cell.attr
         by_test true = (stands-behind columns change.at (glyph_columns change.cell.glyph) some fits, refl)
-        by_test false = stands-behind columns change.at (glyph_columns change.cell.glyph) some fits
+        by_test false = (stands-behind columns change.at (glyph_columns change.cell.glyph) some fits, refl)

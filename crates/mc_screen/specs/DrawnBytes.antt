@@ -52,19 +52,24 @@ place row column = 27 ∷ 91 ∷ (number row ++ 59 ∷ (number column ++ 72 ∷ 
 abbrev pub is_here : ℕ → ℕ → ℕ → ℕ → Bool
 is_here columns last width at = last + width == at && not (at % columns == 0)
 
+-- a change is placed; how it looks is said where that is another look than that of the text before
+abbrev pub place_as : Attr → Change → Approach
+place_as attr change = if is_same_attr attr change.cell.attr then Approaches.Move else Approaches.Place
+
 -- what has to stand before the text of a change
 abbrev pub approach_to : ℕ → Pen → Change → Approach
 approach_to columns Away change = Approaches.Place
-approach_to columns (Behind last width) change =
-    if is_here columns last width change.at then Approaches.Look else Approaches.Place
+approach_to columns (Behind last width attr) change =
+    if is_here columns last width change.at then Approaches.Look else place_as attr change
 approach_to columns (Typing last width attr) change =
-    if not (is_here columns last width change.at) then Approaches.Place
+    if not (is_here columns last width change.at) then place_as attr change
     else if is_same_attr attr change.cell.attr && is_printable (glyph_text change.cell.glyph) then Approaches.Type
     else Approaches.Look
 
 -- what stands there
 abbrev pub lead : ℕ → Approach → Change → List ℕ
 lead columns Approaches.Place change = place (change.at / columns + 1) (change.at % columns + 1) ++ look change.cell.attr
+lead columns Approaches.Move change = place (change.at / columns + 1) (change.at % columns + 1)
 lead columns Approaches.Look change = look change.cell.attr
 lead columns Approaches.Type change = []
 
@@ -78,7 +83,7 @@ abbrev pub pen_after : Pen → Change → Pen
 pen_after pen change =
     if is_right_half change.cell.glyph then pen
     else if is_printable (glyph_text change.cell.glyph) then Typing change.at (glyph_columns change.cell.glyph) change.cell.attr
-    else Behind change.at (glyph_columns change.cell.glyph)
+    else Behind change.at (glyph_columns change.cell.glyph) change.cell.attr
 
 -- what draws changes
 abbrev pub drawing : ℕ → Pen → List Change → List ℕ

@@ -2,7 +2,7 @@
 ghost use Rattle.std.specs.Prelude.{◌≡◌, ◌<◌, ◌++◌, ◌/◌, ◌^◌, All, IfOk, OnOk};
 ghost use Rattle.key_screen.specs.DrawnText.{glyph_columns, cluster_columns};
 ghost use Rattle.mc_screen.specs.Changes.{IsWithin};
-ghost use Rattle.mc_screen.specs.DrawnBytes.{glyph_text, is_printable as is_printable_of, look, digit, digit_at, number, place, is_here as is_here_of, approach_to as approach_of, lead, stroke, pen_after as pen_after_of, drawing, drawn_bytes};
+ghost use Rattle.mc_screen.specs.DrawnBytes.{glyph_text, is_printable as is_printable_of, look, digit, digit_at, number, place, is_here as is_here_of, place_as as place_as_of, approach_to as approach_of, lead, stroke, pen_after as pen_after_of, drawing, drawn_bytes};
 
 use crate::changes::{Change, looks_same};
 use key_screen::{Attr, Glyph};
@@ -15,10 +15,11 @@ use unicode_width::UnicodeWidthStr;
 pub enum Pen {
     /// Nothing was drawn yet.
     Away,
-    /// Behind a cluster that stands there and is so many columns wide. What follows it might become one with it.
+    /// Behind a cluster that stands there, is so many columns wide and looks so. What follows it might become one with it.
     Behind {
         last: usize,
         columns: usize,
+        attr: Attr,
     },
     /// Behind a printable character of ASCII there that looks so. More of these stay apart.
     Typing {
@@ -33,6 +34,8 @@ pub enum Pen {
 pub enum Approach {
     /// Its placement, and how it looks.
     Place,
+    /// Its placement alone, since it looks as the text before it.
+    Move,
     /// How it looks.
     Look,
     /// Nothing.
@@ -90,6 +93,7 @@ fn push_lead(
             push_place(bytes, change.at / columns + 1, change.at % columns + 1)?;
             push_look(bytes, change.cell.attr)
         }
+        Approach::Move => push_place(bytes, change.at / columns + 1, change.at % columns + 1),
         Approach::Look => push_look(bytes, change.cell.attr),
         Approach::Type => Ok(()),
     }
@@ -105,11 +109,12 @@ fn approach_to(columns: usize, pen: Pen, change: &Change) -> Approach
         Pen::Behind {
             last,
             columns: width,
+            attr,
         } => {
             if is_here(columns, last, width, change.at) {
                 Approach::Look
             } else {
-                Approach::Place
+                place_as(attr, change)
             }
         }
         Pen::Typing {
@@ -118,7 +123,7 @@ fn approach_to(columns: usize, pen: Pen, change: &Change) -> Approach
             attr,
         } => {
             if !is_here(columns, last, width, change.at) {
-                Approach::Place
+                place_as(attr, change)
             } else if looks_same(attr, change.cell.attr)
                 && is_printable(text_of(&change.cell.glyph))
             {
@@ -127,6 +132,17 @@ fn approach_to(columns: usize, pen: Pen, change: &Change) -> Approach
                 Approach::Look
             }
         }
+    }
+}
+
+/// How a change is placed that stands behind text of this look.
+fn place_as(attr: Attr, change: &Change) -> Approach
+    ensures { result ≡ place_as_of attr change.now }
+{
+    if looks_same(attr, change.cell.attr) {
+        Approach::Move
+    } else {
+        Approach::Place
     }
 }
 
@@ -156,6 +172,7 @@ fn pen_after(pen: Pen, change: &Change) -> Pen
                 Pen::Behind {
                     last: change.at,
                     columns,
+                    attr: change.cell.attr,
                 }
             }
         }

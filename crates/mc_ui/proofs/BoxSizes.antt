@@ -11,6 +11,10 @@ use Rattle.mc_dialogs.specs.declared.frame.Line.{Line}
 use Rattle.mc_dialogs.specs.Boxes.{columns_inside, edge, middle, with_box, with_line, with_lines}
 use Rattle.mc_dialogs.specs.InputField.{input_lines, shown_before, with_field, with_input}
 use Rattle.mc_dialogs.specs.InputKeys.{InputState, first_clusters}
+use Rattle.mc_dialogs.specs.ListKeys.{list_lines}
+use Rattle.panel_boxes.specs.declared.panel_box.PanelBox.{PanelBox}
+use Rattle.panel_boxes.specs.declared.panel_box.PanelBox.TheVariants.{Pending, Typed, Options}
+use Rattle.panel_boxes.specs.Paintings.{with_panel_box}
 
 -- one screen has the size of another
 pub record IsSized (lines columns : ℕ) (grid : CellGrid) : Type 0 where
@@ -64,6 +68,12 @@ module _ (lines columns : ℕ) where
       let column = middle grid.columns (inside + 4) + 2 in
       field_sized (with_box grid (input_lines typed.title)) row column inside typed.before typed.behind (box_sized grid (input_lines typed.title) h)
 
+-- a box of the panels
+pub panel_box_sized : (lines columns : ℕ) (asks : PanelBox) (grid : CellGrid) → IsSized lines columns grid → IsSized lines columns (with_panel_box asks grid)
+panel_box_sized lines columns Pending grid h = h
+panel_box_sized lines columns (Typed asked typed) grid h = input_sized lines columns grid typed h
+panel_box_sized lines columns (Options list) grid h = box_sized lines columns grid (list_lines list) h
+
 pub box_lines_same : (grid : CellGrid) (all : List Line) → (with_box grid all).lines ≡ grid.lines
 box_lines_same grid all = (box_sized grid.lines grid.columns grid all (record { lines_are = refl; columns_are = refl })).lines_are
 
@@ -75,3 +85,9 @@ input_lines_same grid typed = (input_sized grid.lines grid.columns grid typed (r
 
 pub input_columns_same : (grid : CellGrid) (typed : InputState) → (with_input grid typed).columns ≡ grid.columns
 input_columns_same grid typed = (input_sized grid.lines grid.columns grid typed (record { lines_are = refl; columns_are = refl })).columns_are
+
+pub panel_lines_same : (asks : PanelBox) (grid : CellGrid) → (with_panel_box asks grid).lines ≡ grid.lines
+panel_lines_same asks grid = (panel_box_sized grid.lines grid.columns asks grid (record { lines_are = refl; columns_are = refl })).lines_are
+
+pub panel_columns_same : (asks : PanelBox) (grid : CellGrid) → (with_panel_box asks grid).columns ≡ grid.columns
+panel_columns_same asks grid = (panel_box_sized grid.lines grid.columns asks grid (record { lines_are = refl; columns_are = refl })).columns_are

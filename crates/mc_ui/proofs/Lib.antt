@@ -1,3 +1,2 @@
 pub mod BoxSizes
-pub mod Sights
 pub mod UnknownKeys

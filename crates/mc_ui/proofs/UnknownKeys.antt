@@ -6,7 +6,7 @@ use Rattle.key_screen.specs.declared.keys.Base.TheVariants.{Unknown}
 use Rattle.tree_trait.specs.Change.{CallLog}
 use Rattle.job_reports.specs.declared.row.JobRow.{JobRow}
 use Rattle.session_history.specs.declared.refusal.Refusal.{Refusal}
-use Rattle.mc_ui.specs.Screens.{Box, NoBox, DeleteBox, MaskBox, TargetBox, TroubleBox, ByBox, KeyLeads, Screen, WorksKey, after_message, at_second}
+use Rattle.mc_ui.specs.Screens.{Box, NoBox, DeleteBox, MaskBox, TargetBox, FolderBox, TroubleBox, PanelsBox, ByBox, KeyLeads, Screen, WorksKey, after_message, at_second}
 use Rattle.mc_ui.specs.PanelKeys.{plain_base}
 
 abbrev pub unknown_key : Bool → Key
@@ -25,8 +25,12 @@ module _ (contents : Option CallLog) (rows : List JobRow) (refusals : List Refus
   by_box false (MaskBox path typed) is h = h.1 ∙ kept (MaskBox path typed) is
   by_box true (TargetBox path typed) is h = h.1 ∙ kept (TargetBox path typed) is
   by_box false (TargetBox path typed) is h = h.1 ∙ kept (TargetBox path typed) is
+  by_box true (FolderBox typed) is h = h.1 ∙ kept (FolderBox typed) is
+  by_box false (FolderBox typed) is h = h.1 ∙ kept (FolderBox typed) is
   by_box true (TroubleBox trouble) is h = h.1
   by_box false (TroubleBox trouble) is h = h.1
+  by_box true (PanelsBox asks) is h = h.1 ∙ kept (PanelsBox asks) is
+  by_box false (PanelsBox asks) is h = h.1 ∙ kept (PanelsBox asks) is
 
   by_message : (meta shown : Bool)
       → MatchBool shown ((refusals ≡ []) × (after ≡ after_message (plain_base (unknown_key meta)) before)) (ByBox before.over contents rows (unknown_key meta) refusals before after) → after ≡ before

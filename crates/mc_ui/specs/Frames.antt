@@ -11,8 +11,9 @@ use Rattle.mc_dialogs.specs.InputField.{with_input}
 use Rattle.mc_dialogs.specs.QuestionKeys.{plain_lines}
 use Rattle.box_words.specs.declared.message.Message.{Message}
 use Rattle.box_words.specs.BoxLines.{delete_lines, message_lines, trouble_lines}
+use Rattle.panel_boxes.specs.Paintings.{with_panel_box}
 use Rattle.panel_pair.specs.Frames.{panes_of}
-use Rattle.mc_ui.specs.Screens.{Box, NoBox, DeleteBox, MaskBox, TargetBox, TroubleBox, Screen, frame_size}
+use Rattle.mc_ui.specs.Screens.{Box, NoBox, DeleteBox, MaskBox, TargetBox, FolderBox, TroubleBox, PanelsBox, Screen, frame_size}
 
 -- one job more in this state
 abbrev pub counted : JobState → JobCounts → JobCounts
@@ -32,7 +33,9 @@ with_over NoBox grid = grid
 with_over (DeleteBox path) grid = with_box grid (plain_lines delete_lines)
 with_over (MaskBox path typed) grid = with_input grid typed
 with_over (TargetBox path typed) grid = with_input grid typed
+with_over (FolderBox typed) grid = with_input grid typed
 with_over (TroubleBox trouble) grid = with_box grid (plain_lines (trouble_lines trouble))
+with_over (PanelsBox asks) grid = with_panel_box asks grid
 
 -- and the message over all
 abbrev pub with_message : Option Message → CellGrid → CellGrid

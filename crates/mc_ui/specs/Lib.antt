@@ -1,9 +1,5 @@
-pub mod Choices
-pub mod Copies
 pub mod Frames
 pub mod LiveJobs
 pub mod Looks
 pub mod PanelKeys
-pub mod Reading
-pub mod Refused
 pub mod Screens

@@ -1,19 +1,22 @@
--- The keys of the panels, while no box is open (mc(1), "Directory Panels"; F1, F5, F8 and F10 of its bottom line).
+-- The keys of the panels, while no box is open (mc(1), "Directory Panels"; F1, F5, F7, F8 and F10 of its bottom line).
 use Rattle.std.specs.Prelude.{ℕ, ◌==◌, if◌then◌else◌, Option, Some, None}
 use Rattle.key_screen.specs.declared.keys.Key.{Key}
 use Rattle.key_screen.specs.declared.keys.Base.{Base}
 use Rattle.key_screen.specs.declared.keys.Base.TheVariants.{F, Unknown}
 use Rattle.panel_pair.specs.declared.command.PanelCommand.{PanelCommand}
 use Rattle.panel_pair.specs.Keys.{key_command}
-use Rattle.mc_ui.specs.declared.panel_command.Opens.TheVariants.{Delete, SourceMask}
+use Rattle.panel_boxes.specs.declared.opening.Opening.{Opening}
+use Rattle.panel_boxes.specs.Openings.{opening_of}
+use Rattle.job_plans.specs.declared.choosing.Opens.TheVariants.{Delete, SourceMask}
 use Rattle.mc_ui.specs.declared.panel_command.KeyCommand.{KeyCommand}
-use Rattle.mc_ui.specs.declared.panel_command.KeyCommand.TheVariants.{Work, ShowHelp, Open, Quit, Nothing}
+use Rattle.mc_ui.specs.declared.panel_command.KeyCommand.TheVariants.{Work, ShowHelp, Open, AskFolder, OpenPanelBox, Quit, Nothing}
 
 -- what a function key does
 abbrev pub function_command : ℕ → KeyCommand
 function_command number =
     if number == 1 then ShowHelp
     else if number == 5 then Open SourceMask
+    else if number == 7 then AskFolder
     else if number == 8 then Open Delete
     else if number == 10 then Quit
     else Nothing
@@ -27,10 +30,15 @@ other_command other = Nothing
 abbrev pub plain_base : Key → Base
 plain_base key = if key.meta then Unknown else key.base
 
+-- the box of the panels that a key opens, or else what the key does besides
+abbrev pub box_or_other : Option Opening → Key → KeyCommand
+box_or_other (Some opening) key = OpenPanelBox opening
+box_or_other None key = other_command (plain_base key)
+
 -- a command of the panels, or else what the key does besides
 abbrev pub work_or_other : Option PanelCommand → Key → KeyCommand
 work_or_other (Some command) key = Work command
-work_or_other None key = other_command (plain_base key)
+work_or_other None key = box_or_other (opening_of key) key
 
 -- what a key does in the panels
 abbrev pub panel_command_of : Key → KeyCommand

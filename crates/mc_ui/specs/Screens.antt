@@ -1,11 +1,10 @@
 -- What a key or a look makes of the screen: the two panels, the box that stands over them, and a message over all.
 use Rattle.std.specs.Prelude.{◌≡◌, ◌≢◌, ◌⊎◌, ℕ, Bool, true, false, is_some, MatchBool, ⊤, if◌then◌else◌, List, [], ◌∷◌, codes, Option, Some, None, Ok, Err}
-use Rattle.std.specs.Option.{option_map}
 use Rattle.std.specs.Str.{bytes_eq}
 use Rattle.mc_text.specs.Routes.{Route}
 use Rattle.tree_trait.specs.declared.calls.TreeError.{TreeError}
-use Rattle.tree_trait.specs.FileSystem.{View, visible_tree}
-use Rattle.tree_trait.specs.Change.{CallLog, current}
+use Rattle.tree_trait.specs.FileSystem.{View}
+use Rattle.tree_trait.specs.Change.{CallLog}
 use Rattle.tree_trait.specs.Answers.{IfKnown}
 use Rattle.resolving.specs.declared.error.ResolveError.{ResolveError}
 use Rattle.resolving.specs.declared.error.ResolveError.TheVariants as resolve
@@ -18,20 +17,20 @@ use Rattle.job_reports.specs.declared.row.JobRow.{JobRow}
 use Rattle.job_reports.specs.Jobs.{is_workable}
 use Rattle.session_history.specs.declared.refusal.PlanError.TheVariants.{NoSelection, BadMask}
 use Rattle.session_history.specs.declared.refusal.Refusal.{Refusal}
-use Rattle.session_history.specs.declared.refusal.Refusal.TheVariants.{Tree, Resolve, Plan}
+use Rattle.session_history.specs.declared.refusal.Refusal.TheVariants.{Tree, Resolve, Plan, Typed}
 use Rattle.mc_dialogs.specs.InputKeys.{InputState, input_after, input_shut}
 use Rattle.mc_ui.specs.declared.asks.Ask.{Ask}
 use Rattle.mc_ui.specs.declared.asks.Ask.TheVariants as ask
 use Rattle.mc_ui.specs.declared.asks.Told.{Told}
 use Rattle.mc_ui.specs.declared.asks.Told.TheVariants as told
-use Rattle.box_words.specs.declared.dialog.Dialog.{Dialog}
-use Rattle.box_words.specs.declared.dialog.Dialog.TheVariants as dialog
+use Rattle.mc_ui.specs.declared.dialog.Dialog.{Dialog}
+use Rattle.mc_ui.specs.declared.dialog.Dialog.TheVariants as dialog
 use Rattle.box_words.specs.declared.message.Message.{Message}
 use Rattle.box_words.specs.declared.message.Message.TheVariants.{Refused, Help}
-use Rattle.mc_ui.specs.declared.panel_command.Opens.{Opens}
-use Rattle.mc_ui.specs.declared.panel_command.Opens.TheVariants as opens
+use Rattle.job_plans.specs.declared.choosing.Opens.{Opens}
+use Rattle.job_plans.specs.declared.choosing.Opens.TheVariants as opens
 use Rattle.mc_ui.specs.declared.panel_command.KeyCommand.{KeyCommand}
-use Rattle.mc_ui.specs.declared.panel_command.KeyCommand.TheVariants.{Work, ShowHelp, Open, Quit, Nothing}
+use Rattle.mc_ui.specs.declared.panel_command.KeyCommand.TheVariants.{Work, ShowHelp, Open, AskFolder, OpenPanelBox, Quit, Nothing}
 use Rattle.box_words.specs.declared.replies.DeleteReply.{DeleteReply}
 use Rattle.box_words.specs.declared.replies.DeleteReply.TheVariants as delete
 use Rattle.box_words.specs.declared.replies.LineReply.{LineReply}
@@ -39,26 +38,35 @@ use Rattle.box_words.specs.declared.replies.LineReply.TheVariants as line
 use Rattle.box_words.specs.declared.replies.TroubleReply.{TroubleReply}
 use Rattle.box_words.specs.declared.replies.TroubleReply.TheVariants as trouble
 use Rattle.mc_panels.specs.Selections.{selection}
+use Rattle.panel_boxes.specs.declared.panel_box.PanelBox.{PanelBox}
+use Rattle.panel_boxes.specs.declared.panel_box.PanelReply.{PanelReply}
+use Rattle.panel_boxes.specs.declared.panel_box.PanelReply.TheVariants as panel
+use Rattle.panel_boxes.specs.Openings.{opened}
+use Rattle.panel_boxes.specs.Replies.{box_after, reply_to}
 use Rattle.panel_pair.specs.declared.command.PanelCommand.{PanelCommand}
 use Rattle.panel_pair.specs.declared.frame.FrameSize.{FrameSize}
 use Rattle.panel_pair.specs.Commands.{CommandDone, CommandReads}
 use Rattle.panel_pair.specs.Frames.{page_of as page_of_lines}
 use Rattle.panel_pair.specs.Pairs.{PairState, untagged_pair}
 use Rattle.box_words.specs.BoxKeys.{closes_message, delete_reply_to, line_reply, trouble_reply_to}
-use Rattle.box_words.specs.BoxLines.{mask_line, target_line, target_text}
-use Rattle.mc_ui.specs.Copies.{CopyRefused, IsVacant, MayAsk, copy_plan, delete_plan, target_in}
+use Rattle.box_words.specs.BoxLines.{folder_line, mask_line, target_line, target_text}
+use Rattle.job_plans.specs.Reading.{sight}
+use Rattle.job_plans.specs.Copies.{CopyRefused, IsVacant, MayAsk, copy_plan, delete_plan, target_in}
+use Rattle.job_plans.specs.Folders.{FolderRefused, IsNewFolder, folder_plan}
 use Rattle.mc_ui.specs.LiveJobs.{can_answer, none_live, shown_trouble}
 use Rattle.mc_ui.specs.Looks.{LooksAgain}
 use Rattle.mc_ui.specs.PanelKeys.{panel_command_of, plain_base}
 
 -- What stands over the panels: nothing, or a box that asks whether to delete a file, asks for the source mask or for the
--- destination of a copy, or tells of a job's trouble.
+-- destination of a copy, or for a new folder, tells of a job's trouble, or asks what the panels are to do.
 pub data Box : Type 0 where
   NoBox : Box
   DeleteBox : (path : Route) → Box
   MaskBox : (path : Route) → (typed : InputState) → Box
   TargetBox : (path : Route) → (typed : InputState) → Box
+  FolderBox : (typed : InputState) → Box
   TroubleBox : (trouble : Trouble) → Box
+  PanelsBox : (asks : PanelBox) → Box
 
 -- what a key asked for and is to be carried out: a job is to be begun, its trouble to be answered, or the session to end
 pub data Planned : Type 0 where
@@ -99,7 +107,9 @@ seen_box dialog.Nothing = NoBox
 seen_box (dialog.Delete chosen) = DeleteBox chosen.path
 seen_box (dialog.SourceMask chosen typed) = MaskBox chosen.path typed
 seen_box (dialog.CopyTo chosen typed) = TargetBox chosen.path typed
+seen_box (dialog.MakeFolder typed) = FolderBox typed
 seen_box (dialog.Trouble trouble) = TroubleBox trouble
+seen_box (dialog.Panel asks) = PanelsBox asks
 
 -- how many items of a column are on the screen, and what the frame of the panels goes by
 abbrev pub page_of : Screen → ℕ
@@ -107,10 +117,6 @@ page_of s = page_of_lines s.lines
 
 abbrev pub frame_size : Screen → FrameSize
 frame_size s = record { lines = s.lines; columns = s.columns; now = s.second }
-
--- what can be seen of a tree, where it tells
-abbrev pub sight : Option CallLog → Option View
-sight contents = option_map (λ (log : CallLog). visible_tree (current log)) contents
 
 -- a refusal comes up in a message, over what was there
 abbrev pub told_refusal : Refusal → Screen → Screen
@@ -156,12 +162,19 @@ Chooses box tree [] folder [] refusals before after = (refusals ≡ Plan NoSelec
 Chooses box tree [] folder (name ∷ []) refusals before after = AsksOf box tree (name ∷ folder) refusals before after
 Chooses box tree [] folder (name ∷ other ∷ more) refusals before after = (refusals ≡ []) × (after ≡ before)
 
+-- the key that asks for a new folder opens its box, where no job is live
+abbrev pub after_ask_folder : List JobRow → Screen → Screen
+after_ask_folder rows before = if none_live rows then record before { over = FolderBox folder_line } else before
+
 -- what a key makes of the screen while no box is open
 abbrev pub CommandLeads : KeyCommand → Option CallLog → List JobRow → List Refusal → Screen → Screen → Type 0
 CommandLeads (Work command) contents rows refusals before after = Works command contents refusals before after
 CommandLeads ShowHelp contents rows refusals before after = (refusals ≡ []) × (after ≡ record before { message = Some Help })
 CommandLeads (Open opens) contents rows refusals before after =
     Chooses opens (sight contents) rows before.panels.current.folder (selection before.panels.current) refusals before after
+CommandLeads AskFolder contents rows refusals before after = (refusals ≡ []) × (after ≡ after_ask_folder rows before)
+CommandLeads (OpenPanelBox opening) contents rows refusals before after =
+    (refusals ≡ []) × (after ≡ record before { over = PanelsBox (opened before.lines opening) })
 CommandLeads Quit contents rows refusals before after = (refusals ≡ []) × (after ≡ record before { planned = Some Ends })
 CommandLeads Nothing contents rows refusals before after = (refusals ≡ []) × (after ≡ before)
 
@@ -213,11 +226,35 @@ TargetLeads (line.Takes text) tree rows path typed refusals before after =
     (MatchBool (none_live rows) (PlansCopy tree path (target_in before.panels.other.folder path) refusals before after) ((refusals ≡ []) × (after ≡ before)))
     ((refusals ≡ Plan BadMask ∷ []) × (after ≡ told_refusal (Plan BadMask) before))
 
+-- a new folder is planned in the folder of the current panel, where nothing stands at the path that was typed; or it is refused, and
+-- then the box stays
+abbrev pub PlansFolder : Option CallLog → Route → List ℕ → List Refusal → Screen → Screen → Type 0
+PlansFolder contents folder text [] before after = (path : Route) × IsNewFolder contents folder text path × (after ≡ begun (folder_plan path) before)
+PlansFolder contents folder text (refusal ∷ more) before after =
+    FolderRefused contents folder text refusal × (more ≡ []) × (after ≡ told_refusal refusal before)
+
+-- the answer of the box that asks for a new folder: it is planned while no job is live
+abbrev pub MakeFolderLeads : LineReply → Option CallLog → List JobRow → InputState → List Refusal → Screen → Screen → Type 0
+MakeFolderLeads line.Stays contents rows typed refusals before after = (refusals ≡ []) × (after ≡ record before { over = FolderBox typed })
+MakeFolderLeads line.Shuts contents rows typed refusals before after = (refusals ≡ []) × (after ≡ without_box before)
+MakeFolderLeads (line.Takes text) contents rows typed refusals before after =
+    MatchBool (none_live rows) (PlansFolder contents before.panels.current.folder text refusals before after) ((refusals ≡ []) × (after ≡ before))
+
 -- a trouble's answer, where the live job can be answered so; without one the job stays as it is
 abbrev pub after_trouble : TroubleReply → List JobRow → Screen → Screen
 after_trouble trouble.Stays rows before = before
 after_trouble trouble.Shuts rows before = without_box before
 after_trouble (trouble.Gives answer) rows before = if can_answer rows answer then record before { over = NoBox; planned = Some (Answers answer) } else before
+
+-- The answer of a box of the panels, over the screen without it: it stays, is shut, or another one stands in its place; or it is shut, and
+-- what it asked for is done to the panels; or what was typed is refused, and it stays under a message.
+abbrev pub PanelLeads : PanelReply → PanelBox → Option CallLog → List Refusal → Screen → Screen → Type 0
+PanelLeads panel.Stays asks contents refusals cleared after = (refusals ≡ []) × (after ≡ record cleared { over = PanelsBox asks })
+PanelLeads panel.Shuts asks contents refusals cleared after = (refusals ≡ []) × (after ≡ cleared)
+PanelLeads (panel.Opens next) asks contents refusals cleared after = (refusals ≡ []) × (after ≡ record cleared { over = PanelsBox next })
+PanelLeads (panel.Does command) asks contents refusals cleared after = Works command contents refusals cleared after
+PanelLeads (panel.Refuses error) asks contents refusals cleared after =
+    (refusals ≡ Typed error ∷ []) × (after ≡ told_refusal (Typed error) (record cleared { over = PanelsBox asks }))
 
 -- a key without meta while a message is shown
 abbrev pub after_message : Base → Screen → Screen
@@ -233,8 +270,12 @@ ByBox (MaskBox path typed) contents rows key refusals before after =
     MaskLeads (line_reply (input_shut typed key)) path (input_after typed key) refusals before after
 ByBox (TargetBox path typed) contents rows key refusals before after =
     TargetLeads (line_reply (input_shut typed key)) (sight contents) rows path (input_after typed key) refusals before after
+ByBox (FolderBox typed) contents rows key refusals before after =
+    MakeFolderLeads (line_reply (input_shut typed key)) contents rows (input_after typed key) refusals before after
 ByBox (TroubleBox trouble) contents rows key refusals before after =
     (refusals ≡ []) × (after ≡ after_trouble (trouble_reply_to trouble.barrier key) rows before)
+ByBox (PanelsBox asks) contents rows key refusals before after =
+    PanelLeads (reply_to before.panels asks key) (box_after asks key) contents refusals (without_box before) after
 
 -- what a key makes of the screen: a message takes it before the box below does
 abbrev pub WorksKey : Option CallLog → List JobRow → Key → List Refusal → Screen → Screen → Type 0

@@ -4,20 +4,23 @@ ghost use Rattle.mc_dialogs.specs.Boxes.{with_box};
 ghost use Rattle.mc_dialogs.specs.InputField.{with_input};
 ghost use Rattle.mc_frame.specs.Frames.{panels_frame};
 ghost use Rattle.mc_dialogs.specs.QuestionKeys.{plain_lines as plain_lines_of};
+ghost use Rattle.panel_boxes.specs.Paintings.{with_panel_box};
 ghost use Rattle.panel_pair.specs.Frames.{panes_of};
 ghost use Rattle.mc_ui.specs.Frames.{counts_of as counts_in, frame_of, with_message, with_over};
 ghost use Rattle.mc_ui.specs.Screens.{frame_size, seen_box};
 
 mod counting;
 
+use crate::dialog::Dialog;
 use crate::ui::Ui;
-use box_words::{Dialog, Message, delete_lines, message_lines, trouble_lines};
+use box_words::{Message, delete_lines, message_lines, trouble_lines};
 use counting::counts_of;
 use job_reports::JobRows;
 use key_screen::Grid;
 use mc_dialogs::{InputLine, paint_box, plain_lines};
 use mc_frame::paint_panels;
 use mc_text::{NoMemory, Rows};
+use panel_boxes::PanelBox;
 use std::alloc::Global;
 
 impl Ui {
@@ -65,9 +68,17 @@ fn paint_dialog(grid: &mut Grid, alloc: Global, dialog: &Dialog) -> Result<(), N
             paint_line(grid, alloc, line)?;
             Ok(())
         }
+        Dialog::MakeFolder(line) => {
+            paint_line(grid, alloc, line)?;
+            Ok(())
+        }
         Dialog::Trouble(trouble) => {
             let lines = trouble_lines(alloc, trouble)?;
             paint_lines(grid, alloc, lines)?;
+            Ok(())
+        }
+        Dialog::Panel(asks) => {
+            paint_panel_box(grid, alloc, asks)?;
             Ok(())
         }
     }
@@ -90,6 +101,15 @@ fn paint_line(grid: &mut Grid, alloc: Global, line: &InputLine) -> Result<(), No
     ensures size { OnOk result ((grid.new.lines ≡ grid.old.lines) × (grid.new.columns ≡ grid.old.columns)) }
 {
     line.paint(alloc, grid)?;
+    Ok(())
+}
+
+/// Paints a box of the panels.
+fn paint_panel_box(grid: &mut Grid, alloc: Global, asks: &PanelBox) -> Result<(), NoMemory>
+    ensures over { OnOk result (grid.new ≡ with_panel_box asks.now grid.old) }
+    ensures size { OnOk result ((grid.new.lines ≡ grid.old.lines) × (grid.new.columns ≡ grid.old.columns)) }
+{
+    asks.paint(alloc, grid)?;
     Ok(())
 }
 

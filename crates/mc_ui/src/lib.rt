@@ -2,14 +2,13 @@
 #![tactic(auto)]
 
 mod asks;
-mod choosing;
-mod copying;
+mod dialog;
 mod frame;
 mod panel_command;
 mod ui;
 
 pub use asks::{Ask, KeyAct, Told};
-pub use box_words::{Chosen, Dialog, Message, resolve_text};
-pub use choosing::{Choice, choose};
-pub use copying::{CopyPlan, plan_copy};
+pub use box_words::{Chosen, Message, resolve_text};
+pub use dialog::Dialog;
+pub use job_plans::{Choice, JobPlan, choose, plan_copy};
 pub use ui::Ui;

@@ -1,16 +1,12 @@
 //! The keys of the panels.
 ghost use Rattle.std.specs.Prelude.{◌≡◌};
-ghost use Rattle.mc_ui.specs.PanelKeys.{other_command as command_of_base, panel_command_of, plain_base as plain_base_of};
+ghost use Rattle.panel_boxes.specs.Openings.{opening_of as opening_by};
+ghost use Rattle.mc_ui.specs.PanelKeys.{box_or_other, other_command as command_of_base, panel_command_of, plain_base as plain_base_of};
 
+use job_plans::Opens;
 use key_screen::{Base, Key};
+use panel_boxes::{Opening, opening_of};
 use panel_pair::{PanelCommand, key_command};
-
-/// Which box is opened on the thing that is selected.
-#[derive(Clone, Copy, Debug, Drop, PartialEq, Eq)]
-pub enum Opens {
-    Delete,
-    SourceMask,
-}
 
 /// What a key does while no box is open.
 #[derive(Debug, Drop)]
@@ -19,6 +15,10 @@ pub enum KeyCommand {
     Work(PanelCommand),
     ShowHelp,
     Open(Opens),
+    /// It asks for a new folder.
+    AskFolder,
+    /// It opens a box of the panels.
+    OpenPanelBox(Opening),
     Quit,
     Nothing,
 }
@@ -29,6 +29,16 @@ pub fn panel_command(key: Key) -> KeyCommand
 {
     match key_command(key) {
         Some(command) => KeyCommand::Work(command),
+        None => open_or_other(key),
+    }
+}
+
+/// What a key does that isn't a command of the panels.
+fn open_or_other(key: Key) -> KeyCommand
+    ensures { result ≡ box_or_other (opening_by key) key }
+{
+    match opening_of(key) {
+        Some(opening) => KeyCommand::OpenPanelBox(opening),
         None => other_command(plain_base(key)),
     }
 }
@@ -40,6 +50,7 @@ fn other_command(base: Base) -> KeyCommand
     match base {
         Base::F(1) => KeyCommand::ShowHelp,
         Base::F(5) => KeyCommand::Open(Opens::SourceMask),
+        Base::F(7) => KeyCommand::AskFolder,
         Base::F(8) => KeyCommand::Open(Opens::Delete),
         Base::F(10) => KeyCommand::Quit,
         _ => KeyCommand::Nothing,

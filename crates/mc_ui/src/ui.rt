@@ -2,17 +2,20 @@
 ghost use Rattle.std.specs.Prelude.{◌≡◌, ◌<◌, ◌^◌, [], true, is_some, None, OnErr, IfOk};
 ghost use Rattle.mc_ui.specs.declared.asks.KeyAct.{KeyAct as KeyActType};
 ghost use Rattle.mc_ui.specs.PanelKeys.{plain_base};
-ghost use Rattle.mc_ui.specs.Reading.{ReadsTree};
+ghost use Rattle.job_plans.specs.Reading.{ReadsTree};
 ghost use Rattle.mc_ui.specs.Screens.{HasSameSize, KeyLeads, WellAsked, WorksKey, after_message, at_second, frame_size, is_request, opened_screen, page_of, seen_box, settled as screen_settled, with_ask};
 
 mod boxes;
 mod copy_boxes;
+mod folder_box;
 mod look;
 mod panel_keys;
+mod panel_questions;
 
 use crate::asks::{Ask, KeyAct, Told};
+use crate::dialog::Dialog;
 use crate::panel_command::plain_base;
-use box_words::{Dialog, Message, closes_message};
+use box_words::{Message, closes_message};
 use job_reports::JobRows;
 use key_screen::Key;
 use mc_text::NoMemory;
@@ -21,7 +24,7 @@ use panel_pair::{FrameSize, Panels, page_of};
 use std::alloc::Global;
 use std::marker::Model;
 use std::mem;
-use tree_trait::Tree;
+use tree_trait::ReadTree;
 
 /// What the screen shows. Contracts see the panels, the second of the last key, the box and the message.
 #[derive(Drop)]
@@ -111,8 +114,8 @@ impl Ui {
     /// Works a key at a second of the clock, while these jobs are live. What was refused, the refusals say, and a message the
     /// first of them. Where the key asks for a job, or answers a trouble, the screen stays as it is until `settle` tells what
     /// became of that. A key of the panels takes what its command takes, each other the time of what is on the screen, and of the
-    /// paths and texts of the box; F5 and F8 go over the shown names once.
-    pub fn key<T: Tree>(
+    /// paths and texts of the box; F5 and F8 go over the shown names once, and a new folder's path is looked at name by name.
+    pub fn key<T: ReadTree>(
         &mut self,
         alloc: Global,
         tree: &mut T,
@@ -143,7 +146,7 @@ impl Ui {
     }
 
     /// Works a key.
-    fn work_key<T: Tree>(
+    fn work_key<T: ReadTree>(
         &mut self,
         alloc: Global,
         tree: &mut T,
@@ -171,7 +174,9 @@ impl Ui {
             Dialog::CopyTo(chosen, line) => self.key_in_target(
                 alloc, tree, chosen, line, rows, key,
             ),
+            Dialog::MakeFolder(line) => self.key_in_folder(alloc, tree, line, rows, key),
             Dialog::Trouble(trouble) => Ok(self.key_in_trouble(alloc, trouble, rows, key)),
+            Dialog::Panel(asks) => self.key_in_panel_box(alloc, tree, asks, key),
         }
     }
 

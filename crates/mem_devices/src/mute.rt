@@ -3,14 +3,14 @@ ghost use Rattle.std.specs.Prelude.{◌≡◌, ◌+◌, ◌^◌, ◌≤◌, leng
 ghost use Rattle.tree_trait.specs.FileSystem.{node};
 ghost use Rattle.tree_trait.specs.Calls.{Stat, ListFolder, ReadAt, ReadLink, MakeFile, WriteAt, SetMode, MakeFolder, MakeLink, Rename, RemoveFile, RemoveFolder, SyncFile, SyncFolder};
 ghost use Rattle.tree_trait.specs.Change.{current, found};
-ghost use Rattle.tree_trait.specs.Answers.{HasCause, IfKnown, Reads, Performs, IsMeta, IsListing, IsRead, IsLinkText, IsInRange, IsAscending};
+ghost use Rattle.tree_trait.specs.Answers.{HasCause, count_after, IfKnown, Reads, Performs, IsMeta, IsListing, IsRead, IsLinkText, IsInRange, IsAscending};
 ghost use Rattle.tree_trait.specs.Devices.{HasTaken, HasPut, HasRun};
 
 use mc_text::{Path, Text};
 use std::alloc::Global;
 use tree_trait::{
-    Children, Meta, OUTPUT_BYTES, RunOutcome, Sink, SinkError, Source, SourceFault, SpawnError,
-    Spawner, Tree, TreeError,
+    Children, Meta, OUTPUT_BYTES, ReadTree, RunOutcome, Sink, SinkError, Source, SourceFault,
+    SpawnError, Spawner, Tree, TreeError,
 };
 
 /// An object whose contents are hidden.
@@ -42,7 +42,7 @@ impl<T> Mute<T> {
     }
 }
 
-impl<T: Tree> Tree for Mute<T> {
+impl<T: ReadTree> ReadTree for Mute<T> {
     ghost contents = { λ m. None };
 
     ghost fault_count = { λ m. T.fault_count m.inner };
@@ -52,6 +52,7 @@ impl<T: Tree> Tree for Mute<T> {
         ensures same { T.contents self.new.inner ≡ T.contents self.old.inner }
         ensures in_range { IfOk result IsInRange }
         ensures cause { HasCause TreeError.Fault (T.fault_count self.old.inner) (T.fault_count self.new.inner) result }
+        ensures counts { T.fault_count self.new.inner ≡ count_after (T.fault_count self.old.inner) result }
     {
         self.inner.stat(alloc, path)
     }
@@ -62,6 +63,7 @@ impl<T: Tree> Tree for Mute<T> {
         ensures same { T.contents self.new.inner ≡ T.contents self.old.inner }
         ensures ascending { IfOk result (λ children. IsAscending children.names) }
         ensures cause { HasCause TreeError.Fault (T.fault_count self.old.inner) (T.fault_count self.new.inner) result }
+        ensures counts { T.fault_count self.new.inner ≡ count_after (T.fault_count self.old.inner) result }
     {
         self.inner.list(alloc, path)
     }
@@ -78,6 +80,7 @@ impl<T: Tree> Tree for Mute<T> {
         ensures same { T.contents self.new.inner ≡ T.contents self.old.inner }
         ensures in_room { IfOk result (λ count. count ≤ length into.old) }
         ensures cause { HasCause TreeError.Fault (T.fault_count self.old.inner) (T.fault_count self.new.inner) result }
+        ensures counts { T.fault_count self.new.inner ≡ count_after (T.fault_count self.old.inner) result }
     {
         self.inner.read_at(alloc, path, offset, into)
     }
@@ -88,15 +91,23 @@ impl<T: Tree> Tree for Mute<T> {
         ensures same { T.contents self.new.inner ≡ T.contents self.old.inner }
         ensures link_text { IfOk result IsLinkText }
         ensures cause { HasCause TreeError.Fault (T.fault_count self.old.inner) (T.fault_count self.new.inner) result }
+        ensures counts { T.fault_count self.new.inner ≡ count_after (T.fault_count self.old.inner) result }
     {
         self.inner.read_link(alloc, path)
     }
 
+    fn faults(&self) -> u64 {
+        self.inner.faults()
+    }
+}
+
+impl<T: Tree> Tree for Mute<T> {
     fn make_file(&mut self, alloc: Global, path: &Path, mode: u16) -> Result<(), TreeError>
         requires mode { mode ≤ 0o7777 }
         ensures passed_on { IfKnown (T.contents self.old.inner) (λ log.
             Performs log (MakeFile path.now mode) result (T.contents self.new.inner)) }
         ensures cause { HasCause TreeError.Fault (T.fault_count self.old.inner) (T.fault_count self.new.inner) result }
+        ensures counts { T.fault_count self.new.inner ≡ count_after (T.fault_count self.old.inner) result }
     {
         self.inner.make_file(alloc, path, mode)
     }
@@ -112,6 +123,7 @@ impl<T: Tree> Tree for Mute<T> {
         ensures passed_on { IfKnown (T.contents self.old.inner) (λ log.
             Performs log (WriteAt path.now offset bytes.now) result (T.contents self.new.inner)) }
         ensures cause { HasCause TreeError.Fault (T.fault_count self.old.inner) (T.fault_count self.new.inner) result }
+        ensures counts { T.fault_count self.new.inner ≡ count_after (T.fault_count self.old.inner) result }
     {
         self.inner.write_at(alloc, path, offset, bytes)
     }
@@ -121,6 +133,7 @@ impl<T: Tree> Tree for Mute<T> {
         ensures passed_on { IfKnown (T.contents self.old.inner) (λ log.
             Performs log (SetMode path.now mode) result (T.contents self.new.inner)) }
         ensures cause { HasCause TreeError.Fault (T.fault_count self.old.inner) (T.fault_count self.new.inner) result }
+        ensures counts { T.fault_count self.new.inner ≡ count_after (T.fault_count self.old.inner) result }
     {
         self.inner.set_mode(alloc, path, mode)
     }
@@ -130,6 +143,7 @@ impl<T: Tree> Tree for Mute<T> {
         ensures passed_on { IfKnown (T.contents self.old.inner) (λ log.
             Performs log (MakeFolder path.now mode) result (T.contents self.new.inner)) }
         ensures cause { HasCause TreeError.Fault (T.fault_count self.old.inner) (T.fault_count self.new.inner) result }
+        ensures counts { T.fault_count self.new.inner ≡ count_after (T.fault_count self.old.inner) result }
     {
         self.inner.make_folder(alloc, path, mode)
     }
@@ -139,6 +153,7 @@ impl<T: Tree> Tree for Mute<T> {
         ensures passed_on { IfKnown (T.contents self.old.inner) (λ log.
             Performs log (MakeLink path.now text.now) result (T.contents self.new.inner)) }
         ensures cause { HasCause TreeError.Fault (T.fault_count self.old.inner) (T.fault_count self.new.inner) result }
+        ensures counts { T.fault_count self.new.inner ≡ count_after (T.fault_count self.old.inner) result }
     {
         self.inner.make_link(alloc, path, text)
     }
@@ -147,6 +162,7 @@ impl<T: Tree> Tree for Mute<T> {
         ensures passed_on { IfKnown (T.contents self.old.inner) (λ log.
             Performs log (Rename from.now to.now) result (T.contents self.new.inner)) }
         ensures cause { HasCause TreeError.Fault (T.fault_count self.old.inner) (T.fault_count self.new.inner) result }
+        ensures counts { T.fault_count self.new.inner ≡ count_after (T.fault_count self.old.inner) result }
     {
         self.inner.rename(alloc, from, to)
     }
@@ -155,6 +171,7 @@ impl<T: Tree> Tree for Mute<T> {
         ensures passed_on { IfKnown (T.contents self.old.inner) (λ log.
             Performs log (RemoveFile path.now) result (T.contents self.new.inner)) }
         ensures cause { HasCause TreeError.Fault (T.fault_count self.old.inner) (T.fault_count self.new.inner) result }
+        ensures counts { T.fault_count self.new.inner ≡ count_after (T.fault_count self.old.inner) result }
     {
         self.inner.remove_file(alloc, path)
     }
@@ -163,6 +180,7 @@ impl<T: Tree> Tree for Mute<T> {
         ensures passed_on { IfKnown (T.contents self.old.inner) (λ log.
             Performs log (RemoveFolder path.now) result (T.contents self.new.inner)) }
         ensures cause { HasCause TreeError.Fault (T.fault_count self.old.inner) (T.fault_count self.new.inner) result }
+        ensures counts { T.fault_count self.new.inner ≡ count_after (T.fault_count self.old.inner) result }
     {
         self.inner.remove_folder(alloc, path)
     }
@@ -171,6 +189,7 @@ impl<T: Tree> Tree for Mute<T> {
         ensures passed_on { IfKnown (T.contents self.old.inner) (λ log.
             Performs log (SyncFile path.now) result (T.contents self.new.inner)) }
         ensures cause { HasCause TreeError.Fault (T.fault_count self.old.inner) (T.fault_count self.new.inner) result }
+        ensures counts { T.fault_count self.new.inner ≡ count_after (T.fault_count self.old.inner) result }
     {
         self.inner.sync_file(alloc, path)
     }
@@ -179,12 +198,9 @@ impl<T: Tree> Tree for Mute<T> {
         ensures passed_on { IfKnown (T.contents self.old.inner) (λ log.
             Performs log (SyncFolder path.now) result (T.contents self.new.inner)) }
         ensures cause { HasCause TreeError.Fault (T.fault_count self.old.inner) (T.fault_count self.new.inner) result }
+        ensures counts { T.fault_count self.new.inner ≡ count_after (T.fault_count self.old.inner) result }
     {
         self.inner.sync_folder(alloc, path)
-    }
-
-    fn faults(&self) -> u64 {
-        self.inner.faults()
     }
 }
 

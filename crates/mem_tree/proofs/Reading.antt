@@ -22,7 +22,7 @@ use Rattle.mem_tree.specs.Records.{changes_by, after}
 use Rattle.mem_tree.specs.Live.{standing}
 use Rattle.mem_tree.specs.Sound.{FitsNode, IsSound, IsLink}
 use Rattle.mem_tree.specs.Held.{Held, log_of, IsKept}
-use Rattle.mem_tree.specs.Counted.{failed_if, faults_after, is_due, IsCounted}
+use Rattle.mem_tree.specs.Counted.{failed_if, is_due, IsCounted}
 use Rattle.mem_tree.proofs.Leading.{lookup_leading}
 use Rattle.mem_tree.proofs.Agree.{refusal_standing, found_standing, mount_standing}
 use Rattle.mem_tree.proofs.Sounds.{sound_after}
@@ -110,12 +110,11 @@ pub told_no_fault : (A : Type 0) (s : FileSystem) (call : Call) (read : Result A
 told_no_fault A s call read P h is = refusal_of-cause s call Fault (subst (λ r. IsTold s call r P) is h)
 
 pub counted_read : (A : Type 0) (old new before : Held) (due : Bool) (read result : Result A TreeError) → before ≡ old → result ≡ failed_if due read → (read ≡ Err Fault → ⊥)
-    → due ≡ is_due before.fails before.called → new.called ≡ one_more before.called → new.faults ≡ faults_after result before.faults → new.fails ≡ before.fails → new.time ≡ before.time
+    → due ≡ is_due before.fails before.called → new.called ≡ one_more before.called → new.fails ≡ before.fails → new.time ≡ before.time
     → IsCounted old new result
-counted_read A old new before due read result same is calm was called faults fails time =
+counted_read A old new before due read result same is calm was called fails time =
     subst (λ h. IsCounted h new result) same (record {
       called = called;
-      faults = faults;
       fails = fails;
       time = time;
       due = λ h. sym was ∙ went due read calm (sym is ∙ h);

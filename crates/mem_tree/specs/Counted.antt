@@ -10,21 +10,14 @@ use Rattle.mem_tree.specs.Held.{Held}
 abbrev pub is_due : List ℕ → ℕ → Bool
 is_due fails called = list_any (λ number. number == one_more called) fails
 
--- a fault is counted
-abbrev pub faults_after : {A : Type 0} → Result A TreeError → ℕ → ℕ
-faults_after (Ok x) faults = faults
-faults_after (Err Fault) faults = one_more faults
-faults_after (Err e) faults = faults
-
 -- a reading call's answer, which is a fault in place of a value where the call is named to fail
 abbrev pub failed_if : {A : Type 0} → Bool → Result A TreeError → Result A TreeError
 failed_if due (Ok x) = if due then Err Fault else Ok x
 failed_if due (Err e) = Err e
 
--- A call is counted, and so is its fault. It has a fault only if it is named to fail, and is done only if it isn't.
+-- A call is counted. It has a fault only if it is named to fail, and is done only if it isn't.
 pub record IsCounted {A : Type 0} (old new : Held) (result : Result A TreeError) : Type 0 where
   pub called : new.called ≡ one_more old.called
-  pub faults : new.faults ≡ faults_after result old.faults
   pub fails : new.fails ≡ old.fails
   pub time : new.time ≡ old.time
   pub due : result ≡ Err Fault → is_due old.fails old.called ≡ true

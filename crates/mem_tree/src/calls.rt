@@ -3,7 +3,7 @@ ghost use Rattle.std.specs.Prelude.{◌≡◌, ◌+◌, ◌^◌, ◌≤◌, leng
 ghost use Rattle.tree_trait.specs.FileSystem.{node};
 ghost use Rattle.tree_trait.specs.Calls.{Stat, ListFolder, ReadAt, ReadLink, MakeFile, WriteAt, SetMode, MakeFolder, MakeLink, Rename, RemoveFile, RemoveFolder, SyncFile, SyncFolder};
 ghost use Rattle.tree_trait.specs.Change.{current, found};
-ghost use Rattle.tree_trait.specs.Answers.{HasCause, Performs, Reads, IsMeta, IsListing, IsRead, IsLinkText, IsInRange, IsAscending};
+ghost use Rattle.tree_trait.specs.Answers.{HasCause, count_after, Performs, Reads, IsMeta, IsListing, IsRead, IsLinkText, IsInRange, IsAscending};
 ghost use Rattle.mem_tree.specs.Counted.{IsCounted, TakesOnePlace};
 
 use crate::counts::{count, count_fault, fail_if};
@@ -17,9 +17,9 @@ use crate::tree::MemTree;
 use mc_text::{Path, Text};
 use std::alloc::Global;
 use tree_rules::{read_bytes, read_children, read_meta};
-use tree_trait::{Children, Meta, Tree, TreeError};
+use tree_trait::{Children, Meta, ReadTree, Tree, TreeError};
 
-impl Tree for MemTree {
+impl ReadTree for MemTree {
     ghost contents = { λ m. Some m.log };
 
     ghost fault_count = { λ m. m.faults };
@@ -29,6 +29,7 @@ impl Tree for MemTree {
         ensures same { self.new.log ≡ self.old.log }
         ensures in_range { IfOk result IsInRange }
         ensures cause { HasCause TreeError.Fault self.old.faults self.new.faults result }
+        ensures counts { self.new.faults ≡ count_after self.old.faults result }
         ensures counted { IsCounted self.old self.new result }
     {
         let due = count(&self.fails, &mut self.called);
@@ -44,6 +45,7 @@ impl Tree for MemTree {
         ensures same { self.new.log ≡ self.old.log }
         ensures ascending { IfOk result (λ children. IsAscending children.names) }
         ensures cause { HasCause TreeError.Fault self.old.faults self.new.faults result }
+        ensures counts { self.new.faults ≡ count_after self.old.faults result }
         ensures counted { IsCounted self.old self.new result }
     {
         let due = count(&self.fails, &mut self.called);
@@ -65,6 +67,7 @@ impl Tree for MemTree {
         ensures same { self.new.log ≡ self.old.log }
         ensures in_room { IfOk result (λ count. count ≤ length into.old) }
         ensures cause { HasCause TreeError.Fault self.old.faults self.new.faults result }
+        ensures counts { self.new.faults ≡ count_after self.old.faults result }
         ensures counted { IsCounted self.old self.new result }
     {
         let due = count(&self.fails, &mut self.called);
@@ -80,6 +83,7 @@ impl Tree for MemTree {
         ensures same { self.new.log ≡ self.old.log }
         ensures link_text { IfOk result IsLinkText }
         ensures cause { HasCause TreeError.Fault self.old.faults self.new.faults result }
+        ensures counts { self.new.faults ≡ count_after self.old.faults result }
         ensures counted { IsCounted self.old self.new result }
     {
         let due = count(&self.fails, &mut self.called);
@@ -89,10 +93,17 @@ impl Tree for MemTree {
         answer
     }
 
+    fn faults(&self) -> u64 {
+        self.faults
+    }
+}
+
+impl Tree for MemTree {
     fn make_file(&mut self, alloc: Global, path: &Path, mode: u16) -> Result<(), TreeError>
         requires mode { mode ≤ 0o7777 }
         ensures answer { Performs self.old.log (MakeFile path.now mode) result (Some self.new.log) }
         ensures cause { HasCause TreeError.Fault self.old.faults self.new.faults result }
+        ensures counts { self.new.faults ≡ count_after self.old.faults result }
         ensures counted { IsCounted self.old self.new result }
     {
         let due = count(&self.fails, &mut self.called);
@@ -112,6 +123,7 @@ impl Tree for MemTree {
         requires fits { offset + length bytes.now ≤ 2 ^ 63 }
         ensures answer { Performs self.old.log (WriteAt path.now offset bytes.now) result (Some self.new.log) }
         ensures cause { HasCause TreeError.Fault self.old.faults self.new.faults result }
+        ensures counts { self.new.faults ≡ count_after self.old.faults result }
         ensures counted { IsCounted self.old self.new result }
     {
         let due = count(&self.fails, &mut self.called);
@@ -125,6 +137,7 @@ impl Tree for MemTree {
         requires mode { mode ≤ 0o7777 }
         ensures answer { Performs self.old.log (SetMode path.now mode) result (Some self.new.log) }
         ensures cause { HasCause TreeError.Fault self.old.faults self.new.faults result }
+        ensures counts { self.new.faults ≡ count_after self.old.faults result }
         ensures counted { IsCounted self.old self.new result }
         ensures place { TakesOnePlace self.old self.new result }
     {
@@ -139,6 +152,7 @@ impl Tree for MemTree {
         requires mode { mode ≤ 0o7777 }
         ensures answer { Performs self.old.log (MakeFolder path.now mode) result (Some self.new.log) }
         ensures cause { HasCause TreeError.Fault self.old.faults self.new.faults result }
+        ensures counts { self.new.faults ≡ count_after self.old.faults result }
         ensures counted { IsCounted self.old self.new result }
     {
         let due = count(&self.fails, &mut self.called);
@@ -152,6 +166,7 @@ impl Tree for MemTree {
         requires link_text { IsLinkText text.now }
         ensures answer { Performs self.old.log (MakeLink path.now text.now) result (Some self.new.log) }
         ensures cause { HasCause TreeError.Fault self.old.faults self.new.faults result }
+        ensures counts { self.new.faults ≡ count_after self.old.faults result }
         ensures counted { IsCounted self.old self.new result }
     {
         let due = count(&self.fails, &mut self.called);
@@ -164,6 +179,7 @@ impl Tree for MemTree {
     fn rename(&mut self, alloc: Global, from: &Path, to: &Path) -> Result<(), TreeError>
         ensures answer { Performs self.old.log (Rename from.now to.now) result (Some self.new.log) }
         ensures cause { HasCause TreeError.Fault self.old.faults self.new.faults result }
+        ensures counts { self.new.faults ≡ count_after self.old.faults result }
         ensures counted { IsCounted self.old self.new result }
     {
         let due = count(&self.fails, &mut self.called);
@@ -176,6 +192,7 @@ impl Tree for MemTree {
     fn remove_file(&mut self, alloc: Global, path: &Path) -> Result<(), TreeError>
         ensures answer { Performs self.old.log (RemoveFile path.now) result (Some self.new.log) }
         ensures cause { HasCause TreeError.Fault self.old.faults self.new.faults result }
+        ensures counts { self.new.faults ≡ count_after self.old.faults result }
         ensures counted { IsCounted self.old self.new result }
         ensures place { TakesOnePlace self.old self.new result }
     {
@@ -189,6 +206,7 @@ impl Tree for MemTree {
     fn remove_folder(&mut self, alloc: Global, path: &Path) -> Result<(), TreeError>
         ensures answer { Performs self.old.log (RemoveFolder path.now) result (Some self.new.log) }
         ensures cause { HasCause TreeError.Fault self.old.faults self.new.faults result }
+        ensures counts { self.new.faults ≡ count_after self.old.faults result }
         ensures counted { IsCounted self.old self.new result }
         ensures place { TakesOnePlace self.old self.new result }
     {
@@ -202,6 +220,7 @@ impl Tree for MemTree {
     fn sync_file(&mut self, alloc: Global, path: &Path) -> Result<(), TreeError>
         ensures answer { Performs self.old.log (SyncFile path.now) result (Some self.new.log) }
         ensures cause { HasCause TreeError.Fault self.old.faults self.new.faults result }
+        ensures counts { self.new.faults ≡ count_after self.old.faults result }
         ensures counted { IsCounted self.old self.new result }
         ensures place { TakesOnePlace self.old self.new result }
     {
@@ -215,6 +234,7 @@ impl Tree for MemTree {
     fn sync_folder(&mut self, alloc: Global, path: &Path) -> Result<(), TreeError>
         ensures answer { Performs self.old.log (SyncFolder path.now) result (Some self.new.log) }
         ensures cause { HasCause TreeError.Fault self.old.faults self.new.faults result }
+        ensures counts { self.new.faults ≡ count_after self.old.faults result }
         ensures counted { IsCounted self.old self.new result }
         ensures place { TakesOnePlace self.old self.new result }
     {
@@ -223,9 +243,5 @@ impl Tree for MemTree {
         let answer = conclude(alloc, &mut self.stands, &mut self.records, due, plan);
         count_fault(&answer, &mut self.faults);
         answer
-    }
-
-    fn faults(&self) -> u64 {
-        self.faults
     }
 }

@@ -1,7 +1,7 @@
 //! How the calls of a tree in memory are counted, and which of them fail.
 ghost use Rattle.std.specs.Prelude.{◌≡◌};
-ghost use Rattle.tree_trait.specs.Answers.{HasCause, one_more};
-ghost use Rattle.mem_tree.specs.Counted.{is_due, faults_after, failed_if};
+ghost use Rattle.tree_trait.specs.Answers.{HasCause, count_after, one_more};
+ghost use Rattle.mem_tree.specs.Counted.{is_due, failed_if};
 
 use tree_trait::TreeError;
 
@@ -34,7 +34,7 @@ pub(crate) fn fail_if<A: Drop>(due: bool, answer: Result<A, TreeError>) -> Resul
 /// Counts the answer, if it is a fault.
 pub(crate) fn count_fault<A>(answer: &Result<A, TreeError>, faults: &mut u64)
     ensures cause { HasCause TreeError.Fault faults.old faults.new answer.now }
-    ensures count { faults.new ≡ faults_after answer.now faults.old }
+    ensures count { faults.new ≡ count_after faults.old answer.now }
 {
     if let Err(TreeError::Fault) = answer {
         *faults = faults.saturating_add(1);

@@ -7,7 +7,7 @@ use Rattle.resolving.specs.declared.error.ResolveError.{ResolveError}
 use Rattle.resolving.specs.declared.error.ResolveError.TheVariants as resolving
 use Rattle.resolving.specs.Errors.{CarriesCause}
 use Rattle.op_plan.specs.declared.error.PlanError.{PlanError}
-use Rattle.op_plan.specs.declared.error.PlanError.TheVariants.{Source, Target, Memory, BadMask}
+use Rattle.op_plan.specs.declared.error.PlanError.TheVariants.{NoSelection, Nested, Source, BadMask, Target, TargetThere, SameFile, IntoItself, TwoToOne, BadLinkText, Memory}
 
 abbrev pub is_tree_fault : TreeError → Bool
 is_tree_fault tree.Fault = true
@@ -27,6 +27,21 @@ is_fault e = false
 abbrev pub is_memory : PlanError → Bool
 is_memory Memory = true
 is_memory e = false
+
+-- why there is no path for a new thing: what was typed ends in no name, its folder isn't found, or something stands there; or no
+-- memory was left
+abbrev pub IsPlaceError : PlanError → Type 0
+IsPlaceError BadMask = ⊤
+IsPlaceError (Target e) = ⊤
+IsPlaceError (TargetThere path) = ⊤
+IsPlaceError Memory = ⊤
+IsPlaceError NoSelection = ⊥
+IsPlaceError (Nested one other) = ⊥
+IsPlaceError (Source path e) = ⊥
+IsPlaceError (SameFile path) = ⊥
+IsPlaceError (IntoItself source target) = ⊥
+IsPlaceError (TwoToOne one other) = ⊥
+IsPlaceError BadLinkText = ⊥
 
 -- an answer is the expected one, unless the device failed or no memory was left
 abbrev pub Plans : {A : Type 0} → Result A PlanError → Result A PlanError → Type 0

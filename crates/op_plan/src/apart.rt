@@ -7,7 +7,7 @@ ghost use Rattle.std.specs.Str.{bytes_eq};
 ghost use Rattle.std.specs.BTreeSet.{contains_text};
 ghost use Rattle.mc_text.specs.Routes.{Route, is_prefix, same_path};
 ghost use Rattle.op_plan.specs.declared.job.Pair.{Pair};
-ghost use Rattle.op_plan.specs.Answering.{Plans, is_fault, CarriesPlanCause};
+ghost use Rattle.op_plan.specs.Answering.{Plans, is_fault, CarriesPlanCause, IsPlaceError};
 ghost use Rattle.op_plan.specs.Meeting.{meet, has_two};
 ghost use Rattle.op_plan.specs.Checks.{none_same, none_across, none_into, none_twice, is_too_long, targets_in, targets_from, sources_in, paired, child_above};
 ghost use Rattle.op_plan.specs.Planning.{pairs_into};
@@ -69,6 +69,7 @@ pub fn target_in(alloc: Global, folder: &Path, name: &Name) -> Result<Path, Plan
     ensures fits { IfOk result (λ _. is_too_long folder.now name.now ≡ false) }
     ensures too_long { IfErr result (λ e. e ≢ PlanError.Memory
         → (e ≡ PlanError.Target ResolveError.TooLong) × (is_too_long folder.now name.now ≡ true)) }
+    ensures only { IfErr result IsPlaceError }
     ensures no_fault { IfErr result (λ e. is_fault e ≡ false) }
     ensures carried { IfErr result CarriesPlanCause }
 {

@@ -1,16 +1,16 @@
 //! Where a typed text leads: a folder, or a folder and what stands behind the text's last slash.
-ghost use Rattle.std.specs.Prelude.{◌≡◌, Ok};
+ghost use Rattle.std.specs.Prelude.{◌≡◌, IfErr, Ok};
 ghost use Rattle.tree_trait.specs.Change.{current};
 ghost use Rattle.tree_trait.specs.Answers.{IfKnown};
 ghost use Rattle.op_plan.specs.Destinations.{front_of, last_part, folder_there, folder_at};
-ghost use Rattle.op_plan.specs.Answering.{Plans, HasPlanCause};
+ghost use Rattle.op_plan.specs.Answering.{Plans, HasPlanCause, IsPlaceError};
 
 use crate::error::PlanError;
 use mc_text::Path;
 use resolving::{ResolveError, resolve_folder};
 use std::alloc::Global;
 use text_scan::split_at_last_mark;
-use tree_trait::Tree;
+use tree_trait::ReadTree;
 
 /// What stands before the last slash of a text, the root's slash where nothing else does, and what stands behind it.
 pub fn split_last(text: &str) -> (&str, &str)
@@ -30,7 +30,7 @@ pub fn split_last(text: &str) -> (&str, &str)
 }
 
 /// The folder that the whole text leads to, if it leads to one.
-pub fn folder_there<T: Tree>(
+pub fn folder_there<T: ReadTree>(
     alloc: Global,
     tree: &mut T,
     from: &Path,
@@ -49,7 +49,7 @@ pub fn folder_there<T: Tree>(
 }
 
 /// The folder of a target.
-pub fn folder_at<T: Tree>(
+pub fn folder_at<T: ReadTree>(
     alloc: Global,
     tree: &mut T,
     from: &Path,
@@ -58,6 +58,7 @@ pub fn folder_at<T: Tree>(
     ensures answer { IfKnown (T.contents tree.old) (λ log. Plans (folder_at (current log) from.now front.now) result) }
     ensures same { T.contents tree.new ≡ T.contents tree.old }
     ensures cause { HasPlanCause (T.fault_count tree.old) (T.fault_count tree.new) result }
+    ensures only { IfErr result IsPlaceError }
 {
     match resolve_folder(alloc, tree, from, front) {
         Ok(folder) => Ok(folder),

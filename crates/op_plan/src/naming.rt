@@ -1,6 +1,6 @@
 //! Which sources a mask leaves in, and the names of their targets.
 ghost use Rattle.std.specs.Prelude.{◌≡◌, ◌≢◌, false, filter, length, IfOk, IfErr, None, Some, chars};
-ghost use Rattle.op_plan.specs.Answering.{is_fault, CarriesPlanCause};
+ghost use Rattle.op_plan.specs.Answering.{is_fault, CarriesPlanCause, IsPlaceError};
 ghost use Rattle.op_plan.specs.Masks.{keeps_name};
 ghost use Rattle.op_plan.specs.Naming.{pattern_in, chosen, has_match, target_text, target_name, all_of, names_for, checked_name};
 
@@ -123,6 +123,7 @@ pub fn name_in(alloc: Global, text: &str) -> Result<Name, PlanError>
     ensures named { IfOk result (λ name. checked_name text.now ≡ Some name) }
     ensures text { IfOk result (λ name. name ≡ text.now) }
     ensures bad { IfErr result (λ e. e ≢ PlanError.Memory → (e ≡ PlanError.BadMask) × (checked_name text.now ≡ None)) }
+    ensures only { IfErr result IsPlaceError }
     ensures no_fault { IfErr result (λ e. is_fault e ≡ false) }
     ensures carried { IfErr result CarriesPlanCause }
 {

@@ -2,7 +2,7 @@
 ghost use Rattle.std.specs.Prelude.{◌≡◌, ◌≢◌, ◌≤◌, ◌==◌, false, All, Ok, IfOk, IfErr, Some, [], ◌∷◌};
 ghost use Rattle.tree_trait.specs.Change.{current};
 ghost use Rattle.tree_trait.specs.Answers.{IfKnown};
-ghost use Rattle.op_plan.specs.Answering.{Plans, and_then, is_fault, HasPlanCause, CarriesPlanCause};
+ghost use Rattle.op_plan.specs.Answering.{Plans, and_then, is_fault, HasPlanCause, CarriesPlanCause, IsPlaceError};
 ghost use Rattle.std.specs.Bool.{OnTrue, OnFalse};
 ghost use Rattle.std.specs.List.{list_any};
 ghost use Rattle.tree_trait.specs.Answers.{IsLinkText};
@@ -28,10 +28,14 @@ use resolving::ResolveError;
 use std::alloc::Global;
 use std::convert::AsStr;
 use tagging::ShellPattern;
-use tree_trait::{Tree, TreeError};
+use tree_trait::{ReadTree, TreeError};
 
 /// The job that a request comes to, or the first reason why it must not be begun.
-pub fn make_plan<T: Tree>(alloc: Global, tree: &mut T, request: Request) -> Result<Job, PlanError>
+pub fn make_plan<T: ReadTree>(
+    alloc: Global,
+    tree: &mut T,
+    request: Request,
+) -> Result<Job, PlanError>
     requires { HasMode request }
     ensures answer { IfKnown (T.contents tree.old) (λ log. Plans (plan_of (current log) request) result) }
     ensures same { T.contents tree.new ≡ T.contents tree.old }
@@ -61,7 +65,7 @@ pub fn make_plan<T: Tree>(alloc: Global, tree: &mut T, request: Request) -> Resu
 }
 
 /// The copy of sources.
-fn plan_copy<T: Tree>(
+fn plan_copy<T: ReadTree>(
     alloc: Global,
     tree: &mut T,
     sources: Paths,
@@ -79,7 +83,7 @@ fn plan_copy<T: Tree>(
 }
 
 /// The move of sources.
-fn plan_move<T: Tree>(
+fn plan_move<T: ReadTree>(
     alloc: Global,
     tree: &mut T,
     sources: Paths,
@@ -97,7 +101,7 @@ fn plan_move<T: Tree>(
 }
 
 /// The deletion of sources.
-fn plan_deletion<T: Tree>(alloc: Global, tree: &mut T, sources: Paths) -> Result<Job, PlanError>
+fn plan_deletion<T: ReadTree>(alloc: Global, tree: &mut T, sources: Paths) -> Result<Job, PlanError>
     ensures answer { IfKnown (T.contents tree.old) (λ log. Plans (and_then (sources_of (current log) sources) (λ left. Ok (Job.Delete left))) result) }
     ensures same { T.contents tree.new ≡ T.contents tree.old }
     ensures cause { HasPlanCause (T.fault_count tree.old) (T.fault_count tree.new) result }
@@ -108,7 +112,7 @@ fn plan_deletion<T: Tree>(alloc: Global, tree: &mut T, sources: Paths) -> Result
 }
 
 /// The setting of a mode.
-fn plan_mode<T: Tree>(
+fn plan_mode<T: ReadTree>(
     alloc: Global,
     tree: &mut T,
     sources: Paths,
@@ -125,7 +129,7 @@ fn plan_mode<T: Tree>(
 }
 
 /// The making of a folder.
-fn plan_folder<T: Tree>(
+fn plan_folder<T: ReadTree>(
     alloc: Global,
     tree: &mut T,
     from: &Path,
@@ -142,7 +146,7 @@ fn plan_folder<T: Tree>(
 
 /// The sources that the mask leaves in, each with its target.
 #[tactic(auto, using(crate::proofs::AskingLemmas::masked_pairs, crate::proofs::AskingLemmas::kept_pairs))]
-fn plan_pairs<T: Tree>(
+fn plan_pairs<T: ReadTree>(
     alloc: Global,
     tree: &mut T,
     sources: Paths,
@@ -168,7 +172,7 @@ fn plan_pairs<T: Tree>(
 }
 
 /// The folder that the whole text leads to, if its last part asks for nothing of a source's name.
-fn folder_for<T: Tree>(
+fn folder_for<T: ReadTree>(
     alloc: Global,
     tree: &mut T,
     mask: &Mask,
@@ -208,7 +212,7 @@ fn plan_into(
 
 /// The sources, each with the target that the mask makes of its name, in the folder that the front leads to.
 #[tactic(auto, using(crate::proofs::AskingLemmas::placed_pairs))]
-fn plan_masked<T: Tree>(
+fn plan_masked<T: ReadTree>(
     alloc: Global,
     tree: &mut T,
     pattern: &Option<ShellPattern>,
@@ -231,7 +235,11 @@ fn plan_masked<T: Tree>(
 }
 
 /// The sources: at least one, of which none lies in another, and each is there.
-fn plan_sources<T: Tree>(alloc: Global, tree: &mut T, sources: Paths) -> Result<Paths, PlanError>
+fn plan_sources<T: ReadTree>(
+    alloc: Global,
+    tree: &mut T,
+    sources: Paths,
+) -> Result<Paths, PlanError>
     ensures answer { IfKnown (T.contents tree.old) (λ log. Plans (sources_of (current log) sources) result) }
     ensures same { T.contents tree.new ≡ T.contents tree.old }
     ensures cause { HasPlanCause (T.fault_count tree.old) (T.fault_count tree.new) result }
@@ -247,7 +255,7 @@ fn plan_sources<T: Tree>(alloc: Global, tree: &mut T, sources: Paths) -> Result<
 }
 
 /// The path that a text leads to, at which nothing stands yet.
-fn plan_place<T: Tree>(
+pub fn plan_place<T: ReadTree>(
     alloc: Global,
     tree: &mut T,
     from: &Path,
@@ -257,6 +265,7 @@ fn plan_place<T: Tree>(
     ensures same { T.contents tree.new ≡ T.contents tree.old }
     ensures cause { HasPlanCause (T.fault_count tree.old) (T.fault_count tree.new) result }
     ensures named { IfOk result (λ path. last_of path ≡ Some (last_part to.now)) }
+    ensures only { IfErr result IsPlaceError }
 {
     let (front, last) = split_last(to);
     let name = name_in(alloc, last)?;
@@ -266,11 +275,12 @@ fn plan_place<T: Tree>(
 }
 
 /// Refuses a path at which something stands.
-fn refuse_there<T: Tree>(alloc: Global, tree: &mut T, target: Path) -> Result<Path, PlanError>
+fn refuse_there<T: ReadTree>(alloc: Global, tree: &mut T, target: Path) -> Result<Path, PlanError>
     ensures answer { IfKnown (T.contents tree.old) (λ log. Plans (nothing_there (refusal_of (current log) (Stat target)) target) result) }
     ensures same { T.contents tree.new ≡ T.contents tree.old }
     ensures cause { HasPlanCause (T.fault_count tree.old) (T.fault_count tree.new) result }
     ensures place { IfOk result (λ path. path ≡ target) }
+    ensures only { IfErr result IsPlaceError }
 {
     match tree.stat(alloc, &target) {
         Ok(_) => Err(PlanError::TargetThere(target)),
@@ -282,7 +292,7 @@ fn refuse_there<T: Tree>(alloc: Global, tree: &mut T, target: Path) -> Result<Pa
 }
 
 /// The link that a text makes where another leads.
-fn plan_link<T: Tree>(
+fn plan_link<T: ReadTree>(
     alloc: Global,
     tree: &mut T,
     from: &Path,

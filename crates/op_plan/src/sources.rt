@@ -10,7 +10,7 @@ use crate::error::PlanError;
 use crate::meeting::first_meeting;
 use mc_text::Path;
 use std::alloc::Global;
-use tree_trait::{Tree, TreeError};
+use tree_trait::{ReadTree, TreeError};
 
 /// Refuses sources of which one is another or lies in it.
 pub fn refuse_nested(alloc: Global, sources: &[Path]) -> Result<(), PlanError>
@@ -29,7 +29,11 @@ pub fn refuse_nested(alloc: Global, sources: &[Path]) -> Result<(), PlanError>
 }
 
 /// Looks at each source.
-pub fn look_at_all<T: Tree>(alloc: Global, tree: &mut T, sources: &[Path]) -> Result<(), PlanError>
+pub fn look_at_all<T: ReadTree>(
+    alloc: Global,
+    tree: &mut T,
+    sources: &[Path],
+) -> Result<(), PlanError>
     ensures answer { IfKnown (T.contents tree.old) (λ log. Plans (all_there (current log) sources.now) result) }
     ensures same { T.contents tree.new ≡ T.contents tree.old }
     ensures cause { HasPlanCause (T.fault_count tree.old) (T.fault_count tree.new) result }

@@ -69,6 +69,7 @@ fn command_of(page: &mut Page, word: &str, field: &str) -> Option<PanelCommand> 
         "toggle" => Some(PanelCommand::Toggle),
         "invert" => Some(PanelCommand::Invert),
         "compare" => Some(PanelCommand::Compare),
+        "hide" => Some(PanelCommand::ToggleHidden),
         "brief" => Some(PanelCommand::ShowBrief),
         _ => typed_command_of(page, word, field),
     }

@@ -18,7 +18,7 @@ mod words;
 pub use error::FormatError;
 pub use format::{Column, FULL_FORMAT, Field, Format};
 pub use item::{Item, LinkKind};
-pub use listing::Listing;
+pub use listing::{Listing, ShownItems};
 pub use painting::{Window, heading, rows};
 pub use reading::read_listing;
 pub use wish::{Order, Wish};

@@ -1,7 +1,7 @@
 //! The listing of a folder.
 ghost use Rattle.std.specs.Prelude.{◌≡◌, ◌<◌, ◌≤◌, None, MatchOption, length, option_copied, slice_index_or, IfOk, OnOk, OnErr};
 ghost use Rattle.tree_trait.specs.Answers.{IsAscending};
-ghost use Rattle.panel_listing.specs.Arranging.{names_of};
+ghost use Rattle.panel_listing.specs.Arranging.{AreSound, items_at, names_of};
 ghost use Rattle.panel_listing.specs.Orders.{AreArranged};
 ghost use Rattle.panel_listing.specs.Listings.{rows_in, place_of};
 
@@ -43,6 +43,20 @@ impl Model for Listing {
     ghost invariant = { λ l. AreSound l.items.items l.shown };
 }
 
+/// Which items of a listing are to be shown, and in which order. Contracts see their numbers.
+#[derive(Drop)]
+pub struct ShownItems {
+    numbers: Places,
+}
+
+impl Model for ShownItems {
+    ghost use Rattle.std.specs.Prelude.{List, ℕ};
+
+    ghost Value = { List ℕ };
+
+    ghost view = { λ s. s.numbers };
+}
+
 impl Listing {
     /// The listing of these items, which stand in the order of their names.
     pub(crate) fn of(
@@ -67,6 +81,24 @@ impl Listing {
         })
     }
 
+    /// Which items would be shown by another wish, and in which order. The listing stays as it is.
+    pub fn shown_by(&self, alloc: Global, wish: &Wish) -> Result<ShownItems, NoMemory>
+        ensures sound { IfOk result (AreSound self.now.items) }
+        ensures arranged { IfOk result (λ shown. AreArranged wish.now self.now.items (items_at self.now.items shown)) }
+    {
+        let numbers = arranged(alloc, self.items.as_slice(), wish)?;
+        Ok(ShownItems { numbers })
+    }
+
+    /// Shows these items. It takes no memory.
+    pub fn show(&mut self, shown: ShownItems)
+        requires { AreSound self.old.items shown }
+        ensures { self.new ≡ record self.old { shown = items_at self.old.items shown } }
+    {
+        let ShownItems { numbers } = shown;
+        self.shown = numbers;
+    }
+
     /// Shows the items in another order, or others of them. The folder isn't read again.
     pub fn arrange(&mut self, alloc: Global, wish: &Wish) -> Result<(), NoMemory>
         ensures arranged { OnOk result (AreArranged wish.now self.old.items self.new.shown) }
@@ -75,8 +107,8 @@ impl Listing {
         ensures unnamed { self.new.unnamed ≡ self.old.unnamed }
         ensures refused { OnErr result (self.new ≡ self.old) }
     {
-        let shown = arranged(alloc, self.items.as_slice(), wish)?;
-        self.shown = shown;
+        let shown = self.shown_by(alloc, wish)?;
+        self.show(shown);
         Ok(())
     }
 

@@ -1,7 +1,7 @@
 //! A look at one child of a folder.
 ghost use Rattle.std.specs.Prelude.{◌≡◌, ◌⊎◌, Some, IfOk, IfErr};
 ghost use Rattle.tree_trait.specs.Change.{current};
-ghost use Rattle.tree_trait.specs.Answers.{IfKnown, HasCause};
+ghost use Rattle.tree_trait.specs.Answers.{IfKnown, HasCause, count_after};
 ghost use Rattle.resolving.specs.declared.walking.Wanted.TheVariants.{AnyThing};
 ghost use Rattle.resolving.specs.Resolution.{resolved};
 ghost use Rattle.panel_listing.specs.Items.{child_item, child_seen, item_of, unseen, link_of, link_to, seen_at, target_seen};
@@ -10,7 +10,7 @@ use crate::item::{Item, LinkKind};
 use mc_text::{Kind, Name, Path, PathError};
 use resolving::{ResolveError, resolve_thing};
 use std::alloc::Global;
-use tree_trait::{Tree, TreeError};
+use tree_trait::{ReadTree, TreeError};
 
 /// What a look at a path shows.
 #[derive(Clone, Copy, Debug)]
@@ -23,7 +23,7 @@ pub struct Seen {
 
 /// Looks at what stands under a name of a folder. Where the look is refused, the item says no more than the name; only a
 /// fault and want of memory are errors.
-pub fn look_at_child<T: Tree>(
+pub fn look_at_child<T: ReadTree>(
     alloc: Global,
     tree: &mut T,
     folder: &Path,
@@ -35,6 +35,7 @@ pub fn look_at_child<T: Tree>(
     ensures refused { IfErr result (λ e. (e ≡ TreeError.Memory) ⊎ (e ≡ TreeError.Fault)) }
     ensures same { T.contents tree.new ≡ T.contents tree.old }
     ensures cause { HasCause TreeError.Fault (T.fault_count tree.old) (T.fault_count tree.new) result }
+    ensures counts { T.fault_count tree.new ≡ count_after (T.fault_count tree.old) result }
 {
     match child_seen(alloc, tree, folder, &name)? {
         None => Ok(unseen(name)),
@@ -46,7 +47,7 @@ pub fn look_at_child<T: Tree>(
 }
 
 /// What a look at a folder's child shows; nothing where it is refused, or the child's path is too long.
-fn child_seen<T: Tree>(
+fn child_seen<T: ReadTree>(
     alloc: Global,
     tree: &mut T,
     folder: &Path,
@@ -57,6 +58,7 @@ fn child_seen<T: Tree>(
     ensures refused { IfErr result (λ e. (e ≡ TreeError.Memory) ⊎ (e ≡ TreeError.Fault)) }
     ensures same { T.contents tree.new ≡ T.contents tree.old }
     ensures cause { HasCause TreeError.Fault (T.fault_count tree.old) (T.fault_count tree.new) result }
+    ensures counts { T.fault_count tree.new ≡ count_after (T.fault_count tree.old) result }
 {
     match folder.join(alloc, name) {
         Ok(path) => seen_at(alloc, tree, &path),
@@ -66,12 +68,13 @@ fn child_seen<T: Tree>(
 }
 
 /// What a look at a path shows; nothing where it is refused.
-fn seen_at<T: Tree>(alloc: Global, tree: &mut T, path: &Path) -> Result<Option<Seen>, TreeError>
+fn seen_at<T: ReadTree>(alloc: Global, tree: &mut T, path: &Path) -> Result<Option<Seen>, TreeError>
     ensures answer { IfKnown (T.contents tree.old) (λ log.
         IfOk result (λ seen. seen ≡ seen_at (current log) path.now)) }
     ensures refused { IfErr result (λ e. (e ≡ TreeError.Memory) ⊎ (e ≡ TreeError.Fault)) }
     ensures same { T.contents tree.new ≡ T.contents tree.old }
     ensures cause { HasCause TreeError.Fault (T.fault_count tree.old) (T.fault_count tree.new) result }
+    ensures counts { T.fault_count tree.new ≡ count_after (T.fault_count tree.old) result }
 {
     match tree.stat(alloc, path) {
         Ok(meta) => Ok(Some(Seen {
@@ -115,7 +118,7 @@ fn unseen(name: Name) -> Item
 }
 
 /// Where a thing of this kind leads, that stands under a name of a folder.
-fn link_of<T: Tree>(
+fn link_of<T: ReadTree>(
     alloc: Global,
     tree: &mut T,
     folder: &Path,
@@ -127,6 +130,7 @@ fn link_of<T: Tree>(
     ensures refused { IfErr result (λ e. (e ≡ TreeError.Memory) ⊎ (e ≡ TreeError.Fault)) }
     ensures same { T.contents tree.new ≡ T.contents tree.old }
     ensures cause { HasCause TreeError.Fault (T.fault_count tree.old) (T.fault_count tree.new) result }
+    ensures counts { T.fault_count tree.new ≡ count_after (T.fault_count tree.old) result }
 {
     match kind {
         Kind::Link => follow(alloc, tree, folder, name),
@@ -135,7 +139,7 @@ fn link_of<T: Tree>(
 }
 
 /// Where a link leads.
-fn follow<T: Tree>(
+fn follow<T: ReadTree>(
     alloc: Global,
     tree: &mut T,
     folder: &Path,
@@ -146,6 +150,7 @@ fn follow<T: Tree>(
     ensures refused { IfErr result (λ e. (e ≡ TreeError.Memory) ⊎ (e ≡ TreeError.Fault)) }
     ensures same { T.contents tree.new ≡ T.contents tree.old }
     ensures cause { HasCause TreeError.Fault (T.fault_count tree.old) (T.fault_count tree.new) result }
+    ensures counts { T.fault_count tree.new ≡ count_after (T.fault_count tree.old) result }
 {
     match resolve_thing(alloc, tree, folder, name.text()) {
         Ok(target) => Ok(link_to(seen_at(alloc, tree, &target)?)),

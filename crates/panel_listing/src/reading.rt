@@ -2,7 +2,7 @@
 ghost use Rattle.std.specs.Prelude.{◌≡◌, ◌⊎◌, ◌∷◌, ◌++◌, [], map, IfOk, IfErr, OnOk};
 ghost use Rattle.tree_trait.specs.Calls.{ListFolder};
 ghost use Rattle.tree_trait.specs.Change.{current};
-ghost use Rattle.tree_trait.specs.Answers.{IfKnown, Reads, HasCause};
+ghost use Rattle.tree_trait.specs.Answers.{IfKnown, Reads, HasCause, count_after};
 ghost use Rattle.panel_listing.specs.Items.{child_item};
 ghost use Rattle.panel_listing.specs.Arranging.{names_of};
 ghost use Rattle.panel_listing.specs.Orders.{AreArranged};
@@ -14,14 +14,14 @@ use crate::looking::look_at_child;
 use crate::wish::Wish;
 use mc_text::{Name, NoMemory, Path};
 use std::alloc::{AllocError, Global};
-use tree_trait::{Tree, TreeError};
+use tree_trait::{ReadTree, TreeError};
 
 /// Reads a folder, looks at each of its children, and where that is a link at what it leads to. Refused as `list` of the
 /// folder is, or by a fault or want of memory in a later look; a child that can't be looked at for another cause is listed
 /// with zeros.
 ///
 /// One look for each child, and for each link a few more; then the time of `Listing::arrange`.
-pub fn read_listing<T: Tree>(
+pub fn read_listing<T: ReadTree>(
     alloc: Global,
     tree: &mut T,
     folder: &Path,
@@ -35,6 +35,7 @@ pub fn read_listing<T: Tree>(
     // A look changes nothing.
     ensures same { T.contents tree.new ≡ T.contents tree.old }
     ensures cause { HasCause TreeError.Fault (T.fault_count tree.old) (T.fault_count tree.new) result }
+    ensures counts { T.fault_count tree.new ≡ count_after (T.fault_count tree.old) result }
 {
     let children = tree.list(alloc, folder)?;
     let items = items_of(alloc, tree, folder, children.names.0)?;
@@ -53,7 +54,7 @@ fn has_parent(folder: &Path) -> bool
 }
 
 /// The items of a folder's children. The last one is looked at first, so that each name is taken off the end.
-fn items_of<T: Tree>(
+fn items_of<T: ReadTree>(
     alloc: Global,
     tree: &mut T,
     folder: &Path,
@@ -65,6 +66,7 @@ fn items_of<T: Tree>(
     ensures refused { IfErr result (λ e. (e ≡ TreeError.Memory) ⊎ (e ≡ TreeError.Fault)) }
     ensures same { T.contents tree.new ≡ T.contents tree.old }
     ensures cause { HasCause TreeError.Fault (T.fault_count tree.old) (T.fault_count tree.new) result }
+    ensures counts { T.fault_count tree.new ≡ count_after (T.fault_count tree.old) result }
 {
     let mut items = Vec::new(alloc);
     while let Some(name) = names.pop() {

@@ -14,7 +14,7 @@ use Rattle.mc_panels.specs.declared.going.Way.TheVariants.{Nowhere, Up, Into}
 use Rattle.mc_panels.specs.Panels.{PanelState, current_text}
 use Rattle.mc_panels.specs.Goings.{way_of, Reads, ShowsNext, ShowsResolved}
 use Rattle.panel_pair.specs.declared.command.PanelCommand.{PanelCommand}
-use Rattle.panel_pair.specs.declared.command.PanelCommand.TheVariants.{Move, SwitchPanel, SwapPanels, Enter, ReadAgain, Back, Forward, Toggle, Invert, Select, Unselect, Compare, Arrange, ShowColumns, ShowBrief}
+use Rattle.panel_pair.specs.declared.command.PanelCommand.TheVariants.{Move, SwitchPanel, SwapPanels, Enter, ReadAgain, Back, Forward, Toggle, Invert, Select, Unselect, Compare, Arrange, ShowColumns, ShowBrief, ToggleHidden, SwitchPatterns}
 use Rattle.panel_pair.specs.Commands.{CommandReads}
 use Rattle.panel_pair.specs.Openings.{ShowsPath}
 use Rattle.panel_pair.specs.Readings.{HasReadCause, ReadsTree}
@@ -71,6 +71,8 @@ command_cause Compare log p e h = memory_cause log e h
 command_cause (Arrange arrangement) log p e h = memory_cause log e h
 command_cause (ShowColumns format) log p e h = memory_cause log e h
 command_cause ShowBrief log p e h = memory_cause log e h
+command_cause ToggleHidden log p e h = memory_cause log e h
+command_cause SwitchPatterns log p e h = memory_cause log e h
 
 -- that of a path to begin with
 pub path_cause : (log : CallLog) (path : Route) (e : ResolveError) → ShowsPath log path (Err e) → HasReadCause log e

@@ -1,8 +1,10 @@
 -- What each command makes of the panels (mc(1), "Directory Panels", "Keys", "Menu Bar"; own where mc has a mouse or a menu).
-use Rattle.std.specs.Prelude.{◌≡◌, ℕ, Result, Ok, Err, ⊤}
+use Rattle.std.specs.Prelude.{◌≡◌, ℕ, not, Result, Ok, Err, ⊤}
 use Rattle.tree_trait.specs.Change.{CallLog}
 use Rattle.resolving.specs.declared.error.ResolveError.{ResolveError}
 use Rattle.resolving.specs.declared.error.ResolveError.TheVariants.{Memory}
+use Rattle.mc_panels.specs.declared.arranging.Arrangement.{Arrangement}
+use Rattle.mc_panels.specs.declared.arranging.Arrangement.TheVariants.{Hidden}
 use Rattle.mc_panels.specs.declared.going.Going.{Going}
 use Rattle.mc_panels.specs.Panels.{PanelState, moved_by, with_format, with_brief}
 use Rattle.mc_panels.specs.Readings.{ShowsFolder, read_again}
@@ -11,12 +13,12 @@ use Rattle.mc_panels.specs.Selections.{toggled_current, selected, unselected, in
 use Rattle.mc_panels.specs.Arrangements.{arranged_again, HasSameItems}
 use Rattle.mc_panels.specs.Comparisons.{compared}
 use Rattle.panel_pair.specs.declared.command.PanelCommand.{PanelCommand}
-use Rattle.panel_pair.specs.declared.command.PanelCommand.TheVariants.{Move, SwitchPanel, SwapPanels, Enter, ReadAgain, Back, Forward, Toggle, Invert, Select, Unselect, Compare, Arrange, ShowColumns, ShowBrief}
-use Rattle.panel_pair.specs.Pairs.{PairState, opposite, with_current}
+use Rattle.panel_pair.specs.declared.command.PanelCommand.TheVariants.{Move, SwitchPanel, SwapPanels, Enter, ReadAgain, Back, Forward, Toggle, Invert, Select, Unselect, Compare, Arrange, ShowColumns, ShowBrief, ToggleHidden, SwitchPatterns}
+use Rattle.panel_pair.specs.Pairs.{PairState, opposite, other_kind, with_current}
 
 -- Tab makes the other panel current; it stays on its side
 abbrev pub switched : PairState → PairState
-switched pair = record { current = pair.other; other = pair.current; side = opposite pair.side }
+switched pair = record pair { current = pair.other; other = pair.current; side = opposite pair.side }
 
 -- C-u swaps the panels; the left or the right one stays current
 abbrev pub swapped : PairState → PairState
@@ -29,6 +31,15 @@ compared_pair pair = record pair { current = compared pair.other pair.current; o
 -- the current panel goes to a folder, or there is none to go to; the rest stays
 abbrev pub Goes : (PanelState → Going → Type 0) → PairState → PairState → Type 0
 Goes leads before after = ((going : Going) × leads after.current going) × (after ≡ with_current after.current before)
+
+-- both panels show their items by another wish; of each it is the same items as before
+pub record BothArrange (arrangement : Arrangement) (page : ℕ) (before after : PairState) : Type 0 where
+  pub on_current : HasSameItems before.current.listing after.current.listing
+  pub on_other : HasSameItems before.other.listing after.other.listing
+  pub done : after ≡ record before {
+    current = arranged_again page arrangement after.current.listing before.current;
+    other = arranged_again page arrangement after.other.listing before.other;
+  }
 
 -- what a command makes of the panels, a page having so many rows
 abbrev pub CommandDone : PanelCommand → ℕ → PairState → PairState → Type 0
@@ -49,6 +60,8 @@ CommandDone (Arrange arrangement) page before after =
     × (after ≡ with_current (arranged_again page arrangement after.current.listing before.current) before)
 CommandDone (ShowColumns format) page before after = after ≡ with_current (with_format page format before.current) before
 CommandDone ShowBrief page before after = after ≡ with_current (with_brief page before.current) before
+CommandDone ToggleHidden page before after = BothArrange (Hidden (not before.current.wish.hidden)) page before after
+CommandDone SwitchPatterns page before after = after ≡ record before { patterns = other_kind before.patterns }
 
 -- a command that reads nothing is refused for want of memory alone
 abbrev pub ReadsNothing : Result PanelState ResolveError → Type 0
@@ -72,3 +85,5 @@ CommandReads Compare log before result = ReadsNothing result
 CommandReads (Arrange arrangement) log before result = ReadsNothing result
 CommandReads (ShowColumns format) log before result = ReadsNothing result
 CommandReads ShowBrief log before result = ReadsNothing result
+CommandReads ToggleHidden log before result = ReadsNothing result
+CommandReads SwitchPatterns log before result = ReadsNothing result

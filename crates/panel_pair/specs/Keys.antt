@@ -4,7 +4,7 @@ use Rattle.key_screen.specs.declared.keys.Key.{Key}
 use Rattle.key_screen.specs.declared.keys.Base.{Base}
 use Rattle.key_screen.specs.declared.keys.Base.TheVariants as key
 use Rattle.panel_pair.specs.declared.command.PanelCommand.{PanelCommand}
-use Rattle.panel_pair.specs.declared.command.PanelCommand.TheVariants.{Move, SwitchPanel, SwapPanels, Enter, ReadAgain, Back, Forward, Toggle, Invert}
+use Rattle.panel_pair.specs.declared.command.PanelCommand.TheVariants.{Move, SwitchPanel, SwapPanels, Enter, ReadAgain, Back, Forward, Toggle, Invert, ToggleHidden}
 
 -- C-r, C-t, C-u
 abbrev pub control_command : ℕ → Option PanelCommand
@@ -29,9 +29,13 @@ plain_command (key.Char code) = if code == 42 then Some Invert else None
 plain_command (key.Ctrl letter) = control_command letter
 plain_command other = None
 
--- M-u, M-y
+-- M-., M-u, M-y
 abbrev pub meta_command : Base → Option PanelCommand
-meta_command (key.Char code) = if code == 117 then Some Forward else if code == 121 then Some Back else None
+meta_command (key.Char code) =
+    if code == 46 then Some ToggleHidden
+    else if code == 117 then Some Forward
+    else if code == 121 then Some Back
+    else None
 meta_command other = None
 
 -- what a key does to the panels, if it is one of theirs that needs no box

@@ -1,16 +1,19 @@
--- The two panels of a session (own, after mc(1), "Directory Panels").
+-- The two panels of a session (own, after mc(1), "Directory Panels"; "Shell Patterns" of its "Options").
 use Rattle.panel_listing.specs.Listings.{Listed}
 use Rattle.mc_text.specs.Routes.{Route}
+use Rattle.tagging.specs.declared.pattern.PatternKind.{PatternKind}
+use Rattle.tagging.specs.declared.pattern.PatternKind.TheVariants.{Shell, Regex}
 use Rattle.mc_panels.specs.Panels.{PanelState, untagged}
 use Rattle.mc_panels.specs.Readings.{opened_panel}
 use Rattle.panel_pair.specs.declared.side.Side.{Side}
 use Rattle.panel_pair.specs.declared.side.Side.TheVariants.{Left, Right}
 
--- the current panel, the other one, and the side on which the current one stands
+-- the current panel, the other one, the side on which the current one stands, and how patterns are read that are typed
 pub record PairState : Type 0 where
   pub current : PanelState
   pub other : PanelState
   pub side : Side
+  pub patterns : PatternKind
 
 -- the other side
 abbrev pub opposite : Side → Side
@@ -32,6 +35,11 @@ left_panel pair = left_of pair.side pair.current pair.other
 abbrev pub right_panel : PairState → PanelState
 right_panel pair = right_of pair.side pair.current pair.other
 
+-- the other kind of pattern
+abbrev pub other_kind : PatternKind → PatternKind
+other_kind Shell = Regex
+other_kind Regex = Shell
+
 -- another state of the current panel
 abbrev pub with_current : PanelState → PairState → PairState
 with_current panel pair = record pair { current = panel }
@@ -40,7 +48,7 @@ with_current panel pair = record pair { current = panel }
 abbrev pub untagged_pair : PairState → PairState
 untagged_pair pair = with_current (untagged pair.current) pair
 
--- the panels of two folders that were read; the left one is current
+-- the panels of two folders that were read; the left one is current, and shell patterns are on
 abbrev pub opened_pair : Route → Route → Listed → Listed → PairState
 opened_pair left right on_left on_right =
-    record { current = opened_panel left on_left; other = opened_panel right on_right; side = Left }
+    record { current = opened_panel left on_left; other = opened_panel right on_right; side = Left; patterns = Shell }

@@ -3,7 +3,8 @@ use key_screen::Base;
 use mc_panels::{Arrangement, PanelFormat};
 use tagging::Pattern;
 
-/// What a key does to the panels. All but `SwitchPanel`, `SwapPanels` and `Compare` are of the current one.
+/// What a key does to the panels. All but `SwitchPanel`, `SwapPanels`, `Compare`,
+/// `ToggleHidden` and `SwitchPatterns` are of the current one.
 #[derive(Debug, Drop)]
 pub enum PanelCommand {
     /// The cursor goes where this key leads.
@@ -24,4 +25,8 @@ pub enum PanelCommand {
     Arrange(Arrangement),
     ShowColumns(PanelFormat),
     ShowBrief,
+    /// Shows the hidden names of both panels, or shows them no more.
+    ToggleHidden,
+    /// Patterns that are typed are shell patterns from now on, or regular expressions, whichever they weren't.
+    SwitchPatterns,
 }

@@ -49,6 +49,7 @@ fn meta_command(base: Base) -> Option<PanelCommand>
     ensures { result ≡ meta_command base }
 {
     match base {
+        Base::Char('.') => Some(PanelCommand::ToggleHidden),
         Base::Char('u') => Some(PanelCommand::Forward),
         Base::Char('y') => Some(PanelCommand::Back),
         _ => None,

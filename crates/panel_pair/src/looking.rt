@@ -11,7 +11,7 @@ use mc_panels::{Attempt, Panel};
 use mc_text::NoMemory;
 use resolving::ResolveError;
 use std::alloc::Global;
-use tree_trait::Tree;
+use tree_trait::ReadTree;
 
 /// What reading both folders again came to.
 #[derive(Drop)]
@@ -29,7 +29,7 @@ pub struct Unread {
 
 impl Panels {
     /// Reads both folders again, the left one first. The panels stay as they are. It takes a look for each child of both.
-    pub fn read_both<T: Tree>(&self, alloc: Global, tree: &mut T) -> Result<Reread, NoMemory>
+    pub fn read_both<T: ReadTree>(&self, alloc: Global, tree: &mut T) -> Result<Reread, NoMemory>
         ensures read { IfOk result (IsRereadOf self.now) }
 
         // What is read of the tree, and what that refuses.

@@ -15,7 +15,8 @@ use mc_text::Path;
 use resolving::{ResolveError, resolve_folder};
 use std::alloc::Global;
 use std::convert::AsStr;
-use tree_trait::Tree;
+use tagging::PatternKind;
+use tree_trait::ReadTree;
 
 /// Why a folder can't be opened, and on which side it was to be.
 #[derive(Debug, Drop)]
@@ -27,7 +28,7 @@ pub struct Unopened {
 impl Panels {
     /// The panels of the folders that two paths lead to. The left one is read first, and is current. It takes a look for each
     /// child of both.
-    pub fn open<T: Tree>(
+    pub fn open<T: ReadTree>(
         alloc: Global,
         tree: &mut T,
         left: &Path,
@@ -50,12 +51,13 @@ impl Panels {
             current,
             other,
             side: Side::Left,
+            patterns: PatternKind::Shell,
         })
     }
 }
 
 /// The panel of the folder that a path leads to.
-fn opened<T: Tree>(alloc: Global, tree: &mut T, path: &Path) -> Result<Panel, ResolveError>
+fn opened<T: ReadTree>(alloc: Global, tree: &mut T, path: &Path) -> Result<Panel, ResolveError>
     ensures opened { IfOk result (λ panel. panel ≡ opened_panel panel.folder panel.listing) }
     ensures answer { IfKnown (T.contents tree.old) (λ log. ShowsPath log path.now result) }
     ensures same { T.contents tree.new ≡ T.contents tree.old }

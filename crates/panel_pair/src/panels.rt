@@ -5,13 +5,16 @@ ghost use Rattle.panel_pair.specs.Pairs.{left_panel, right_panel, untagged_pair}
 use crate::side::Side;
 use mc_panels::Panel;
 use std::marker::Model;
+use tagging::PatternKind;
 
-/// The two panels. The current one stands on a side of the screen, and the other one on the opposite side.
+/// The two panels. The current one stands on a side of the screen, and the other one on the opposite side. They know how a
+/// pattern is read that is typed for them.
 #[derive(Drop)]
 pub struct Panels {
     pub(crate) current: Panel,
     pub(crate) other: Panel,
     pub(crate) side: Side,
+    pub(crate) patterns: PatternKind,
 }
 
 impl Model for Panels {
@@ -19,7 +22,7 @@ impl Model for Panels {
 
     ghost Value = { PairState };
 
-    ghost view = { λ p. record { current = p.current; other = p.other; side = p.side } };
+    ghost view = { λ p. record { current = p.current; other = p.other; side = p.side; patterns = p.patterns } };
 }
 
 impl Panels {
@@ -42,6 +45,13 @@ impl Panels {
         ensures { result ≡ self.now.side }
     {
         self.side
+    }
+
+    /// How a pattern is read that is typed.
+    pub fn patterns(&self) -> PatternKind
+        ensures { result ≡ self.now.patterns }
+    {
+        self.patterns
     }
 
     /// The left panel.

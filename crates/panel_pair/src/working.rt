@@ -1,26 +1,31 @@
 //! What commands make of the panels.
-ghost use Rattle.std.specs.Prelude.{◌≡◌, ◌<◌, ◌^◌, OnOk, OnErr, IfErr};
+ghost use Rattle.std.specs.Prelude.{◌≡◌, ◌<◌, ◌^◌, not, OnOk, OnErr, IfErr};
 ghost use Rattle.tree_trait.specs.Answers.{IfKnown, HasCause};
 ghost use Rattle.resolving.specs.Errors.{CarriesCause};
+ghost use Rattle.mc_panels.specs.declared.arranging.Arrangement.TheVariants.{Hidden};
+ghost use Rattle.mc_panels.specs.Arrangements.{arranged_again, HasSameItems};
 ghost use Rattle.mc_panels.specs.Readings.{outcome};
 ghost use Rattle.panel_pair.specs.Commands.{CommandDone, CommandReads, switched};
+ghost use Rattle.panel_pair.specs.Pairs.{other_kind as kind_across};
 ghost use Rattle.panel_pair.specs.Readings.{ReadsTree, refused_in};
 
 use crate::command::PanelCommand;
 use crate::panels::Panels;
-use mc_panels::compare_panels;
+use mc_panels::{Panel, compare_panels};
+use mc_text::NoMemory;
 use resolving::ResolveError;
 use std::alloc::Global;
 use std::mem;
-use tree_trait::Tree;
+use tagging::PatternKind;
+use tree_trait::ReadTree;
 
 impl Panels {
     /// Does what a command says; a page has so many rows. What is refused leaves both panels as they were.
     ///
     /// A command that moves a cursor, tags the current name or changes sides takes the time of a few looks, however long the
-    /// listings are. One that leads to a folder reads it, with a look for each child. `Arrange` takes the number of shown names
-    /// times its logarithm; patterns and the comparison go over the shown names once.
-    pub fn work<T: Tree>(
+    /// listings are. One that leads to a folder reads it, with a look for each child. `Arrange` and `ToggleHidden` take the number of shown
+    /// names times its logarithm; patterns and the comparison go over the shown names once.
+    pub fn work<T: ReadTree>(
         &mut self,
         alloc: Global,
         tree: &mut T,
@@ -45,7 +50,7 @@ impl Panels {
     }
 
     /// Each command is a row.
-    fn carry_out<T: Tree>(
+    fn carry_out<T: ReadTree>(
         &mut self,
         alloc: Global,
         tree: &mut T,
@@ -121,6 +126,14 @@ impl Panels {
                 self.current.set_brief(page);
                 Ok(())
             }
+            PanelCommand::ToggleHidden => {
+                toggle_hidden(alloc, page, &mut self.current, &mut self.other)?;
+                Ok(())
+            }
+            PanelCommand::SwitchPatterns => {
+                self.patterns = other_kind(self.patterns);
+                Ok(())
+            }
         }
     }
 
@@ -131,4 +144,38 @@ impl Panels {
         mem::swap(&mut self.current, &mut self.other);
         self.side = self.side.opposite();
     }
+}
+
+/// The other kind of pattern.
+fn other_kind(kind: PatternKind) -> PatternKind
+    ensures { result ≡ kind_across kind }
+{
+    match kind {
+        PatternKind::Shell => PatternKind::Regex,
+        PatternKind::Regex => PatternKind::Shell,
+    }
+}
+
+/// Shows the hidden names of both panels, or shows them no more, whichever the first one doesn't. What needs memory comes first, so
+/// that both stay as they were where it is wanting.
+fn toggle_hidden(
+    alloc: Global,
+    page: usize,
+    current: &mut Panel,
+    other: &mut Panel,
+) -> Result<(), NoMemory>
+    requires { page < 2 ^ 16 }
+    ensures current { OnOk result (current.new ≡ arranged_again page (Hidden (not current.old.wish.hidden)) current.new.listing current.old) }
+    ensures other { OnOk result (other.new ≡ arranged_again page (Hidden (not current.old.wish.hidden)) other.new.listing other.old) }
+    ensures current_items { OnOk result (HasSameItems current.old.listing current.new.listing) }
+    ensures other_items { OnOk result (HasSameItems other.old.listing other.new.listing) }
+    ensures current_kept { OnErr result (current.new ≡ current.old) }
+    ensures other_kept { OnErr result (other.new ≡ other.old) }
+{
+    let hidden = !current.wish().hidden;
+    let on_current = current.plan_hidden(alloc, hidden)?;
+    let on_other = other.plan_hidden(alloc, hidden)?;
+    current.take_hidden(page, hidden, on_current);
+    other.take_hidden(page, hidden, on_other);
+    Ok(())
 }

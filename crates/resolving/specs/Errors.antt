@@ -1,9 +1,9 @@
 -- What an answer may be besides that of the definition, and which error the tree's refusal becomes.
-use Rattle.std.specs.Prelude.{◌≡◌, Result, Ok, Err, ⊤}
+use Rattle.std.specs.Prelude.{◌≡◌, ℕ, Result, Ok, Err, ⊤}
 use Rattle.mc_text.specs.Routes.{Route}
 use Rattle.tree_trait.specs.declared.calls.TreeError.{TreeError}
 use Rattle.tree_trait.specs.declared.calls.TreeError.TheVariants as tree
-use Rattle.tree_trait.specs.Answers.{IsCause}
+use Rattle.tree_trait.specs.Answers.{IsCause, one_more}
 use Rattle.resolving.specs.declared.error.ResolveError.{ResolveError}
 use Rattle.resolving.specs.declared.error.ResolveError.TheVariants.{Tree, Fault, Memory}
 
@@ -18,6 +18,11 @@ Answers expected (Err e) = expected ≡ Err e
 abbrev pub CarriesCause : ResolveError → Type 0
 CarriesCause (Tree path e) = IsCause e
 CarriesCause e = ⊤
+
+-- a tree's count of faults after what was read of it: one more where a fault is told, and as it was where none is
+abbrev pub count_told : {A : Type 0} → ℕ → Result A ResolveError → ℕ
+count_told before (Err Fault) = one_more before
+count_told before answer = before
 
 -- the error for a call that the tree refused at a path
 abbrev pub refused_by : Route → TreeError → ResolveError

@@ -2,7 +2,7 @@
 ghost use Rattle.std.specs.Prelude.{◌≡◌, IfErr};
 ghost use Rattle.tree_trait.specs.Change.{current};
 ghost use Rattle.tree_trait.specs.Answers.{IfKnown, HasCause};
-ghost use Rattle.resolving.specs.Errors.{Answers, CarriesCause};
+ghost use Rattle.resolving.specs.Errors.{Answers, CarriesCause, count_told};
 ghost use Rattle.resolving.specs.Resolution.{end_at, end_by_kind, end_in};
 
 use crate::error::ResolveError;
@@ -10,10 +10,10 @@ use crate::looking::refused;
 use crate::walking::Wanted;
 use mc_text::{Kind, Path};
 use std::alloc::Global;
-use tree_trait::{Tree, TreeError};
+use tree_trait::{ReadTree, TreeError};
 
 /// Looks at what stands at a path at which a walk ends: a folder may, and other things only where any is wanted.
-pub fn end_in<T: Tree>(
+pub fn end_in<T: ReadTree>(
     alloc: Global,
     tree: &mut T,
     wanted: Wanted,
@@ -22,6 +22,7 @@ pub fn end_in<T: Tree>(
     ensures answer { IfKnown (T.contents tree.old) (λ log. Answers (end_in (current log) wanted path) result) }
     ensures same { T.contents tree.new ≡ T.contents tree.old }
     ensures cause { HasCause ResolveError.Fault (T.fault_count tree.old) (T.fault_count tree.new) result }
+    ensures counts { T.fault_count tree.new ≡ count_told (T.fault_count tree.old) result }
     ensures carried { IfErr result CarriesCause }
 {
     match tree.stat(alloc, &path) {

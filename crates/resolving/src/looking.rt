@@ -6,13 +6,13 @@ ghost use Rattle.tree_trait.specs.Refusals.{holder, refusal_of};
 ghost use Rattle.tree_trait.specs.FileSystem.{node};
 ghost use Rattle.tree_trait.specs.Change.{current, found};
 ghost use Rattle.tree_trait.specs.Answers.{IfKnown, HasCause};
-ghost use Rattle.resolving.specs.Errors.{Answers, CarriesCause, refused_by};
+ghost use Rattle.resolving.specs.Errors.{Answers, CarriesCause, count_told, refused_by};
 ghost use Rattle.resolving.specs.Resolution.{entry_fault, look_at, step_from, IsShort};
 
 use crate::error::ResolveError;
 use mc_text::{Kind, Name, NameError, NoMemory, Path, PathError, Text};
 use std::alloc::Global;
-use tree_trait::{Tree, TreeError};
+use tree_trait::{ReadTree, TreeError};
 
 /// What a component leads to.
 #[derive(Debug, Drop)]
@@ -28,7 +28,7 @@ pub enum Step {
 }
 
 /// Goes from a folder to what a component names.
-pub fn step_to<T: Tree>(
+pub fn step_to<T: ReadTree>(
     alloc: Global,
     tree: &mut T,
     folder: &Path,
@@ -38,6 +38,7 @@ pub fn step_to<T: Tree>(
         Answers (step_from (current log) folder.now component.now) result) }
     ensures same { T.contents tree.new ≡ T.contents tree.old }
     ensures cause { HasCause ResolveError.Fault (T.fault_count tree.old) (T.fault_count tree.new) result }
+    ensures counts { T.fault_count tree.new ≡ count_told (T.fault_count tree.old) result }
     ensures carried { IfErr result CarriesCause }
     ensures short { IfOk result IsShort }
 {
@@ -80,10 +81,11 @@ fn entry(alloc: Global, folder: &Path, component: &str) -> Result<Path, ResolveE
 }
 
 /// Looks at what stands at a path.
-fn look<T: Tree>(alloc: Global, tree: &mut T, path: Path) -> Result<Step, ResolveError>
+fn look<T: ReadTree>(alloc: Global, tree: &mut T, path: Path) -> Result<Step, ResolveError>
     ensures answer { IfKnown (T.contents tree.old) (λ log. Answers (look_at (current log) path) result) }
     ensures same { T.contents tree.new ≡ T.contents tree.old }
     ensures cause { HasCause ResolveError.Fault (T.fault_count tree.old) (T.fault_count tree.new) result }
+    ensures counts { T.fault_count tree.new ≡ count_told (T.fault_count tree.old) result }
     ensures carried { IfErr result CarriesCause }
     ensures short { IfOk result IsShort }
 {
@@ -98,13 +100,14 @@ fn look<T: Tree>(alloc: Global, tree: &mut T, path: Path) -> Result<Step, Resolv
 }
 
 /// Reads the text of a link that stands at a path.
-fn read_text<T: Tree>(alloc: Global, tree: &mut T, path: Path) -> Result<Step, ResolveError>
+fn read_text<T: ReadTree>(alloc: Global, tree: &mut T, path: Path) -> Result<Step, ResolveError>
     ensures answer { IfKnown (T.contents tree.old) (λ log.
         refusal_of (current log) (Stat path) ≡ None
         → (node (current log) (found (current log) path)).kind ≡ Link
         → Answers (look_at (current log) path) result) }
     ensures same { T.contents tree.new ≡ T.contents tree.old }
     ensures cause { HasCause ResolveError.Fault (T.fault_count tree.old) (T.fault_count tree.new) result }
+    ensures counts { T.fault_count tree.new ≡ count_told (T.fault_count tree.old) result }
     ensures carried { IfErr result CarriesCause }
     ensures short { IfOk result IsShort }
 {

@@ -2,7 +2,7 @@
 ghost use Rattle.std.specs.Prelude.{◌≡◌, ◌≢◌, ◌+◌, ◌≤◌, ◌∷◌, ◌++◌, IfOk, IfErr};
 ghost use Rattle.tree_trait.specs.Change.{current};
 ghost use Rattle.tree_trait.specs.Answers.{IfKnown, HasCause};
-ghost use Rattle.resolving.specs.Errors.{Answers, CarriesCause};
+ghost use Rattle.resolving.specs.Errors.{Answers, CarriesCause, count_told};
 ghost use Rattle.resolving.specs.Resolution.{resolved, walk_from, start_of, steps_of};
 ghost use Rattle.resolving.specs.Places.{end_of, into_folder, way_of, way_from};
 
@@ -13,7 +13,7 @@ use crate::looking::{Step, step_to};
 use mc_text::Path;
 use std::alloc::Global;
 use std::convert::AsStr;
-use tree_trait::Tree;
+use tree_trait::ReadTree;
 
 /// The most links that a walk follows (POSIX's SYMLOOP_MAX).
 const MOST_LINKS: u8 = 40;
@@ -26,7 +26,7 @@ pub enum Wanted {
 }
 
 /// The folder that a text leads to, from a folder on. Links are followed, the last one too.
-pub fn resolve_folder<T: Tree>(
+pub fn resolve_folder<T: ReadTree>(
     alloc: Global,
     tree: &mut T,
     from: &Path,
@@ -36,6 +36,7 @@ pub fn resolve_folder<T: Tree>(
         Answers (resolved (current log) Wanted.FolderAlone from.now typed.now) result) }
     ensures same { T.contents tree.new ≡ T.contents tree.old }
     ensures cause { HasCause ResolveError.Fault (T.fault_count tree.old) (T.fault_count tree.new) result }
+    ensures counts { T.fault_count tree.new ≡ count_told (T.fault_count tree.old) result }
     ensures carried { IfErr result CarriesCause }
 {
     let start = begin(alloc, from.copy(alloc)?, typed);
@@ -43,7 +44,7 @@ pub fn resolve_folder<T: Tree>(
 }
 
 /// The thing that a text leads to, from a folder on. Links are followed, the last one too, so it is none.
-pub fn resolve_thing<T: Tree>(
+pub fn resolve_thing<T: ReadTree>(
     alloc: Global,
     tree: &mut T,
     from: &Path,
@@ -53,6 +54,7 @@ pub fn resolve_thing<T: Tree>(
         Answers (resolved (current log) Wanted.AnyThing from.now typed.now) result) }
     ensures same { T.contents tree.new ≡ T.contents tree.old }
     ensures cause { HasCause ResolveError.Fault (T.fault_count tree.old) (T.fault_count tree.new) result }
+    ensures counts { T.fault_count tree.new ≡ count_told (T.fault_count tree.old) result }
     ensures carried { IfErr result CarriesCause }
 {
     let start = begin(alloc, from.copy(alloc)?, typed);
@@ -86,7 +88,7 @@ enum Course {
 }
 
 /// Walks from a folder along the components of a text.
-fn walk<T: Tree>(
+fn walk<T: ReadTree>(
     alloc: Global,
     tree: &mut T,
     wanted: Wanted,
@@ -97,6 +99,7 @@ fn walk<T: Tree>(
         Answers (walk_from (current log) wanted MOST_LINKS start (steps_of typed.now)) result) }
     ensures same { T.contents tree.new ≡ T.contents tree.old }
     ensures cause { HasCause ResolveError.Fault (T.fault_count tree.old) (T.fault_count tree.new) result }
+    ensures counts { T.fault_count tree.new ≡ count_told (T.fault_count tree.old) result }
     ensures carried { IfErr result CarriesCause }
 {
     let mut place = Place {
@@ -115,7 +118,7 @@ fn walk<T: Tree>(
 }
 
 /// Takes the component that was nearest ahead of a place.
-fn advance<T: Tree>(
+fn advance<T: ReadTree>(
     alloc: Global,
     tree: &mut T,
     wanted: Wanted,
@@ -130,6 +133,7 @@ fn advance<T: Tree>(
     ensures nearer { IfOk result (λ course. way_of course ≤ way_from place) }
     ensures same { T.contents tree.new ≡ T.contents tree.old }
     ensures cause { HasCause ResolveError.Fault (T.fault_count tree.old) (T.fault_count tree.new) result }
+    ensures counts { T.fault_count tree.new ≡ count_told (T.fault_count tree.old) result }
     ensures carried { IfErr result CarriesCause }
 {
     let Place {

@@ -1,6 +1,7 @@
 -- What refusals tell of the tree: each has its cause there.
 use Rattle.std.specs.Prelude.{◌≡◌, ◌⊎◌, ℕ, ⊤, List, [], ◌∷◌, Some, None, Err}
 use Rattle.mc_text.specs.Routes.{Route}
+use Rattle.tree_trait.specs.declared.calls.TreeError.{TreeError}
 use Rattle.tree_trait.specs.Calls.{ListFolder, Stat}
 use Rattle.tree_trait.specs.Change.{CallLog, current}
 use Rattle.tree_trait.specs.Refusals.{refusal_of}
@@ -11,16 +12,30 @@ use Rattle.resolving.specs.Errors.{Answers}
 use Rattle.resolving.specs.Resolution.{resolved}
 use Rattle.job_reports.specs.Reading.{IsRefusedWith}
 use Rattle.session_history.specs.declared.refusal.PlanError.{PlanError}
-use Rattle.session_history.specs.declared.refusal.PlanError.TheVariants.{NoSelection, TargetThere, TargetTooLong, BadMask}
+use Rattle.session_history.specs.declared.refusal.PlanError.TheVariants.{NoSelection, TargetThere, TargetTooLong, BadMask, Target}
 use Rattle.session_history.specs.declared.refusal.Refusal.{Refusal}
 use Rattle.session_history.specs.declared.refusal.Refusal.TheVariants as refusal
 
--- a plan is refused: nothing is selected, something stands at its target, the target's path is too long, or its mask isn't read yet
+-- a typed text leads to no folder
+abbrev pub LeadsNowhere : CallLog → ResolveError → Type 0
+LeadsNowhere log e = (from : Route) × ((typed : List ℕ) × Answers {A = Route} (resolved (current log) FolderAlone from typed) (Err e))
+
+-- a look at a path is refused
+abbrev pub IsUnseen : CallLog → ResolveError → Type 0
+IsUnseen log e = (path : Route) × ((cause : TreeError) × (e ≡ resolve.Tree path cause) × (refusal_of (current log) (Stat path) ≡ Some cause))
+
+-- the folder of a target isn't found, the target's path is too long, or nothing can be seen of the target
+abbrev pub IsTargetRefused : CallLog → ResolveError → Type 0
+IsTargetRefused log e = LeadsNowhere log e ⊎ (IsUnseen log e ⊎ (e ≡ resolve.TooLong))
+
+-- A plan is refused: nothing is selected, something stands at its target, the target's path is too long, its mask isn't read yet or what
+-- was typed ends in no name, or no way leads to the target.
 abbrev pub IsPlanRefused : CallLog → PlanError → Type 0
 IsPlanRefused log NoSelection = ⊤
 IsPlanRefused log (TargetThere path) = refusal_of (current log) (Stat path) ≡ None
 IsPlanRefused log TargetTooLong = ⊤
 IsPlanRefused log BadMask = ⊤
+IsPlanRefused log (Target e) = IsTargetRefused log e
 
 -- reading a folder is refused as `list` of it is, with its path; a device may fail, and memory run out
 abbrev pub IsListRefused : CallLog → Route → ResolveError → Type 0
@@ -35,14 +50,16 @@ IsListRefused log folder resolve.BadName = ⊥
 abbrev pub IsResolveRefused : CallLog → ResolveError → Type 0
 IsResolveRefused log e =
     ((folder : Route) × IsListRefused log folder e)
-    ⊎ ((from : Route) × ((typed : List ℕ) × Answers {A = Route} (resolved (current log) FolderAlone from typed) (Err e)))
+    ⊎ LeadsNowhere log e
 
--- A refusal is that of a look at its path, of reading a folder, or of a plan. That of a job's beginning has its cause in the history.
+-- A refusal is that of a look at its path, of reading a folder, or of a plan. That of a job's beginning has its cause in the history,
+-- and that of what was typed in the text.
 abbrev pub HasCause : CallLog → Refusal → Type 0
 HasCause log (refusal.Tree path e) = IsRefusedWith (current log) (Stat path) e
 HasCause log (refusal.Resolve e) = IsResolveRefused log e
 HasCause log (refusal.Plan error) = IsPlanRefused log error
 HasCause log (refusal.Begin error) = ⊤
+HasCause log (refusal.Typed error) = ⊤
 
 -- each of these refusals has its cause in the tree
 abbrev pub AreRefused : CallLog → List Refusal → Type 0

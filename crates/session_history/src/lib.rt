@@ -5,4 +5,4 @@ mod history;
 mod refusal;
 
 pub use history::{Entries, Entry, Event, History, JobOrder};
-pub use refusal::{BeginError, PlanError, Refusal, Refusals};
+pub use refusal::{BeginError, PlanError, Refusal, Refusals, TypedError};

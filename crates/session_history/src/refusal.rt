@@ -16,8 +16,10 @@ pub enum PlanError {
     TargetThere(Path),
     /// The target's path would have more than 4,096 bytes.
     TargetTooLong,
-    /// The source mask or the destination is one that is not read yet.
+    /// The source mask or the destination is one that is not read yet, or what was typed ends in no name.
     BadMask,
+    /// No way leads to the target's folder, or nothing can be seen of the target.
+    Target(ResolveError),
 }
 
 impl PlanError {
@@ -30,6 +32,7 @@ impl PlanError {
             PlanError::TargetThere(path) => Ok(PlanError::TargetThere(path.copy(alloc)?)),
             PlanError::TargetTooLong => Ok(PlanError::TargetTooLong),
             PlanError::BadMask => Ok(PlanError::BadMask),
+            PlanError::Target(error) => Ok(PlanError::Target(copy_of(alloc, error)?)),
         }
     }
 }
@@ -39,6 +42,15 @@ impl PlanError {
 pub enum BeginError {
     /// All numbers of jobs were given: there are 2^32 - 1, and none is given twice.
     NoMoreIds,
+}
+
+/// Why what was typed in a box can't be taken.
+#[derive(Clone, Copy, Debug, Drop, PartialEq, Eq)]
+pub enum TypedError {
+    /// It is no pattern.
+    BadPattern,
+    /// It is no format: this byte of it is at fault.
+    BadFormat(usize),
 }
 
 /// What a key or a look wanted and was refused.
@@ -52,6 +64,8 @@ pub enum Refusal {
     Plan(PlanError),
     /// The beginning of a job.
     Begin(BeginError),
+    /// What was typed.
+    Typed(TypedError),
 }
 
 impl Refusal {
@@ -64,6 +78,7 @@ impl Refusal {
             Refusal::Resolve(error) => Refusal::resolve(alloc, error),
             Refusal::Plan(error) => Ok(Refusal::Plan(error.copy(alloc)?)),
             Refusal::Begin(error) => Ok(Refusal::Begin(*error)),
+            Refusal::Typed(error) => Ok(Refusal::Typed(*error)),
         }
     }
 

@@ -79,9 +79,13 @@ fn bytes_of_key(key: &str) -> &str {
         "enter" => "\r",
         "tab" => "\t",
         "insert" => "\x1b[2~",
+        "c-u" => "\x15",
+        "c-x" => "\x18",
         "escape" => "\x1b",
         "f5" => "\x1b[15~",
+        "f7" => "\x1b[18~",
         "f8" => "\x1b[19~",
+        "f9" => "\x1b[20~",
         "f10" => "\x1b[21~",
         letter => letter,
     }

@@ -66,6 +66,13 @@ impl Pattern {
         })
     }
 
+    /// The text, as it was typed.
+    pub fn text(&self) -> &str
+        ensures { result.now ≡ self.now.text }
+    {
+        self.text.as_str()
+    }
+
     /// Whether the pattern finds the name. It reads the pattern anew: for a list of names take `found_among`.
     pub fn matches(&self, alloc: Global, name: &str) -> Result<bool, NoMemory>
         ensures { IfOk result (λ found. found ≡ is_found self.now name.now) }

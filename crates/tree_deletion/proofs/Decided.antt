@@ -35,11 +35,11 @@ some_weight : (left : ℕ) → 1 ≤ weight left
 some_weight zero = omega arith
 some_weight (suc left) = omega arith
 
-some_rank : (depth : Depth) (place : Place) → 1 ≤ rank_at depth place
+pub some_rank : (depth : Depth) (place : Place) → 1 ≤ rank_at depth place
 some_rank Top place = let s = some_weight (suc place.left) in omega (arith, s)
 some_rank Inside place = omega arith
 
-going_rank : (stage : Stage) (depth : Depth) (place : Place) → at_barrier stage ≡ false → rank_of stage depth place ≡ rank_at depth place
+pub going_rank : (stage : Stage) (depth : Depth) (place : Place) → at_barrier stage ≡ false → rank_of stage depth place ≡ rank_at depth place
 going_rank Begin depth place going = refl
 going_rank Going depth place going = refl
 going_rank Sync depth place going = absurd (true≢false going)

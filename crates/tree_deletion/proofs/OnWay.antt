@@ -92,6 +92,20 @@ at_most old now mid going less a =
     rank_most mid.stage old.stage mid.depth old.depth mid.walk.place old.walk.place going
     (subst (λ d. rank_at d mid.walk.place ≤ rank_at old.depth old.walk.place) (sym a.depth_is) (subst (λ (p : Place). rank_at now.depth p ≤ rank_at old.depth old.walk.place) (sym a.place) less))
 
+-- where it works no more things are left
+works_no_more : (old new : Deletion) (did : Did) → at_barrier old.stage ≡ false → Works old did new → things_left new ≤ things_left old
+works_no_more old new (Removed path) going w = let low = decided_falls old new false path Going going refl w.0 w.2 in omega (arith, low)
+works_no_more old new (Kept path) going w = let low = decided_falls old new true path old.stage going going w.0 w.2 in omega (arith, low)
+works_no_more old new (Troubled trouble) going (barrier, a) = at_most old old new going (omega arith) a
+works_no_more old new (Made made) going w = absurd w
+works_no_more old new (Began part) going w = absurd w
+works_no_more old new (Chunk count) going w = absurd w
+works_no_more old new (Placed path) going w = absurd w
+works_no_more old new (Skipped path cause) going w = absurd w
+works_no_more old new (Cleaned part) going w = absurd w
+works_no_more old new Barrier going w = absurd w
+works_no_more old new (Ended ending part) going w = absurd w
+
 -- at the end of the way it works on what it found there
 pub way_ends : (before contents after : Option CallLog) (old now mid new : Deletion) (did : Did) (calls : ℕ) (folders held folders_after : List Route) (f0 f1 f2 : ℕ) → at_barrier old.stage ≡ false → IsOnWay before old now
     → contents ≡ before → held ≡ folders → f0 ≤ f1 → IsAt now mid → Working mid new did calls held folders_after contents after f1 f2
@@ -117,4 +131,8 @@ way_ends before contents after old now mid new did calls folders held folders_af
       let low = progress_falls mid new did (ap at_barrier a.stage_is ∙ way.going) w.works h in
       let most = at_most old now mid begins way.less a in
       omega (arith, low, most);
+  no_more =
+      let few = works_no_more mid new did (ap at_barrier a.stage_is ∙ way.going) w.works in
+      let most = at_most old now mid begins way.less a in
+      omega (arith, few, most);
 }

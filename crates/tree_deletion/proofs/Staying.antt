@@ -19,7 +19,7 @@ use Rattle.tree_deletion.specs.Standing.{Decides, End, IsDone, Item, Leaves, Thi
 use Rattle.tree_deletion.specs.Descending.{Descends, Enters, IsAt, IsOpened, opened_at}
 use Rattle.tree_deletion.specs.Inside.{AreInside, IsInside, IsInsideAt}
 use Rattle.tree_deletion.specs.Steps.{IsTooLong, KeepsRest, LeavesFolder, Passes, Skips, TakesOff, WorkSteps, Works, path_of}
-use Rattle.tree_deletion.proofs.Decided.{decided_falls}
+use Rattle.tree_deletion.proofs.Decided.{decided_falls, going_rank, some_rank}
 
 pub prefix_self : (p : Route) → is_prefix p p ≡ true
 prefix_self [] = refl
@@ -171,3 +171,30 @@ skip_falls cause old new did (inl (path, did_is, (mid, takes, new_is))) h =
     by : (b : Bool) → at_barrier old.stage ≡ b → TakesOff path old mid → Low (after_item old.path path old.stage)
     by true is t = subst (λ s. Low (after_item old.path path s)) (sym (sync_is old.stage is)) (no_barrier (same_path path old.path) mid.depth mid.walk.place (things_left old))
     by false is t = going is t
+
+low_less : (stage : Stage) (depth : Depth) (place old : Place) → at_barrier stage ≡ false → rank_at Inside place < rank_at Inside old → depth ≡ Inside → rank_of stage depth place < rank_of stage Inside old
+low_less Begin depth place old going less is = subst (λ d. rank_at d place < rank_at Inside old) (sym is) less
+low_less Going depth place old going less is = subst (λ d. rank_at d place < rank_at Inside old) (sym is) less
+low_less Sync depth place old going less is = absurd (true≢false going)
+
+-- before the barrier a skip that is reported leaves fewer
+pub skip_less : (path : Route) (old mid new : Deletion) → at_barrier old.stage ≡ false → TakesOff path old mid → new ≡ record mid { stage = after_item old.path path old.stage } → IsInside old → things_left new < things_left old
+skip_less path old mid new going takes new_is h = subst (λ (d : Deletion). things_left d < things_left old) (sym new_is) (by takes)
+  where
+    Less : Stage → Type 0
+    Less stage = rank_of stage mid.depth mid.walk.place < things_left old
+
+    long_less : (b : Bool) → same_path path old.path ≡ b → LeavesFolder path old mid → Less (if b then Sync else old.stage)
+    long_less true is l = let some = some_rank old.depth old.walk.place in let same = going_rank old.stage old.depth old.walk.place going in omega (arith, some, same)
+    long_less false is l =
+        let k = l.rest in
+        let low = outermost_is old.depth old.path path old.walk.place mid.walk.place h l.path_is is l.place in
+        subst (λ d. rank_of old.stage mid.depth mid.walk.place < rank_of old.stage d old.walk.place) (sym low.0)
+        (low_less old.stage mid.depth mid.walk.place old.walk.place going low.1 (k.depth_is ∙ low.0))
+
+    by : TakesOff path old mid → Less (after_item old.path path old.stage)
+    by (inl (path_is, passes)) =
+        let k = passes.1 in
+        decided_falls old (record mid { stage = after_item old.path path old.stage }) true path old.stage going going path_is
+        (record { place = passes.0; stage_is = refl; path_is = k.path_is; folder_is = k.folder_is; depth_is = k.depth_is })
+    by (inr (long, l)) = long_less (same_path path old.path) refl l

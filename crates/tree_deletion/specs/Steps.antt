@@ -95,14 +95,15 @@ IsProgress (Removed path) = true
 IsProgress (Kept path) = true
 IsProgress did = false
 
--- A step that works: it goes down to an item, with no change of the tree, and works on that; where it decides, fewer things
--- are left.
+-- A step that works: it goes down to an item, with no change of the tree, and works on that; no more things are left then, and where
+-- it decides fewer.
 pub record WorkSteps (old new : Deletion) (did : Did) (calls : ℕ) (folders folders_after : List Route) (before after : Option CallLog) (faults faults_after : ℕ) : Type 0 where
   pub entered : List Route
   pub mid : Deletion
   pub descends : Descends before old entered mid
   pub working : Working mid new did calls folders folders_after before after faults faults_after
   pub falls : IsProgress did ≡ true → things_left new < things_left old
+  pub no_more : things_left new ≤ things_left old
 
 -- The next piece of a step: a folder is gone into, and then fewer things are left to be met; or it works on an item.
 abbrev pub Advances : Deletion → Deletion → Option StepResult → List Route → List Route → Option CallLog → Option CallLog → ℕ → ℕ → Type 0

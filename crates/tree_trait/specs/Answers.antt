@@ -30,6 +30,11 @@ pub record HasCause {T E : Type 0} (fault : E) (before after : ℕ) (result : Re
   pub later : before ≤ after
   pub risen : IsErrOf result fault → HasRisen before after
 
+-- a tree's count of faults after an answer: one more after a fault, and as it was after any other
+abbrev pub count_after : {T : Type 0} → ℕ → Result T TreeError → ℕ
+count_after before (Err Fault) = one_more before
+count_after before answer = before
+
 -- a fact on what a device holds, where that is known
 abbrev pub IfKnown : {A : Type 0} → Option A → (A → Type 0) → Type 0
 IfKnown contents P = (known : _) → contents ≡ Some known → P known

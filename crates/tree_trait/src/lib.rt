@@ -6,6 +6,7 @@ mod devices;
 mod file_system;
 mod laws;
 mod list;
+mod read_tree;
 mod tree;
 
 pub use calls::{Children, Meta, TreeError};
@@ -18,4 +19,5 @@ pub use laws::{
     images_grow, names_after_a_crash, what_a_removal_shows, what_a_sync_settles, what_stays,
 };
 pub use list::Seq;
+pub use read_tree::ReadTree;
 pub use tree::Tree;

@@ -15,10 +15,10 @@ use mc_text::{NoMemory, Path};
 use std::alloc::{AllocError, Global};
 use std::convert::AsStr;
 use tagging::Pattern;
-use tree_trait::{Tree, TreeError};
+use tree_trait::{ReadTree, TreeError};
 
 /// Whether a condition holds of two panels: its terms, taken from left to right.
-pub fn holds<T: Tree>(
+pub fn holds<T: ReadTree>(
     alloc: Global,
     tree: &mut T,
     condition: &Condition,
@@ -65,7 +65,7 @@ fn joined(joint: Joint, so_far: bool, next: bool) -> bool
 }
 
 /// The value of each term of a condition.
-fn values_of<T: Tree>(
+fn values_of<T: ReadTree>(
     alloc: Global,
     tree: &mut T,
     condition: &Condition,
@@ -100,7 +100,7 @@ fn push_value(values: &mut Vec<Value>, value: Value) -> Result<(), TreeError>
 }
 
 /// Whether a term is met: its test holds, or doesn't.
-fn is_met<T: Tree>(
+fn is_met<T: ReadTree>(
     alloc: Global,
     tree: &mut T,
     term: &Term,
@@ -122,7 +122,7 @@ fn is_met<T: Tree>(
 }
 
 /// Whether a test holds.
-fn is_true<T: Tree>(
+fn is_true<T: ReadTree>(
     alloc: Global,
     tree: &mut T,
     test: &Test,

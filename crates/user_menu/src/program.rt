@@ -8,11 +8,11 @@ ghost use Rattle.user_menu.specs.Facts.{is_program, route_asked, entry_route, ab
 use crate::types::is_runnable;
 use mc_text::{Name, NameError, NoMemory, Path, PathError};
 use std::alloc::Global;
-use tree_trait::{Tree, TreeError};
+use tree_trait::{ReadTree, TreeError};
 
 /// Whether an argument, a name in this folder or an absolute path, leads to a file that somebody may run. Links aren't
 /// followed.
-pub fn is_program<T: Tree>(
+pub fn is_program<T: ReadTree>(
     alloc: Global,
     tree: &mut T,
     folder: &Path,

@@ -11,11 +11,11 @@ use crate::menu::{Entry, Menu, Shown};
 use crate::standing::standing_of;
 use mc_text::NoMemory;
 use std::alloc::{AllocError, Global};
-use tree_trait::{Tree, TreeError};
+use tree_trait::{ReadTree, TreeError};
 
 /// Which entries of a menu are shown, opened in the panel `here`, and the first of these that is to be the default. The
 /// tree is looked at where a condition asks for a program.
-pub fn shown<T: Tree>(
+pub fn shown<T: ReadTree>(
     alloc: Global,
     tree: &mut T,
     menu: &Menu,
@@ -40,7 +40,7 @@ pub fn shown<T: Tree>(
 }
 
 /// How each entry of a menu stands.
-fn standings_of<T: Tree>(
+fn standings_of<T: ReadTree>(
     alloc: Global,
     tree: &mut T,
     menu: &Menu,

@@ -12,7 +12,7 @@ use crate::holding::holds;
 use crate::line::{Asked, Purpose};
 use crate::menu::Entry;
 use std::alloc::Global;
-use tree_trait::{Tree, TreeError};
+use tree_trait::{ReadTree, TreeError};
 
 /// What is asked of an entry.
 #[derive(Clone, Copy, Drop)]
@@ -22,7 +22,7 @@ pub enum Question {
 }
 
 /// How an entry stands: it is shown where it doesn't say when, and isn't the default where it doesn't say when.
-pub fn standing_of<T: Tree>(
+pub fn standing_of<T: ReadTree>(
     alloc: Global,
     tree: &mut T,
     entry: &Entry,
@@ -47,7 +47,7 @@ pub fn standing_of<T: Tree>(
 }
 
 /// The answer to a question of an entry.
-fn answer_of<T: Tree>(
+fn answer_of<T: ReadTree>(
     alloc: Global,
     tree: &mut T,
     entry: &Entry,

@@ -59,10 +59,17 @@ impl Run {
                 self.work.retry();
                 self.course = Course::GoesOn;
             }
-            Answer::Skip | Answer::SkipAll => {
+            Answer::Skip => {
                 if self.work.is_at_barrier() {
                     return Err(AnswerError::WrongAnswer);
                 }
+                self.course = Course::Skips(cause);
+            }
+            Answer::SkipAll => {
+                if self.work.is_at_barrier() {
+                    return Err(AnswerError::WrongAnswer);
+                }
+                self.work.skip_all(cause);
                 self.course = Course::Skips(cause);
             }
             Answer::Abort => self.course = Course::Ends(Ending::Aborted),

@@ -8,8 +8,9 @@ ghost use Rattle.mc_ui.specs.Screens.{DeleteBox, NoBox, TroubleBox, WellAsked, a
 use super::Ui;
 use super::panel_keys::{asking, asking_nothing};
 use crate::asks::{Ask, KeyAct};
-use crate::copying::deletion_of;
-use box_words::{Chosen, DeleteReply, Dialog, TroubleReply, delete_reply_to, trouble_reply_to};
+use crate::dialog::Dialog;
+use box_words::{Chosen, DeleteReply, TroubleReply, delete_reply_to, trouble_reply_to};
+use job_plans::deletion_of;
 use job_reports::{Answer, Job, JobRow, JobRows, JobState, Trouble};
 use key_screen::Key;
 use mc_text::NoMemory;

@@ -4,16 +4,17 @@ ghost use Rattle.std.specs.Str.{bytes_eq};
 ghost use Rattle.mc_dialogs.specs.InputKeys.{input_after, input_shut};
 ghost use Rattle.mc_ui.specs.declared.asks.KeyAct.{KeyAct as KeyActType};
 ghost use Rattle.box_words.specs.BoxKeys.{line_reply as line_reply_of};
-ghost use Rattle.mc_ui.specs.Copies.{target_in};
-ghost use Rattle.mc_ui.specs.Reading.{ReadsTree};
-ghost use Rattle.mc_ui.specs.Screens.{MaskBox, MaskLeads, MayRefuseMask, NoBox, PlansCopy, StaysWhereTaken, TargetBox, TargetLeads, WellAsked, is_request, seen_box, sight, with_ask};
+ghost use Rattle.job_plans.specs.Copies.{target_in};
+ghost use Rattle.job_plans.specs.Reading.{ReadsTree, sight};
+ghost use Rattle.mc_ui.specs.Screens.{MaskBox, MaskLeads, MayRefuseMask, NoBox, PlansCopy, StaysWhereTaken, TargetBox, TargetLeads, WellAsked, is_request, seen_box, with_ask};
 
 use super::Ui;
 use super::boxes::{begin, none_live};
 use super::panel_keys::{asking, asking_nothing};
 use crate::asks::{Ask, KeyAct};
-use crate::copying::{CopyPlan, plan_copy};
-use box_words::{Chosen, Dialog, LineReply, line_reply, target_line, target_text};
+use crate::dialog::Dialog;
+use box_words::{Chosen, LineReply, line_reply, target_line, target_text};
+use job_plans::{JobPlan, plan_copy};
 use job_reports::JobRows;
 use key_screen::Key;
 use mc_dialogs::InputLine;
@@ -21,7 +22,7 @@ use mc_text::{NoMemory, Text};
 use session_history::{PlanError, Refusal};
 use std::alloc::Global;
 use std::convert::AsStr;
-use tree_trait::Tree;
+use tree_trait::ReadTree;
 
 impl Ui {
     /// A key while the source mask is asked for.
@@ -92,7 +93,7 @@ impl Ui {
     }
 
     /// A key while a copy's destination is asked for.
-    pub(super) fn key_in_target<T: Tree>(
+    pub(super) fn key_in_target<T: ReadTree>(
         &mut self,
         alloc: Global,
         tree: &mut T,
@@ -133,7 +134,7 @@ impl Ui {
 
     /// The destination is accepted where it is the other panel's folder; else it is refused. The line stays until the copy is
     /// begun.
-    fn accept_target<T: Tree>(
+    fn accept_target<T: ReadTree>(
         &mut self,
         alloc: Global,
         tree: &mut T,
@@ -173,7 +174,7 @@ impl Ui {
     }
 
     /// The copy is confirmed: it is planned, or it is refused.
-    fn confirm_copy<T: Tree>(
+    fn confirm_copy<T: ReadTree>(
         &mut self,
         alloc: Global,
         tree: &mut T,
@@ -195,15 +196,15 @@ impl Ui {
         let planned = plan_copy(alloc, tree, &chosen, self.panels.other().folder());
         self.dialog = Dialog::CopyTo(chosen, line);
         match planned {
-            Ok(CopyPlan::Begins(plan)) => Ok(asking(alloc, begin(plan))),
-            Ok(CopyPlan::Refuses(refusal)) => self.refuse(alloc, refusal),
+            Ok(JobPlan::Begins(plan)) => Ok(asking(alloc, begin(plan))),
+            Ok(JobPlan::Refuses(refusal)) => self.refuse(alloc, refusal),
             Err(error) => Err(error),
         }
     }
 }
 
 /// Types a key into a line, which it leaves as it was where it takes its text.
-fn type_in(alloc: Global, line: &mut InputLine, key: Key) -> Result<LineReply, NoMemory>
+pub(super) fn type_in(alloc: Global, line: &mut InputLine, key: Key) -> Result<LineReply, NoMemory>
     ensures state { OnOk result (line.new ≡ input_after line.old key) }
     ensures reply { IfOk result (λ reply. reply ≡ line_reply_of (input_shut line.old key)) }
     ensures kept { IfOk result (λ reply. StaysWhereTaken reply line.old line.new) }

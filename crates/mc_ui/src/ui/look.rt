@@ -6,23 +6,24 @@ ghost use Rattle.panel_pair.specs.Looks.{IsRereadOf, LooksAgain as PanelsLookAga
 ghost use Rattle.session_history.specs.declared.refusal.Refusal.{Refusal as RefusalType};
 ghost use Rattle.mc_ui.specs.LiveJobs.{shown_trouble as trouble_in};
 ghost use Rattle.mc_ui.specs.Looks.{LooksAgain, ReadsAgain, told_unread};
-ghost use Rattle.mc_ui.specs.Reading.{ReadsTree};
+ghost use Rattle.job_plans.specs.Reading.{ReadsTree};
 ghost use Rattle.mc_ui.specs.Screens.{HasSameSize, LookLeads, first_refusal, page_of, with_news, with_panels, with_refusal, with_told, with_trouble};
 
 use super::Ui;
-use box_words::{Dialog, Message};
+use crate::dialog::Dialog;
+use box_words::Message;
 use job_reports::{JobRows, Trouble};
 use mc_panels::Attempt;
 use mc_text::NoMemory;
 use panel_pair::Reread;
 use session_history::{Refusal, Refusals};
 use std::alloc::Global;
-use tree_trait::Tree;
+use tree_trait::ReadTree;
 
 impl Ui {
     /// Takes up what the live jobs did. After a job's end, which `has_unseen_end` says, each panel is read again. A trouble gets
     /// its box; what was refused, or the news of that end, a message. It takes a look for each child of the folders that are read.
-    pub fn look<T: Tree>(
+    pub fn look<T: ReadTree>(
         &mut self,
         alloc: Global,
         tree: &mut T,
@@ -46,7 +47,7 @@ impl Ui {
     }
 
     /// Reads the panels again, if a job has ended that no look has taken up.
-    fn read_if_due<T: Tree>(
+    fn read_if_due<T: ReadTree>(
         &mut self,
         alloc: Global,
         tree: &mut T,
@@ -66,7 +67,7 @@ impl Ui {
     }
 
     /// Reads the panels again. What is told of it finds its memory before they take what was read.
-    fn read_again<T: Tree>(&mut self, alloc: Global, tree: &mut T) -> Result<Refusals, NoMemory>
+    fn read_again<T: ReadTree>(&mut self, alloc: Global, tree: &mut T) -> Result<Refusals, NoMemory>
         ensures panels { IfOk result (λ refusals. ReadsAgain (T.contents tree.old) (page_of self.old) refusals self.old.panels self.new.panels) }
         ensures rest { IfOk result (λ refusals. self.new ≡ with_told refusals (with_panels self.new.panels self.old)) }
         ensures lost { OnErr result (self.new ≡ self.old) }

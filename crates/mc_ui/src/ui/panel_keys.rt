@@ -3,14 +3,15 @@ ghost use Rattle.std.specs.Prelude.{◌≡◌, ◌∷◌, [], false, None, OnErr
 ghost use Rattle.mc_panels.specs.Selections.{selection};
 ghost use Rattle.mc_ui.specs.declared.asks.KeyAct.{KeyAct as KeyActType};
 ghost use Rattle.mc_ui.specs.PanelKeys.{panel_command_of};
-ghost use Rattle.mc_ui.specs.Reading.{ReadsTree};
-ghost use Rattle.mc_ui.specs.Screens.{Chooses, CommandLeads, HasSameSize, NoBox, WellAsked, Works, box_of, is_request, seen_box, sight, told_refusal, with_ask};
+ghost use Rattle.job_plans.specs.Reading.{ReadsTree, sight};
+ghost use Rattle.mc_ui.specs.Screens.{Chooses, CommandLeads, HasSameSize, NoBox, WellAsked, Works, box_of, is_request, seen_box, told_refusal, with_ask};
 
 use super::Ui;
 use crate::asks::{Ask, KeyAct};
-use crate::choosing::{Choice, choose};
-use crate::panel_command::{KeyCommand, Opens, panel_command};
-use box_words::{Chosen, Dialog, Message, mask_line};
+use crate::dialog::Dialog;
+use crate::panel_command::{KeyCommand, panel_command};
+use box_words::{Chosen, Message, mask_line};
+use job_plans::{Choice, Opens, choose};
 use job_reports::JobRows;
 use key_screen::Key;
 use mc_text::NoMemory;
@@ -18,11 +19,11 @@ use panel_pair::PanelCommand;
 use resolving::ResolveError;
 use session_history::{PlanError, Refusal, Refusals};
 use std::alloc::Global;
-use tree_trait::Tree;
+use tree_trait::ReadTree;
 
 impl Ui {
     /// A key while no box is open: each command is a row.
-    pub(super) fn key_in_panel<T: Tree>(
+    pub(super) fn key_in_panel<T: ReadTree>(
         &mut self,
         alloc: Global,
         tree: &mut T,
@@ -48,13 +49,18 @@ impl Ui {
                 Ok(asking_nothing(alloc))
             }
             KeyCommand::Open(opens) => self.open_box(alloc, tree, rows, opens),
+            KeyCommand::AskFolder => self.ask_folder(alloc, rows),
+            KeyCommand::OpenPanelBox(opening) => {
+                self.open_panel_box(alloc, opening)?;
+                Ok(asking_nothing(alloc))
+            }
             KeyCommand::Quit => Ok(asking(alloc, Ask::End)),
             KeyCommand::Nothing => Ok(asking_nothing(alloc)),
         }
     }
 
     /// Does what a command of the panels says. Where it is refused they stay as they were, and a message says so.
-    fn work<T: Tree>(
+    pub(super) fn work<T: ReadTree>(
         &mut self,
         alloc: Global,
         tree: &mut T,
@@ -86,7 +92,7 @@ impl Ui {
 
     /// Opens a box on the thing that is selected, if the box may ask of that and no job is live. Where nothing is selected a
     /// message says so; of several things no box can ask yet.
-    fn open_box<T: Tree>(
+    fn open_box<T: ReadTree>(
         &mut self,
         alloc: Global,
         tree: &mut T,

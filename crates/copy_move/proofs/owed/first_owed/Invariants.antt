@@ -9,10 +9,10 @@ use Rattle.copy_move.proofs.owed.first_owed.Given as goal
 
 abbrev pub invariant-loop-first : goal.invariant-loop-first
 invariant-loop-first g l =
-    (g.T.Tree.contents l.tree ≡ g.T.Tree.contents l.fn.tree)
-    × (g.T.Tree.fault_count l.fn.tree ≤ g.T.Tree.fault_count l.tree)
+    (g.T.ReadTree.contents l.tree ≡ g.T.ReadTree.contents l.fn.tree)
+    × (g.T.ReadTree.fault_count l.fn.tree ≤ g.T.ReadTree.fault_count l.tree)
     × ((owed : Route) → Among l.rest owed → Among l.fn.dirty owed)
-    × IfKnown (g.T.Tree.contents l.fn.tree) (λ log. (kept : Route) → Among l.fn.dirty kept → Among l.rest kept ⊎ IsElsewhere (current log) l.work kept l.mount)
+    × IfKnown (g.T.ReadTree.contents l.fn.tree) (λ log. (kept : Route) → Among l.fn.dirty kept → Among l.rest kept ⊎ IsElsewhere (current log) l.work kept l.mount)
 
 abbrev pub decreases-loop-first : goal.decreases-loop-first
 decreases-loop-first g l = length l.rest

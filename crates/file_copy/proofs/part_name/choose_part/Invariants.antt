@@ -7,7 +7,7 @@ use Rattle.file_copy.proofs.part_name.choose_part.Given as goal
 
 abbrev pub invariant-loop-k : goal.invariant-loop-k
 invariant-loop-k g l = record {
-  none : IfKnown (g.T.Tree.contents l.fn.tree) (λ log. NoneFree (current log) (λ path. g.P.PartTest.is_free l.parts path ≡ true) l.item l.k);
-  same : g.T.Tree.contents l.tree ≡ g.T.Tree.contents l.fn.tree;
-  later : g.T.Tree.fault_count l.fn.tree ≤ g.T.Tree.fault_count l.tree;
+  none : IfKnown (g.T.ReadTree.contents l.fn.tree) (λ log. NoneFree (current log) (λ path. g.P.PartTest.is_free l.parts path ≡ true) l.item l.k);
+  same : g.T.ReadTree.contents l.tree ≡ g.T.ReadTree.contents l.fn.tree;
+  later : g.T.ReadTree.fault_count l.fn.tree ≤ g.T.ReadTree.fault_count l.tree;
 }

@@ -10,11 +10,11 @@ use Rattle.find_file.proofs.content.read_through.Given as goal
 
 abbrev pub invariant-loop-offset : goal.invariant-loop-offset
 invariant-loop-offset g l = record {
-  same : g.T.Tree.contents l.tree ≡ g.T.Tree.contents l.fn.tree;
-  later : g.T.Tree.fault_count l.fn.tree ≤ g.T.Tree.fault_count l.tree;
+  same : g.T.ReadTree.contents l.tree ≡ g.T.ReadTree.contents l.fn.tree;
+  later : g.T.ReadTree.fault_count l.fn.tree ≤ g.T.ReadTree.fault_count l.tree;
   short : length l.kept.items < l.width;
-  begun : (log : CallLog) → g.T.Tree.contents l.fn.tree ≡ Some log → 0 < l.offset → refusal_of (current log) (ReadAt l.path 0 0) ≡ None;
-  left : (log : CallLog) → g.T.Tree.contents l.fn.tree ≡ Some log
+  begun : (log : CallLog) → g.T.ReadTree.contents l.fn.tree ≡ Some log → 0 < l.offset → refusal_of (current log) (ReadAt l.path 0 0) ≡ None;
+  left : (log : CallLog) → g.T.ReadTree.contents l.fn.tree ≡ Some log
       → holds l.finder (node (current log) (found (current log) l.path)).bytes
       ≡ holds l.finder (l.kept.items ++ drop l.offset (node (current log) (found (current log) l.path)).bytes);
 }

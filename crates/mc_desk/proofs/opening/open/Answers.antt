@@ -8,7 +8,7 @@ use Rattle.mc_desk.proofs.opening.open.Goals as goal
 
 pub returns-in-Ok-open-clause-opened : goal.returns-in-Ok-open-clause-opened
 returns-in-Ok-open-clause-opened g c =
-    opens (g.T.Tree.contents c.args.tree.now) c.args.start c.in-Ok-open.panels c.args.now c.new-ui.result c.in-Ok.log c.in-Ok-open.ensures.opened c.new-ui.ensures c.in-Ok-open.ensures.answer
+    opens (g.T.ReadTree.contents c.args.tree.now) c.args.start c.in-Ok-open.panels c.args.now c.new-ui.result c.in-Ok.log c.in-Ok-open.ensures.opened c.new-ui.ensures c.in-Ok-open.ensures.answer
     c.in-Ok.ensures.empty c.in-Ok.ensures.room
 
 pub returns-in-Ok-open-clause-cause : goal.returns-in-Ok-open-clause-cause

@@ -13,71 +13,71 @@ use Rattle.mc_main.proofs.Runs.{none_counted, calmed_to, finished_to, replayed_t
 use Rattle.mc_main.proofs.run.mc_run.Goals as goal
 
 pub returns-in-Ok-Print-clause-safe : goal.returns-in-Ok-Print-clause-safe
-returns-in-Ok-Print-clause-safe g c = safe_to _ _ _ (traced_none _ _ (reverse c.refuse.result.history.entries) (ap reverse c.refuse.ensures.empty) (ap g.T.Tree.contents c.refuse.ensures.tree))
+returns-in-Ok-Print-clause-safe g c = safe_to _ _ _ (traced_none _ _ (reverse c.refuse.result.history.entries) (ap reverse c.refuse.ensures.empty) (ap g.T.ReadTree.contents c.refuse.ensures.tree))
 
 pub returns-in-Ok-Print-clause-finished : goal.returns-in-Ok-Print-clause-finished
-returns-in-Ok-Print-clause-finished g c = finished_to _ _ _ (traced_none _ _ (reverse c.refuse.result.history.entries) (ap reverse c.refuse.ensures.empty) (ap g.T.Tree.contents c.refuse.ensures.tree))
+returns-in-Ok-Print-clause-finished g c = finished_to _ _ _ (traced_none _ _ (reverse c.refuse.result.history.entries) (ap reverse c.refuse.ensures.empty) (ap g.T.ReadTree.contents c.refuse.ensures.tree))
 
 pub returns-in-Ok-Print-clause-calmed : goal.returns-in-Ok-Print-clause-calmed
-returns-in-Ok-Print-clause-calmed g c = calmed_to _ _ _ (traced_none _ _ (reverse c.refuse.result.history.entries) (ap reverse c.refuse.ensures.empty) (ap g.T.Tree.contents c.refuse.ensures.tree))
+returns-in-Ok-Print-clause-calmed g c = calmed_to _ _ _ (traced_none _ _ (reverse c.refuse.result.history.entries) (ap reverse c.refuse.ensures.empty) (ap g.T.ReadTree.contents c.refuse.ensures.tree))
 
 pub returns-in-Ok-Print-clause-replayed : goal.returns-in-Ok-Print-clause-replayed
-returns-in-Ok-Print-clause-replayed g c = replayed_to _ _ _ (traced_none _ _ (reverse c.refuse.result.history.entries) (ap reverse c.refuse.ensures.empty) (ap g.T.Tree.contents c.refuse.ensures.tree))
+returns-in-Ok-Print-clause-replayed g c = replayed_to _ _ _ (traced_none _ _ (reverse c.refuse.result.history.entries) (ap reverse c.refuse.ensures.empty) (ap g.T.ReadTree.contents c.refuse.ensures.tree))
 
 pub returns-in-Ok-Print-clause-keys : goal.returns-in-Ok-Print-clause-keys
 returns-in-Ok-Print-clause-keys g c = reads_none (g.K.Source.left c.args.keys.now) (reverse c.refuse.result.history.entries) c.refuse.result.status (ap reverse c.refuse.ensures.empty)
 
 pub returns-in-Err-clause-safe : goal.returns-in-Err-clause-safe
-returns-in-Err-clause-safe g c = safe_to _ _ _ (traced_none _ _ (reverse c.without_session.result.history.entries) (ap reverse c.without_session.ensures.empty) (ap g.T.Tree.contents c.without_session.ensures.tree))
+returns-in-Err-clause-safe g c = safe_to _ _ _ (traced_none _ _ (reverse c.without_session.result.history.entries) (ap reverse c.without_session.ensures.empty) (ap g.T.ReadTree.contents c.without_session.ensures.tree))
 
 pub returns-in-Err-clause-finished : goal.returns-in-Err-clause-finished
-returns-in-Err-clause-finished g c = finished_to _ _ _ (traced_none _ _ (reverse c.without_session.result.history.entries) (ap reverse c.without_session.ensures.empty) (ap g.T.Tree.contents c.without_session.ensures.tree))
+returns-in-Err-clause-finished g c = finished_to _ _ _ (traced_none _ _ (reverse c.without_session.result.history.entries) (ap reverse c.without_session.ensures.empty) (ap g.T.ReadTree.contents c.without_session.ensures.tree))
 
 pub returns-in-Err-clause-calmed : goal.returns-in-Err-clause-calmed
-returns-in-Err-clause-calmed g c = calmed_to _ _ _ (traced_none _ _ (reverse c.without_session.result.history.entries) (ap reverse c.without_session.ensures.empty) (ap g.T.Tree.contents c.without_session.ensures.tree))
+returns-in-Err-clause-calmed g c = calmed_to _ _ _ (traced_none _ _ (reverse c.without_session.result.history.entries) (ap reverse c.without_session.ensures.empty) (ap g.T.ReadTree.contents c.without_session.ensures.tree))
 
 pub returns-in-Err-clause-replayed : goal.returns-in-Err-clause-replayed
-returns-in-Err-clause-replayed g c = replayed_to _ _ _ (traced_none _ _ (reverse c.without_session.result.history.entries) (ap reverse c.without_session.ensures.empty) (ap g.T.Tree.contents c.without_session.ensures.tree))
+returns-in-Err-clause-replayed g c = replayed_to _ _ _ (traced_none _ _ (reverse c.without_session.result.history.entries) (ap reverse c.without_session.ensures.empty) (ap g.T.ReadTree.contents c.without_session.ensures.tree))
 
 pub returns-in-Err-clause-keys : goal.returns-in-Err-clause-keys
 returns-in-Err-clause-keys g c = reads_none (g.K.Source.left c.args.keys.now) (reverse c.without_session.result.history.entries) c.without_session.result.status (ap reverse c.without_session.ensures.empty)
 
 pub returns-in-Ok-clause-safe : goal.returns-in-Ok-clause-safe
 returns-in-Ok-clause-safe g c =
-    safe_to _ _ _ (subst (λ o. IsTracedTo o (g.T.Tree.contents c.run_desk.result.tree) (reverse c.run_desk.result.history.entries)) (sym c.requires.opening) c.run_desk.ensures.traced)
+    safe_to _ _ _ (subst (λ o. IsTracedTo o (g.T.ReadTree.contents c.run_desk.result.tree) (reverse c.run_desk.result.history.entries)) (sym c.requires.opening) c.run_desk.ensures.traced)
 
 pub returns-in-Ok-clause-finished : goal.returns-in-Ok-clause-finished
 returns-in-Ok-clause-finished g c =
-    finished_to _ _ _ (subst (λ o. IsTracedTo o (g.T.Tree.contents c.run_desk.result.tree) (reverse c.run_desk.result.history.entries)) (sym c.requires.opening) c.run_desk.ensures.traced)
+    finished_to _ _ _ (subst (λ o. IsTracedTo o (g.T.ReadTree.contents c.run_desk.result.tree) (reverse c.run_desk.result.history.entries)) (sym c.requires.opening) c.run_desk.ensures.traced)
 
 pub returns-in-Ok-clause-calmed : goal.returns-in-Ok-clause-calmed
 returns-in-Ok-clause-calmed g c =
-    calmed_to _ _ _ (subst (λ o. IsTracedTo o (g.T.Tree.contents c.run_desk.result.tree) (reverse c.run_desk.result.history.entries)) (sym c.requires.opening) c.run_desk.ensures.traced)
+    calmed_to _ _ _ (subst (λ o. IsTracedTo o (g.T.ReadTree.contents c.run_desk.result.tree) (reverse c.run_desk.result.history.entries)) (sym c.requires.opening) c.run_desk.ensures.traced)
 
 pub returns-in-Ok-clause-replayed : goal.returns-in-Ok-clause-replayed
 returns-in-Ok-clause-replayed g c =
-    replayed_to _ _ _ (subst (λ o. IsTracedTo o (g.T.Tree.contents c.run_desk.result.tree) (reverse c.run_desk.result.history.entries)) (sym c.requires.opening) c.run_desk.ensures.traced)
+    replayed_to _ _ _ (subst (λ o. IsTracedTo o (g.T.ReadTree.contents c.run_desk.result.tree) (reverse c.run_desk.result.history.entries)) (sym c.requires.opening) c.run_desk.ensures.traced)
 
 pub returns-clause-safe : goal.returns-clause-safe
-returns-clause-safe g c = safe_to _ _ _ (traced_none _ _ (reverse c.refuse_start.result.history.entries) (ap reverse c.refuse_start.ensures.empty) (ap g.T.Tree.contents c.refuse_start.ensures.tree ∙ c.in-Err-begin.ensures.same))
+returns-clause-safe g c = safe_to _ _ _ (traced_none _ _ (reverse c.refuse_start.result.history.entries) (ap reverse c.refuse_start.ensures.empty) (ap g.T.ReadTree.contents c.refuse_start.ensures.tree ∙ c.in-Err-begin.ensures.same))
 
 pub returns-clause-finished : goal.returns-clause-finished
-returns-clause-finished g c = finished_to _ _ _ (traced_none _ _ (reverse c.refuse_start.result.history.entries) (ap reverse c.refuse_start.ensures.empty) (ap g.T.Tree.contents c.refuse_start.ensures.tree ∙ c.in-Err-begin.ensures.same))
+returns-clause-finished g c = finished_to _ _ _ (traced_none _ _ (reverse c.refuse_start.result.history.entries) (ap reverse c.refuse_start.ensures.empty) (ap g.T.ReadTree.contents c.refuse_start.ensures.tree ∙ c.in-Err-begin.ensures.same))
 
 pub returns-clause-calmed : goal.returns-clause-calmed
-returns-clause-calmed g c = calmed_to _ _ _ (traced_none _ _ (reverse c.refuse_start.result.history.entries) (ap reverse c.refuse_start.ensures.empty) (ap g.T.Tree.contents c.refuse_start.ensures.tree ∙ c.in-Err-begin.ensures.same))
+returns-clause-calmed g c = calmed_to _ _ _ (traced_none _ _ (reverse c.refuse_start.result.history.entries) (ap reverse c.refuse_start.ensures.empty) (ap g.T.ReadTree.contents c.refuse_start.ensures.tree ∙ c.in-Err-begin.ensures.same))
 
 pub returns-clause-replayed : goal.returns-clause-replayed
-returns-clause-replayed g c = replayed_to _ _ _ (traced_none _ _ (reverse c.refuse_start.result.history.entries) (ap reverse c.refuse_start.ensures.empty) (ap g.T.Tree.contents c.refuse_start.ensures.tree ∙ c.in-Err-begin.ensures.same))
+returns-clause-replayed g c = replayed_to _ _ _ (traced_none _ _ (reverse c.refuse_start.result.history.entries) (ap reverse c.refuse_start.ensures.empty) (ap g.T.ReadTree.contents c.refuse_start.ensures.tree ∙ c.in-Err-begin.ensures.same))
 
 pub returns-clause-keys : goal.returns-clause-keys
 returns-clause-keys g c = reads_none (g.K.Source.left c.args.keys.now) (reverse c.refuse_start.result.history.entries) c.refuse_start.result.status (ap reverse c.refuse_start.ensures.empty)
 
 pub returns-clause-complete : goal.returns-clause-complete
 returns-clause-complete g c log known =
-    refused_start log (session_start (size_in c.args.env.now) (asked_in c.args.env.now.folder c.args.words.now)) c.refuse_start.result.status _ _ _ _ (λ two. may_refuse log (session_start (size_in c.args.env.now) (asked_in c.args.env.now.folder c.args.words.now)) c.in-Ok-Session.start c.in-Err-begin.refused.error (g.T.Tree.fault_count c.args.tree) (g.T.Tree.fault_count c.refuse_start.result.tree) (starts_in (size_in c.args.env.now) (asked_in c.args.env.now.folder c.args.words.now) c.in-Ok-Session.start c.in-Ok-Session.typed (session_is (size_in c.args.env.now) (asked_in c.args.env.now.folder c.args.words.now) c.in-Ok-Session.field-0 c.in-Ok-Session.start c.in-Ok-Session.typed c.in-Ok-Session.ensures c.in-Ok-Session.field-0-is))
+    refused_start log (session_start (size_in c.args.env.now) (asked_in c.args.env.now.folder c.args.words.now)) c.refuse_start.result.status _ _ _ _ (λ two. may_refuse log (session_start (size_in c.args.env.now) (asked_in c.args.env.now.folder c.args.words.now)) c.in-Ok-Session.start c.in-Err-begin.refused.error (g.T.ReadTree.fault_count c.args.tree) (g.T.ReadTree.fault_count c.refuse_start.result.tree) (starts_in (size_in c.args.env.now) (asked_in c.args.env.now.folder c.args.words.now) c.in-Ok-Session.start c.in-Ok-Session.typed (session_is (size_in c.args.env.now) (asked_in c.args.env.now.folder c.args.words.now) c.in-Ok-Session.field-0 c.in-Ok-Session.start c.in-Ok-Session.typed c.in-Ok-Session.ensures c.in-Ok-Session.field-0-is))
     (c.refuse_start.ensures.cause two) (c.in-Err-begin.ensures.cause log known)
-    (λ fault. subst (λ t. HasRisen (g.T.Tree.fault_count c.args.tree) (g.T.Tree.fault_count t)) (sym c.refuse_start.ensures.tree) (c.in-Err-begin.ensures.fault fault))) c.refuse_start.ensures.status (λ four. search rules)
+    (λ fault. subst (λ t. HasRisen (g.T.ReadTree.fault_count c.args.tree) (g.T.ReadTree.fault_count t)) (sym c.refuse_start.ensures.tree) (c.in-Err-begin.ensures.fault fault))) c.refuse_start.ensures.status (λ four. search rules)
 
 pub begin-requires-clause-start : goal.begin-requires-clause-start
 begin-requires-clause-start g c known is =
@@ -89,17 +89,17 @@ returns-in-Ok-clause-session g c =
     let starts : session_start (size_in c.args.env.now) (asked_in c.args.env.now.folder c.args.words.now) ≡ Some c.in-Ok-Session.start = starts_in (size_in c.args.env.now) (asked_in c.args.env.now.folder c.args.words.now) c.in-Ok-Session.start c.in-Ok-Session.typed (session_is (size_in c.args.env.now) (asked_in c.args.env.now.folder c.args.words.now) c.in-Ok-Session.field-0 c.in-Ok-Session.start c.in-Ok-Session.typed c.in-Ok-Session.ensures c.in-Ok-Session.field-0-is) in
     inl (
       subst (λ (o : Option Start). IsSome o) (sym starts) refl,
-      run_in g.N.Tag.start (session_start (size_in c.args.env.now) (asked_in c.args.env.now.folder c.args.words.now)) g.N.Tag.opening (g.T.Tree.contents c.args.tree) g.N.Tag.tree_faults (g.T.Tree.fault_count c.args.tree) c.run_desk.result.status
-          (reverse c.run_desk.result.history.entries) (g.T.Tree.contents c.run_desk.result.tree) g.N.Tag.stream (g.K.Source.left c.args.keys.now) (g.K.Source.left c.run_desk.new.keys) g.N.Tag.given (g.S.Sink.given c.args.screen) (g.S.Sink.given c.run_desk.result.screen) c.requires.start c.requires.opening
+      run_in g.N.Tag.start (session_start (size_in c.args.env.now) (asked_in c.args.env.now.folder c.args.words.now)) g.N.Tag.opening (g.T.ReadTree.contents c.args.tree) g.N.Tag.tree_faults (g.T.ReadTree.fault_count c.args.tree) c.run_desk.result.status
+          (reverse c.run_desk.result.history.entries) (g.T.ReadTree.contents c.run_desk.result.tree) g.N.Tag.stream (g.K.Source.left c.args.keys.now) (g.K.Source.left c.run_desk.new.keys) g.N.Tag.given (g.S.Sink.given c.args.screen) (g.S.Sink.given c.run_desk.result.screen) c.requires.start c.requires.opening
           c.requires.faults c.requires.stream c.requires.given c.run_desk.ensures.session,
     )
 
 pub returns-in-Ok-clause-shown : goal.returns-in-Ok-clause-shown
 returns-in-Ok-clause-shown g c =
-    run_shows (session_start (size_in c.args.env.now) (asked_in c.args.env.now.folder c.args.words.now)) (g.T.Tree.contents c.args.tree) (g.T.Tree.fault_count c.args.tree) c.run_desk.result.status (reverse c.run_desk.result.history.entries) (g.T.Tree.contents c.run_desk.result.tree)
+    run_shows (session_start (size_in c.args.env.now) (asked_in c.args.env.now.folder c.args.words.now)) (g.T.ReadTree.contents c.args.tree) (g.T.ReadTree.fault_count c.args.tree) c.run_desk.result.status (reverse c.run_desk.result.history.entries) (g.T.ReadTree.contents c.run_desk.result.tree)
     (TookAll (g.K.Source.left c.args.keys.now) (g.K.Source.left c.run_desk.new.keys)) (g.S.Sink.given c.args.screen) (g.S.Sink.given c.run_desk.result.screen)
-    (run_in g.N.Tag.start (session_start (size_in c.args.env.now) (asked_in c.args.env.now.folder c.args.words.now)) g.N.Tag.opening (g.T.Tree.contents c.args.tree) g.N.Tag.tree_faults (g.T.Tree.fault_count c.args.tree) c.run_desk.result.status
-    (reverse c.run_desk.result.history.entries) (g.T.Tree.contents c.run_desk.result.tree) g.N.Tag.stream (g.K.Source.left c.args.keys.now) (g.K.Source.left c.run_desk.new.keys) g.N.Tag.given (g.S.Sink.given c.args.screen)
+    (run_in g.N.Tag.start (session_start (size_in c.args.env.now) (asked_in c.args.env.now.folder c.args.words.now)) g.N.Tag.opening (g.T.ReadTree.contents c.args.tree) g.N.Tag.tree_faults (g.T.ReadTree.fault_count c.args.tree) c.run_desk.result.status
+    (reverse c.run_desk.result.history.entries) (g.T.ReadTree.contents c.run_desk.result.tree) g.N.Tag.stream (g.K.Source.left c.args.keys.now) (g.K.Source.left c.run_desk.new.keys) g.N.Tag.given (g.S.Sink.given c.args.screen)
     (g.S.Sink.given c.run_desk.result.screen) c.requires.start c.requires.opening c.requires.faults c.requires.stream c.requires.given c.run_desk.ensures.session)
 
 pub returns-in-Ok-Print-clause-shown : goal.returns-in-Ok-Print-clause-shown
@@ -116,22 +116,22 @@ returns-in-Ok-clause-keys g c bytes known = c.run_desk.ensures.keys bytes (sym c
 
 pub returns-in-Ok-clause-faults : goal.returns-in-Ok-clause-faults
 returns-in-Ok-clause-faults g c =
-    subst (λ n. faults_in n (reverse c.run_desk.result.history.entries) ≤ g.T.Tree.fault_count c.run_desk.result.tree) c.requires.faults c.run_desk.ensures.faults
+    subst (λ n. faults_in n (reverse c.run_desk.result.history.entries) ≤ g.T.ReadTree.fault_count c.run_desk.result.tree) c.requires.faults c.run_desk.ensures.faults
 
 pub returns-in-Ok-clause-commands : goal.returns-in-Ok-clause-commands
 returns-in-Ok-clause-commands g c = record { ran = c.run_desk.ensures.commands.ran ∙ sym c.requires.runs; failed = c.run_desk.ensures.commands.failed ∙ sym c.requires.spawner }
 
 pub returns-in-Ok-Print-clause-faults : goal.returns-in-Ok-Print-clause-faults
-returns-in-Ok-Print-clause-faults g c = none_counted _ _ (reverse c.refuse.result.history.entries) (ap reverse c.refuse.ensures.empty) (let same = ap g.T.Tree.fault_count c.refuse.ensures.tree in omega (arith, same))
+returns-in-Ok-Print-clause-faults g c = none_counted _ _ (reverse c.refuse.result.history.entries) (ap reverse c.refuse.ensures.empty) (let same = ap g.T.ReadTree.fault_count c.refuse.ensures.tree in omega (arith, same))
 
 pub returns-in-Err-clause-faults : goal.returns-in-Err-clause-faults
 returns-in-Err-clause-faults g c =
-    none_counted _ _ (reverse c.without_session.result.history.entries) (ap reverse c.without_session.ensures.empty) (let same = ap g.T.Tree.fault_count c.without_session.ensures.tree in omega (arith, same))
+    none_counted _ _ (reverse c.without_session.result.history.entries) (ap reverse c.without_session.ensures.empty) (let same = ap g.T.ReadTree.fault_count c.without_session.ensures.tree in omega (arith, same))
 
 pub returns-clause-faults : goal.returns-clause-faults
 returns-clause-faults g c =
     none_counted _ _ (reverse c.refuse_start.result.history.entries) (ap reverse c.refuse_start.ensures.empty)
-    (let same = ap g.T.Tree.fault_count c.refuse_start.ensures.tree in let later = c.in-Err-begin.ensures.later in omega (arith, same, later))
+    (let same = ap g.T.ReadTree.fault_count c.refuse_start.ensures.tree in let later = c.in-Err-begin.ensures.later in omega (arith, same, later))
 
 pub returns-in-Ok-Print-clause-commands : goal.returns-in-Ok-Print-clause-commands
 returns-in-Ok-Print-clause-commands g c = record { ran = ap g.P.Spawner.runs c.refuse.ensures.spawner; failed = ap g.P.Spawner.fault_count c.refuse.ensures.spawner }
@@ -146,8 +146,8 @@ returns-clause-commands g c =
 
 pub returns-clause-start_line : goal.returns-clause-start_line
 returns-clause-start_line g c two before known =
-    prints_start (g.T.Tree.contents c.args.tree) (size_in c.args.env.now) (asked_in c.args.env.now.folder c.args.words.now) c.in-Ok-Session.start c.in-Ok-Session.typed c.in-Err-begin.refused.error (g.T.Tree.fault_count c.args.tree) (g.T.Tree.fault_count c.refuse_start.result.tree) before (g.S.Sink.given c.refuse_start.result.screen) (session_is (size_in c.args.env.now) (asked_in c.args.env.now.folder c.args.words.now) c.in-Ok-Session.field-0 c.in-Ok-Session.start c.in-Ok-Session.typed c.in-Ok-Session.ensures c.in-Ok-Session.field-0-is) (c.refuse_start.ensures.cause two)
-    c.in-Err-begin.ensures.cause (λ faulty. subst (HasRisen (g.T.Tree.fault_count c.args.tree)) (sym (ap g.T.Tree.fault_count c.refuse_start.ensures.tree)) (c.in-Err-begin.ensures.fault faulty))
+    prints_start (g.T.ReadTree.contents c.args.tree) (size_in c.args.env.now) (asked_in c.args.env.now.folder c.args.words.now) c.in-Ok-Session.start c.in-Ok-Session.typed c.in-Err-begin.refused.error (g.T.ReadTree.fault_count c.args.tree) (g.T.ReadTree.fault_count c.refuse_start.result.tree) before (g.S.Sink.given c.refuse_start.result.screen) (session_is (size_in c.args.env.now) (asked_in c.args.env.now.folder c.args.words.now) c.in-Ok-Session.field-0 c.in-Ok-Session.start c.in-Ok-Session.typed c.in-Ok-Session.ensures c.in-Ok-Session.field-0-is) (c.refuse_start.ensures.cause two)
+    c.in-Err-begin.ensures.cause (λ faulty. subst (HasRisen (g.T.ReadTree.fault_count c.args.tree)) (sym (ap g.T.ReadTree.fault_count c.refuse_start.ensures.tree)) (c.in-Err-begin.ensures.fault faulty))
     (c.refuse_start.ensures.line two before (ap g.S.Sink.given c.in-Err-begin.ensures.same_screen ∙ known))
 
 pub returns-in-Ok-Print-clause-usage : goal.returns-in-Ok-Print-clause-usage
@@ -173,7 +173,7 @@ returns-in-Ok-Print-clause-session g c =
     inr (
       ap reverse c.refuse.ensures.empty,
       begins_none (asked_in c.args.env.now.folder c.args.words.now) c.in-Ok-Print.printed c.refuse.result.status is (subst (λ n. IsStatusOr n c.refuse.result.status) c.status-status.ensures.value c.refuse.ensures.status),
-      λ before known. put_printed (g.T.Tree.contents c.args.tree) (size_in c.args.env.now) (asked_in c.args.env.now.folder c.args.words.now) c.in-Ok-Print.printed before c.text-text.result.now (g.S.Sink.given c.refuse.result.screen) is c.text-text.ensures (c.refuse.ensures.put before known),
+      λ before known. put_printed (g.T.ReadTree.contents c.args.tree) (size_in c.args.env.now) (asked_in c.args.env.now.folder c.args.words.now) c.in-Ok-Print.printed before c.text-text.result.now (g.S.Sink.given c.refuse.result.screen) is c.text-text.ensures (c.refuse.ensures.put before known),
     )
 
 pub returns-in-Ok-Print-clause-start : goal.returns-in-Ok-Print-clause-start
@@ -266,16 +266,16 @@ returns-clause-session g c =
     inr (
       ap reverse c.refuse_start.ensures.empty,
       inr (inr c.refuse_start.ensures.status),
-      λ before known. put_start (g.T.Tree.contents c.args.tree) (size_in c.args.env.now) (asked_in c.args.env.now.folder c.args.words.now) c.in-Ok-Session.start c.in-Ok-Session.typed c.in-Err-begin.refused.error before (g.S.Sink.given c.refuse_start.result.screen)
+      λ before known. put_start (g.T.ReadTree.contents c.args.tree) (size_in c.args.env.now) (asked_in c.args.env.now.folder c.args.words.now) c.in-Ok-Session.start c.in-Ok-Session.typed c.in-Err-begin.refused.error before (g.S.Sink.given c.refuse_start.result.screen)
           (session_is (size_in c.args.env.now) (asked_in c.args.env.now.folder c.args.words.now) c.in-Ok-Session.field-0 c.in-Ok-Session.start c.in-Ok-Session.typed c.in-Ok-Session.ensures c.in-Ok-Session.field-0-is) c.in-Err-begin.ensures.cause
           (c.refuse_start.ensures.put before (ap g.S.Sink.given c.in-Err-begin.ensures.same_screen ∙ known)),
     )
 
 pub returns-clause-start : goal.returns-clause-start
 returns-clause-start g c two log known =
-    may_refuse log (session_start (size_in c.args.env.now) (asked_in c.args.env.now.folder c.args.words.now)) c.in-Ok-Session.start c.in-Err-begin.refused.error (g.T.Tree.fault_count c.args.tree) (g.T.Tree.fault_count c.refuse_start.result.tree) (starts_in (size_in c.args.env.now) (asked_in c.args.env.now.folder c.args.words.now) c.in-Ok-Session.start c.in-Ok-Session.typed (session_is (size_in c.args.env.now) (asked_in c.args.env.now.folder c.args.words.now) c.in-Ok-Session.field-0 c.in-Ok-Session.start c.in-Ok-Session.typed c.in-Ok-Session.ensures c.in-Ok-Session.field-0-is))
+    may_refuse log (session_start (size_in c.args.env.now) (asked_in c.args.env.now.folder c.args.words.now)) c.in-Ok-Session.start c.in-Err-begin.refused.error (g.T.ReadTree.fault_count c.args.tree) (g.T.ReadTree.fault_count c.refuse_start.result.tree) (starts_in (size_in c.args.env.now) (asked_in c.args.env.now.folder c.args.words.now) c.in-Ok-Session.start c.in-Ok-Session.typed (session_is (size_in c.args.env.now) (asked_in c.args.env.now.folder c.args.words.now) c.in-Ok-Session.field-0 c.in-Ok-Session.start c.in-Ok-Session.typed c.in-Ok-Session.ensures c.in-Ok-Session.field-0-is))
     (c.refuse_start.ensures.cause two) (c.in-Err-begin.ensures.cause log known)
-    (λ fault. subst (λ t. HasRisen (g.T.Tree.fault_count c.args.tree) (g.T.Tree.fault_count t)) (sym c.refuse_start.ensures.tree) (c.in-Err-begin.ensures.fault fault))
+    (λ fault. subst (λ t. HasRisen (g.T.ReadTree.fault_count c.args.tree) (g.T.ReadTree.fault_count t)) (sym c.refuse_start.ensures.tree) (c.in-Err-begin.ensures.fault fault))
 
 pub returns-clause-refuses_start : goal.returns-clause-refuses_start
 returns-clause-refuses_start g c log known =

@@ -19,7 +19,15 @@ pub returns-in_ok-paint_line-in-CopyTo-clause-over : goal.returns-in_ok-paint_li
 returns-in_ok-paint_line-in-CopyTo-clause-over c =
     subst (λ d. c.paint_line-in-CopyTo.new.grid ≡ with_over (seen_box d) c.args.grid.now) (sym c.in-CopyTo.is) c.in_ok-paint_line-in-CopyTo.ensures.field
 
+pub returns-in_ok-paint_line-in-MakeFolder-clause-over : goal.returns-in_ok-paint_line-in-MakeFolder-clause-over
+returns-in_ok-paint_line-in-MakeFolder-clause-over c =
+    subst (λ d. c.paint_line-in-MakeFolder.new.grid ≡ with_over (seen_box d) c.args.grid.now) (sym c.in-MakeFolder.is) c.in_ok-paint_line-in-MakeFolder.ensures.field
+
 pub returns-in_ok-paint_lines-in-Trouble-clause-over : goal.returns-in_ok-paint_lines-in-Trouble-clause-over
 returns-in_ok-paint_lines-in-Trouble-clause-over c =
     subst (λ d. c.paint_lines-in-Trouble.new.grid ≡ with_over (seen_box d) c.args.grid.now) (sym c.in-Trouble.is)
     (c.in_ok-paint_lines-in-Trouble.ensures.painted ∙ ap (λ lines. with_box c.args.grid.now (plain_lines lines)) c.in_ok-lines-in-Trouble.ensures)
+
+pub returns-in_ok-paint_panel_box-in-Panel-clause-over : goal.returns-in_ok-paint_panel_box-in-Panel-clause-over
+returns-in_ok-paint_panel_box-in-Panel-clause-over c =
+    subst (λ d. c.paint_panel_box.new.grid ≡ with_over (seen_box d) c.args.grid.now) (sym c.in-Panel.is) c.in_ok-paint_panel_box-in-Panel.ensures.over

@@ -7,7 +7,7 @@ use Rattle.op_plan.proofs.sources.look_at_all.Given as goal
 
 abbrev pub invariant-loop-source : goal.invariant-loop-source
 invariant-loop-source g l = record {
-  same : g.T.Tree.contents l.tree ≡ g.T.Tree.contents l.fn.tree;
-  later : g.T.Tree.fault_count l.fn.tree ≤ g.T.Tree.fault_count l.tree;
-  left : IfKnown (g.T.Tree.contents l.fn.tree) (λ log. all_there (current log) (drop l.source-index l.sources) ≡ all_there (current log) l.sources);
+  same : g.T.ReadTree.contents l.tree ≡ g.T.ReadTree.contents l.fn.tree;
+  later : g.T.ReadTree.fault_count l.fn.tree ≤ g.T.ReadTree.fault_count l.tree;
+  left : IfKnown (g.T.ReadTree.contents l.fn.tree) (λ log. all_there (current log) (drop l.source-index l.sources) ≡ all_there (current log) l.sources);
 }

@@ -1,5 +1,5 @@
--- The items so far, behind those of the names that are left; the tree is as it was.
-use Rattle.std.proofs.Common.{◌≡◌, ◌≤◌, ◌++◌, Some, map, reverse, length}
+-- The items so far, behind those of the names that are left; the tree is as it was, and so is its count of faults.
+use Rattle.std.proofs.Common.{◌≡◌, ◌++◌, Some, map, reverse, length}
 use Rattle.tree_trait.specs.Change.{CallLog, current}
 use Rattle.panel_listing.specs.Items.{child_item}
 use Rattle.panel_listing.specs.Arranging.{names_of}
@@ -7,9 +7,9 @@ use Rattle.panel_listing.proofs.reading.items_of.Given as goal
 
 abbrev pub invariant-loop-name : goal.invariant-loop-name
 invariant-loop-name g l = record {
-  same : g.T.Tree.contents l.tree ≡ g.T.Tree.contents l.fn.tree;
-  later : g.T.Tree.fault_count l.fn.tree ≤ g.T.Tree.fault_count l.tree;
-  items_are : (log : CallLog) → g.T.Tree.contents l.fn.tree ≡ Some log
+  same : g.T.ReadTree.contents l.tree ≡ g.T.ReadTree.contents l.fn.tree;
+  counts : g.T.ReadTree.fault_count l.tree ≡ g.T.ReadTree.fault_count l.fn.tree;
+  items_are : (log : CallLog) → g.T.ReadTree.contents l.fn.tree ≡ Some log
       → map (child_item (current log) l.folder) l.names.items ++ reverse l.items.items ≡ map (child_item (current log) l.folder) l.fn.names.items;
   names_are : l.names.items ++ names_of (reverse l.items.items) ≡ l.fn.names.items;
 }

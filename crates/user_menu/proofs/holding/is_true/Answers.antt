@@ -8,7 +8,7 @@ use Rattle.user_menu.proofs.holding.is_true.Goals as goal
 
 pub returns-in-Program-clause-answer : goal.returns-in-Program-clause-answer
 returns-in-Program-clause-answer g c s told =
-    let contents = g.T.Tree.contents c.args.tree.now in
+    let contents = g.T.ReadTree.contents c.args.tree.now in
     let r = c.is_program.result in
     let here = c.args.here.now in
     let answer : IfKnown contents (λ log. IfOk r (λ is. is ≡ is_program (current log) here.folder c.in-Program.argument)) =

@@ -21,13 +21,13 @@ loop-first-preserved g c =
           let each : EachTest AsksNoTree (first ∷ more) = subst (λ (terms : List Joined). EachTest AsksNoTree terms) left whole.0 in
           (each.1, one.unasked each.0 ∙ whole.1);
       told = λ s told.
-          let each : EachTest (IsAskedOf (g.T.Tree.contents c.args.tree.now) s) (first ∷ more) =
-          subst (λ (terms : List Joined). EachTest (IsAskedOf (g.T.Tree.contents c.args.tree.now) s) terms) left (all.told s told) in
+          let each : EachTest (IsAskedOf (g.T.ReadTree.contents c.args.tree.now) s) (first ∷ more) =
+          subst (λ (terms : List Joined). EachTest (IsAskedOf (g.T.ReadTree.contents c.args.tree.now) s) terms) left (all.told s told) in
           each.1;
       values_are = λ s told.
-          let each : EachTest (IsAskedOf (g.T.Tree.contents c.args.tree.now) s) (first ∷ more) =
-          subst (λ (terms : List Joined). EachTest (IsAskedOf (g.T.Tree.contents c.args.tree.now) s) terms) left (all.told s told) in
-          let asked : IsAskedOf (g.T.Tree.contents c.loop-first.tree) s first.term.test =
+          let each : EachTest (IsAskedOf (g.T.ReadTree.contents c.args.tree.now) s) (first ∷ more) =
+          subst (λ (terms : List Joined). EachTest (IsAskedOf (g.T.ReadTree.contents c.args.tree.now) s) terms) left (all.told s told) in
+          let asked : IsAskedOf (g.T.ReadTree.contents c.loop-first.tree) s first.term.test =
           subst (λ contents. IsAskedOf contents s first.term.test) (sym all.same) each.0 in
           let valued = value_of s c.args.here.now c.args.other.now in
           let before = c.loop-first.values.items in

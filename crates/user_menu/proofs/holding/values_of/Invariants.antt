@@ -7,12 +7,12 @@ use Rattle.user_menu.proofs.holding.values_of.Given as goal
 
 abbrev pub invariant-loop-first : goal.invariant-loop-first
 invariant-loop-first g l = record {
-  same : g.T.Tree.contents l.tree ≡ g.T.Tree.contents l.fn.tree;
-  later : g.T.Tree.fault_count l.fn.tree ≤ g.T.Tree.fault_count l.tree;
+  same : g.T.ReadTree.contents l.tree ≡ g.T.ReadTree.contents l.fn.tree;
+  later : g.T.ReadTree.fault_count l.fn.tree ≤ g.T.ReadTree.fault_count l.tree;
   unasked : EachTest AsksNoTree l.fn.condition → EachTest AsksNoTree l.terms × (l.tree ≡ l.fn.tree);
-  told : (s : FileSystem) → EachTest (IsAskedOf (g.T.Tree.contents l.fn.tree) s) l.fn.condition
-      → EachTest (IsAskedOf (g.T.Tree.contents l.fn.tree) s) l.terms;
-  values_are : (s : FileSystem) → EachTest (IsAskedOf (g.T.Tree.contents l.fn.tree) s) l.fn.condition
+  told : (s : FileSystem) → EachTest (IsAskedOf (g.T.ReadTree.contents l.fn.tree) s) l.fn.condition
+      → EachTest (IsAskedOf (g.T.ReadTree.contents l.fn.tree) s) l.terms;
+  values_are : (s : FileSystem) → EachTest (IsAskedOf (g.T.ReadTree.contents l.fn.tree) s) l.fn.condition
       → l.values.items ++ map (value_of s l.here l.other) l.terms ≡ map (value_of s l.here l.other) l.fn.condition;
 }
 

@@ -20,13 +20,13 @@ loop-entry-preserved g c =
           let each : EachTestIn AsksNoTree (entry ∷ more) = subst (λ (entries : List MenuEntry). EachTestIn AsksNoTree entries) left whole.0 in
           (each.1, one.unasked each.0 ∙ whole.1);
       told = λ s told.
-          let each : EachTestIn (IsAskedOf (g.T.Tree.contents c.args.tree.now) s) (entry ∷ more) =
-          subst (λ (entries : List MenuEntry). EachTestIn (IsAskedOf (g.T.Tree.contents c.args.tree.now) s) entries) left (all.told s told) in
+          let each : EachTestIn (IsAskedOf (g.T.ReadTree.contents c.args.tree.now) s) (entry ∷ more) =
+          subst (λ (entries : List MenuEntry). EachTestIn (IsAskedOf (g.T.ReadTree.contents c.args.tree.now) s) entries) left (all.told s told) in
           each.1;
       standings_are = λ s told.
-          let each : EachTestIn (IsAskedOf (g.T.Tree.contents c.args.tree.now) s) (entry ∷ more) =
-          subst (λ (entries : List MenuEntry). EachTestIn (IsAskedOf (g.T.Tree.contents c.args.tree.now) s) entries) left (all.told s told) in
-          let asked : EachTestAsked (IsAskedOf (g.T.Tree.contents c.loop-entry.tree) s) entry.conditions =
+          let each : EachTestIn (IsAskedOf (g.T.ReadTree.contents c.args.tree.now) s) (entry ∷ more) =
+          subst (λ (entries : List MenuEntry). EachTestIn (IsAskedOf (g.T.ReadTree.contents c.args.tree.now) s) entries) left (all.told s told) in
+          let asked : EachTestAsked (IsAskedOf (g.T.ReadTree.contents c.loop-entry.tree) s) entry.conditions =
           subst (λ contents. EachTestAsked (IsAskedOf contents s) entry.conditions) (sym all.same) each.0 in
           let stands = standing_of s c.args.here.now c.args.other.now in
           let before = c.loop-entry.standings.items in

@@ -7,12 +7,12 @@ use Rattle.user_menu.proofs.showing.standings_of.Given as goal
 
 abbrev pub invariant-loop-entry : goal.invariant-loop-entry
 invariant-loop-entry g l = record {
-  same : g.T.Tree.contents l.tree ≡ g.T.Tree.contents l.fn.tree;
-  later : g.T.Tree.fault_count l.fn.tree ≤ g.T.Tree.fault_count l.tree;
+  same : g.T.ReadTree.contents l.tree ≡ g.T.ReadTree.contents l.fn.tree;
+  later : g.T.ReadTree.fault_count l.fn.tree ≤ g.T.ReadTree.fault_count l.tree;
   unasked : EachTestIn AsksNoTree l.fn.menu → EachTestIn AsksNoTree l.entries × (l.tree ≡ l.fn.tree);
-  told : (s : FileSystem) → EachTestIn (IsAskedOf (g.T.Tree.contents l.fn.tree) s) l.fn.menu
-      → EachTestIn (IsAskedOf (g.T.Tree.contents l.fn.tree) s) l.entries;
-  standings_are : (s : FileSystem) → EachTestIn (IsAskedOf (g.T.Tree.contents l.fn.tree) s) l.fn.menu
+  told : (s : FileSystem) → EachTestIn (IsAskedOf (g.T.ReadTree.contents l.fn.tree) s) l.fn.menu
+      → EachTestIn (IsAskedOf (g.T.ReadTree.contents l.fn.tree) s) l.entries;
+  standings_are : (s : FileSystem) → EachTestIn (IsAskedOf (g.T.ReadTree.contents l.fn.tree) s) l.fn.menu
       → l.standings.items ++ map (standing_of s l.here l.other) l.entries ≡ map (standing_of s l.here l.other) l.fn.menu;
 }
 

@@ -13,7 +13,7 @@ returns-in-Some-clause-answer g c s told =
     let question = c.args.question in
     let condition = c.in-Some.condition.now in
     let is : Some condition ≡ last_asked question entry.conditions = c.in-Some.ensures ∙ ap (last_asked question) c.conditions.ensures in
-    let each = each_of_last (IsAskedOf (g.T.Tree.contents c.args.tree.now) s) question entry.conditions condition is told in
+    let each = each_of_last (IsAskedOf (g.T.ReadTree.contents c.args.tree.now) s) question entry.conditions condition is told in
     IfOk-weaker c.holds.result (λ answer. answer ≡ holds_in s condition c.args.here.now c.args.other.now)
     (λ answer. answer ≡ answer_of s c.args.here.now c.args.other.now question entry)
     (λ answer same. same ∙ ap (λ o. option_map_or (λ one. holds_in s one c.args.here.now c.args.other.now) o (unasked question)) is)

@@ -8,12 +8,12 @@ use Rattle.find_file.proofs.finder.Finder.next.Given as goal
 
 abbrev pub invariant-loop-found : goal.invariant-loop-found
 invariant-loop-found g l = record {
-  same : g.T.Tree.contents l.tree ≡ g.T.Tree.contents l.fn.tree;
-  later : g.T.Tree.fault_count l.fn.tree ≤ g.T.Tree.fault_count l.tree;
+  same : g.T.ReadTree.contents l.tree ≡ g.T.ReadTree.contents l.fn.tree;
+  later : g.T.ReadTree.fault_count l.fn.tree ≤ g.T.ReadTree.fault_count l.tree;
   over : IsOver l.fn.self.walk → IsOver l.self.walk;
   apart : IsOver l.fn.self.walk → l.tree ≡ l.fn.tree;
   search : l.self.search ≡ l.fn.self.search;
-  left : (log : CallLog) → g.T.Tree.contents l.fn.tree ≡ Some log
+  left : (log : CallLog) → g.T.ReadTree.contents l.fn.tree ≡ Some log
       → Leads (left_in (current log) l.fn.self.search l.fn.self.walk) (left_in (current log) l.fn.self.search l.self.walk);
 }
 

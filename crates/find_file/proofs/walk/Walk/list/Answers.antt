@@ -13,7 +13,7 @@ returns-in-Err-clause-answer g c = λ log tells.
 
 pub returns-in-Err-clause-works : goal.returns-in-Err-clause-works
 returns-in-Err-clause-works g c =
-    works-refused (ListTask c.args.folder) c.args.self.now c.refused.new.self (g.T.Tree.fault_count c.args.tree.now) (g.T.Tree.fault_count c.list.new.self) Children c.in-Err.error c.refused.result
+    works-refused (ListTask c.args.folder) c.args.self.now c.refused.new.self (g.T.ReadTree.fault_count c.args.tree.now) (g.T.ReadTree.fault_count c.list.new.self) Children c.in-Err.error c.refused.result
     c.in-Err.ensures.cause c.refused.ensures.told c.refused.ensures.waits c.requires
 
 pub returns-in-Ok-clause-answer : goal.returns-in-Ok-clause-answer
@@ -25,5 +25,5 @@ returns-in-Ok-clause-answer g c = λ log tells.
 
 pub returns-in-Ok-clause-works : goal.returns-in-Ok-clause-works
 returns-in-Ok-clause-works g c =
-    works-enters c.args.search.now c.args.self.now c.enter.new.self c.args.folder c.in-Ok.children.names c.enter.result (g.T.Tree.fault_count c.args.tree.now) (g.T.Tree.fault_count c.list.new.self)
+    works-enters c.args.search.now c.args.self.now c.enter.new.self c.args.folder c.in-Ok.children.names c.enter.result (g.T.ReadTree.fault_count c.args.tree.now) (g.T.ReadTree.fault_count c.list.new.self)
     c.in-Ok.ensures.cause.later c.enter.ensures.entered c.enter.ensures.waits c.enter.ensures.few

@@ -17,7 +17,7 @@ returns-in-Err-clause-answer g c = λ log tells.
 
 pub returns-in-Err-clause-works : goal.returns-in-Err-clause-works
 returns-in-Err-clause-works g c =
-    works-refused (Look c.args.path c.args.is_named) c.args.self.now c.refused.new.self (g.T.Tree.fault_count c.args.tree.now) (g.T.Tree.fault_count c.stat.new.self) Meta c.in-Err.error c.refused.result
+    works-refused (Look c.args.path c.args.is_named) c.args.self.now c.refused.new.self (g.T.ReadTree.fault_count c.args.tree.now) (g.T.ReadTree.fault_count c.stat.new.self) Meta c.in-Err.error c.refused.result
     c.in-Err.ensures.cause c.refused.ensures.told c.refused.ensures.waits c.requires
 
 pub returns-in-Folder-clause-answer : goal.returns-in-Folder-clause-answer

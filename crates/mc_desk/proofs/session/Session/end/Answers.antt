@@ -13,9 +13,9 @@ pub returns-clause-traced : goal.returns-clause-traced
 returns-clause-traced g c =
     let desk = c.session.inside in
     let none : desk.standing.job ≡ None = ap (λ (d : Seen). d.job) c.session.view_is ∙ c.work_off.ensures.idle in
-    let state : Stand → Put → SessionState = λ stand put. record { screen = with_end desk.standing.quit desk.ui; stand = stand; contents = g.T.Tree.contents desk.tree; put = put } in
-    subst (λ es. IsTracedTo g.N.Tag.opening (g.T.Tree.contents desk.tree) es) (sym c.into_history.ensures.entries)
-    (session_traced_to g.N.Tag.start g.N.Tag.opening g.N.Tag.tree_faults desk.log.newest (with_end desk.standing.quit desk.ui) desk.dirty (g.T.Tree.contents desk.tree) desk.terminal.put
+    let state : Stand → Put → SessionState = λ stand put. record { screen = with_end desk.standing.quit desk.ui; stand = stand; contents = g.T.ReadTree.contents desk.tree; put = put } in
+    subst (λ es. IsTracedTo g.N.Tag.opening (g.T.ReadTree.contents desk.tree) es) (sym c.into_history.ensures.entries)
+    (session_traced_to g.N.Tag.start g.N.Tag.opening g.N.Tag.tree_faults desk.log.newest (with_end desk.standing.quit desk.ui) desk.dirty (g.T.ReadTree.contents desk.tree) desk.terminal.put
     (subst (λ j. IsSession g.N.Tag.start g.N.Tag.opening g.N.Tag.tree_faults desk.log.newest (state (stand_with j desk.dirty) desk.terminal.put)) none
     c.session.invariant.desk.written.session))
 
@@ -23,7 +23,7 @@ pub returns-clause-session : goal.returns-clause-session
 returns-clause-session g c =
     let desk = c.session.inside in
     let none : desk.standing.job ≡ None = ap (λ (d : Seen). d.job) c.session.view_is ∙ c.work_off.ensures.idle in
-    let state : Stand → Put → SessionState = λ stand put. record { screen = with_end desk.standing.quit desk.ui; stand = stand; contents = g.T.Tree.contents desk.tree; put = put } in
+    let state : Stand → Put → SessionState = λ stand put. record { screen = with_end desk.standing.quit desk.ui; stand = stand; contents = g.T.ReadTree.contents desk.tree; put = put } in
     let bytes = put_since g.N.Tag.given (g.S.Sink.given c.into_parts-screen.result.0) in
     let out : desk.terminal ≡ c.args.self.out = ap (λ (d : Seen). d.out) c.session.view_is ∙ (c.work_off.ensures.out ∙ c.close.ensures.out) in
     let put : desk.terminal.put ≡ (let p : Put = record { bytes = bytes; is_cut = c.args.self.out.put.is_cut } in p) =

@@ -17,7 +17,7 @@ pub invariant_of-self-2 : goal.invariant_of-self-2
 invariant_of-self-2 g c =
     let inside = c.self.inside in
     let due : awaited inside.standing.due ≡ Some c.in-Some.field-0 = ap (λ (d : Seen). d.tally.due) c.self.view_is ∙ sym c.in-Some.ensures in
-    let opened = open_due g.N.Tag.start g.N.Tag.opening (g.T.Tree.contents inside.tree) g.N.Tag.tree_faults _ c.in-Some.field-0 c.self.invariant.desk due in
+    let opened = open_due g.N.Tag.start g.N.Tag.opening (g.T.ReadTree.contents inside.tree) g.N.Tag.tree_faults _ c.in-Some.field-0 c.self.invariant.desk due in
     let some : IsSome (awaited inside.standing.due) = subst (λ (o : Option ℕ). IsSome o) (sym due) refl in
     let count = c.faults.result in
     let counted = c.faults.ensures in
@@ -25,7 +25,7 @@ invariant_of-self-2 g c =
     let later = c.look.ensures.reads.later in
     let room : 2 ≤ c.note.new.self.spare = search rules in
     record {
-      desk = looked_whole g.N.Tag.start g.N.Tag.opening (g.T.Tree.contents inside.tree) (g.T.Tree.contents c.look.new.tree) g.N.Tag.tree_faults _ c.note.new.self _ c.look.new.self inside.standing c.look_taken.new.self _ inside.terminal c.show-drawn.new.self _ _ count
+      desk = looked_whole g.N.Tag.start g.N.Tag.opening (g.T.ReadTree.contents inside.tree) (g.T.ReadTree.contents c.look.new.tree) g.N.Tag.tree_faults _ c.note.new.self _ c.look.new.self inside.standing c.look_taken.new.self _ inside.terminal c.show-drawn.new.self _ _ count
           c.self.invariant.desk opened.0 opened.1 some c.look.ensures.reads.same (omega (arith, counted, had, later)) c.in-Ok-look.refusals c.in-Ok-rows_of.rows c.in-Ok.news
           (c.in-Ok-rows_of.ensures ∙ ap (λ es. rows_of inside.standing.job (trouble_told es)) c.reserve.ensures.same) (c.in-Ok.ensures ∙ ap news_left c.reserve.ensures.same)
           (λ h. let risen = c.in-Ok-look.ensures.reads.fault h in omega (arith, counted, had, risen)) c.in-Ok-look.ensures.reads.called c.in-Ok-look.ensures.leads c.look.ensures.settled
@@ -41,7 +41,7 @@ pub show-drawn-requires-clause-uncut : goal.show-drawn-requires-clause-uncut
 show-drawn-requires-clause-uncut g c =
     let inside = c.self.inside in
     let due : awaited inside.standing.due ≡ Some c.in-Some.field-0 = ap (λ (d : Seen). d.tally.due) c.self.view_is ∙ sym c.in-Some.ensures in
-    let opened = open_due g.N.Tag.start g.N.Tag.opening (g.T.Tree.contents inside.tree) g.N.Tag.tree_faults _ c.in-Some.field-0 c.self.invariant.desk due in
+    let opened = open_due g.N.Tag.start g.N.Tag.opening (g.T.ReadTree.contents inside.tree) g.N.Tag.tree_faults _ c.in-Some.field-0 c.self.invariant.desk due in
     ap (λ (d : Seen). d.out.put.is_cut) c.self.view_is ∙ c.requires.uncut (sym (ap (λ (d : Seen). d.tally.closed) c.self.view_is) ∙ opened.0)
 
 pub after_draw-requires-clause-whole : goal.after_draw-requires-clause-whole

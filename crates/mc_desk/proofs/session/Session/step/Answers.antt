@@ -73,7 +73,7 @@ invariant_of-self-2 g c =
     let job : c.left.result ≡ if_closed inside.standing.closed (if ends did then None else Some c.step-did.new.self) =
     c.left.ensures ∙ ap (λ b. if_closed inside.standing.closed (if b then None else Some c.step-did.new.self)) c.is_end-ended.ensures in
     record {
-      desk = desk_stepped g.N.Tag.start g.N.Tag.opening (g.T.Tree.contents inside.tree) (g.T.Tree.contents c.step-did.new.tree) g.N.Tag.tree_faults _ _ c.args.seat count made calls _ _ c.in-Some.job c.step-did.new.self did
+      desk = desk_stepped g.N.Tag.start g.N.Tag.opening (g.T.ReadTree.contents inside.tree) (g.T.ReadTree.contents c.step-did.new.tree) g.N.Tag.tree_faults _ _ c.args.seat count made calls _ _ c.in-Some.job c.step-did.new.self did
           c.requires.main c.self.invariant.desk is c.step-did.ensures.steps fits c.saturating_add-calls.ensures c.self.invariant.counted (sym counted)
           more job
           (ap (λ u. let t : Tally = record { job = option_map told c.left.result; last = inside.standing.last_id; has_unseen_end = u; closed = inside.standing.closed; due = awaited inside.standing.due; lost = inside.standing.lost; calls = calls } in t)

@@ -26,15 +26,15 @@ invariant_of-self-2 g c =
     let counted = c.faults-faults.ensures in
     let had = c.self.invariant.counted in
     let later = c.work.ensures.reads.later in
-    let worked : IsWorked (g.T.Tree.contents inside.tree) c.in-Ok.rows (next_id inside.standing.last_id) c.args.now c.args.key inside.ui c.work.new.ui done.deed done.refusals =
-    subst (λ n. IsWorked (g.T.Tree.contents inside.tree) c.in-Ok.rows n c.args.now c.args.key inside.ui c.work.new.ui done.deed done.refusals) c.next_id-next.ensures c.in-Ok-work.ensures.worked in
+    let worked : IsWorked (g.T.ReadTree.contents inside.tree) c.in-Ok.rows (next_id inside.standing.last_id) c.args.now c.args.key inside.ui c.work.new.ui done.deed done.refusals =
+    subst (λ n. IsWorked (g.T.ReadTree.contents inside.tree) c.in-Ok.rows n c.args.now c.args.key inside.ui c.work.new.ui done.deed done.refusals) c.next_id-next.ensures c.in-Ok-work.ensures.worked in
     let room : 2 ≤ c.note_after.new.self.spare = search rules in
     let shows : ShowsFrame (frame_of c.work.new.ui (rows_of (after_deed done.deed inside.standing).job (trouble_told inside.log.newest))) c.carry_out-follows.result.drawn inside.terminal c.carry_out-follows.new.terminal =
     subst (λ (s : Standing). ShowsFrame (frame_of c.work.new.ui (rows_of s.job (trouble_told inside.log.newest))) c.carry_out-follows.result.drawn inside.terminal c.carry_out-follows.new.terminal) c.carry_out-follows.ensures.done c.carry_out-follows.ensures.shows in
     record {
-      desk = subst (λ s. IsDesk g.N.Tag.start g.N.Tag.opening (g.T.Tree.contents c.work.new.tree) g.N.Tag.tree_faults (seen_of c.note_after.new.self c.work.new.ui s inside.dirty c.carry_out-follows.new.terminal inside.taken inside.keys))
+      desk = subst (λ s. IsDesk g.N.Tag.start g.N.Tag.opening (g.T.ReadTree.contents c.work.new.tree) g.N.Tag.tree_faults (seen_of c.note_after.new.self c.work.new.ui s inside.dirty c.carry_out-follows.new.terminal inside.taken inside.keys))
           (sym c.carry_out-follows.ensures.done)
-          (desk_worked g.N.Tag.start g.N.Tag.opening (g.T.Tree.contents inside.tree) (g.T.Tree.contents c.work.new.tree) g.N.Tag.tree_faults inside.log c.note_after.new.self inside.ui c.work.new.ui inside.standing inside.dirty inside.terminal
+          (desk_worked g.N.Tag.start g.N.Tag.opening (g.T.ReadTree.contents inside.tree) (g.T.ReadTree.contents c.work.new.tree) g.N.Tag.tree_faults inside.log c.note_after.new.self inside.ui c.work.new.ui inside.standing inside.dirty inside.terminal
           c.carry_out-follows.new.terminal inside.taken inside.keys count c.args.key c.args.now c.self.invariant.desk unclosed unasked looked c.work.ensures.reads.same (omega (arith, counted, had, later)) done.refusals
           (λ h. let risen = c.in-Ok-work.ensures.reads.fault h in omega (arith, counted, had, risen)) c.in-Ok-work.ensures.reads.called room c.in-Ok.rows c.in-Ok.ensures c.carry_out-follows.result.drawn done.deed worked
           (fits_after inside.terminal.display.grid c.carry_out-follows.new.terminal.display.grid inside.ui c.work.new.ui c.self.invariant.desk.shown.size c.carry_out-follows.ensures.shows.sized worked.size) shows
@@ -47,7 +47,7 @@ invariant_of-self-2 g c =
 
 pub carry_out-follows-requires-clause-may : goal.carry_out-follows-requires-clause-may
 carry_out-follows-requires-clause-may g c =
-    may_carry_out g.N.Tag.start g.N.Tag.opening (g.T.Tree.contents c.self.inside.tree) g.N.Tag.tree_faults _ c.self.invariant.desk c.in-Ok.rows c.in-Ok.ensures c.next_id-next.result c.in-Ok-work.granted.deed c.in-Ok-work.ensures.worked.can
+    may_carry_out g.N.Tag.start g.N.Tag.opening (g.T.ReadTree.contents c.self.inside.tree) g.N.Tag.tree_faults _ c.self.invariant.desk c.in-Ok.rows c.in-Ok.ensures c.next_id-next.result c.in-Ok-work.granted.deed c.in-Ok-work.ensures.worked.can
 
 pub after_draw-requires-clause-whole : goal.after_draw-requires-clause-whole
 after_draw-requires-clause-whole g c = ended_uncut _ c.carry_out-follows.result.drawn c.self.inside.terminal c.carry_out-follows.new.terminal c.carry_out-follows.ensures.shows

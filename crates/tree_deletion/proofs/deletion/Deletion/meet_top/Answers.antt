@@ -7,5 +7,5 @@ use Rattle.tree_deletion.proofs.deletion.Deletion.meet_top.Goals as goal
 
 pub returns-in-Err-clause-meets : goal.returns-in-Err-clause-meets
 returns-in-Err-clause-meets g c =
-    meets_stopped (g.T.Tree.contents c.args.tree.now) c.args.self.now c.in-Ok.path (top_item c.args.self.now c.requires.depth ∙ ap (λ (p : Route). Thing p) (sym c.in-Ok.ensures))
+    meets_stopped (g.T.ReadTree.contents c.args.tree.now) c.args.self.now c.in-Ok.path (top_item c.args.self.now c.requires.depth ∙ ap (λ (p : Route). Thing p) (sym c.in-Ok.ensures))
     (may_top c.args.self.now c.in-Ok.path c.requires.depth) c.in-Err.trouble c.in-Err.ensures.known

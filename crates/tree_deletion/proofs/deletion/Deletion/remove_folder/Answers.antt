@@ -18,7 +18,7 @@ returns-in-Ok-remove_folder g c =
     (sym (ap path_of c.requires.next)) (subst (λ (i : Item). IsBare i c.args.self.now.walk.place.inner.spared) (sym c.requires.next) c.requires.bare)
     (folder_decides c.args.self.now c.leave.new.self false c.args.path Going c.stage_after-self.result c.requires.inside c.requires.next c.leave.ensures.left c.leave.ensures.rest c.stage_after-self.ensures)
     (λ log known. subst (λ (i : Item). IsSeen (current log) c.args.self.now.depth c.args.self.now.walk.place i) (sym c.requires.next) tt)
-    (λ log known. subst (λ (call : Call). Performs {A = Unit {0}} log call (Ok tt) (g.T.Tree.contents c.remove_folder.new.self)) (sym (ap removal_of c.requires.next)) (c.in-Ok-remove_folder.ensures.answer log known))
+    (λ log known. subst (λ (call : Call). Performs {A = Unit {0}} log call (Ok tt) (g.T.ReadTree.contents c.remove_folder.new.self)) (sym (ap removal_of c.requires.next)) (c.in-Ok-remove_folder.ensures.answer log known))
     (subst (λ (i : Item). RemovalLeaves i c.args.path c.args.dirty.now c.remove.new.self) (sym c.requires.next) (c.remove.ensures ∙ ap (without c.args.path) c.in-Ok.ensures.joined))
     c.remove_folder.ensures.stays_unknown c.remove_folder.ensures.cause.later
 
@@ -27,6 +27,6 @@ returns-in-Err g c =
     works_refused c.args.self.now _ _ _ _ _ _ _ c.refused.result.did c.refused.result.calls c.in-Err.error c.args.path c.refused.ensures.did c.refused.ensures.calls
     (sym (ap path_of c.requires.next)) (at_itself c.args.self.now)
     (λ log known. subst (λ (i : Item). IsSeen (current log) c.args.self.now.depth c.args.self.now.walk.place i) (sym c.requires.next) tt)
-    (λ log known. subst (λ (call : Call). Performs {A = Unit {0}} log call (Err c.in-Err.error) (g.T.Tree.contents c.remove_folder.new.self)) (sym (ap removal_of c.requires.next)) (c.in-Err.ensures.answer log known))
+    (λ log known. subst (λ (call : Call). Performs {A = Unit {0}} log call (Err c.in-Err.error) (g.T.ReadTree.contents c.remove_folder.new.self)) (sym (ap removal_of c.requires.next)) (c.in-Err.ensures.answer log known))
     (c.drop_last_if.ensures ∙ c.in-Ok.ensures.back)
     c.remove_folder.ensures.stays_unknown c.remove_folder.ensures.cause.later (λ h. c.in-Err.ensures.cause.risen (err_is c.in-Err.error h))

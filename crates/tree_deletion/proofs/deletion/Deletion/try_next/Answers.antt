@@ -9,13 +9,13 @@ use Rattle.tree_deletion.proofs.deletion.Deletion.try_next.Goals as goal
 pub returns-in-Ok : goal.returns-in-Ok
 returns-in-Ok g c =
     tries_done c.args.self.now c.args.ending c.args.from.now c.in-Some.at c.in-Some.at c.get.result.now c.args.dirty.now c.remove_at.new.self
-    (g.T.Tree.contents c.args.tree.now) (g.T.Tree.contents c.sync_folder.new.self) (g.T.Tree.fault_count c.args.tree.now) (g.T.Tree.fault_count c.sync_folder.new.self) c.in-Some.ensures.own c.get.ensures
+    (g.T.ReadTree.contents c.args.tree.now) (g.T.ReadTree.contents c.sync_folder.new.self) (g.T.ReadTree.fault_count c.args.tree.now) (g.T.ReadTree.fault_count c.sync_folder.new.self) c.in-Some.ensures.own c.get.ensures
     c.tried.result.did c.tried.result.calls c.tried.result.left (ap (λ (r : LastStepResult). r.did) c.tried.ensures) (ap (λ (r : LastStepResult). r.calls) c.tried.ensures) (ap (λ (r : LastStepResult). r.left) c.tried.ensures)
     (subst (λ o. IfSome o (λ folder. c.remove_at.new.self ≡ without folder c.args.dirty.now)) c.get.ensures c.remove_at.ensures) refl (λ log known. c.in-Ok.ensures.answer log known) c.sync_folder.ensures.stays_unknown c.sync_folder.ensures.cause.later
 
 pub returns-in-Err : goal.returns-in-Err
 returns-in-Err g c =
     tries_vainly c.args.self.now c.args.ending c.args.from.now (c.in-Some.at + 1) c.in-Some.at c.get.result.now c.args.dirty.now c.args.dirty.now
-    (g.T.Tree.contents c.args.tree.now) (g.T.Tree.contents c.sync_folder.new.self) (g.T.Tree.fault_count c.args.tree.now) (g.T.Tree.fault_count c.sync_folder.new.self) c.in-Some.ensures.own c.get.ensures
+    (g.T.ReadTree.contents c.args.tree.now) (g.T.ReadTree.contents c.sync_folder.new.self) (g.T.ReadTree.fault_count c.args.tree.now) (g.T.ReadTree.fault_count c.sync_folder.new.self) c.in-Some.ensures.own c.get.ensures
     c.tried_in_vain.result.did c.tried_in_vain.result.calls c.tried_in_vain.result.left c.in-Err.error c.tried_in_vain.ensures.did c.tried_in_vain.ensures.calls c.tried_in_vain.ensures.left
     refl refl (λ log known. c.in-Err.ensures.answer log known) c.sync_folder.ensures.stays_unknown c.sync_folder.ensures.cause.later (λ h. c.in-Err.ensures.cause.risen (err_is c.in-Err.error h))

@@ -7,8 +7,8 @@ pub returns-in-Some : goal.returns-in-Some
 returns-in-Some g c =
     let a = c.in-Some.ensures in
     let before = c.loop-stepped.invariant in
-    way_ends (g.T.Tree.contents c.args.tree.now) (g.T.Tree.contents c.loop-stepped.tree) (g.T.Tree.contents c.advance.new.tree) c.args.self.now c.loop-stepped.self a.0 c.advance.new.self c.in-Some.stepped.did c.in-Some.stepped.calls
-    c.args.dirty.now c.loop-stepped.dirty c.advance.new.dirty (g.T.Tree.fault_count c.args.tree.now) (g.T.Tree.fault_count c.loop-stepped.tree) (g.T.Tree.fault_count c.advance.new.tree)
+    way_ends (g.T.ReadTree.contents c.args.tree.now) (g.T.ReadTree.contents c.loop-stepped.tree) (g.T.ReadTree.contents c.advance.new.tree) c.args.self.now c.loop-stepped.self a.0 c.advance.new.self c.in-Some.stepped.did c.in-Some.stepped.calls
+    c.args.dirty.now c.loop-stepped.dirty c.advance.new.dirty (g.T.ReadTree.fault_count c.args.tree.now) (g.T.ReadTree.fault_count c.loop-stepped.tree) (g.T.ReadTree.fault_count c.advance.new.tree)
     c.requires.going before.way before.same before.folders before.later a.1 a.2
 
 pub loop-stepped-preserved : goal.loop-stepped-preserved
@@ -16,7 +16,7 @@ loop-stepped-preserved g c =
     let a = c.in_default.ensures in
     let before = c.loop-stepped.invariant in
     record {
-      way = way_on (g.T.Tree.contents c.args.tree.now) (g.T.Tree.contents c.loop-stepped.tree) c.args.self.now c.loop-stepped.self c.advance.new.self a.0.0 before.way before.same a.0.1 a.1;
+      way = way_on (g.T.ReadTree.contents c.args.tree.now) (g.T.ReadTree.contents c.loop-stepped.tree) c.args.self.now c.loop-stepped.self c.advance.new.self a.0.0 before.way before.same a.0.1 a.1;
       same = a.3 ∙ before.same;
       later = let first = before.later in let second = a.4 in omega (arith, first, second);
       folders = a.2 ∙ before.folders;

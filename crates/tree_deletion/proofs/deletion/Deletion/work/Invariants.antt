@@ -6,9 +6,9 @@ use Rattle.tree_deletion.proofs.deletion.Deletion.work.Given as goal
 
 abbrev pub invariant-loop-stepped : goal.invariant-loop-stepped
 invariant-loop-stepped g l = record {
-  way : IsOnWay (g.T.Tree.contents l.fn.tree) l.fn.self l.self;
-  same : g.T.Tree.contents l.tree ≡ g.T.Tree.contents l.fn.tree;
-  later : g.T.Tree.fault_count l.fn.tree ≤ g.T.Tree.fault_count l.tree;
+  way : IsOnWay (g.T.ReadTree.contents l.fn.tree) l.fn.self l.self;
+  same : g.T.ReadTree.contents l.tree ≡ g.T.ReadTree.contents l.fn.tree;
+  later : g.T.ReadTree.fault_count l.fn.tree ≤ g.T.ReadTree.fault_count l.tree;
   folders : l.dirty ≡ l.fn.dirty;
 }
 

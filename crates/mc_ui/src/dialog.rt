@@ -1,17 +1,8 @@
 //! The box that stands over the panels.
-ghost use Rattle.std.specs.Prelude.{◌≡◌, true, is_some};
-ghost use Rattle.mc_text.specs.Routes.{parent_of};
-
+use box_words::Chosen;
 use job_reports::Trouble;
 use mc_dialogs::InputLine;
-use mc_text::Path;
-
-/// A file that was chosen. It lies in a folder.
-#[derive(Debug, Drop)]
-pub struct Chosen {
-    pub path: Path,
-    ghost within: { is_some (parent_of path) ≡ true },
-}
+use panel_boxes::PanelBox;
 
 /// What stands over the panels.
 #[derive(Debug, Drop)]
@@ -23,6 +14,10 @@ pub enum Dialog {
     SourceMask(Chosen, InputLine),
     /// Asks where this file is to be copied to.
     CopyTo(Chosen, InputLine),
+    /// Asks where a new folder is to be made, and under which name.
+    MakeFolder(InputLine),
     /// Tells of a job's trouble, and takes an answer.
     Trouble(Trouble),
+    /// Asks what the panels are to do.
+    Panel(PanelBox),
 }

@@ -10,7 +10,7 @@ use Rattle.mem_tree.specs.Records.{after}
 use Rattle.mem_tree.specs.Held.{Held, log_of}
 use Rattle.mem_tree.specs.Counted.{is_due}
 use Rattle.mem_tree.proofs.Reading.{few_mounts, link_now, meta_now, meta_fits, listing_now, bytes_now, Reads-told, ok_failed, ok_told, told_no_fault, counted_read}
-use Rattle.mem_tree.proofs.calls.MemTreeTree.list.Goals as goal
+use Rattle.mem_tree.proofs.calls.MemTreeReadTree.list.Goals as goal
 
 pub returns-clause-answer : goal.returns-clause-answer
 returns-clause-answer c =
@@ -26,4 +26,4 @@ returns-clause-counted c =
     let t = c.self.inside.stands in
     counted_read Children _ _ _ c.count-due.result c.read_children-read.result c.fail_if-answer.result c.self.view_is c.fail_if-answer.ensures
     (told_no_fault Children t (ListFolder c.args.path.now) c.read_children-read.result (IsListing t (found t c.args.path.now)) (subst (λ (p : Route). IsTold c.self.inside.stands (ListFolder p) c.read_children-read.result (IsListing c.self.inside.stands (found c.self.inside.stands p))) c.names.ensures.names c.read_children-read.ensures.answer))
-    (c.count-due.ensures.due ∙ ap (λ (fails : List ℕ). is_due fails c.self.inside.called) c.deref.ensures.value) c.count-due.ensures.called c.count_fault.ensures.count refl refl
+    (c.count-due.ensures.due ∙ ap (λ (fails : List ℕ). is_due fails c.self.inside.called) c.deref.ensures.value) c.count-due.ensures.called refl refl

@@ -10,7 +10,7 @@ use Rattle.mem_tree.specs.Records.{after}
 use Rattle.mem_tree.specs.Held.{Held, log_of}
 use Rattle.mem_tree.specs.Counted.{is_due}
 use Rattle.mem_tree.proofs.Reading.{few_mounts, link_now, meta_now, meta_fits, listing_now, bytes_now, Reads-told, ok_failed, ok_told, told_no_fault, counted_read}
-use Rattle.mem_tree.proofs.calls.MemTreeTree.read_link.Goals as goal
+use Rattle.mem_tree.proofs.calls.MemTreeReadTree.read_link.Goals as goal
 
 pub read_link_text-read-requires : goal.read_link_text-read-requires
 read_link_text-read-requires c = link_now c.self.inside.opening c.self.inside.records.items c.self.inside.stands c.self.invariant
@@ -29,4 +29,4 @@ returns-clause-counted c =
     let t = c.self.inside.stands in
     counted_read Text _ _ _ c.count-due.result c.read_link_text-read.result c.fail_if-answer.result c.self.view_is c.fail_if-answer.ensures
     (told_no_fault Text t (ReadLink c.args.path.now) c.read_link_text-read.result (λ (text : Text). text ≡ (node t (found t c.args.path.now)).bytes) (subst (λ (p : Route). IsTold c.self.inside.stands (ReadLink p) c.read_link_text-read.result (λ (text : Text). text ≡ (node c.self.inside.stands (found c.self.inside.stands p)).bytes)) c.names.ensures.names c.read_link_text-read.ensures.answer))
-    (c.count-due.ensures.due ∙ ap (λ (fails : List ℕ). is_due fails c.self.inside.called) c.deref.ensures.value) c.count-due.ensures.called c.count_fault.ensures.count refl refl
+    (c.count-due.ensures.due ∙ ap (λ (fails : List ℕ). is_due fails c.self.inside.called) c.deref.ensures.value) c.count-due.ensures.called refl refl

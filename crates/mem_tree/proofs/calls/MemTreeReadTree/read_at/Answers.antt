@@ -9,7 +9,7 @@ use Rattle.mem_tree.specs.Records.{after}
 use Rattle.mem_tree.specs.Held.{Held, log_of}
 use Rattle.mem_tree.specs.Counted.{is_due}
 use Rattle.mem_tree.proofs.Reading.{few_mounts, link_now, meta_now, meta_fits, listing_now, bytes_now, Reads-told, ok_failed, ok_told, told_no_fault, counted_read}
-use Rattle.mem_tree.proofs.calls.MemTreeTree.read_at.Goals as goal
+use Rattle.mem_tree.proofs.calls.MemTreeReadTree.read_at.Goals as goal
 
 pub returns-clause-answer : goal.returns-clause-answer
 returns-clause-answer c =
@@ -25,4 +25,4 @@ returns-clause-counted c =
     let t = c.self.inside.stands in
     counted_read ℕ _ _ _ c.count-due.result c.read_bytes-read.result c.fail_if-answer.result c.self.view_is c.fail_if-answer.ensures
     (told_no_fault ℕ t (ReadAt c.args.path.now c.args.offset (length c.args.into.now)) c.read_bytes-read.result (IsRead (node t (found t c.args.path.now)).bytes c.args.offset c.args.into.now c.read_bytes-read.new.into) (subst (λ (p : Route). IsTold c.self.inside.stands (ReadAt p c.args.offset (length c.args.into.now)) c.read_bytes-read.result (IsRead (node c.self.inside.stands (found c.self.inside.stands p)).bytes c.args.offset c.args.into.now c.read_bytes-read.new.into)) c.names.ensures.names c.read_bytes-read.ensures))
-    (c.count-due.ensures.due ∙ ap (λ (fails : List ℕ). is_due fails c.self.inside.called) c.deref.ensures.value) c.count-due.ensures.called c.count_fault.ensures.count refl refl
+    (c.count-due.ensures.due ∙ ap (λ (fails : List ℕ). is_due fails c.self.inside.called) c.deref.ensures.value) c.count-due.ensures.called refl refl

@@ -10,7 +10,7 @@ use Rattle.mem_tree.specs.Records.{after}
 use Rattle.mem_tree.specs.Held.{Held, log_of}
 use Rattle.mem_tree.specs.Counted.{is_due}
 use Rattle.mem_tree.proofs.Reading.{few_mounts, link_now, meta_now, meta_fits, listing_now, bytes_now, Reads-told, ok_failed, ok_told, told_no_fault, counted_read}
-use Rattle.mem_tree.proofs.calls.MemTreeTree.stat.Goals as goal
+use Rattle.mem_tree.proofs.calls.MemTreeReadTree.stat.Goals as goal
 
 pub read_meta-read-requires : goal.read_meta-read-requires
 read_meta-read-requires c = few_mounts c.self.inside.opening c.self.inside.records.items c.self.inside.stands c.self.invariant
@@ -37,4 +37,4 @@ returns-clause-counted c =
     let t = c.self.inside.stands in
     counted_read Meta _ _ _ c.count-due.result c.read_meta-read.result c.fail_if-answer.result c.self.view_is c.fail_if-answer.ensures
     (told_no_fault Meta t (Stat c.args.path.now) c.read_meta-read.result (IsMeta t c.args.path.now) (subst (λ (p : Route). IsTold c.self.inside.stands (Stat p) c.read_meta-read.result (IsMeta c.self.inside.stands p)) c.names.ensures.names c.read_meta-read.ensures))
-    (c.count-due.ensures.due ∙ ap (λ (fails : List ℕ). is_due fails c.self.inside.called) c.deref.ensures.value) c.count-due.ensures.called c.count_fault.ensures.count refl refl
+    (c.count-due.ensures.due ∙ ap (λ (fails : List ℕ). is_due fails c.self.inside.called) c.deref.ensures.value) c.count-due.ensures.called refl refl

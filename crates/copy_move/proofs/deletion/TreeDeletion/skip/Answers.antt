@@ -1,0 +1,11 @@
+-- A skip is one of the machine.
+use Rattle.std.proofs.Common.{subst}
+use Rattle.copy_move.specs.Deletions.{Deleting}
+use Rattle.copy_move.specs.DeletionSteps.{DeletionSkips}
+use Rattle.copy_move.proofs.DeletionRuns.{seen, skip_made}
+use Rattle.copy_move.proofs.deletion.TreeDeletion.skip.Goals as goal
+
+pub returns : goal.returns
+returns c =
+    subst (λ (d : Deleting). DeletionSkips c.args.cause d c.skip.result (seen c.skip.new.self c.self.inside.tried c.self.inside.skips)) c.self.view_is
+    (skip_made c.args.cause c.self.inside.machine c.skip.new.self c.self.inside.tried c.self.inside.skips c.self.invariant.1 c.skip.result c.self.invariant.0 c.skip.ensures)
