@@ -67,16 +67,21 @@ fn tell_entries(page: &mut Page, menu: &Menu) {
     }
 }
 
-/// A title, and in brackets the command lines, with a slash between two.
+/// A title, and in brackets the command lines, with a slash between two. A carriage return in the title is spelled.
 fn tell_entry(page: &mut Page, menu: &Menu, entry: usize)
     requires { entry < length menu.now }
 {
     page.put("; ");
-    page.put(menu.title(entry));
+    tell_replaced(page, menu.title(entry), "\r", "\\x0d");
     page.put(" (");
-    match menu.commands(entry).replace(page.alloc(), "\n", " / ") {
-        Ok(commands) => page.put(commands.as_str()),
+    tell_replaced(page, menu.commands(entry), "\n", " / ");
+    page.put(")");
+}
+
+/// A text, in which something is written otherwise.
+fn tell_replaced(page: &mut Page, text: &str, from: &str, to: &str) {
+    match text.replace(page.alloc(), from, to) {
+        Ok(told) => page.put(told.as_str()),
         Err(_error) => page.fail(),
     }
-    page.put(")");
 }
