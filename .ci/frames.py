@@ -3,9 +3,12 @@
 Two panels: the left has half of the columns, the right the rest. The first row of a panel is its folder filled with `-`, the
 second its heading, then come the items, the current name, and a line below. An item is a letter for its kind, its name, its
 size and its time. The last row but one tells of live jobs, the last one names the ten keys.
+
+While a file is viewed the first row is its path, the last one names the viewer's keys, and all between is the page.
 """
 
 KEY_BAR = "1Help  2Menu  3View  4Edit  5Copy  6RenMov7Mkdir 8Delete9PullDn10Quit  "
+VIEWER_BAR = "1Help  2Wrap  3Quit  4Hex   5Goto  6      7Search8      9      10Quit  "
 
 
 def cut(text, columns):
@@ -50,6 +53,13 @@ def frame(lines, columns, left, right, jobs=""):
     return ["".join(side) for side in sides] + [jobs.ljust(columns), cut(KEY_BAR, columns)]
 
 
+def page(lines, columns, title, text):
+    """The rows of the screen while a file is viewed: its path, as many lines of text as there is room for, and the viewer's keys."""
+    shown = [cut(line, columns) for line in text[: lines - 2]]
+    shown += [" " * columns] * (lines - 2 - len(shown))
+    return [cut(title, columns)] + shown + [cut(VIEWER_BAR, columns)]
+
+
 def with_box(rows, box):
     """The same with the lines of a box over it, in the middle."""
     lines, columns = len(rows), len(rows[0])
@@ -91,4 +101,18 @@ SMALL_LOOKS = [
     "                                        ",
     "                                        ",
     "                                        ",
+]
+
+# The viewer in the same size, on `/f/v` of ten lines with a number each.
+SMALL_PAGE = [
+    "/f/v                                    ",
+    "line 1                                  ",
+    "line 2                                  ",
+    "line 3                                  ",
+    "line 4                                  ",
+    "line 5                                  ",
+    "line 6                                  ",
+    "line 7                                  ",
+    "line 8                                  ",
+    "1Help  2Wrap  3Quit  4Hex   5Goto  6   ~",
 ]

@@ -18,12 +18,12 @@ import tempfile
 import termios
 import time
 
-from frames import LONG_AGO, PARENT, SMALL, SMALL_LOOKS, file_row, frame, with_box
+from frames import LONG_AGO, PARENT, SMALL, SMALL_LOOKS, SMALL_PAGE, file_row, frame, page, with_box
 from terminal_screen import Screen
 
 UP, DOWN, HOME, END, TAB, INSERT = b"\x1b[A", b"\x1b[B", b"\x1b[H", b"\x1b[F", b"\t", b"\x1b[2~"
 BACK, FORWARD, AGAIN, SWAP = b"\x1by", b"\x1bu", b"\x12", b"\x15"
-F1, F5, F7, F8, F9, F10, ENTER, ESCAPE = b"\x1bOP", b"\x1b[15~", b"\x1b[18~", b"\x1b[19~", b"\x1b[20~", b"\x1b[21~", b"\r", b"\x1b\x1b"
+F1, F3, F5, F7, F8, F9, F10, ENTER, ESCAPE = b"\x1bOP", b"\x1bOR", b"\x1b[15~", b"\x1b[18~", b"\x1b[19~", b"\x1b[20~", b"\x1b[21~", b"\r", b"\x1b\x1b"
 EMPTY, HIDDEN = b"\x15", b"\x1b."
 COPY = [DOWN, F5, ENTER, ENTER]
 USAGE = b"usage: mc [-b] [-V] [-h] [-P FILE] [-v FILE | -e FILE | --drill N | DIR1 [DIR2]]"
@@ -279,6 +279,60 @@ def check_cursor(program, base, check):
     _, first, second, nothing, begun, third = (after - before for before, after in zip([0] + told.counts, told.counts))
     check("Down puts at most 200 bytes", all(0 < count <= 200 for count in (first, second, third)))
     check("a key that changes nothing puts none, and neither does half a key", nothing == 0 and begun == 0)
+
+
+def check_viewer(program, base, check):
+    """F3 on real files, and the viewer alone by `-v`: what stands on the screen after each key."""
+    folder = os.path.join(base, "viewed")
+    os.makedirs(os.path.join(folder, "in"))
+    path, text = os.path.join(folder, "v"), [f"line {number}" for number in range(1, 101)]
+    with open(path, "w") as file:
+        file.write("".join(line + "\n" for line in text))
+    os.symlink("v", os.path.join(folder, "w"))
+    os.symlink("nowhere", os.path.join(folder, "x"))
+    check("the page of ten lines is as written out", page(10, 40, "/f/v", text[:10]) == SMALL_PAGE)
+    size = (24, 80)
+    wanted = lambda first: page(*size, path, text[first:])
+    title = lambda screen: screen.looks(1) == "r" * 80 and all(not screen.looks(row).strip() for row in range(2, 25))
+
+    found = [F3, END, HOME, F7, b"6", b"6", ENTER, b"q", F10]
+    status, told, same = run(program, [folder, base], [DOWN, DOWN] + found, size)
+    before, first, end, home, asks, _, typed, searched, left, *_ = told.screens[2:] + [None] * 9
+    check("F3 shows the first page", status == 0 and same and first.rows() == wanted(0) and title(first))
+    check("End shows the last one", end.rows() == wanted(78) and home.rows() == wanted(0))
+    check("F7 asks for a text", asks.rows() == with_box(wanted(0), ["Search", ""]) and typed.rows() == with_box(wanted(0), ["Search", "66"]))
+    check("what is found becomes the first row", searched.rows() == wanted(65) and title(searched))
+    check("q comes back to the panels, and the cursor stands where it stood", left.rows() == before.rows() and left.looks(5) == before.looks(5))
+    check("all that is written is read", all(not screen.unread for screen in told.screens))
+
+    status, told, _ = run(program, [folder, base], [DOWN, F3, F10], size)
+    check("F3 on a folder enters it", status == 0 and left_panel(told.screens[2])[0] == os.path.join(folder, "in"))
+    status, told, _ = run(program, [folder, base], [DOWN, DOWN, DOWN, F3, F10, F10], size)
+    check("F3 follows a link", status == 0 and told.screens[4].rows() == wanted(0))
+    status, told, _ = run(program, [folder, base], [END, F3, ENTER, F10], size)
+    box = ["no such file or folder", os.path.join(folder, "nowhere")]
+    opening = told.screens[1].rows()
+    check("F3 on a link to nothing tells why", status == 0 and told.screens[2].rows() == with_box(opening, box) and told.screens[3].rows() == opening)
+
+    for words, inside in [(["-v", path], base), (["-v", "v"], folder), (["-v", "w"], folder), (["-v../viewed/v"], folder)]:
+        status, told, same = run(program, words, [DOWN, b"q", DOWN], size, inside=inside)
+        check(f"{words} shows the file alone, and q ends", status == 0 and same and [screen.rows() for screen in told.screens[:2]] == [wanted(0), wanted(1)])
+        check(f"{words} shows no panel", b"UP--DIR" not in told and b"Menu" not in told)
+    status, told, same = run(program, ["-v", path], [b"\x1bOQ", F10], (10, 40), inside=folder)
+    check("-v ends by F10, on a small screen too", status == 0 and same and told.screens[0].rows() == page(10, 40, path, text))
+    for words, line in [
+        (["-v", "/nowhere"], b"mc: /nowhere: no such file or folder"),
+        (["-v", "nowhere"], b"mc: nowhere: no such file or folder"),
+        (["-v", "x"], b"mc: x: no such file or folder"),
+        (["-v", "in"], b"mc: in: is a folder"),
+        (["-v", "v/y"], b"mc: v/y: not a folder"),
+        (["-v", "/dev/null"], b"mc: /dev/null: special file"),
+    ]:
+        status, told, same = run(program, words, [], inside=folder)
+        check(f"{words} is refused in its line", status == 2 and same and told.written.startswith(line) and b"\x1b[" not in told.written)
+    for words in (["-v", "v", folder], ["-v", "v", "-e", "v"], ["-v"], ["-v", "v", "-P", "v"]):
+        status, told, same = run(program, words, [], inside=folder)
+        check(f"{words} are no words of the profile, or not built", status == 1 and same and told.written == USAGE + b"\r\n")
 
 
 def left_panel(screen):
@@ -644,7 +698,7 @@ def check_words(program, starter, base, check):
         (["-V"], 0, b"mc profile 1\r\n"),
         (["-h"], 0, USAGE + b"\r\n" + KEYS + b"\r\n"),
         (["-V", "-h", "below"], 0, USAGE + b"\r\n" + KEYS + b"\r\n"),
-        (["-v", "x"], 1, USAGE + b"\r\n"),
+        (["-e", "x"], 1, USAGE + b"\r\n"),
         (["--drill", "1"], 1, USAGE + b"\r\n"),
     ]:
         status, told, same = run(program, words, [], inside=folder)
@@ -702,6 +756,7 @@ def main():
         check_kept_folder(program, base, check)
         check_copies(program, base, check)
         check_frames(program, base, check)
+        check_viewer(program, base, check)
         check_panels(program, base, check)
         check_panel_boxes(program, base, check)
         check_new_folders(program, base, check)

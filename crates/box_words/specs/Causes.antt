@@ -14,7 +14,7 @@ use Rattle.session_history.specs.declared.refusal.BeginError.TheVariants.{NoMore
 use Rattle.session_history.specs.declared.refusal.TypedError.{TypedError}
 use Rattle.session_history.specs.declared.refusal.TypedError.TheVariants.{BadPattern, BadFormat}
 use Rattle.session_history.specs.declared.refusal.Refusal.{Refusal}
-use Rattle.session_history.specs.declared.refusal.Refusal.TheVariants.{Tree, Resolve, Plan, Begin, Typed}
+use Rattle.session_history.specs.declared.refusal.Refusal.TheVariants.{Tree, Read, Resolve, Plan, Begin, Typed}
 
 -- what is said of a refused call
 abbrev pub cause_words : TreeError → List ℕ
@@ -61,6 +61,7 @@ typed_words (BadFormat at) = codes "position " ++ (decimal at ++ codes " is wron
 -- what is said of a refusal
 abbrev pub refusal_words : Refusal → List ℕ
 refusal_words (Tree path e) = cause_words e
+refusal_words (Read path e) = cause_words e
 refusal_words (Resolve e) = resolve_words e
 refusal_words (Plan error) = plan_words error
 refusal_words (Begin error) = begin_words error

@@ -83,6 +83,7 @@ fn refusal_lines(alloc: Global, refusal: &Refusal) -> Result<Rows, NoMemory>
     let words = refusal_text(alloc, refusal)?;
     match refusal {
         Refusal::Tree(path, _) => words_and_path(alloc, words, path),
+        Refusal::Read(path, _) => words_and_path(alloc, words, path),
         Refusal::Resolve(error) => resolve_lines(alloc, words, error),
         Refusal::Plan(PlanError::NoSelection) => words_alone(alloc, words),
         Refusal::Plan(PlanError::TargetThere(path)) => words_and_path(alloc, words, path),

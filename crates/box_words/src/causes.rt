@@ -89,6 +89,7 @@ pub fn refusal_text(alloc: Global, refusal: &Refusal) -> Result<Text, NoMemory>
 {
     match refusal {
         Refusal::Tree(_, error) => Text::from_str(alloc, cause_text(*error)),
+        Refusal::Read(_, error) => Text::from_str(alloc, cause_text(*error)),
         Refusal::Resolve(error) => Text::from_str(alloc, resolve_text(error)),
         Refusal::Plan(error) => Text::from_str(alloc, plan_text(error)),
         Refusal::Begin(error) => Text::from_str(alloc, begin_text(*error)),

@@ -1,6 +1,6 @@
 //! A session by keys over devices in memory that tell nothing.
 use anyhow::{Result, bail};
-use mc_desk::{Desk, Ended, Start};
+use mc_desk::{Desk, Ended, Start, StartMode};
 use mc_text::Path;
 use mem_devices::{FakeSpawner, MemSink, Mute, Outcomes};
 use mem_tree::MemTree;
@@ -30,8 +30,7 @@ fn begin(alloc: Global, tree: MemTree, left: &str, right: &str) -> Result<MuteDe
     let begun = MuteDesk::begin(
         alloc,
         Start {
-            left,
-            right,
+            mode: StartMode::Panels { left, right },
             lines: 24,
             columns: 80,
         },

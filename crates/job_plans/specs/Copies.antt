@@ -10,7 +10,7 @@ use Rattle.job_reports.specs.declared.job.Job.{Job}
 use Rattle.job_reports.specs.declared.job.Job.TheVariants as plan
 use Rattle.session_history.specs.declared.refusal.PlanError.TheVariants.{NoSelection, TargetThere, TargetTooLong, BadMask, Target}
 use Rattle.session_history.specs.declared.refusal.Refusal.{Refusal}
-use Rattle.session_history.specs.declared.refusal.Refusal.TheVariants.{Tree, Resolve, Plan, Begin, Typed}
+use Rattle.session_history.specs.declared.refusal.Refusal.TheVariants.{Tree, Read, Resolve, Plan, Begin, Typed}
 use Rattle.job_plans.specs.declared.choosing.Opens.{Opens}
 use Rattle.job_plans.specs.declared.choosing.Opens.TheVariants as opens
 
@@ -56,6 +56,7 @@ CopyRefused tree target (Plan NoSelection) = ⊥
 CopyRefused tree target (Plan BadMask) = ⊥
 CopyRefused tree target (Plan (Target e)) = ⊥
 CopyRefused tree target (Tree path e) = (path ≡ target) × (e ≢ Missing)
+CopyRefused tree target (Read path e) = ⊥
 CopyRefused tree target (Resolve e) = ⊥
 CopyRefused tree target (Begin error) = ⊥
 CopyRefused tree target (Typed error) = ⊥

@@ -15,7 +15,7 @@ use Rattle.job_reports.specs.declared.job.Job.TheVariants as plan
 use Rattle.job_reports.specs.Jobs.{is_workable}
 use Rattle.session_history.specs.declared.refusal.PlanError.TheVariants.{NoSelection, TargetThere, TargetTooLong, BadMask, Target}
 use Rattle.session_history.specs.declared.refusal.Refusal.{Refusal}
-use Rattle.session_history.specs.declared.refusal.Refusal.TheVariants.{Tree, Resolve, Plan, Begin, Typed}
+use Rattle.session_history.specs.declared.refusal.Refusal.TheVariants.{Tree, Read, Resolve, Plan, Begin, Typed}
 use Rattle.job_plans.specs.declared.copying.JobPlan.{JobPlan}
 use Rattle.job_plans.specs.declared.copying.JobPlan.TheVariants.{Begins, Refuses}
 use Rattle.job_plans.specs.Copies.{IsVacant}
@@ -46,6 +46,7 @@ FolderRefused contents from typed (Plan BadMask) = (is_below_home typed ≡ true
 FolderRefused contents from typed (Plan NoSelection) = ⊥
 FolderRefused contents from typed (Plan TargetTooLong) = ⊥
 FolderRefused contents from typed (Tree path e) = ⊥
+FolderRefused contents from typed (Read path e) = ⊥
 FolderRefused contents from typed (Resolve e) = ⊥
 FolderRefused contents from typed (Begin error) = ⊥
 FolderRefused contents from typed (Typed error) = ⊥

@@ -7,9 +7,9 @@ use Rattle.resolving.specs.declared.error.ResolveError.TheVariants as resolve
 use Rattle.session_history.specs.declared.refusal.PlanError.{PlanError}
 use Rattle.session_history.specs.declared.refusal.PlanError.TheVariants.{Target}
 use Rattle.session_history.specs.declared.refusal.Refusal.{Refusal}
-use Rattle.session_history.specs.declared.refusal.Refusal.TheVariants.{Tree, Resolve, Plan, Begin, Typed}
+use Rattle.session_history.specs.declared.refusal.Refusal.TheVariants.{Tree, Read, Resolve, Plan, Begin, Typed}
 
--- the tree failed at a call that was refused
+-- the tree failed at a look or a reading that was refused
 abbrev pub is_fault : TreeError → Bool
 is_fault Fault = true
 is_fault e = false
@@ -27,6 +27,7 @@ is_plan_fault error = false
 abbrev pub has_fault : List Refusal → Bool
 has_fault [] = false
 has_fault (Tree path e ∷ more) = is_fault e || has_fault more
+has_fault (Read path e ∷ more) = is_fault e || has_fault more
 has_fault (Resolve e ∷ more) = is_resolve_fault e || has_fault more
 has_fault (Plan error ∷ more) = is_plan_fault error || has_fault more
 has_fault (Begin error ∷ more) = has_fault more

@@ -76,7 +76,7 @@ fn prints_alone(alloc: Global, words: &[Text], env: &Env) -> bool {
     }
 }
 
-/// Leaves the terminal as it was. The line of a folder that was refused stays.
+/// Leaves the terminal as it was. The line of a path that was refused stays.
 fn leave(rt: &HostRuntime, terminal: &Terminal, status: u8) {
     if let Terminal::Untouched = terminal {
         return;

@@ -15,16 +15,23 @@ use Rattle.history_laws.specs.Traces as traces
 use Rattle.history_laws.proofs.Moments.{traced_count}
 use Rattle.mc_ui.specs.Screens.{Screen}
 use Rattle.mc_desk.specs.declared.starts.Start.{Start}
+use Rattle.mc_desk.specs.declared.starts.StartMode.{StartMode}
+use Rattle.mc_desk.specs.declared.starts.StartMode.TheVariants.{Panels, View}
 use Rattle.mc_desk.specs.Logs.{Logged}
 use Rattle.mc_desk.specs.Tallies.{Tally, tally, after_entry, most_calls, faults_in, next_id, news_left}
 use Rattle.mc_desk.specs.LiveRows.{rows_told}
-use Rattle.mc_desk.specs.Sessions.{Before, IsSession, SessionState, Traces, BeginsIn, EventLeads, HasCauses, IsTimely, Counts}
+use Rattle.mc_desk.specs.Sessions.{Before, IsOpeningIn, IsSession, SessionState, Traces, BeginsIn, EventLeads, HasCauses, IsTimely, Counts}
 use Rattle.mc_desk.specs.Starts.{IsOpened}
 use Rattle.mc_desk.specs.declared.standing.Standing.{Standing}
 use Rattle.mc_desk.specs.Outputs.{FitsScreen, Output}
 use Rattle.mc_desk.specs.Shown.{EventDraws, HasPutNothing, Put, frame_due, none_before}
 use Rattle.mc_desk.specs.Standings.{fresh_standing}
 use Rattle.mc_desk.specs.Desks.{Seen, IsWritten, IsDesk, noted, seen_of, stand_of, stand_with, state_of}
+
+-- nothing waits to be carried out as a session opens
+plans_nothing : (mode : StartMode) (contents : Option CallLog) (lines columns : ℕ) (screen : Screen) → IsOpeningIn mode contents lines columns screen → screen.planned ≡ None
+plans_nothing (Panels left right) contents lines columns screen is = ap (λ (s : Screen). s.planned) is.opened
+plans_nothing (View path) contents lines columns screen is = ap (λ (s : Screen). s.planned) is.opened
 
 -- a desk on which nothing happened yet
 pub kept_opening : (start : Option Start) (opening contents : Option CallLog) (faults : ℕ) (named : Start) (screen : Screen) (log : Logged) (standing : Standing) (dirty : List Route) (out : Output) (taken : ℕ) (pending : List ℕ)
@@ -39,7 +46,7 @@ kept_opening start opening contents faults named screen log standing dirty out t
         told = refl;
         calls = omega arith;
       };
-      settled = ap (λ (s : Screen). s.planned) opened.opening.opened;
+      settled = plans_nothing named.mode contents named.lines named.columns screen opened.opening;
       asked = λ asked. absurd cc;
       lost = λ lost. absurd cc;
       shut = λ closed. absurd cc;

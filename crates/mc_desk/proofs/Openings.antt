@@ -1,13 +1,18 @@
 -- How a session's screen opens, and why it doesn't.
-use Rattle.std.proofs.Common.{◌≡◌, ℕ, ◌≤◌, [], sym, ◌∙◌, ap, subst, Option, Some, None, Result, Ok, Err}
+use Rattle.std.proofs.Common.{◌≡◌, ◌≢◌, ℕ, [], refl, sym, ◌∙◌, ap, subst, Option, Some, None, Result, Ok, Err}
 use Rattle.std.specs.Option.{option_map}
 use Rattle.mc_text.specs.Routes.{Route, path_text}
 use Rattle.tree_trait.specs.declared.calls.TreeError.{TreeError}
+use Rattle.tree_trait.specs.declared.calls.TreeError.TheVariants as tree
+use Rattle.tree_trait.specs.declared.file_system.FileSystem.{FileSystem}
+use Rattle.tree_trait.specs.Calls.{ReadAt}
+use Rattle.tree_trait.specs.Refusals.{refusal_of}
 use Rattle.tree_trait.specs.Change.{CallLog, current}
 use Rattle.tree_trait.specs.Answers.{IfKnown}
 use Rattle.resolving.specs.declared.error.ResolveError.{ResolveError}
 use Rattle.resolving.specs.declared.error.ResolveError.TheVariants.{Tree, TooManyLinks, TooLong, BadName, Fault, Memory}
-use Rattle.resolving.specs.declared.walking.Wanted.TheVariants.{FolderAlone}
+use Rattle.resolving.specs.declared.walking.Wanted.TheVariants.{AnyThing, FolderAlone}
+use Rattle.resolving.specs.Errors.{Answers}
 use Rattle.resolving.specs.Resolution.{resolved}
 use Rattle.mc_panels.specs.Panels.{PanelState}
 use Rattle.mc_panels.specs.Goings.{ShowsResolved}
@@ -15,21 +20,21 @@ use Rattle.panel_pair.specs.declared.side.Side.{Side}
 use Rattle.panel_pair.specs.declared.side.Side.TheVariants.{Left, Right}
 use Rattle.panel_pair.specs.Openings.{OpensBoth, RefusesSide, ShowsPath}
 use Rattle.panel_pair.specs.Pairs.{PairState}
+use Rattle.mc_viewer.specs.Viewing.{IsReadable, IsRefused}
+use Rattle.viewer_mode.specs.declared.opening.Opening.TheVariants.{Viewed, NoWay, Unread}
+use Rattle.viewer_mode.specs.Openings.{OpensThing}
+use Rattle.viewer_mode.specs.ViewerScreens.{ViewerScreen}
 use Rattle.mc_ui.specs.Screens.{Screen, opened_screen}
-use Rattle.mc_desk.specs.Logs.{Logged}
-use Rattle.mc_desk.specs.declared.starts.Start.{Start}
-use Rattle.mc_desk.specs.Sessions.{just_opened}
-use Rattle.mc_desk.specs.Starts.{IsOpened, IsStartCause, path_refusal, refusal_at_end, start_error}
+use Rattle.mc_desk.specs.Sessions.{OpensPanels, just_opened}
+use Rattle.mc_desk.specs.declared.starts.StartMode.TheVariants.{Panels, View}
+use Rattle.mc_desk.specs.declared.starts.StartPlace.TheVariants as place
+use Rattle.mc_desk.specs.Starts.{CanStart, IsRefusal, IsStartCause, file_refusal, path_refusal, place_of, refusal_at_end, start_error, unread_at_end, unread_error}
 
 -- panels that were just opened make a screen as it opens
-pub opens : (contents : Option CallLog) (start : Start) (pair : PairState) (now : ℕ) (screen : Screen) (log : Logged) → pair ≡ just_opened pair → screen ≡ opened_screen pair start.lines start.columns now
-    → IfKnown contents (λ known. OpensBoth known start.left start.right (Ok pair)) → log.newest ≡ [] → 1 ≤ log.spare → IsOpened contents start screen log
-opens contents start pair now screen log fresh is shows empty room =
-    subst (λ s. IsOpened contents start s log) (sym is) (record {
-      opening = record { shows = shows; opened = ap (λ p. opened_screen p start.lines start.columns now) fresh };
-      empty = empty;
-      room = room;
-    })
+pub opens : (contents : Option CallLog) (left right : Route) (lines columns : ℕ) (pair : PairState) (now : ℕ) (screen : Screen) → pair ≡ just_opened pair → screen ≡ opened_screen pair lines columns now
+    → IfKnown contents (λ known. OpensBoth known left right (Ok pair)) → OpensPanels contents left right lines columns screen
+opens contents left right lines columns pair now screen fresh is shows =
+    subst (λ s. OpensPanels contents left right lines columns s) (sym is) (record { shows = shows; opened = ap (λ p. opened_screen p lines columns now) fresh })
 
 -- a path whose folder is shown leads to one that can be listed
 shown_leads : (log : CallLog) (found : Result Route ResolveError) (panel : PanelState) → ShowsResolved log found (Ok panel) → refusal_at_end (current log) found ≡ None
@@ -60,8 +65,9 @@ abbrev found_at : CallLog → Route → Result Route ResolveError
 found_at log path = resolved (current log) FolderAlone [] (path_text path)
 
 -- a path that was refused is why the session doesn't start
-pub start_refused : (log : CallLog) (left right : Route) (side : Side) (e : ResolveError) → RefusesSide log left right side e → IsStartCause (current log) left right (start_error side e)
-start_refused log left right side Memory h = tt
+pub start_refused : (log : CallLog) (left right : Route) (side : Side) (e : ResolveError) → RefusesSide log left right side e → IsStartCause (current log) (Panels left right) (start_error (place_of side) e)
+start_refused log left right Left Memory h = tt
+start_refused log left right Right Memory h = tt
 start_refused log left right Left Fault h = tt
 start_refused log left right Left (Tree at cause) h = tree_refuses log (found_at log left) at cause h
 start_refused log left right Left TooManyLinks h = many_links log (found_at log left) h
@@ -74,5 +80,57 @@ start_refused log left right Right TooLong h = (path_shown log left h.0.0 h.0.1,
 start_refused log left right Right BadName h = (path_shown log left h.0.0 h.0.1, bad_name log (found_at log right) h.1)
 
 -- where both panels show their folders, both paths lead to folders that can be listed
-pub both_lead : (log : CallLog) (left right : Route) (pair : PairState) → OpensBoth log left right (Ok pair) → (path_refusal (current log) left ≡ None) × (path_refusal (current log) right ≡ None)
+pub both_lead : (log : CallLog) (left right : Route) (pair : PairState) → OpensBoth log left right (Ok pair) → CanStart (current log) (Panels left right)
 both_lead log left right pair h = (path_shown log left pair.current h.0, path_shown log right pair.other h.1)
+
+-- THE VIEWER
+
+-- a file that is viewed can be read where its path leads
+pub file_leads : (contents : Option CallLog) (path : Route) (lines columns : ℕ) (viewer : ViewerScreen) → OpensThing contents [] (path_text path) lines columns (Viewed viewer) → IfKnown contents (λ log. CanStart (current log) (View path))
+unfolding IsReadable
+file_leads contents path lines columns viewer (at, leads, opened) log known =
+    ap (unread_at_end (current log)) (leads log known) ∙ ap (option_map (λ (e : TreeError). Tree at e)) (opened.readable log known)
+
+-- a way that was refused is why it isn't
+way_refuses : (s : FileSystem) (found : Result Route ResolveError) (e : ResolveError) → e ≢ Memory → Answers {A = Route} found (Err e) → IsRefusal (unread_at_end s found) e
+way_refuses s found Fault some answers = tt
+way_refuses s found Memory some answers = absurd (some refl)
+way_refuses s found (Tree at e) some answers = ap (unread_at_end s) answers
+way_refuses s found TooManyLinks some answers = ap (unread_at_end s) answers
+way_refuses s found TooLong some answers = ap (unread_at_end s) answers
+way_refuses s found BadName some answers = ap (unread_at_end s) answers
+
+no_memory : (s : FileSystem) (path : Route) (e : ResolveError) → e ≢ Memory → IsRefusal (file_refusal s path) e → IsStartCause s (View path) (start_error place.File e)
+no_memory s path Fault some h = tt
+no_memory s path Memory some h = tt
+no_memory s path (Tree at e) some h = h
+no_memory s path TooManyLinks some h = h
+no_memory s path TooLong some h = h
+no_memory s path BadName some h = h
+
+pub no_way : (contents : Option CallLog) (path : Route) (lines columns : ℕ) (e : ResolveError) → OpensThing contents [] (path_text path) lines columns (NoWay e)
+    → IfKnown contents (λ log. IsStartCause (current log) (View path) (start_error place.File e))
+no_way contents path lines columns e (some, answers) log known =
+    no_memory (current log) path e some (way_refuses (current log) (resolved (current log) AnyThing [] (path_text path)) e some (answers log known))
+
+-- and so is a file that can't be read
+at_end : (s : FileSystem) (path at file : Route) (e : TreeError) → at ≡ file → resolved s AnyThing [] (path_text path) ≡ Ok file → refusal_of s (ReadAt file 0 0) ≡ Some e → file_refusal s path ≡ Some (Tree at e)
+at_end s path at file e same leads refused =
+    ap (unread_at_end s) leads ∙ (ap (option_map (λ (e : TreeError). Tree file e)) refused ∙ ap (λ (p : Route). Some (Tree p e)) (sym same))
+
+pub unread : (contents : Option CallLog) (path : Route) (lines columns : ℕ) (at : Route) (e : TreeError) → OpensThing contents [] (path_text path) lines columns (Unread at e)
+    → IfKnown contents (λ log. IsStartCause (current log) (View path) (unread_error at e))
+unfolding IsRefused
+unread contents path lines columns at tree.Missing h log known = at_end (current log) path at h.0 tree.Missing h.2 (h.1 log known) (h.4 log known)
+unread contents path lines columns at tree.NotFolder h log known = at_end (current log) path at h.0 tree.NotFolder h.2 (h.1 log known) (h.4 log known)
+unread contents path lines columns at tree.Denied h log known = at_end (current log) path at h.0 tree.Denied h.2 (h.1 log known) (h.4 log known)
+unread contents path lines columns at tree.Exists h log known = at_end (current log) path at h.0 tree.Exists h.2 (h.1 log known) (h.4 log known)
+unread contents path lines columns at tree.IsFolder h log known = at_end (current log) path at h.0 tree.IsFolder h.2 (h.1 log known) (h.4 log known)
+unread contents path lines columns at tree.NotEmpty h log known = at_end (current log) path at h.0 tree.NotEmpty h.2 (h.1 log known) (h.4 log known)
+unread contents path lines columns at tree.IntoItself h log known = at_end (current log) path at h.0 tree.IntoItself h.2 (h.1 log known) (h.4 log known)
+unread contents path lines columns at tree.Mounted h log known = at_end (current log) path at h.0 tree.Mounted h.2 (h.1 log known) (h.4 log known)
+unread contents path lines columns at tree.CrossMount h log known = at_end (current log) path at h.0 tree.CrossMount h.2 (h.1 log known) (h.4 log known)
+unread contents path lines columns at tree.NoSpace h log known = at_end (current log) path at h.0 tree.NoSpace h.2 (h.1 log known) (h.4 log known)
+unread contents path lines columns at tree.Special h log known = at_end (current log) path at h.0 tree.Special h.2 (h.1 log known) (h.4 log known)
+unread contents path lines columns at tree.Fault h log known = tt
+unread contents path lines columns at tree.Memory h log known = tt

@@ -1,7 +1,7 @@
 -- A session, as its history tells it: each entry follows from those before it, and from the tree as it stands then. Histories
 -- stand newest first here.
 use Rattle.std.specs.Prelude.{◌≡◌, ◌⊎◌, ℕ, ◌+◌, ◌≤◌, Bool, true, false, ⊤, if◌then◌else◌, List, [], ◌∷◌, Option, Some, None, IsSome, Ok}
-use Rattle.mc_text.specs.Routes.{Route}
+use Rattle.mc_text.specs.Routes.{Route, path_text}
 use Rattle.tree_trait.specs.Change.{CallLog}
 use Rattle.tree_trait.specs.Answers.{HasRisen, IfKnown}
 use Rattle.job_reports.specs.declared.answer.Answer.{Answer}
@@ -22,10 +22,16 @@ use Rattle.history_laws.specs.Traces.{Follows, Stand, at_rest, nothing_live}
 use Rattle.box_words.specs.declared.message.Message.{Message}
 use Rattle.job_plans.specs.Refused.{has_fault}
 use Rattle.mc_ui.specs.LiveJobs.{takes_answer}
-use Rattle.mc_ui.specs.Screens.{Screen, Planned, Begins, Answers, Ends, LookLeads, opened_screen}
+use Rattle.mc_ui.specs.Screens.{Screen, Planned, Begins, Answers, Ends, LookLeads, opened_screen, with_viewer}
+use Rattle.mc_ui.specs.declared.viewing.Leaving.TheVariants as leaving
 use Rattle.panel_pair.specs.Openings.{OpensBoth}
-use Rattle.panel_pair.specs.Pairs.{PairState, opened_pair}
+use Rattle.panel_pair.specs.Pairs.{PairState, opened_pair, unread_pair}
+use Rattle.viewer_mode.specs.declared.opening.Opening.TheVariants.{Viewed}
+use Rattle.viewer_mode.specs.Openings.{OpensThing}
+use Rattle.viewer_mode.specs.ViewerScreens.{ViewerScreen}
 use Rattle.mc_desk.specs.declared.starts.Start.{Start}
+use Rattle.mc_desk.specs.declared.starts.StartMode.{StartMode}
+use Rattle.mc_desk.specs.declared.starts.StartMode.TheVariants.{Panels, View}
 use Rattle.mc_desk.specs.Granting.{KeyWorks}
 use Rattle.mc_desk.specs.LiveRows.{rows_told}
 use Rattle.mc_desk.specs.Shown.{EventDraws, HasPutNothing, Put, frame_due, none_before}
@@ -156,11 +162,28 @@ pub record Enters (opening : Option CallLog) (faults : ℕ) (e : Entry) (older :
 abbrev pub just_opened : PairState → PairState
 just_opened pair = opened_pair pair.current.folder pair.other.folder pair.current.listing pair.other.listing
 
--- At the opening each panel shows the folder to which its path leads, as it was read; the left one is current, and the screen has
--- nothing else.
-pub record IsOpening (contents : Option CallLog) (start : Start) (screen : Screen) : Type 0 where
-  pub shows : IfKnown contents (λ log. OpensBoth log start.left start.right (Ok screen.panels))
-  pub opened : screen ≡ opened_screen (just_opened screen.panels) start.lines start.columns screen.second
+-- Each panel shows the folder to which its path leads, as it was read; the left one is current, and the screen has nothing else.
+pub record OpensPanels (contents : Option CallLog) (left right : Route) (lines columns : ℕ) (screen : Screen) : Type 0 where
+  pub shows : IfKnown contents (λ log. OpensBoth log left right (Ok screen.panels))
+  pub opened : screen ≡ opened_screen (just_opened screen.panels) lines columns screen.second
+
+-- a screen on which a file is viewed alone: leaving the viewer ends the session, and no panel was read
+abbrev pub viewing_alone : ViewerScreen → ℕ → ℕ → ℕ → Screen
+viewing_alone viewer lines columns second = with_viewer viewer leaving.Ends (opened_screen unread_pair lines columns second)
+
+-- the file to which a path leads, along links, is viewed alone from its top, as it was read
+pub record OpensViewer (contents : Option CallLog) (path : Route) (lines columns : ℕ) (screen : Screen) : Type 0 where
+  pub viewer : ViewerScreen
+  pub shows : OpensThing contents [] (path_text path) lines columns (Viewed viewer)
+  pub opened : screen ≡ viewing_alone viewer lines columns screen.second
+
+-- how a screen of this size opens, by what the session starts with
+abbrev pub IsOpeningIn : StartMode → Option CallLog → ℕ → ℕ → Screen → Type 0
+IsOpeningIn (Panels left right) contents lines columns screen = OpensPanels contents left right lines columns screen
+IsOpeningIn (View path) contents lines columns screen = OpensViewer contents path lines columns screen
+
+abbrev pub IsOpening : Option CallLog → Start → Screen → Type 0
+IsOpening contents start screen = IsOpeningIn start.mode contents start.lines start.columns screen
 
 -- the session begins as was named, where that is known
 abbrev pub BeginsIn : Option Start → Start → Type 0
@@ -175,13 +198,13 @@ pub record IsBeginning (named : Option Start) (opening : Option CallLog) (now : 
   pub same : now.contents ≡ opening
   pub blank : HasPutNothing now.put
 
--- These entries are a session that began in these folders, over a tree that had these contents then, and had failed so often;
+-- These entries are a session that began so, over a tree that had these contents then, and had failed so often;
 -- and it has come to this.
 abbrev pub IsSession : Option Start → Option CallLog → ℕ → List Entry → SessionState → Type 0
 IsSession start opening faults [] now = IsBeginning start opening now
 IsSession start opening faults (e ∷ older) now = (was : SessionState) × IsSession start opening faults older was × Enters opening faults e older was now
 
--- These entries are a session in these folders, no job is live at its end, and nothing that was asked for was left undone.
+-- These entries are a session that began so, no job is live at its end, and nothing that was asked for was left undone.
 -- Whether the end was asked for, its screen has noted.
 abbrev pub EndsSession : Option Start → Option CallLog → ℕ → List Entry → Option CallLog → Put → Bool → Type 0
 EndsSession start opening faults newest contents put asked =

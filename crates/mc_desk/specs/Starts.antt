@@ -1,15 +1,17 @@
--- What the start of a session comes to: it opens where both paths lead to folders that can be read, and else says why not.
+-- What the start of a session comes to: it opens where its paths lead to folders that can be listed, or to a file that can be read,
+-- and else says why not.
 use Rattle.std.specs.Prelude.{◌≡◌, ◌≤◌, ⊤, Bool, true, false, [], Option, Some, None, Result, Ok, Err}
 use Rattle.std.specs.Option.{option_map}
 use Rattle.mc_text.specs.Routes.{Route, path_text}
 use Rattle.tree_trait.specs.declared.file_system.FileSystem.{FileSystem}
 use Rattle.tree_trait.specs.declared.calls.TreeError.{TreeError}
-use Rattle.tree_trait.specs.Calls.{ListFolder}
+use Rattle.tree_trait.specs.Calls.{ListFolder, ReadAt}
 use Rattle.tree_trait.specs.Refusals.{refusal_of}
 use Rattle.tree_trait.specs.Change.{CallLog}
 use Rattle.resolving.specs.declared.error.ResolveError.{ResolveError}
 use Rattle.resolving.specs.declared.error.ResolveError.TheVariants as resolve
-use Rattle.resolving.specs.declared.walking.Wanted.TheVariants.{FolderAlone}
+use Rattle.resolving.specs.declared.walking.Wanted.TheVariants.{AnyThing, FolderAlone}
+use Rattle.resolving.specs.Errors.{refused_by}
 use Rattle.resolving.specs.Resolution.{resolved}
 use Rattle.panel_pair.specs.declared.side.Side.{Side}
 use Rattle.panel_pair.specs.declared.side.Side.TheVariants.{Left, Right}
@@ -19,6 +21,10 @@ use Rattle.mc_desk.specs.declared.starts.StartError.TheVariants.{Resolve, Memory
 use Rattle.mc_desk.specs.Logs.{Logged}
 use Rattle.mc_desk.specs.Sessions.{IsOpening}
 use Rattle.mc_desk.specs.declared.starts.Start.{Start}
+use Rattle.mc_desk.specs.declared.starts.StartMode.{StartMode}
+use Rattle.mc_desk.specs.declared.starts.StartMode.TheVariants.{Panels, View}
+use Rattle.mc_desk.specs.declared.starts.StartPlace.{StartPlace}
+use Rattle.mc_desk.specs.declared.starts.StartPlace.TheVariants as place
 
 -- a screen on which nothing happened yet, and a history with nothing in it
 pub record IsOpened (contents : Option CallLog) (start : Start) (screen : Screen) (log : Logged) : Type 0 where
@@ -35,42 +41,79 @@ refusal_at_end s (Err e) = Some e
 abbrev pub path_refusal : FileSystem → Route → Option ResolveError
 path_refusal s path = refusal_at_end s (resolved s FolderAlone [] (path_text path))
 
--- a path is refused so, or the tree failed; want of memory is no refusal of a path
-abbrev pub IsPathRefused : FileSystem → Route → ResolveError → Type 0
-IsPathRefused s path resolve.Fault = ⊤
-IsPathRefused s path resolve.Memory = ⊥
-IsPathRefused s path (resolve.Tree refused e) = path_refusal s path ≡ Some (resolve.Tree refused e)
-IsPathRefused s path resolve.TooManyLinks = path_refusal s path ≡ Some resolve.TooManyLinks
-IsPathRefused s path resolve.TooLong = path_refusal s path ≡ Some resolve.TooLong
-IsPathRefused s path resolve.BadName = path_refusal s path ≡ Some resolve.BadName
+-- why the file to which a way leads can't be read, if it can't
+abbrev pub unread_at_end : FileSystem → Result Route ResolveError → Option ResolveError
+unread_at_end s (Ok file) = option_map (λ (e : TreeError). resolve.Tree file e) (refusal_of s (ReadAt file 0 0))
+unread_at_end s (Err e) = Some e
 
--- Why a session over these files doesn't start at these paths: as the first is refused that leads to no folder which can be listed,
--- or by a fault, or since memory ran out.
-abbrev pub IsStartCause : FileSystem → Route → Route → StartError → Type 0
-IsStartCause s left right Memory = ⊤
-IsStartCause s left right (Resolve Left e) = IsPathRefused s left e
-IsStartCause s left right (Resolve Right e) = (path_refusal s left ≡ None) × IsPathRefused s right e
+-- why a path leads to no file that can be read, if it leads to none
+abbrev pub file_refusal : FileSystem → Route → Option ResolveError
+file_refusal s path = unread_at_end s (resolved s AnyThing [] (path_text path))
 
--- it starts only where both paths lead to folders that can be listed
-abbrev pub Starts : {A : Type 0} → FileSystem → Route → Route → Result A StartError → Type 0
-Starts s left right (Ok opened) = (path_refusal s left ≡ None) × (path_refusal s right ≡ None)
-Starts s left right (Err error) = IsStartCause s left right error
+-- This is why a path is refused, or the tree failed; want of memory is no refusal of a path.
+abbrev pub IsRefusal : Option ResolveError → ResolveError → Type 0
+IsRefusal refusal resolve.Fault = ⊤
+IsRefusal refusal resolve.Memory = ⊥
+IsRefusal refusal (resolve.Tree refused e) = refusal ≡ Some (resolve.Tree refused e)
+IsRefusal refusal resolve.TooManyLinks = refusal ≡ Some resolve.TooManyLinks
+IsRefusal refusal resolve.TooLong = refusal ≡ Some resolve.TooLong
+IsRefusal refusal resolve.BadName = refusal ≡ Some resolve.BadName
 
--- why a session doesn't start where a panel's path was refused so
-abbrev pub start_error : Side → ResolveError → StartError
-start_error side resolve.Memory = Memory
-start_error side resolve.Fault = Resolve side resolve.Fault
-start_error side (resolve.Tree path e) = Resolve side (resolve.Tree path e)
-start_error side resolve.TooManyLinks = Resolve side resolve.TooManyLinks
-start_error side resolve.TooLong = Resolve side resolve.TooLong
-start_error side resolve.BadName = Resolve side resolve.BadName
+-- its paths lead to what can be listed, or read
+abbrev pub CanStart : FileSystem → StartMode → Type 0
+CanStart s (Panels left right) = (path_refusal s left ≡ None) × (path_refusal s right ≡ None)
+CanStart s (View path) = file_refusal s path ≡ None
+
+-- Why a session of panels doesn't start: as the first path is refused that leads to no folder which can be listed.
+abbrev pub IsPanelCause : FileSystem → Route → Route → StartPlace → ResolveError → Type 0
+IsPanelCause s left right place.Left e = IsRefusal (path_refusal s left) e
+IsPanelCause s left right place.Right e = (path_refusal s left ≡ None) × IsRefusal (path_refusal s right) e
+IsPanelCause s left right place.File e = ⊥
+
+-- and why one of the viewer alone doesn't
+abbrev pub IsViewerCause : FileSystem → Route → StartPlace → ResolveError → Type 0
+IsViewerCause s path place.Left e = ⊥
+IsViewerCause s path place.Right e = ⊥
+IsViewerCause s path place.File e = IsRefusal (file_refusal s path) e
+
+abbrev pub IsPathCause : FileSystem → StartMode → StartPlace → ResolveError → Type 0
+IsPathCause s (Panels left right) at e = IsPanelCause s left right at e
+IsPathCause s (View path) at e = IsViewerCause s path at e
+
+-- Why a session over these files doesn't start: as one of its paths is refused, or by a fault, or since memory ran out.
+abbrev pub IsStartCause : FileSystem → StartMode → StartError → Type 0
+IsStartCause s mode Memory = ⊤
+IsStartCause s mode (Resolve at e) = IsPathCause s mode at e
+
+-- it starts only where its paths lead to what can be listed, or read
+abbrev pub Starts : {A : Type 0} → FileSystem → StartMode → Result A StartError → Type 0
+Starts s mode (Ok opened) = CanStart s mode
+Starts s mode (Err error) = IsStartCause s mode error
+
+-- the place of a panel's path
+abbrev pub place_of : Side → StartPlace
+place_of Left = place.Left
+place_of Right = place.Right
+
+-- why a session doesn't start where a path was refused so
+abbrev pub start_error : StartPlace → ResolveError → StartError
+start_error at resolve.Memory = Memory
+start_error at resolve.Fault = Resolve at resolve.Fault
+start_error at (resolve.Tree path e) = Resolve at (resolve.Tree path e)
+start_error at resolve.TooManyLinks = Resolve at resolve.TooManyLinks
+start_error at resolve.TooLong = Resolve at resolve.TooLong
+start_error at resolve.BadName = Resolve at resolve.BadName
+
+-- the same where what lies at a path can't be read
+abbrev pub unread_error : Route → TreeError → StartError
+unread_error path e = start_error place.File (refused_by path e)
 
 -- the start tells of a fault
 abbrev pub is_start_fault : StartError → Bool
 is_start_fault Memory = false
-is_start_fault (Resolve side resolve.Fault) = true
-is_start_fault (Resolve side (resolve.Tree path e)) = false
-is_start_fault (Resolve side resolve.TooManyLinks) = false
-is_start_fault (Resolve side resolve.TooLong) = false
-is_start_fault (Resolve side resolve.BadName) = false
-is_start_fault (Resolve side resolve.Memory) = false
+is_start_fault (Resolve at resolve.Fault) = true
+is_start_fault (Resolve at (resolve.Tree path e)) = false
+is_start_fault (Resolve at resolve.TooManyLinks) = false
+is_start_fault (Resolve at resolve.TooLong) = false
+is_start_fault (Resolve at resolve.BadName) = false
+is_start_fault (Resolve at resolve.Memory) = false

@@ -8,7 +8,7 @@ ghost use Rattle.copy_move.specs.Told.{IsReady};
 ghost use Rattle.history_laws.specs.Traces.{IsTracedTo};
 ghost use Rattle.mc_desk.specs.Logs.{jobs_begun};
 ghost use Rattle.mc_desk.specs.Sessions.{BeginsIn, EndsSession};
-ghost use Rattle.mc_desk.specs.Starts.{IsStartCause, is_start_fault, path_refusal};
+ghost use Rattle.mc_desk.specs.Starts.{CanStart, IsStartCause, is_start_fault};
 ghost use Rattle.mc_desk.specs.Tallies.{can_step, faults_in, has_lost};
 ghost use Rattle.mc_desk.specs.Outputs.{Blames};
 ghost use Rattle.mc_desk.specs.Shown.{HasGiven, put_since};
@@ -40,8 +40,8 @@ impl<N: Tag, T: Tree, S: Sink, P: Spawner> Model for Desk<N, T, S, P> {
 }
 
 impl<N: Tag, T: Tree, S: Sink, P: Spawner> Desk<N, T, S, P> {
-    /// Opens a session at a second of the clock, in the folders to which two paths lead. It is refused as the first is that
-    /// leads to no folder which can be read, or since memory ran out; the devices are as they were then, but for the tree's count of faults.
+    /// Opens a session at a second of the clock: in the folders to which two paths lead, or in the viewer on the file to which one
+    /// does. It is refused as the first path is that leads to none which can be read, or since memory ran out; the devices are as they were then, but for the tree's count of faults.
     pub fn begin(
         alloc: Global,
         start: Start,
@@ -61,8 +61,8 @@ impl<N: Tag, T: Tree, S: Sink, P: Spawner> Desk<N, T, S, P> {
 
         ensures fresh { IfOk result IsFresh }
         ensures permitted { IfKnown (T.contents tree) (λ log.
-            OnOk result ((path_refusal (current log) start.left ≡ None) × (path_refusal (current log) start.right ≡ None))) }
-        ensures cause { IfKnown (T.contents tree) (λ log. IfErr result (λ r. IsStartCause (current log) start.left start.right r.error)) }
+            OnOk result (CanStart (current log) start.mode)) }
+        ensures cause { IfKnown (T.contents tree) (λ log. IfErr result (λ r. IsStartCause (current log) start.mode r.error)) }
         ensures fault { IfErr result (λ r. is_start_fault r.error ≡ true → HasRisen (T.fault_count tree) (T.fault_count r.tree)) }
         ensures same { IfErr result (λ r. T.contents r.tree ≡ T.contents tree) }
         ensures later { IfErr result (λ r. T.fault_count tree ≤ T.fault_count r.tree) }

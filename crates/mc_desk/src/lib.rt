@@ -23,5 +23,5 @@ pub use mc_ui::{
 };
 pub use panel_pair::Side;
 pub use replies::{DeskError, DeskReply, Ended, Refused, StepReply};
-pub use starts::{Start, StartError};
+pub use starts::{Start, StartError, StartMode, StartPlace};
 pub use tag::Tag;

@@ -1,21 +1,26 @@
-//! The opening of a session: the folders are read, and room is made for the entry that will close it.
-ghost use Rattle.std.specs.Prelude.{◌≡◌, ◌≤◌, true, false, IfErr, IfOk};
+//! The opening of a session: the folders or the file are read, and room is made for the entry that will close it.
+ghost use Rattle.std.specs.Prelude.{◌≡◌, ◌≤◌, ◌≢◌, true, false, IfErr, IfOk};
+ghost use Rattle.mc_text.specs.Routes.{path_text};
 ghost use Rattle.tree_trait.specs.Change.{current};
 ghost use Rattle.tree_trait.specs.Answers.{IfKnown, HasRisen};
 ghost use Rattle.mc_desk.specs.Outputs.{FitsScreen};
-ghost use Rattle.mc_desk.specs.Starts.{IsOpened, Starts, is_start_fault, start_error};
+ghost use Rattle.panel_pair.specs.Pairs.{unread_pair};
+ghost use Rattle.mc_desk.specs.Sessions.{IsOpeningIn, OpensPanels, OpensViewer, viewing_alone};
+ghost use Rattle.mc_desk.specs.Starts.{IsOpened, Starts, is_start_fault, place_of as place_on, start_error, unread_error};
 
 use crate::log::Log;
-use crate::starts::{Start, StartError};
+use crate::starts::{Start, StartError, StartMode, StartPlace};
 use mc_screen::Screen;
-use mc_text::NoMemory;
-use mc_ui::Ui;
+use mc_text::{NoMemory, Path};
+use mc_ui::{Leaving, Ui};
 use panel_pair::{Panels, Side, Unopened};
 use resolving::ResolveError;
 use std::alloc::Global;
-use tree_trait::Tree;
+use std::convert::AsStr;
+use tree_trait::{ReadTree, Tree, TreeError};
+use viewer_mode::{Opening, ViewerMode, open_thing};
 
-/// The screen of two folders at a second of the clock, with no box open, and an empty log. The left one is read first.
+/// The screen of a session at a second of the clock, as it begins, with no box open, and an empty log.
 pub fn open<T: Tree>(
     alloc: Global,
     tree: &mut T,
@@ -25,7 +30,7 @@ pub fn open<T: Tree>(
     ensures opened { IfOk result (λ parts. IsOpened (T.contents tree.old) start parts.0 parts.1) }
     ensures fresh { IfOk result (λ parts. parts.2.has_drawn ≡ false) }
     ensures fits { IfOk result (λ parts. FitsScreen parts.2.grid parts.0) }
-    ensures cause { IfKnown (T.contents tree.old) (λ log. Starts (current log) start.left start.right result) }
+    ensures cause { IfKnown (T.contents tree.old) (λ log. Starts (current log) start.mode result) }
     ensures fault { IfErr result (λ error. is_start_fault error ≡ true → HasRisen (T.fault_count tree.old) (T.fault_count tree.new)) }
     ensures same { T.contents tree.new ≡ T.contents tree.old }
     ensures later { T.fault_count tree.old ≤ T.fault_count tree.new }
@@ -35,8 +40,7 @@ pub fn open<T: Tree>(
         Err(NoMemory) => return Err(StartError::Memory),
     };
     let Start {
-        left,
-        right,
+        mode,
         lines,
         columns,
     } = start;
@@ -44,21 +48,135 @@ pub fn open<T: Tree>(
         Ok(screen) => screen,
         Err(NoMemory) => return Err(StartError::Memory),
     };
-    match Panels::open(alloc, tree, &left, &right) {
-        Ok(panels) => {
-            let ui = Ui::new(panels, lines, columns, now);
-            Ok((ui, log, screen))
-        }
-        Err(Unopened { side, error }) => Err(refused(side, error)),
+    match open_screen(alloc, tree, mode, lines, columns, now) {
+        Ok(ui) => Ok((ui, log, screen)),
+        Err(error) => Err(error),
     }
 }
 
-/// Why a folder can't be read.
-fn refused(side: Side, error: ResolveError) -> StartError
-    ensures { result ≡ start_error side error }
+/// What stands on the screen as a session begins.
+fn open_screen<T: ReadTree>(
+    alloc: Global,
+    tree: &mut T,
+    mode: StartMode,
+    lines: u16,
+    columns: u16,
+    now: u64,
+) -> Result<Ui, StartError>
+    ensures opened { IfOk result (λ ui. IsOpeningIn mode (T.contents tree.old) lines columns ui) }
+    ensures sized { IfOk result (λ ui. (ui.lines ≡ lines) × (ui.columns ≡ columns)) }
+    ensures cause { IfKnown (T.contents tree.old) (λ log. Starts (current log) mode result) }
+    ensures fault { IfErr result (λ error. is_start_fault error ≡ true → HasRisen (T.fault_count tree.old) (T.fault_count tree.new)) }
+    ensures same { T.contents tree.new ≡ T.contents tree.old }
+    ensures later { T.fault_count tree.old ≤ T.fault_count tree.new }
+{
+    match mode {
+        StartMode::Panels { left, right } => open_panels(
+            alloc, tree, &left, &right, lines, columns, now,
+        ),
+        StartMode::View(path) => open_viewer(alloc, tree, &path, lines, columns, now),
+    }
+}
+
+/// Two panels, of the folders that their paths lead to. The left one is read first.
+fn open_panels<T: ReadTree>(
+    alloc: Global,
+    tree: &mut T,
+    left: &Path,
+    right: &Path,
+    lines: u16,
+    columns: u16,
+    now: u64,
+) -> Result<Ui, StartError>
+    ensures opened { IfOk result (λ ui. OpensPanels (T.contents tree.old) left.now right.now lines columns ui) }
+    ensures cause { IfKnown (T.contents tree.old) (λ log. Starts (current log) (StartMode.Panels left.now right.now) result) }
+    ensures fault { IfErr result (λ error. is_start_fault error ≡ true → HasRisen (T.fault_count tree.old) (T.fault_count tree.new)) }
+    ensures same { T.contents tree.new ≡ T.contents tree.old }
+    ensures later { T.fault_count tree.old ≤ T.fault_count tree.new }
+{
+    match Panels::open(alloc, tree, left, right) {
+        Ok(panels) => Ok(Ui::new(panels, lines, columns, now)),
+        Err(Unopened { side, error }) => Err(refused(place_of(side), error)),
+    }
+}
+
+/// The viewer on the file that a path leads to.
+fn open_viewer<T: ReadTree>(
+    alloc: Global,
+    tree: &mut T,
+    path: &Path,
+    lines: u16,
+    columns: u16,
+    now: u64,
+) -> Result<Ui, StartError>
+    ensures opened { IfOk result (λ ui. OpensViewer (T.contents tree.old) path.now lines columns ui) }
+    ensures cause { IfKnown (T.contents tree.old) (λ log. Starts (current log) (StartMode.View path.now) result) }
+    ensures fault { IfErr result (λ error. is_start_fault error ≡ true → HasRisen (T.fault_count tree.old) (T.fault_count tree.new)) }
+    ensures same { T.contents tree.new ≡ T.contents tree.old }
+    ensures later { T.fault_count tree.old ≤ T.fault_count tree.new }
+{
+    let text = match path.text(alloc) {
+        Ok(text) => text,
+        Err(NoMemory) => return Err(StartError::Memory),
+    };
+    let panels = match Panels::unread(alloc) {
+        Ok(panels) => panels,
+        Err(NoMemory) => return Err(StartError::Memory),
+    };
+    match open_thing(
+        alloc,
+        tree,
+        &Path::root(alloc),
+        text.as_str(),
+        lines,
+        columns,
+    ) {
+        Ok(Opening::Viewed(mode)) => Ok(viewing(panels, mode, lines, columns, now)),
+        Ok(Opening::NoWay(error)) => Err(refused(StartPlace::File, error)),
+        Ok(Opening::Unread(path, error)) => Err(unread(path, error)),
+        Err(NoMemory) => Err(StartError::Memory),
+    }
+}
+
+/// A file is viewed, and leaving the viewer ends the session.
+fn viewing(panels: Panels, mode: ViewerMode, lines: u16, columns: u16, now: u64) -> Ui
+    requires lines { mode.lines ≡ lines }
+    requires columns { mode.columns ≡ columns }
+    requires panels { panels ≡ unread_pair }
+    ensures { result ≡ viewing_alone mode lines columns now }
+{
+    let mut ui = Ui::new(panels, lines, columns, now);
+    ui.view(mode, Leaving::Ends);
+    ui
+}
+
+/// The place of a panel's path.
+fn place_of(side: Side) -> StartPlace
+    ensures { result ≡ place_on side }
+{
+    match side {
+        Side::Left => StartPlace::Left,
+        Side::Right => StartPlace::Right,
+    }
+}
+
+/// Why a path leads to nothing that can be read as it is wanted.
+fn refused(place: StartPlace, error: ResolveError) -> StartError
+    ensures { result ≡ start_error place error }
 {
     match error {
         ResolveError::Memory => StartError::Memory,
-        error => StartError::Resolve(side, error),
+        error => StartError::Resolve(place, error),
+    }
+}
+
+/// Why a file can't be read.
+fn unread(path: Path, error: TreeError) -> StartError
+    ensures { result ≡ unread_error path error }
+{
+    match error {
+        TreeError::Memory => StartError::Memory,
+        TreeError::Fault => StartError::Resolve(StartPlace::File, ResolveError::Fault),
+        error => StartError::Resolve(StartPlace::File, ResolveError::Tree(path, error)),
     }
 }

@@ -4,7 +4,7 @@ ghost use Rattle.std.specs.Prelude.{◌≡◌, ◌≤◌, false, true, [], IfOk,
 ghost use Rattle.tree_trait.specs.Change.{current};
 ghost use Rattle.tree_trait.specs.Answers.{IfKnown, HasRisen};
 ghost use Rattle.mc_desk.specs.Sessions.{BeginsIn};
-ghost use Rattle.mc_desk.specs.Starts.{IsStartCause, is_start_fault, path_refusal};
+ghost use Rattle.mc_desk.specs.Starts.{CanStart, IsStartCause, is_start_fault};
 
 mod keys;
 mod steps;
@@ -51,8 +51,8 @@ impl<N: Tag, T: Tree, S: Sink, P: Spawner> Model for Session<N, T, S, P> {
 }
 
 impl<N: Tag, T: Tree, S: Sink, P: Spawner> Session<N, T, S, P> {
-    /// Opens a session at a second of the clock, in the folders to which two paths lead. It is refused as the first is that
-    /// leads to no folder which can be read, or since memory ran out; the tree is as it was then.
+    /// Opens a session at a second of the clock: in the folders to which two paths lead, or in the viewer on the file to which one
+    /// does. It is refused as the first path is that leads to none which can be read, or since memory ran out; the tree is as it was then.
     pub fn begin(
         alloc: Global,
         start: Start,
@@ -73,8 +73,8 @@ impl<N: Tag, T: Tree, S: Sink, P: Spawner> Session<N, T, S, P> {
         ensures uncut { IfOk result (λ session. session.out.put.is_cut ≡ false) }
         ensures unclosed { IfOk result (λ session. (session.tally.closed ≡ false) × (session.quit ≡ false)) }
         ensures permitted { IfKnown (T.contents tree) (λ log.
-            OnOk result ((path_refusal (current log) start.left ≡ None) × (path_refusal (current log) start.right ≡ None))) }
-        ensures cause { IfKnown (T.contents tree) (λ log. IfErr result (λ r. IsStartCause (current log) start.left start.right r.error)) }
+            OnOk result (CanStart (current log) start.mode)) }
+        ensures cause { IfKnown (T.contents tree) (λ log. IfErr result (λ r. IsStartCause (current log) start.mode r.error)) }
         ensures fault { IfErr result (λ r. is_start_fault r.error ≡ true → HasRisen (T.fault_count tree) (T.fault_count r.tree)) }
         ensures same { IfErr result (λ r. T.contents r.tree ≡ T.contents tree) }
         ensures later { IfErr result (λ r. T.fault_count tree ≤ T.fault_count r.tree) }

@@ -1,24 +1,39 @@
 //! What a session starts with, and why it may not start.
 use mc_text::Path;
-use panel_pair::Side;
 use resolving::ResolveError;
 use thiserror::Error;
 
-/// What a session starts with: the paths of the folders that its two panels are to show, and the size of the screen.
+/// What a session starts with, and the size of the screen.
 #[derive(Debug, Drop)]
 pub struct Start {
-    pub left: Path,
-    pub right: Path,
+    pub mode: StartMode,
     pub lines: u16,
     pub columns: u16,
+}
+
+/// What a session starts with.
+#[derive(Debug, Drop)]
+pub enum StartMode {
+    /// Two panels, of the folders that these paths lead to.
+    Panels { left: Path, right: Path },
+    /// The viewer on the file that this path leads to. The session has no panels: leaving the viewer ends it.
+    View(Path),
+}
+
+/// Which of its paths: that of a panel, or of the file that is viewed.
+#[derive(Clone, Copy, Debug, Drop, PartialEq, Eq)]
+pub enum StartPlace {
+    Left,
+    Right,
+    File,
 }
 
 /// Why a session did not start.
 #[derive(Debug, Drop, Error)]
 pub enum StartError {
-    /// The path of this panel leads to no folder that can be read.
+    /// This path leads to no folder that can be listed, or to no file that can be read.
     #[error("{1}")]
-    Resolve(Side, ResolveError),
+    Resolve(StartPlace, ResolveError),
     #[error("out of memory")]
     Memory,
 }

@@ -8,7 +8,7 @@ pub trait Tag {
     ghost use Rattle.tree_trait.specs.declared.devices.Command.{Command};
     ghost use Rattle.mc_desk.specs.declared.starts.Start.{Start};
 
-    /// The folders of the two panels, where they are known.
+    /// What the session starts with, where that is known.
     ghost start: { Option Start };
 
     /// What the tree has been through, where that is known.

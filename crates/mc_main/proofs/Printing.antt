@@ -7,40 +7,62 @@ use Rattle.start_words.specs.Asked.{asked_by}
 use Rattle.start_words.specs.Folders.{started_in}
 use Rattle.start_words.specs.Sizes.{ScreenSize}
 use Rattle.start_words.specs.declared.words.Words.{Words}
-use Rattle.start_words.specs.declared.words.Words.TheVariants.{Panels, NotBuilt}
+use Rattle.start_words.specs.declared.words.Words.TheVariants.{Panels, View, NotBuilt}
 use Rattle.start_words.specs.declared.words.Words.TheVariants as asks
-use Rattle.panel_pair.specs.declared.side.Side.TheVariants.{Left, Right}
 use Rattle.mc_desk.specs.declared.starts.StartError.{StartError}
 use Rattle.mc_desk.specs.declared.starts.StartError.TheVariants.{Resolve, Memory}
 use Rattle.mc_desk.specs.declared.starts.Start.{Start}
+use Rattle.mc_desk.specs.declared.starts.StartMode.{StartMode}
+use Rattle.mc_desk.specs.declared.starts.StartMode.TheVariants as mode
+use Rattle.mc_desk.specs.declared.starts.StartPlace.{StartPlace}
 use Rattle.mc_desk.specs.Starts.{IsStartCause, is_start_fault}
 use Rattle.mc_main.specs.declared.words.Printed.{Printed}
 use Rattle.mc_main.specs.declared.words.Printed.TheVariants.{Usage, Help, Version}
 use Rattle.mc_main.specs.declared.words.Typed.{Typed}
+use Rattle.mc_main.specs.declared.words.Typed.TheVariants as typed
 use Rattle.mc_main.specs.declared.words.Beginning.{Beginning}
 use Rattle.mc_main.specs.declared.words.Beginning.TheVariants.{Session, Print}
-use Rattle.mc_main.specs.Beginnings.{IsBeginning, asked_in, folder_word, printed_for, session_start, status_with, text_of}
+use Rattle.mc_main.specs.Beginnings.{AskFor, IsBeginning, asked_in, printed_for, session_start, start_with, start_word, status_with, text_of, word_for}
 use Rattle.mc_main.specs.Headline.{BeginsNone, IsComplete, IsStatusOr, RefusesStart}
 use Rattle.mc_main.specs.Printed.{IsCauseIn, MayPut, MayPutCause, PrintsCause, PrintsStart, PutsSome, start_line}
 
--- the line for a folder that can't be read has the cause for which the session doesn't start
+-- what was typed for a path is the word that names it
+names_word : (place : StartPlace) (asked : Option Words) (start : StartMode) (word : Typed) → AskFor asked start word → start_word place asked ≡ word_for place word
+names_word place asked (mode.Panels left right) (typed.Panels on_left on_right) is = ap (start_word place) is
+names_word place asked (mode.Panels left right) (typed.File word) is = absurd is
+names_word place asked (mode.View path) (typed.Panels on_left on_right) is = absurd is
+names_word place asked (mode.View path) (typed.File word) is = ap (start_word place) is
+
+-- a session starts at the paths that its words name
+starts_at : (size : ScreenSize) (asked : Option Words) (start : StartMode) (word : Typed) → AskFor asked start word → session_start size asked ≡ Some (start_with size start)
+starts_at size asked (mode.Panels left right) (typed.Panels on_left on_right) is = ap (session_start size) is
+starts_at size asked (mode.Panels left right) (typed.File word) is = absurd is
+starts_at size asked (mode.View path) (typed.Panels on_left on_right) is = absurd is
+starts_at size asked (mode.View path) (typed.File word) is = ap (session_start size) is
+
+-- in the size of its screen
+pub starts_in : (size : ScreenSize) (asked : Option Words) (start : Start) (typed : Typed) → IsBeginning size asked (Session start typed) → session_start size asked ≡ Some start
+starts_in size asked start typed is =
+    starts_at size asked start.mode typed is.0
+    ∙ (ap (λ n. Some (let s : Start = record { mode = start.mode; lines = n; columns = size.columns } in s)) (sym is.1)
+    ∙ ap (λ n. Some (let s : Start = record { mode = start.mode; lines = start.lines; columns = n } in s)) (sym is.2))
+
+-- why it doesn't start is the cause in what was asked for
+cause_in : (log : CallLog) (size : ScreenSize) (asked : Option Words) (start : Start) (typed : Typed) (error : StartError) → IsBeginning size asked (Session start typed) → IsStartCause (current log) start.mode error
+    → IsCauseIn log (session_start size asked) error
+cause_in log size asked start typed error is why = subst (λ o. IsCauseIn log o error) (sym (starts_in size asked start typed is)) why
+
+-- the line for a path that is refused has the cause for which the session doesn't start
 pub prints_start : (contents : Option CallLog) (size : ScreenSize) (asked : Option Words) (start : Start) (typed : Typed) (error : StartError) (faults faults_after : ℕ) (before : List ℕ) (given : Option (List ℕ)) → IsBeginning size asked (Session start typed) → error ≢ Memory
-    → IfKnown contents (λ log. IsStartCause (current log) start.left start.right error) → (is_start_fault error ≡ true → HasRisen faults faults_after) → PrintsCause typed error before given
+    → IfKnown contents (λ log. IsStartCause (current log) start.mode error) → (is_start_fault error ≡ true → HasRisen faults faults_after) → PrintsCause typed error before given
     → PrintsStart contents size asked faults faults_after before given
 prints_start contents size asked start typed Memory faults faults_after before given is some why risen prints = absurd (some refl)
-prints_start contents size asked start typed (Resolve Left cause) faults faults_after before given is some why risen prints = record {
-  side = Left;
+prints_start contents size asked start typed (Resolve place cause) faults faults_after before given is some why risen prints = record {
+  place = place;
   cause = cause;
-  is_cause = λ log known. subst (λ o. IsCauseIn log (session_start size o) (Resolve Left cause)) (sym is.0) (why log known);
+  is_cause = λ log known. cause_in log size asked start typed (Resolve place cause) is (why log known);
   risen = risen;
-  line = subst (λ o. given ≡ Some (before ++ start_line (folder_word Left o) cause)) (sym is.0) prints;
-}
-prints_start contents size asked start typed (Resolve Right cause) faults faults_after before given is some why risen prints = record {
-  side = Right;
-  cause = cause;
-  is_cause = λ log known. subst (λ o. IsCauseIn log (session_start size o) (Resolve Right cause)) (sym is.0) (why log known);
-  risen = risen;
-  line = subst (λ o. given ≡ Some (before ++ start_line (folder_word Right o) cause)) (sym is.0) prints;
+  line = prints ∙ ap (λ word. Some (before ++ start_line word cause)) (sym (names_word place asked start.mode typed is.0));
 }
 
 -- how a run begins that was told as a match gives it
@@ -61,22 +83,23 @@ pub asked_read : (folder text : List ℕ) (words : List (List ℕ)) (started : R
 unfolding asked_in
 asked_read folder text words started asked is same read = sym (ap (λ route. asked_by route words) (is ∙ ap started_in same)) ∙ read
 
--- a session begins in the folders of its start, and nothing is printed in its place
-pub starts_in : (size : ScreenSize) (asked : Option Words) (start : Start) (typed : Typed) → IsBeginning size asked (Session start typed) → session_start size asked ≡ Some start
-starts_in size asked start typed is =
-    subst (λ o. session_start size o ≡ Some start) (sym is.0)
-    (ap (λ n. Some (let s : Start = record { left = start.left; right = start.right; lines = n; columns = size.columns } in s)) (sym is.1)
-    ∙ ap (λ n. Some (let s : Start = record { left = start.left; right = start.right; lines = start.lines; columns = n } in s)) (sym is.2))
+-- nothing is printed in place of a session
+asks_for_none : (asked : Option Words) (start : StartMode) (word : Typed) → AskFor asked start word → printed_for asked ≡ None
+asks_for_none asked (mode.Panels left right) (typed.Panels on_left on_right) is = ap printed_for is
+asks_for_none asked (mode.Panels left right) (typed.File word) is = absurd is
+asks_for_none asked (mode.View path) (typed.Panels on_left on_right) is = absurd is
+asks_for_none asked (mode.View path) (typed.File word) is = ap printed_for is
 
 pub prints_none : (size : ScreenSize) (asked : Option Words) (start : Start) (typed : Typed) → IsBeginning size asked (Session start typed) → printed_for asked ≡ None
-prints_none size asked start typed is = subst (λ o. printed_for o ≡ None) (sym is.0) refl
+prints_none size asked start typed is = asks_for_none asked start.mode typed is.0
 
--- where a text is printed there are no folders
+-- where a text is printed no session starts
 pub no_folders : (size : ScreenSize) (asked : Option Words) (printed : Printed) → printed_for asked ≡ Some printed → session_start size asked ≡ None
 no_folders size None printed is = refl
 no_folders size (Some asks.Help) printed is = refl
 no_folders size (Some asks.Version) printed is = refl
 no_folders size (Some (Panels left right)) printed is = cc
+no_folders size (Some (View file)) printed is = cc
 no_folders size (Some NotBuilt) printed is = refl
 
 -- only the usage line has status 1
@@ -150,22 +173,14 @@ pub put_printed : (contents : Option CallLog) (size : ScreenSize) (asked : Optio
 put_printed contents size asked printed before text given is says puts = inr (inl (printed, is, subst (λ t. PutsSome before t given) says puts))
 
 pub put_start : (contents : Option CallLog) (size : ScreenSize) (asked : Option Words) (start : Start) (typed : Typed) (error : StartError) (before : List ℕ) (given : Option (List ℕ)) → IsBeginning size asked (Session start typed)
-    → IfKnown contents (λ log. IsStartCause (current log) start.left start.right error) → MayPutCause typed error before given → MayPut contents size asked before given
+    → IfKnown contents (λ log. IsStartCause (current log) start.mode error) → MayPutCause typed error before given → MayPut contents size asked before given
 put_start contents size asked start typed Memory before given is why same = inl same
-put_start contents size asked start typed (Resolve side cause) before given is why (inl same) = inl same
-put_start contents size asked start typed (Resolve Left cause) before given is why (inr puts) =
+put_start contents size asked start typed (Resolve place cause) before given is why (inl same) = inl same
+put_start contents size asked start typed (Resolve place cause) before given is why (inr puts) =
     inr (inr (
-      Left,
+      place,
       cause,
       subst (λ (o : Option Start). IsSome o) (sym (starts_in size asked start typed is)) refl,
-      λ log known. subst (λ o. IsCauseIn log (session_start size o) (Resolve Left cause)) (sym is.0) (why log known),
-      subst (λ o. PutsSome before (start_line (folder_word Left o) cause) given) (sym is.0) puts,
-    ))
-put_start contents size asked start typed (Resolve Right cause) before given is why (inr puts) =
-    inr (inr (
-      Right,
-      cause,
-      subst (λ (o : Option Start). IsSome o) (sym (starts_in size asked start typed is)) refl,
-      λ log known. subst (λ o. IsCauseIn log (session_start size o) (Resolve Right cause)) (sym is.0) (why log known),
-      subst (λ o. PutsSome before (start_line (folder_word Right o) cause) given) (sym is.0) puts,
+      λ log known. cause_in log size asked start typed (Resolve place cause) is (why log known),
+      subst (λ word. PutsSome before (start_line word cause) given) (sym (names_word place asked start.mode typed is.0)) puts,
     ))

@@ -12,13 +12,13 @@ use Rattle.history_laws.proofs.Histories.{traced_reached}
 use Rattle.history_laws.proofs.Moments.{replay_law, session_law}
 use Rattle.mc_desk.specs.declared.starts.Start.{Start}
 use Rattle.mc_desk.specs.Sessions.{EndsSession}
-use Rattle.mc_desk.specs.Starts.{path_refusal}
 use Rattle.mc_desk.specs.Shown.{HasGiven, put_since}
 use Rattle.mc_desk.specs.Tallies.{faults_in}
 use Rattle.mc_desk.proofs.Seeing.{session_shows}
 use Rattle.mc_desk.proofs.Terminals.{since_is}
 use Rattle.mc_main.specs.declared.session.SessionEnd.{SessionEnd}
 use Rattle.mc_main.specs.declared.session.SessionEnd.TheVariants.{Quit, KeysEnded}
+use Rattle.mc_main.proofs.Starting.{can_read}
 use Rattle.mc_main.specs.Headline.{IsCalmedRun, IsCut, ShowsRun, IsFinishedRun, IsReplayedRun, IsSafeRun, IsStatusOf, IsStatusOr, MayRefuseStart, IsComplete, RanSession, TookAll}
 
 -- the trace of a tree that tells
@@ -57,28 +57,17 @@ pub traced_none : (o contents : Option CallLog) (newest : List Entry) → newest
 traced_none None contents newest empty same = same
 traced_none (Some opening) contents newest empty same = (opening, [], same, subst (λ es. IsTraced opening es (at_rest []) opening) (sym empty) (refl, refl))
 
--- paths that lead to folders which can be listed are refused only where a device failed
+-- paths that lead to what can be read are refused only where a device failed
 pub refused_start : (log : CallLog) (o : Option Start) (status faults faults_after : ℕ) (keys screen : Type 0) → (status ≡ 2 → MayRefuseStart log o faults faults_after) → IsStatusOr 2 status → (status ≡ 4 → screen)
     → IsComplete log o status (HasRisen faults faults_after ⊎ (keys ⊎ screen))
 refused_start log None status faults faults_after keys screen start is sink = tt
-refused_start log (Some folders) status faults faults_after keys screen start is sink = λ left right none_failed.
+refused_start log (Some begun) status faults faults_after keys screen start is sink = λ can none_failed.
     elim is [
-      | inl two ↦
-          elim (start two) [
-            | inl refusal ↦
-                elim refusal [
-                  | inl at_left ↦ absurd (some_none (path_refusal (current log) folders.left) left at_left)
-                  | inr at_right ↦ absurd (some_none (path_refusal (current log) folders.right) right at_right)
-                ]
-            | inr risen ↦ absurd (none_failed (inl risen))
-          ]
+      | inl two ↦ elim (start two) [ inl cant ↦ absurd (can_read (current log) begun.mode can cant) | inr risen ↦ absurd (none_failed (inl risen)) ]
       | inr more ↦ elim more [ inl four ↦ absurd (none_failed (inr (inr (sink four)))) | inr five ↦ inr five ]
     ]
-  where
-    some_none : {A : Type 0} (x : Option A) → x ≡ None → IsSome x → ⊥
-    some_none x none some = cc
 
--- what was written down is a session in the folders that the words name
+-- what was written down is a session at the paths that the words name
 pub run_in : (start folders : Option Start) (told o : Option CallLog) (told_faults faults status : ℕ) (newest : List Entry) (contents : Option CallLog) (stream left left_after told_given given given_after : Option (List ℕ))
     → start ≡ folders → o ≡ told → told_faults ≡ faults → left ≡ stream → given ≡ told_given → RanSession start told told_faults status newest contents (TookAll stream left_after) told_given given_after
     → RanSession folders o faults status newest contents (TookAll left left_after) given given_after

@@ -2,18 +2,21 @@
 -- place of one.
 use Rattle.std.specs.Prelude.{◌≡◌, ℕ, List, [], ◌∷◌, ◌++◌, Option, Some, None, codes}
 use Rattle.start_words.specs.declared.words.Words.{Words}
-use Rattle.start_words.specs.declared.words.Words.TheVariants.{Panels, NotBuilt}
+use Rattle.start_words.specs.declared.words.Words.TheVariants.{Panels, View, NotBuilt}
 use Rattle.start_words.specs.declared.words.Words.TheVariants as asked
 use Rattle.start_words.specs.Folders.{started_in}
 use Rattle.start_words.specs.Asked.{asked_by}
 use Rattle.start_words.specs.Sizes.{ScreenSize, size_said}
-use Rattle.panel_pair.specs.declared.side.Side.{Side}
-use Rattle.panel_pair.specs.declared.side.Side.TheVariants.{Left, Right}
 use Rattle.mc_desk.specs.declared.starts.Start.{Start}
+use Rattle.mc_desk.specs.declared.starts.StartMode.{StartMode}
+use Rattle.mc_desk.specs.declared.starts.StartMode.TheVariants as mode
+use Rattle.mc_desk.specs.declared.starts.StartPlace.{StartPlace}
+use Rattle.mc_desk.specs.declared.starts.StartPlace.TheVariants.{Left, Right, File}
 use Rattle.mc_main.specs.declared.run.Env.{Env}
 use Rattle.mc_main.specs.declared.words.Printed.{Printed}
 use Rattle.mc_main.specs.declared.words.Printed.TheVariants.{Usage, Help, Version}
 use Rattle.mc_main.specs.declared.words.Typed.{Typed}
+use Rattle.mc_main.specs.declared.words.Typed.TheVariants as typed
 use Rattle.mc_main.specs.declared.words.Beginning.{Beginning}
 use Rattle.mc_main.specs.declared.words.Beginning.TheVariants.{Session, Print}
 
@@ -28,6 +31,7 @@ printed_for None = Some Usage
 printed_for (Some asked.Help) = Some Help
 printed_for (Some asked.Version) = Some Version
 printed_for (Some (Panels left right)) = None
+printed_for (Some (View file)) = None
 printed_for (Some NotBuilt) = Some Usage
 
 -- how the program is called
@@ -53,34 +57,48 @@ status_with Version = 0
 unfoldable pub size_in : Env → ScreenSize
 size_in env = size_said env.lines env.columns
 
+-- the words ask for a session of these paths, which were typed so
+abbrev pub AskFor : Option Words → StartMode → Typed → Type 0
+AskFor words (mode.Panels left right) (typed.Panels on_left on_right) =
+    words ≡ Some (Panels (record { typed = on_left; path = left }) (record { typed = on_right; path = right }))
+AskFor words (mode.Panels left right) (typed.File word) = ⊥
+AskFor words (mode.View path) (typed.Panels on_left on_right) = ⊥
+AskFor words (mode.View path) (typed.File word) = words ≡ Some (View (record { typed = word; path = path }))
+
 -- a run begins as its words ask for it, on a screen of this size
 abbrev pub IsBeginning : ScreenSize → Option Words → Beginning → Type 0
 IsBeginning size words (Print printed) = printed_for words ≡ Some printed
-IsBeginning size words (Session start typed) =
-    (words ≡ Some (Panels (record { typed = typed.left; path = start.left }) (record { typed = typed.right; path = start.right })))
-    × (start.lines ≡ size.lines) × (start.columns ≡ size.columns)
+IsBeginning size words (Session start typed) = AskFor words start.mode typed × (start.lines ≡ size.lines) × (start.columns ≡ size.columns)
 
--- the folders of the session that is asked for, and the size of its screen
+-- what a session starts with on a screen of this size
+abbrev pub start_with : ScreenSize → StartMode → Start
+start_with size mode = record { mode = mode; lines = size.lines; columns = size.columns }
+
+-- what the session starts with that is asked for
 abbrev pub session_start : ScreenSize → Option Words → Option Start
 session_start size None = None
 session_start size (Some asked.Help) = None
 session_start size (Some asked.Version) = None
-session_start size (Some (Panels left right)) = Some (record { left = left.path; right = right.path; lines = size.lines; columns = size.columns })
+session_start size (Some (Panels left right)) = Some (start_with size (mode.Panels left.path right.path))
+session_start size (Some (View file)) = Some (start_with size (mode.View file.path))
 session_start size (Some NotBuilt) = None
 
 -- what the session starts with that words and surroundings ask for
 abbrev pub start_in : Env → List (List ℕ) → Option Start
 start_in env words = session_start (size_in env) (asked_in env.folder words)
 
--- what was typed for a panel
-abbrev pub word_for : Side → Typed → List ℕ
-word_for Left typed = typed.left
-word_for Right typed = typed.right
+-- what was typed for a path of the session; a session of panels views no file
+abbrev pub word_for : StartPlace → Typed → List ℕ
+word_for place (typed.File word) = word
+word_for Left (typed.Panels left right) = left
+word_for Right (typed.Panels left right) = right
+word_for File (typed.Panels left right) = []
 
--- the word that names the folder of a panel, or without a word the folder in which the program was started
-abbrev pub folder_word : Side → Option Words → List ℕ
-folder_word side None = []
-folder_word side (Some asked.Help) = []
-folder_word side (Some asked.Version) = []
-folder_word side (Some (Panels left right)) = word_for side (record { left = left.typed; right = right.typed })
-folder_word side (Some NotBuilt) = []
+-- the word that names a path of the session, or without a word the folder in which the program was started
+abbrev pub start_word : StartPlace → Option Words → List ℕ
+start_word place None = []
+start_word place (Some asked.Help) = []
+start_word place (Some asked.Version) = []
+start_word place (Some (Panels left right)) = word_for place (typed.Panels left.typed right.typed)
+start_word place (Some (View file)) = word_for place (typed.File file.typed)
+start_word place (Some NotBuilt) = []

@@ -19,7 +19,9 @@ use Rattle.history_laws.specs.Staying.{StaysDone}
 use Rattle.mc_desk.specs.Tallies.{keys_in}
 use Rattle.mc_desk.specs.declared.starts.Start.{Start}
 use Rattle.mc_desk.specs.Sessions.{EndsSession}
-use Rattle.mc_desk.specs.Starts.{path_refusal}
+use Rattle.mc_desk.specs.declared.starts.StartMode.{StartMode}
+use Rattle.mc_desk.specs.declared.starts.StartMode.TheVariants.{Panels, View}
+use Rattle.mc_desk.specs.Starts.{CanStart, file_refusal, path_refusal}
 use Rattle.mc_desk.specs.Shown.{HasGiven, Put}
 use Rattle.mc_desk.specs.ShownEntries.{CutsEntry, ShowsEntry, draws}
 use Rattle.mc_desk.specs.Desks.{LacksSecond}
@@ -34,19 +36,23 @@ use Rattle.mc_main.specs.declared.session.SessionEnd.TheVariants.{Quit, KeysEnde
 abbrev pub IsStatusOr : ℕ → ℕ → Type 0
 IsStatusOr own status = (status ≡ own) ⊎ (status ≡ 4) ⊎ (status ≡ 5)
 
--- one of the paths leads to no folder that can be listed
-abbrev pub CantList : CallLog → Start → Type 0
-CantList log start = IsSome (path_refusal (current log) start.left) ⊎ IsSome (path_refusal (current log) start.right)
+-- one of the paths leads to no folder that can be listed, or to no file that can be read
+abbrev pub CantRead : FileSystem → StartMode → Type 0
+CantRead s (Panels left right) = IsSome (path_refusal s left) ⊎ IsSome (path_refusal s right)
+CantRead s (View path) = IsSome (file_refusal s path)
 
--- a start is refused where a path leads to no such folder, or where the tree failed meanwhile
+abbrev pub CantStart : CallLog → Start → Type 0
+CantStart log start = CantRead (current log) start.mode
+
+-- a start is refused where a path leads to nothing that can be read so, or where the tree failed meanwhile
 abbrev pub MayRefuseStart : CallLog → Option Start → ℕ → ℕ → Type 0
 MayRefuseStart log None faults faults_after = ⊥
-MayRefuseStart log (Some start) faults faults_after = CantList log start ⊎ HasRisen faults faults_after
+MayRefuseStart log (Some start) faults faults_after = CantStart log start ⊎ HasRisen faults faults_after
 
 -- and it is refused there
 abbrev pub RefusesStart : CallLog → Option Start → ℕ → Type 0
 RefusesStart log None status = ⊤
-RefusesStart log (Some start) status = CantList log start → IsStatusOr 2 status
+RefusesStart log (Some start) status = CantStart log start → IsStatusOr 2 status
 
 -- the statuses of a run in which no session began; 0 only where a text was asked for in its place
 abbrev pub BeginsNone : Option Words → ℕ → Type 0
@@ -56,7 +62,7 @@ BeginsNone asked status = ((status ≡ 0) × IsSome (printed_for asked)) ⊎ ((s
 abbrev pub IsCutShort : ℕ → Type 0
 IsCutShort status = (status ≡ 4) ⊎ (status ≡ 5)
 
--- A session in these folders, where they are known. At status 0 its end was asked for, or all that the keyboard gives was
+-- A session that starts so, where that is known. At status 0 its end was asked for, or all that the keyboard gives was
 -- taken. The screen was given what it put, behind what it was given before; and a drawing was cut short only at status 4 or 5.
 pub record RanSession (folders : Option Start) (opening : Option CallLog) (faults status : ℕ) (newest : List Entry) (contents : Option CallLog) (all_taken : Type 0)
     (given given_after : Option (List ℕ)) : Type 0 where
@@ -69,7 +75,7 @@ pub record RanSession (folders : Option Start) (opening : Option CallLog) (fault
   pub not_usage : status ≢ 1
   pub not_start : status ≢ 2
 
--- What a run wrote down, the newest first: a session in the folders that the words name; or nothing where none began, and then the
+-- What a run wrote down, the newest first: a session at the paths that the words name; or nothing where none began, and then the
 -- screen was given no more than what is printed in its place, or a prefix of that.
 abbrev pub IsRun : ScreenSize → Option Words → Option CallLog → ℕ → ℕ → List Entry → Option CallLog → Type 0 → Option (List ℕ) → Option (List ℕ) → Type 0
 IsRun size asked opening faults status newest contents all_taken given given_after =
@@ -140,11 +146,12 @@ pub record ShowsAll (opening : CallLog) (newest : List Entry) (now : CallLog) : 
 abbrev pub IsReplayedRun : CallLog → CallLog → List Entry → Type 0
 IsReplayedRun opening now newest = IsTree (current opening) → all_settled opening.changes ≡ true → ShowsAll opening newest now
 
--- Where the words name paths that lead to folders which can be listed, and no device failed, the status is 0, or 5 where memory ran out.
+-- Where the words name paths that lead to folders which can be listed, or to a file which can be read, and no device failed, the
+-- status is 0, or 5 where memory ran out.
 abbrev pub IsComplete : CallLog → Option Start → ℕ → Type 0 → Type 0
 IsComplete log None status failed = ⊤
 IsComplete log (Some start) status failed =
-    path_refusal (current log) start.left ≡ None → path_refusal (current log) start.right ≡ None → (failed → ⊥) → (status ≡ 0) ⊎ (status ≡ 5)
+    CanStart (current log) start.mode → (failed → ⊥) → (status ≡ 0) ⊎ (status ≡ 5)
 
 -- The status of a session. A key that was lost makes it 5. Else it is 3 exactly where the keyboard failed, 4 only where the
 -- screen did, and 0 only at the quit key or the end of the keys, where the screen never failed; so it is never 0 where the

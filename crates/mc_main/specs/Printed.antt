@@ -1,4 +1,4 @@
--- What is printed where no session begins, since a folder can't be read, or a text was asked for in its place.
+-- What is printed where no session begins, since a folder or the file can't be read, or a text was asked for in its place.
 use Rattle.std.specs.Prelude.{◌≡◌, ◌⊎◌, ℕ, ⊤, true, List, [], ◌∷◌, ◌++◌, take, Option, Some, None, IsSome, codes}
 use Rattle.mc_text.specs.Drawn.{drawn}
 use Rattle.resolving.specs.declared.error.ResolveError.{ResolveError}
@@ -7,23 +7,23 @@ use Rattle.tree_trait.specs.Answers.{HasRisen, IfKnown}
 use Rattle.start_words.specs.declared.words.Words.{Words}
 use Rattle.start_words.specs.Sizes.{ScreenSize}
 use Rattle.box_words.specs.Causes.{resolve_words}
-use Rattle.panel_pair.specs.declared.side.Side.{Side}
 use Rattle.mc_desk.specs.declared.starts.StartError.{StartError}
 use Rattle.mc_desk.specs.declared.starts.StartError.TheVariants.{Resolve, Memory}
 use Rattle.mc_desk.specs.declared.starts.Start.{Start}
+use Rattle.mc_desk.specs.declared.starts.StartPlace.{StartPlace}
 use Rattle.mc_desk.specs.Starts.{IsStartCause, is_start_fault}
 use Rattle.mc_main.specs.declared.words.Printed.{Printed}
 use Rattle.mc_main.specs.declared.words.Typed.{Typed}
-use Rattle.mc_main.specs.Beginnings.{folder_word, printed_for, session_start, text_of, word_for}
+use Rattle.mc_main.specs.Beginnings.{printed_for, session_start, start_word, text_of, word_for}
 
--- the line for a folder that can't be read: `mc: WORD: CAUSE`, the word as it is drawn
+-- the line for a path that is refused: `mc: WORD: CAUSE`, the word as it is drawn
 abbrev pub start_line : List ℕ → ResolveError → List ℕ
 start_line word cause = codes "mc: " ++ (drawn word ++ (codes ": " ++ (resolve_words cause ++ 10 ∷ [])))
 
 -- the screen was given its line after these bytes
 abbrev pub PrintsCause : Typed → StartError → List ℕ → Option (List ℕ) → Type 0
 PrintsCause typed Memory before given = ⊤
-PrintsCause typed (Resolve side cause) before given = given ≡ Some (before ++ start_line (word_for side typed) cause)
+PrintsCause typed (Resolve place cause) before given = given ≡ Some (before ++ start_line (word_for place typed) cause)
 
 -- the screen was given a text after these bytes, or a prefix of it
 abbrev pub PutsSome : List ℕ → List ℕ → Option (List ℕ) → Type 0
@@ -32,28 +32,28 @@ PutsSome before text given = (given ≡ Some (before ++ text)) ⊎ ((count : ℕ
 -- nothing more, or some of that line
 abbrev pub MayPutCause : Typed → StartError → List ℕ → Option (List ℕ) → Type 0
 MayPutCause typed Memory before given = given ≡ Some before
-MayPutCause typed (Resolve side cause) before given = (given ≡ Some before) ⊎ PutsSome before (start_line (word_for side typed) cause) given
+MayPutCause typed (Resolve place cause) before given = (given ≡ Some before) ⊎ PutsSome before (start_line (word_for place typed) cause) given
 
--- why a session doesn't start in the folders that were named, where these are known
+-- why a session doesn't start at the paths that were named, where these are known
 abbrev pub IsCauseIn : CallLog → Option Start → StartError → Type 0
 IsCauseIn log None error = ⊤
-IsCauseIn log (Some start) error = IsStartCause (current log) start.left start.right error
+IsCauseIn log (Some start) error = IsStartCause (current log) start.mode error
 
--- The screen was given, after these bytes, the line for a folder that can't be read, with the cause for that; a fault only where
+-- The screen was given, after these bytes, the line for a path that is refused, with the cause for that; a fault only where
 -- the tree has counted one since the run began.
 pub record PrintsStart (contents : Option CallLog) (size : ScreenSize) (asked : Option Words) (faults faults_after : ℕ) (before : List ℕ) (given : Option (List ℕ)) : Type 0 where
-  pub side : Side
+  pub place : StartPlace
   pub cause : ResolveError
-  pub is_cause : IfKnown contents (λ log. IsCauseIn log (session_start size asked) (Resolve side cause))
-  pub risen : is_start_fault (Resolve side cause) ≡ true → HasRisen faults faults_after
-  pub line : given ≡ Some (before ++ start_line (folder_word side asked) cause)
+  pub is_cause : IfKnown contents (λ log. IsCauseIn log (session_start size asked) (Resolve place cause))
+  pub risen : is_start_fault (Resolve place cause) ≡ true → HasRisen faults faults_after
+  pub line : given ≡ Some (before ++ start_line (start_word place asked) cause)
 
 -- What the screen is given, after these bytes, by a run in which no session begins: nothing; or, whole or cut short, the text that
--- is printed in place of a session, or the line for a folder of the session that was asked for, with a cause for which it doesn't
+-- is printed in place of a session, or the line for a path of the session that was asked for, with a cause for which it doesn't
 -- start there.
 abbrev pub MayPut : Option CallLog → ScreenSize → Option Words → List ℕ → Option (List ℕ) → Type 0
 MayPut contents size asked before given =
     (given ≡ Some before)
     ⊎ (((printed : Printed) × (printed_for asked ≡ Some printed) × PutsSome before (text_of printed) given)
-    ⊎ ((side : Side) × (cause : ResolveError) × IsSome (session_start size asked) × IfKnown contents (λ log. IsCauseIn log (session_start size asked) (Resolve side cause))
-    × PutsSome before (start_line (folder_word side asked) cause) given))
+    ⊎ ((place : StartPlace) × (cause : ResolveError) × IsSome (session_start size asked) × IfKnown contents (λ log. IsCauseIn log (session_start size asked) (Resolve place cause))
+    × PutsSome before (start_line (start_word place asked) cause) given))

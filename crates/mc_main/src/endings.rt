@@ -104,7 +104,7 @@ pub fn refuse<T, S: Sink, P>(
     without_session(alloc, status, tree, screen, spawner)
 }
 
-/// Ends a run whose folder was refused: the line names it as it was typed, drawn so that no control character reaches the
+/// Ends a run of which a path was refused: the line names it as it was typed, drawn so that no control character reaches the
 /// terminal, and the cause.
 pub fn refuse_start<T, S: Sink, P>(
     alloc: Global,
@@ -130,8 +130,8 @@ pub fn refuse_start<T, S: Sink, P>(
     } = refused;
     match error {
         StartError::Memory => without_session(alloc, 5, tree, screen, spawner),
-        StartError::Resolve(side, error) => {
-            match start_line(alloc, typed.word_for(side), &error) {
+        StartError::Resolve(place, error) => {
+            match start_line(alloc, typed.word_for(place), &error) {
                 Ok(line) => refuse(alloc, 2, line.as_str(), tree, screen, spawner),
                 Err(NoMemory) => without_session(alloc, 5, tree, screen, spawner),
             }
@@ -139,7 +139,7 @@ pub fn refuse_start<T, S: Sink, P>(
     }
 }
 
-/// The line for a folder that was refused.
+/// The line for a path that was refused.
 fn start_line(alloc: Global, word: &str, error: &ResolveError) -> Result<String, NoMemory>
     ensures { IfOk result (λ line. string_bytes line ≡ line_for word.now error.now) }
 {

@@ -38,7 +38,7 @@ pub trait Gate {
 /// Runs the file manager: reads the words, opens the session, works its keys and steps its jobs, and ends it.
 ///
 /// The status is 0 at the quit key or the end of the keys, 1 where the words can't be read or ask for what isn't built yet, 2 where
-/// a folder is refused, 3 where the keyboard failed, 4 where the screen did, and 5 where memory ran out. For 1 and 2 one line is
+/// a folder or a file is refused, 3 where the keyboard failed, 4 where the screen did, and 5 where memory ran out. For 1 and 2 one line is
 /// printed. The words may also ask for the help or the version, which is printed with status 0.
 pub fn mc_run<N: Tag, T: Tree, K: Source, S: Sink, P: Spawner, C: Clock, G: Gate>(
     alloc: Global,
@@ -82,8 +82,8 @@ pub fn mc_run<N: Tag, T: Tree, K: Source, S: Sink, P: Spawner, C: Clock, G: Gate
         IsReplayedRun opening now (reverse result.history.entries))) }
 
     // The history is a session: a job is begun directly after the key that confirmed it, as it was planned; its trouble is
-    // answered directly after the key that answers it; no key is taken where a step or a look is due; F10 without a box asks
-    // for the end, and then only steps and the closing follow. At status 0 the end was asked for, or all bytes were taken.
+    // answered directly after the key that answers it; no key is taken where a step or a look is due; F10 without a box, or the
+    // leaving of the viewer with which the session began, asks for the end, and then only steps and the closing follow. At status 0 the end was asked for, or all bytes were taken.
     // Each entry of a step is a piece of the job's work with the calls that belong to it, or the sync of a folder that an ended
     // job left. A tree that tells what it holds is handed back telling it.
     ensures traced { IsTracedTo (T.contents tree) (T.contents result.tree) (reverse result.history.entries) }

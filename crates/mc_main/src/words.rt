@@ -3,7 +3,7 @@ ghost use Rattle.std.specs.Prelude.{◌≡◌, ◌<◌, Some, IfOk};
 ghost use Rattle.mc_main.specs.Beginnings.{IsBeginning, asked_in, size_in, status_with, text_of, word_for as word_of};
 
 use crate::run::Env;
-use mc_desk::{Side, Start};
+use mc_desk::{Start, StartMode, StartPlace};
 use mc_text::{NoMemory, Text};
 use start_words::{Size, Words, WordsError, read_words, started_folder};
 use std::alloc::Global;
@@ -45,21 +45,25 @@ impl Printed {
     }
 }
 
-/// What was typed for the folders of the two panels.
+/// What was typed for the paths of a session: the folders of its panels, or the file that is viewed.
 #[derive(Debug, Drop)]
-pub struct Typed {
-    pub left: Text,
-    pub right: Text,
+pub enum Typed {
+    Panels { left: Text, right: Text },
+    File(Text),
 }
 
 impl Typed {
-    /// What was typed for a panel.
-    pub fn word_for(&self, side: Side) -> &str
-        ensures { result.now ≡ word_of side self.now }
+    /// What was typed for a path; for the file of a session of panels, which has none, nothing.
+    pub fn word_for(&self, place: StartPlace) -> &str
+        ensures { result.now ≡ word_of place self.now }
     {
-        match side {
-            Side::Left => self.left.0.as_str(),
-            Side::Right => self.right.0.as_str(),
+        match self {
+            Typed::Panels { left, right } => match place {
+                StartPlace::Left => left.0.as_str(),
+                StartPlace::Right => right.0.as_str(),
+                StartPlace::File => "",
+            },
+            Typed::File(word) => word.0.as_str(),
         }
     }
 }
@@ -99,18 +103,32 @@ fn begun_by(asked: Words, size: &Size) -> Beginning
     match asked {
         Words::Help => Beginning::Print(Printed::Help),
         Words::Version => Beginning::Print(Printed::Version),
-        Words::Panels { left, right } => Beginning::Session {
-            start: Start {
+        Words::Panels { left, right } => session(
+            StartMode::Panels {
                 left: left.path,
                 right: right.path,
-                lines: size.lines(),
-                columns: size.columns(),
             },
-            typed: Typed {
+            Typed::Panels {
                 left: left.typed,
                 right: right.typed,
             },
-        },
+            size,
+        ),
+        Words::View(file) => session(StartMode::View(file.path), Typed::File(file.typed), size),
         Words::NotBuilt => Beginning::Print(Printed::Usage),
+    }
+}
+
+/// A session that starts so, on a screen of this size.
+fn session(mode: StartMode, typed: Typed, size: &Size) -> Beginning
+    ensures { result ≡ Beginning.Session (record { mode = mode; lines = size.now.lines; columns = size.now.columns }) typed }
+{
+    Beginning::Session {
+        start: Start {
+            mode,
+            lines: size.lines(),
+            columns: size.columns(),
+        },
+        typed,
     }
 }

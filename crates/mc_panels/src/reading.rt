@@ -1,9 +1,9 @@
 //! Reading the folder of a panel.
-ghost use Rattle.std.specs.Prelude.{◌≡◌, ◌<◌, ◌^◌, ◌⊎◌, length, None, IfOk, IfErr, OnOk, OnErr};
+ghost use Rattle.std.specs.Prelude.{◌≡◌, ◌<◌, ◌^◌, ◌⊎◌, [], length, None, IfOk, IfErr, OnOk, OnErr};
 ghost use Rattle.tree_trait.specs.Answers.{IfKnown, HasCause};
 ghost use Rattle.resolving.specs.Errors.{CarriesCause, count_told, refused_by};
 ghost use Rattle.panel_listing.specs.Orders.{AreArranged};
-ghost use Rattle.panel_listing.specs.Listings.{rows_in};
+ghost use Rattle.panel_listing.specs.Listings.{nothing_listed, rows_in};
 ghost use Rattle.mc_panels.specs.Readings.{ListsFolder, ShowsFolder, outcome, first_wish, opened_panel, read_again};
 
 use crate::format::PanelFormat;
@@ -39,6 +39,23 @@ impl Panel {
             folder,
             listing,
             wish,
+            format,
+            tags: Tags::new(alloc),
+            cursor: 0,
+            first: 0,
+            visits: Visits::new(alloc),
+        })
+    }
+
+    /// The panel of the root before that is read: it shows nothing.
+    pub fn unread(alloc: Global) -> Result<Panel, NoMemory>
+        ensures { IfOk result (λ panel. panel ≡ opened_panel [] nothing_listed) }
+    {
+        let format = PanelFormat::full(alloc)?;
+        Ok(Panel {
+            folder: Path::root(alloc),
+            listing: Listing::nothing(alloc),
+            wish: first_wish(),
             format,
             tags: Tags::new(alloc),
             cursor: 0,

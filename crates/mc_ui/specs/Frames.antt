@@ -1,4 +1,5 @@
--- The frame of a screen: its panels with the line of jobs and the key bar, the box over them, and a message over all.
+-- The frame of a screen: its panels with the line of jobs and the key bar, the box over them, and a message over these; or the page of a
+-- file that is viewed.
 use Rattle.std.specs.Prelude.{◌+◌, List, [], ◌∷◌, Option, Some, None}
 use Rattle.job_reports.specs.declared.row.JobRow.{JobRow}
 use Rattle.job_reports.specs.declared.row.JobState.{JobState}
@@ -13,7 +14,10 @@ use Rattle.box_words.specs.declared.message.Message.{Message}
 use Rattle.box_words.specs.BoxLines.{delete_lines, message_lines, trouble_lines}
 use Rattle.panel_boxes.specs.Paintings.{with_panel_box}
 use Rattle.panel_pair.specs.Frames.{panes_of}
-use Rattle.mc_ui.specs.Screens.{Box, NoBox, DeleteBox, MaskBox, TargetBox, FolderBox, TroubleBox, PanelsBox, Screen, frame_size}
+use Rattle.viewer_mode.specs.ViewerFrames.{frame_of as viewer_frame}
+use Rattle.mc_ui.specs.declared.viewing.ViewedFile.{ViewedFile}
+use Rattle.mc_ui.specs.Boxes.{Box, NoBox, DeleteBox, MaskBox, TargetBox, FolderBox, TroubleBox, PanelsBox}
+use Rattle.mc_ui.specs.Screens.{Screen, frame_size}
 
 -- one job more in this state
 abbrev pub counted : JobState → JobCounts → JobCounts
@@ -42,6 +46,15 @@ abbrev pub with_message : Option Message → CellGrid → CellGrid
 with_message None grid = grid
 with_message (Some message) grid = with_box grid (plain_lines (message_lines message))
 
+-- the frame of the panels, and of what stands over them, while these jobs are live
+unfoldable pub frame_below : Screen → List JobRow → CellGrid
+frame_below s rows = with_message s.message (with_over s.over (panels_frame s.lines s.columns (panes_of (frame_size s) s.panels) (counts_of rows)))
+
+-- a file that is viewed covers them
+abbrev pub frame_by : Option ViewedFile → Screen → List JobRow → CellGrid
+frame_by None s rows = frame_below s rows
+frame_by (Some viewed) s rows = viewer_frame s.lines s.columns viewed.mode
+
 -- the frame of a screen while these jobs are live
 unfoldable pub frame_of : Screen → List JobRow → CellGrid
-frame_of s rows = with_message s.message (with_over s.over (panels_frame s.lines s.columns (panes_of (frame_size s) s.panels) (counts_of rows)))
+frame_of s rows = frame_by s.viewing s rows

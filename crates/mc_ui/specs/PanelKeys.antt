@@ -1,4 +1,4 @@
--- The keys of the panels, while no box is open (mc(1), "Directory Panels"; F1, F5, F7, F8 and F10 of its bottom line).
+-- The keys of the panels, while no box is open (mc(1), "Directory Panels"; F1, F3, F5, F7, F8 and F10 of its bottom line).
 use Rattle.std.specs.Prelude.{ℕ, ◌==◌, if◌then◌else◌, Option, Some, None}
 use Rattle.key_screen.specs.declared.keys.Key.{Key}
 use Rattle.key_screen.specs.declared.keys.Base.{Base}
@@ -9,12 +9,13 @@ use Rattle.panel_boxes.specs.declared.opening.Opening.{Opening}
 use Rattle.panel_boxes.specs.Openings.{opening_of}
 use Rattle.job_plans.specs.declared.choosing.Opens.TheVariants.{Delete, SourceMask}
 use Rattle.mc_ui.specs.declared.panel_command.KeyCommand.{KeyCommand}
-use Rattle.mc_ui.specs.declared.panel_command.KeyCommand.TheVariants.{Work, ShowHelp, Open, AskFolder, OpenPanelBox, Quit, Nothing}
+use Rattle.mc_ui.specs.declared.panel_command.KeyCommand.TheVariants.{Work, ShowHelp, View, Open, AskFolder, OpenPanelBox, Quit, Nothing}
 
 -- what a function key does
 abbrev pub function_command : ℕ → KeyCommand
 function_command number =
     if number == 1 then ShowHelp
+    else if number == 3 then View
     else if number == 5 then Open SourceMask
     else if number == 7 then AskFolder
     else if number == 8 then Open Delete

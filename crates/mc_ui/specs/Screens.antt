@@ -1,9 +1,10 @@
--- What a key or a look makes of the screen: the two panels, the box that stands over them, and a message over all.
-use Rattle.std.specs.Prelude.{◌≡◌, ◌≢◌, ◌⊎◌, ℕ, Bool, true, false, is_some, MatchBool, ⊤, if◌then◌else◌, List, [], ◌∷◌, codes, Option, Some, None, Ok, Err}
+-- What a key or a look makes of the screen: the two panels, the box that stands over them, a message over these, and a file that is viewed
+-- over all.
+use Rattle.std.specs.Prelude.{◌≡◌, ◌≢◌, ℕ, Bool, true, false, is_some, MatchBool, ⊤, if◌then◌else◌, List, [], ◌∷◌, codes, Option, Some, None, Ok, Err}
 use Rattle.std.specs.Str.{bytes_eq}
 use Rattle.mc_text.specs.Routes.{Route}
 use Rattle.tree_trait.specs.declared.calls.TreeError.{TreeError}
-use Rattle.tree_trait.specs.FileSystem.{View}
+use Rattle.tree_trait.specs.FileSystem.{View as TreeView}
 use Rattle.tree_trait.specs.Change.{CallLog}
 use Rattle.tree_trait.specs.Answers.{IfKnown}
 use Rattle.resolving.specs.declared.error.ResolveError.{ResolveError}
@@ -17,26 +18,25 @@ use Rattle.job_reports.specs.declared.row.JobRow.{JobRow}
 use Rattle.job_reports.specs.Jobs.{is_workable}
 use Rattle.session_history.specs.declared.refusal.PlanError.TheVariants.{NoSelection, BadMask}
 use Rattle.session_history.specs.declared.refusal.Refusal.{Refusal}
-use Rattle.session_history.specs.declared.refusal.Refusal.TheVariants.{Tree, Resolve, Plan, Typed}
+use Rattle.session_history.specs.declared.refusal.Refusal.TheVariants.{Tree, Read, Resolve, Plan, Typed}
 use Rattle.mc_dialogs.specs.InputKeys.{InputState, input_after, input_shut}
 use Rattle.mc_ui.specs.declared.asks.Ask.{Ask}
 use Rattle.mc_ui.specs.declared.asks.Ask.TheVariants as ask
 use Rattle.mc_ui.specs.declared.asks.Told.{Told}
 use Rattle.mc_ui.specs.declared.asks.Told.TheVariants as told
-use Rattle.mc_ui.specs.declared.dialog.Dialog.{Dialog}
-use Rattle.mc_ui.specs.declared.dialog.Dialog.TheVariants as dialog
 use Rattle.box_words.specs.declared.message.Message.{Message}
 use Rattle.box_words.specs.declared.message.Message.TheVariants.{Refused, Help}
 use Rattle.job_plans.specs.declared.choosing.Opens.{Opens}
-use Rattle.job_plans.specs.declared.choosing.Opens.TheVariants as opens
 use Rattle.mc_ui.specs.declared.panel_command.KeyCommand.{KeyCommand}
-use Rattle.mc_ui.specs.declared.panel_command.KeyCommand.TheVariants.{Work, ShowHelp, Open, AskFolder, OpenPanelBox, Quit, Nothing}
+use Rattle.mc_ui.specs.declared.panel_command.KeyCommand.TheVariants.{Work, ShowHelp, View, Open, AskFolder, OpenPanelBox, Quit, Nothing}
 use Rattle.box_words.specs.declared.replies.DeleteReply.{DeleteReply}
 use Rattle.box_words.specs.declared.replies.DeleteReply.TheVariants as delete
 use Rattle.box_words.specs.declared.replies.LineReply.{LineReply}
 use Rattle.box_words.specs.declared.replies.LineReply.TheVariants as line
 use Rattle.box_words.specs.declared.replies.TroubleReply.{TroubleReply}
 use Rattle.box_words.specs.declared.replies.TroubleReply.TheVariants as trouble
+use Rattle.mc_panels.specs.Goings.{way_of}
+use Rattle.mc_panels.specs.Panels.{current_name}
 use Rattle.mc_panels.specs.Selections.{selection}
 use Rattle.panel_boxes.specs.declared.panel_box.PanelBox.{PanelBox}
 use Rattle.panel_boxes.specs.declared.panel_box.PanelReply.{PanelReply}
@@ -44,29 +44,30 @@ use Rattle.panel_boxes.specs.declared.panel_box.PanelReply.TheVariants as panel
 use Rattle.panel_boxes.specs.Openings.{opened}
 use Rattle.panel_boxes.specs.Replies.{box_after, reply_to}
 use Rattle.panel_pair.specs.declared.command.PanelCommand.{PanelCommand}
+use Rattle.panel_pair.specs.declared.command.PanelCommand.TheVariants.{Enter}
 use Rattle.panel_pair.specs.declared.frame.FrameSize.{FrameSize}
 use Rattle.panel_pair.specs.Commands.{CommandDone, CommandReads}
 use Rattle.panel_pair.specs.Frames.{page_of as page_of_lines}
 use Rattle.panel_pair.specs.Pairs.{PairState, untagged_pair}
 use Rattle.box_words.specs.BoxKeys.{closes_message, delete_reply_to, line_reply, trouble_reply_to}
-use Rattle.box_words.specs.BoxLines.{folder_line, mask_line, target_line, target_text}
+use Rattle.box_words.specs.BoxLines.{folder_line, target_line, target_text}
 use Rattle.job_plans.specs.Reading.{sight}
 use Rattle.job_plans.specs.Copies.{CopyRefused, IsVacant, MayAsk, copy_plan, delete_plan, target_in}
 use Rattle.job_plans.specs.Folders.{FolderRefused, IsNewFolder, folder_plan}
+use Rattle.mc_ui.specs.Boxes.{Box, NoBox, DeleteBox, MaskBox, TargetBox, FolderBox, TroubleBox, PanelsBox, box_of, first_refusal, with_news, with_refusal, with_trouble}
 use Rattle.mc_ui.specs.LiveJobs.{can_answer, none_live, shown_trouble}
 use Rattle.mc_ui.specs.Looks.{LooksAgain}
 use Rattle.mc_ui.specs.PanelKeys.{panel_command_of, plain_base}
-
--- What stands over the panels: nothing, or a box that asks whether to delete a file, asks for the source mask or for the
--- destination of a copy, or for a new folder, tells of a job's trouble, or asks what the panels are to do.
-pub data Box : Type 0 where
-  NoBox : Box
-  DeleteBox : (path : Route) → Box
-  MaskBox : (path : Route) → (typed : InputState) → Box
-  TargetBox : (path : Route) → (typed : InputState) → Box
-  FolderBox : (typed : InputState) → Box
-  TroubleBox : (trouble : Trouble) → Box
-  PanelsBox : (asks : PanelBox) → Box
+use Rattle.viewer_mode.specs.declared.act.ViewerAct.{ViewerAct}
+use Rattle.viewer_mode.specs.declared.act.ViewerAct.TheVariants as viewer
+use Rattle.viewer_mode.specs.declared.opening.Opening.{Opening}
+use Rattle.viewer_mode.specs.declared.opening.Opening.TheVariants.{Viewed, NoWay, Unread}
+use Rattle.viewer_mode.specs.Openings.{OpensThing}
+use Rattle.viewer_mode.specs.ViewerScreens.{ViewerScreen, KeyLeads as ViewerKeyLeads}
+use Rattle.mc_ui.specs.declared.viewing.Leaving.{Leaving}
+use Rattle.mc_ui.specs.declared.viewing.Leaving.TheVariants as leaving
+use Rattle.mc_ui.specs.declared.viewing.ViewedFile.{ViewedFile}
+use Rattle.mc_ui.specs.Viewings.{goes_on, opening_refusals, told_by, viewed_path}
 
 -- what a key asked for and is to be carried out: a job is to be begun, its trouble to be answered, or the session to end
 pub data Planned : Type 0 where
@@ -74,7 +75,8 @@ pub data Planned : Type 0 where
   Answers : (answer : Answer) → Planned
   Ends : Planned
 
--- the panels, the size of the screen, the second of the last key, the box and the message, and what is to be carried out
+-- the panels, the size of the screen, the second of the last key, the box and the message, the file that is viewed, and what is to be
+-- carried out
 pub record Screen : Type 0 where
   pub panels : PairState
   pub lines : ℕ
@@ -82,12 +84,13 @@ pub record Screen : Type 0 where
   pub second : ℕ
   pub over : Box
   pub message : Option Message
+  pub viewing : Option ViewedFile
   pub planned : Option Planned
 
 -- a screen of this size as it opens
 abbrev pub opened_screen : PairState → ℕ → ℕ → ℕ → Screen
 opened_screen panels lines columns second =
-    record { panels = panels; lines = lines; columns = columns; second = second; over = NoBox; message = None; planned = None }
+    record { panels = panels; lines = lines; columns = columns; second = second; over = NoBox; message = None; viewing = None; planned = None }
 
 -- the screen with other panels, and at another second
 abbrev pub with_panels : PairState → Screen → Screen
@@ -100,16 +103,6 @@ at_second second before = record before { second = second }
 pub record HasSameSize (before after : Screen) : Type 0 where
   pub same_lines : after.lines ≡ before.lines
   pub same_columns : after.columns ≡ before.columns
-
--- a box as it is seen
-abbrev pub seen_box : Dialog → Box
-seen_box dialog.Nothing = NoBox
-seen_box (dialog.Delete chosen) = DeleteBox chosen.path
-seen_box (dialog.SourceMask chosen typed) = MaskBox chosen.path typed
-seen_box (dialog.CopyTo chosen typed) = TargetBox chosen.path typed
-seen_box (dialog.MakeFolder typed) = FolderBox typed
-seen_box (dialog.Trouble trouble) = TroubleBox trouble
-seen_box (dialog.Panel asks) = PanelsBox asks
 
 -- how many items of a column are on the screen, and what the frame of the panels goes by
 abbrev pub page_of : Screen → ℕ
@@ -143,20 +136,15 @@ abbrev pub Works : PanelCommand → Option CallLog → List Refusal → Screen �
 Works command contents [] before after = IsDone command contents before after
 Works command contents (refusal ∷ more) before after = IsRefused command contents (refusal ∷ more) before after
 
--- the box that such a key opens
-abbrev pub box_of : Opens → Route → Box
-box_of opens.Delete path = DeleteBox path
-box_of opens.SourceMask path = MaskBox path mask_line
-
 -- The box is opened on a thing, if it may ask of that; or the look at it was refused, and a message says so.
-abbrev pub AsksOf : Opens → Option View → Route → List Refusal → Screen → Screen → Type 0
+abbrev pub AsksOf : Opens → Option TreeView → Route → List Refusal → Screen → Screen → Type 0
 AsksOf box tree path [] before after = (asks : Bool) × MayAsk box tree path asks × (after ≡ (if asks then record before { over = box_of box path } else before))
 AsksOf box tree path (refusal ∷ more) before after =
     (e : TreeError) × (refusal ∷ more ≡ Tree path e ∷ []) × (after ≡ told_refusal (Tree path e) before)
 
 -- The key that asks of what is selected in a folder opens its box on it, where it is one thing and no job is live. Where nothing is
 -- selected a message says so; of several things no box can ask yet.
-abbrev pub Chooses : Opens → Option View → List JobRow → Route → List (List ℕ) → List Refusal → Screen → Screen → Type 0
+abbrev pub Chooses : Opens → Option TreeView → List JobRow → Route → List (List ℕ) → List Refusal → Screen → Screen → Type 0
 Chooses box tree (row ∷ rows) folder names refusals before after = (refusals ≡ []) × (after ≡ before)
 Chooses box tree [] folder [] refusals before after = (refusals ≡ Plan NoSelection ∷ []) × (after ≡ told_refusal (Plan NoSelection) before)
 Chooses box tree [] folder (name ∷ []) refusals before after = AsksOf box tree (name ∷ folder) refusals before after
@@ -166,10 +154,39 @@ Chooses box tree [] folder (name ∷ other ∷ more) refusals before after = (re
 abbrev pub after_ask_folder : List JobRow → Screen → Screen
 after_ask_folder rows before = if none_live rows then record before { over = FolderBox folder_line } else before
 
+-- a file is viewed over all that stands there
+abbrev pub with_viewer : ViewerScreen → Leaving → Screen → Screen
+with_viewer page leaving before = record before { viewing = Some (record { mode = page; leaving = leaving }) }
+
+-- what opening a thing makes of the screen; leaving it will come back to what stands there now
+abbrev pub after_opening : Opening → Screen → Screen
+after_opening (Viewed page) before = with_viewer page leaving.ToPanels before
+after_opening (NoWay why) before = told_refusal (Resolve why) before
+after_opening (Unread path why) before = told_refusal (Read path why) before
+
+-- the thing of a name in a folder is viewed, or the one to which it leads as a link; or a message says why it isn't
+pub record ViewsThing (contents : Option CallLog) (folder : Route) (name : List ℕ) (refusals : List Refusal) (before after : Screen) : Type 0 where
+  pub opening : Opening
+  pub opens : OpensThing contents folder name before.lines before.columns opening
+  pub told : refusals ≡ opening_refusals opening
+  pub after_is : after ≡ after_opening opening before
+
+-- without a name there is nothing to view
+abbrev pub ViewsNamed : Option (List ℕ) → Option CallLog → List Refusal → Screen → Screen → Type 0
+ViewsNamed (Some name) contents refusals before after = ViewsThing contents before.panels.current.folder name refusals before after
+ViewsNamed None contents refusals before after = (refusals ≡ []) × (after ≡ before)
+
+-- the key that views enters a folder as Enter does, and views all else
+abbrev pub Views : Option CallLog → List Refusal → Screen → Screen → Type 0
+Views contents refusals before after =
+    MatchBool (goes_on (way_of before.panels.current)) (Works Enter contents refusals before after)
+    (ViewsNamed (current_name before.panels.current) contents refusals before after)
+
 -- what a key makes of the screen while no box is open
 abbrev pub CommandLeads : KeyCommand → Option CallLog → List JobRow → List Refusal → Screen → Screen → Type 0
 CommandLeads (Work command) contents rows refusals before after = Works command contents refusals before after
 CommandLeads ShowHelp contents rows refusals before after = (refusals ≡ []) × (after ≡ record before { message = Some Help })
+CommandLeads View contents rows refusals before after = Views contents refusals before after
 CommandLeads (Open opens) contents rows refusals before after =
     Chooses opens (sight contents) rows before.panels.current.folder (selection before.panels.current) refusals before after
 CommandLeads AskFolder contents rows refusals before after = (refusals ≡ []) × (after ≡ after_ask_folder rows before)
@@ -193,16 +210,6 @@ after_delete delete.Stays rows path before = before
 after_delete delete.Shuts rows path before = without_box before
 after_delete delete.Deletes rows path before = if none_live rows then begun (delete_plan path) before else before
 
--- a line is as it was where its text was taken
-abbrev pub StaysWhereTaken : LineReply → InputState → InputState → Type 0
-StaysWhereTaken line.Stays before after = ⊤
-StaysWhereTaken line.Shuts before after = ⊤
-StaysWhereTaken (line.Takes text) before after = after ≡ before
-
--- nothing was refused, or the mask
-abbrev pub MayRefuseMask : List Refusal → Type 0
-MayRefuseMask refusals = (refusals ≡ []) ⊎ (refusals ≡ Plan BadMask ∷ [])
-
 -- the source mask's answer: only `*` is read yet, and with it the destination is asked for
 abbrev pub MaskLeads : LineReply → Route → InputState → List Refusal → Screen → Screen → Type 0
 MaskLeads line.Stays path typed refusals before after = (refusals ≡ []) × (after ≡ record before { over = MaskBox path typed })
@@ -213,12 +220,12 @@ MaskLeads (line.Takes text) path typed refusals before after =
     ((refusals ≡ Plan BadMask ∷ []) × (after ≡ told_refusal (Plan BadMask) before))
 
 -- the copy is planned where nothing stands at its target, or refused, and then the box stays
-abbrev pub PlansCopy : Option View → Route → Route → List Refusal → Screen → Screen → Type 0
+abbrev pub PlansCopy : Option TreeView → Route → Route → List Refusal → Screen → Screen → Type 0
 PlansCopy tree path target [] before after = IsVacant tree target × (after ≡ begun (copy_plan path target) before)
 PlansCopy tree path target (refusal ∷ more) before after = CopyRefused tree target refusal × (more ≡ []) × (after ≡ told_refusal refusal before)
 
 -- the destination's answer: only the other panel's folder is read yet, and then the copy is planned while no job is live
-abbrev pub TargetLeads : LineReply → Option View → List JobRow → Route → InputState → List Refusal → Screen → Screen → Type 0
+abbrev pub TargetLeads : LineReply → Option TreeView → List JobRow → Route → InputState → List Refusal → Screen → Screen → Type 0
 TargetLeads line.Stays tree rows path typed refusals before after = (refusals ≡ []) × (after ≡ record before { over = TargetBox path typed })
 TargetLeads line.Shuts tree rows path typed refusals before after = (refusals ≡ []) × (after ≡ without_box before)
 TargetLeads (line.Takes text) tree rows path typed refusals before after =
@@ -260,6 +267,27 @@ PanelLeads (panel.Refuses error) asks contents refusals cleared after =
 abbrev pub after_message : Base → Screen → Screen
 after_message base before = if closes_message base then record before { message = None } else before
 
+-- THE VIEWER
+
+-- leaving a viewed file comes back to what stands below, or asks for the end of the session, and then the file stays in sight
+abbrev pub after_leaving : Leaving → Screen → Screen
+after_leaving leaving.ToPanels shown = record shown { viewing = None }
+after_leaving leaving.Ends shown = record shown { planned = Some Ends }
+
+-- the screen that shows the viewer as a key left it, by what the key came to
+abbrev pub after_act : ViewerAct → Leaving → Screen → Screen
+after_act viewer.Stays leaving shown = shown
+after_act (viewer.Refused why) leaving shown = shown
+after_act viewer.Leaves leaving shown = after_leaving leaving shown
+
+-- a key while a file is viewed makes of the viewer what its tables say; what stands below stays
+pub record ViewerLeads (viewed : ViewedFile) (contents : Option CallLog) (key : Key) (refusals : List Refusal) (before after : Screen) : Type 0 where
+  pub act : ViewerAct
+  pub page : ViewerScreen
+  pub leads : ViewerKeyLeads contents key act viewed.mode page
+  pub told : refusals ≡ told_by act (viewed_path viewed.mode.viewer.subject)
+  pub after_is : after ≡ after_act act viewed.leaving (with_viewer page viewed.leaving before)
+
 -- KEYS
 
 -- what a key makes of the screen, by the box that is open, while these jobs are live
@@ -277,36 +305,24 @@ ByBox (TroubleBox trouble) contents rows key refusals before after =
 ByBox (PanelsBox asks) contents rows key refusals before after =
     PanelLeads (reply_to before.panels asks key) (box_after asks key) contents refusals (without_box before) after
 
--- what a key makes of the screen: a message takes it before the box below does
-abbrev pub WorksKey : Option CallLog → List JobRow → Key → List Refusal → Screen → Screen → Type 0
-WorksKey contents rows key refusals before after =
+-- what a key makes of it while no file is viewed: a message takes it before the box below does
+abbrev pub WorksBelow : Option CallLog → List JobRow → Key → List Refusal → Screen → Screen → Type 0
+WorksBelow contents rows key refusals before after =
     MatchBool (is_some before.message) ((refusals ≡ []) × (after ≡ after_message (plain_base key) before)) (ByBox before.over contents rows key refusals before after)
+
+-- what a key makes of the screen: a file that is viewed takes it before all that stands below
+abbrev pub ByViewing : Option ViewedFile → Option CallLog → List JobRow → Key → List Refusal → Screen → Screen → Type 0
+ByViewing None contents rows key refusals before after = WorksBelow contents rows key refusals before after
+ByViewing (Some viewed) contents rows key refusals before after = ViewerLeads viewed contents key refusals before after
+
+abbrev pub WorksKey : Option CallLog → List JobRow → Key → List Refusal → Screen → Screen → Type 0
+WorksKey contents rows key refusals before after = ByViewing before.viewing contents rows key refusals before after
 
 -- and at which second that is
 abbrev pub KeyLeads : Option CallLog → List JobRow → ℕ → Key → List Refusal → Screen → Screen → Type 0
 KeyLeads contents rows now key refusals before after = WorksKey contents rows key refusals (at_second now before) after
 
 -- LOOKS
-
--- a trouble's box stands over the panels, in place of another
-abbrev pub with_trouble : Option Trouble → Box → Box
-with_trouble None before = before
-with_trouble (Some trouble) before = TroubleBox trouble
-
--- the first of some refusals
-abbrev pub first_refusal : List Refusal → Option Refusal
-first_refusal [] = None
-first_refusal (refusal ∷ more) = Some refusal
-
--- a message tells of a refusal
-abbrev pub with_refusal : Option Refusal → Option Message → Option Message
-with_refusal None before = before
-with_refusal (Some refusal) before = Some (Refused refusal)
-
--- and above all of a job's end, where something is to be told of it
-abbrev pub with_news : Option Message → Option Message → Option Message
-with_news None before = before
-with_news (Some news) before = Some news
 
 -- a message tells of the first of some refusals
 abbrev pub with_told : List Refusal → Screen → Screen

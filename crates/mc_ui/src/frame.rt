@@ -6,8 +6,9 @@ ghost use Rattle.mc_frame.specs.Frames.{panels_frame};
 ghost use Rattle.mc_dialogs.specs.QuestionKeys.{plain_lines as plain_lines_of};
 ghost use Rattle.panel_boxes.specs.Paintings.{with_panel_box};
 ghost use Rattle.panel_pair.specs.Frames.{panes_of};
-ghost use Rattle.mc_ui.specs.Frames.{counts_of as counts_in, frame_of, with_message, with_over};
-ghost use Rattle.mc_ui.specs.Screens.{frame_size, seen_box};
+ghost use Rattle.mc_ui.specs.Frames.{counts_of as counts_in, frame_below, frame_of, with_message, with_over};
+ghost use Rattle.mc_ui.specs.Boxes.{seen_box};
+ghost use Rattle.mc_ui.specs.Screens.{frame_size};
 
 mod counting;
 
@@ -29,6 +30,18 @@ impl Ui {
     #[tactic(auto, unfolding(crate::specs::Frames::frame_of))]
     pub fn frame(&self, alloc: Global, rows: &JobRows) -> Result<Grid, NoMemory>
         ensures frame { IfOk result (λ grid. grid ≡ frame_of self.now rows.now) }
+        ensures size { IfOk result (λ grid. (grid.lines ≡ self.now.lines) × (grid.columns ≡ self.now.columns)) }
+    {
+        match self.viewing() {
+            None => self.frame_below(alloc, rows),
+            Some(viewed) => viewed.mode.frame(alloc, self.lines(), self.columns()),
+        }
+    }
+
+    /// The frame of the panels, and of what stands over them.
+    #[tactic(auto, unfolding(crate::specs::Frames::frame_below))]
+    fn frame_below(&self, alloc: Global, rows: &JobRows) -> Result<Grid, NoMemory>
+        ensures frame { IfOk result (λ grid. grid ≡ frame_below self.now rows.now) }
         ensures size { IfOk result (λ grid. (grid.lines ≡ self.now.lines) × (grid.columns ≡ self.now.columns)) }
     {
         let mut grid = self.panel_frame(alloc, rows)?;

@@ -1,4 +1,4 @@
-//! What stands on the screen: two panels, the box over them, and what keys and looks make of it.
+//! What stands on the screen: two panels, the box over them, a file that is viewed, and what keys and looks make of it.
 #![tactic(auto)]
 
 mod asks;
@@ -6,9 +6,11 @@ mod dialog;
 mod frame;
 mod panel_command;
 mod ui;
+mod viewing;
 
 pub use asks::{Ask, KeyAct, Told};
 pub use box_words::{Chosen, Message, resolve_text};
 pub use dialog::Dialog;
 pub use job_plans::{Choice, JobPlan, choose, plan_copy};
 pub use ui::Ui;
+pub use viewing::{Leaving, ViewedFile};

@@ -14,6 +14,8 @@ pub enum KeyCommand {
     /// It works on the panels.
     Work(PanelCommand),
     ShowHelp,
+    /// It goes where Enter does, or views what stands there.
+    View,
     Open(Opens),
     /// It asks for a new folder.
     AskFolder,
@@ -49,6 +51,7 @@ fn other_command(base: Base) -> KeyCommand
 {
     match base {
         Base::F(1) => KeyCommand::ShowHelp,
+        Base::F(3) => KeyCommand::View,
         Base::F(5) => KeyCommand::Open(Opens::SourceMask),
         Base::F(7) => KeyCommand::AskFolder,
         Base::F(8) => KeyCommand::Open(Opens::Delete),

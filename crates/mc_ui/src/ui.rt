@@ -1,9 +1,10 @@
-//! What stands on the screen: two panels, the box over them, and a message over all.
+//! What stands on the screen: two panels, the box over them, a message over these, and a file that is viewed over all.
 ghost use Rattle.std.specs.Prelude.{◌≡◌, ◌<◌, ◌^◌, [], true, is_some, None, OnErr, IfOk};
 ghost use Rattle.mc_ui.specs.declared.asks.KeyAct.{KeyAct as KeyActType};
 ghost use Rattle.mc_ui.specs.PanelKeys.{plain_base};
 ghost use Rattle.job_plans.specs.Reading.{ReadsTree};
-ghost use Rattle.mc_ui.specs.Screens.{HasSameSize, KeyLeads, WellAsked, WorksKey, after_message, at_second, frame_size, is_request, opened_screen, page_of, seen_box, settled as screen_settled, with_ask};
+ghost use Rattle.mc_ui.specs.Boxes.{seen_box};
+ghost use Rattle.mc_ui.specs.Screens.{HasSameSize, KeyLeads, WellAsked, WorksBelow, WorksKey, after_message, at_second, frame_size, is_request, opened_screen, page_of, settled as screen_settled, with_ask, with_viewer};
 
 mod boxes;
 mod copy_boxes;
@@ -11,10 +12,12 @@ mod folder_box;
 mod look;
 mod panel_keys;
 mod panel_questions;
+mod viewer_keys;
 
 use crate::asks::{Ask, KeyAct, Told};
 use crate::dialog::Dialog;
 use crate::panel_command::plain_base;
+use crate::viewing::{Leaving, ViewedFile};
 use box_words::{Message, closes_message};
 use job_reports::JobRows;
 use key_screen::Key;
@@ -25,8 +28,9 @@ use std::alloc::Global;
 use std::marker::Model;
 use std::mem;
 use tree_trait::ReadTree;
+use viewer_mode::ViewerMode;
 
-/// What the screen shows. Contracts see the panels, the second of the last key, the box and the message.
+/// What the screen shows. Contracts see the panels, the second of the last key, the box, the message and the file that is viewed.
 #[derive(Drop)]
 pub struct Ui {
     panels: Panels,
@@ -35,15 +39,17 @@ pub struct Ui {
     second: u64,
     dialog: Dialog,
     message: Option<Message>,
+    viewing: Option<ViewedFile>,
 }
 
 impl Model for Ui {
     ghost use Rattle.std.specs.Prelude.{None};
-    ghost use Rattle.mc_ui.specs.Screens.{Screen, seen_box};
+    ghost use Rattle.mc_ui.specs.Boxes.{seen_box};
+    ghost use Rattle.mc_ui.specs.Screens.{Screen};
 
     ghost Value = { Screen };
 
-    ghost view = { λ u. record { panels = u.panels; lines = u.lines; columns = u.columns; second = u.second; over = seen_box u.dialog; message = u.message; planned = None } };
+    ghost view = { λ u. record { panels = u.panels; lines = u.lines; columns = u.columns; second = u.second; over = seen_box u.dialog; message = u.message; viewing = u.viewing; planned = None } };
 }
 
 impl Ui {
@@ -58,7 +64,16 @@ impl Ui {
             second,
             dialog: Dialog::Nothing,
             message: None,
+            viewing: None,
         }
+    }
+
+    /// Views a file over all that stands there. Leaving it comes back to that, or ends the session.
+    pub fn view(&mut self, mode: ViewerMode, leaving: Leaving)
+        ensures { self.new ≡ with_viewer mode leaving self.old }
+    {
+        let _dialog = &self.dialog;
+        self.viewing = Some(ViewedFile { mode, leaving });
     }
 
     /// The panels.
@@ -104,11 +119,18 @@ impl Ui {
         &self.dialog
     }
 
-    /// The message over all.
+    /// The message over the box.
     pub fn message(&self) -> &Option<Message>
         ensures { result.now ≡ self.now.message }
     {
         &self.message
+    }
+
+    /// The file that is viewed.
+    pub fn viewing(&self) -> &Option<ViewedFile>
+        ensures { result.now ≡ self.now.viewing }
+    {
+        &self.viewing
     }
 
     /// Works a key at a second of the clock, while these jobs are live. What was refused, the refusals say, and a message the
@@ -154,6 +176,31 @@ impl Ui {
         key: Key,
     ) -> Result<KeyAct, NoMemory>
         ensures leads { IfOk result (λ act. WorksKey (T.contents tree.old) rows.now key act.refusals
+            self.old (with_ask act.ask self.new)) }
+        ensures asked { IfOk result (λ act. WellAsked rows.now act.ask) }
+        ensures stays { IfOk result (λ act. is_request act.ask ≡ true → self.new ≡ self.old) }
+        ensures alone { IfOk result (λ act. is_request act.ask ≡ true → act.refusals ≡ []) }
+        ensures size { HasSameSize self.old self.new }
+        ensures settled { self.new.planned ≡ None }
+        ensures lost { OnErr result (self.new ≡ self.old) }
+        ensures reads { ReadsTree (λ (act : KeyActType). act.refusals) result (T.contents tree.old) (T.contents tree.new)
+            (T.fault_count tree.old) (T.fault_count tree.new) }
+    {
+        match self.viewing.take() {
+            None => self.key_below(alloc, tree, rows, key),
+            Some(viewed) => self.key_in_viewer(alloc, tree, viewed, key),
+        }
+    }
+
+    /// Works a key while no file is viewed.
+    fn key_below<T: ReadTree>(
+        &mut self,
+        alloc: Global,
+        tree: &mut T,
+        rows: &JobRows,
+        key: Key,
+    ) -> Result<KeyAct, NoMemory>
+        ensures leads { IfOk result (λ act. WorksBelow (T.contents tree.old) rows.now key act.refusals
             self.old (with_ask act.ask self.new)) }
         ensures asked { IfOk result (λ act. WellAsked rows.now act.ask) }
         ensures stays { IfOk result (λ act. is_request act.ask ≡ true → self.new ≡ self.old) }

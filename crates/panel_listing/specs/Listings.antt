@@ -15,6 +15,10 @@ pub record Listed : Type 0 where
   pub shown : List Item
   pub unnamed : ℕ
 
+-- nothing is listed, as of the root before it is read
+abbrev pub nothing_listed : Listed
+nothing_listed = record { has_parent = false; items = []; shown = []; unnamed = 0 }
+
 -- a folder that isn't the root has one above it
 abbrev pub has_parent : Route → Bool
 has_parent [] = false

@@ -3,7 +3,7 @@ ghost use Rattle.std.specs.Prelude.{◌≡◌, ◌<◌, ◌≤◌, None, MatchOp
 ghost use Rattle.tree_trait.specs.Answers.{IsAscending};
 ghost use Rattle.panel_listing.specs.Arranging.{AreSound, items_at, names_of};
 ghost use Rattle.panel_listing.specs.Orders.{AreArranged};
-ghost use Rattle.panel_listing.specs.Listings.{rows_in, place_of};
+ghost use Rattle.panel_listing.specs.Listings.{nothing_listed, rows_in, place_of};
 
 use crate::arranging::arranged;
 use crate::item::Item;
@@ -58,6 +58,18 @@ impl Model for ShownItems {
 }
 
 impl Listing {
+    /// Nothing, as of the root before it is read.
+    pub fn nothing(alloc: Global) -> Listing
+        ensures { result ≡ nothing_listed }
+    {
+        Listing {
+            has_parent: false,
+            items: Vec::new(alloc),
+            shown: Places(Vec::new(alloc)),
+            unnamed: 0,
+        }
+    }
+
     /// The listing of these items, which stand in the order of their names.
     pub(crate) fn of(
         alloc: Global,

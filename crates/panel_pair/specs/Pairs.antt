@@ -1,5 +1,6 @@
 -- The two panels of a session (own, after mc(1), "Directory Panels"; "Shell Patterns" of its "Options").
-use Rattle.panel_listing.specs.Listings.{Listed}
+use Rattle.std.specs.Prelude.{[]}
+use Rattle.panel_listing.specs.Listings.{Listed, nothing_listed}
 use Rattle.mc_text.specs.Routes.{Route}
 use Rattle.tagging.specs.declared.pattern.PatternKind.{PatternKind}
 use Rattle.tagging.specs.declared.pattern.PatternKind.TheVariants.{Shell, Regex}
@@ -52,3 +53,7 @@ untagged_pair pair = with_current (untagged pair.current) pair
 abbrev pub opened_pair : Route → Route → Listed → Listed → PairState
 opened_pair left right on_left on_right =
     record { current = opened_panel left on_left; other = opened_panel right on_right; side = Left; patterns = Shell }
+
+-- the panels of a session that shows none: both of the root, of which nothing is read
+abbrev pub unread_pair : PairState
+unread_pair = opened_pair [] [] nothing_listed nothing_listed

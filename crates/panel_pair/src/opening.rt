@@ -4,14 +4,14 @@ ghost use Rattle.mc_text.specs.Routes.{path_text};
 ghost use Rattle.tree_trait.specs.Answers.{IfKnown, HasCause};
 ghost use Rattle.resolving.specs.Errors.{CarriesCause};
 ghost use Rattle.mc_panels.specs.Readings.{opened_panel};
-ghost use Rattle.panel_pair.specs.Pairs.{opened_pair};
+ghost use Rattle.panel_pair.specs.Pairs.{opened_pair, unread_pair};
 ghost use Rattle.panel_pair.specs.Openings.{OpensBoth, ShowsPath, refused_opening};
 ghost use Rattle.panel_pair.specs.Readings.{ReadsTree};
 
 use crate::panels::Panels;
 use crate::side::Side;
 use mc_panels::Panel;
-use mc_text::Path;
+use mc_text::{NoMemory, Path};
 use resolving::{ResolveError, resolve_folder};
 use std::alloc::Global;
 use std::convert::AsStr;
@@ -26,6 +26,20 @@ pub struct Unopened {
 }
 
 impl Panels {
+    /// The panels of a session that shows none: both of the root, of which nothing is read.
+    pub fn unread(alloc: Global) -> Result<Panels, NoMemory>
+        ensures { IfOk result (λ pair. pair ≡ unread_pair) }
+    {
+        let current = Panel::unread(alloc)?;
+        let other = Panel::unread(alloc)?;
+        Ok(Panels {
+            current,
+            other,
+            side: Side::Left,
+            patterns: PatternKind::Shell,
+        })
+    }
+
     /// The panels of the folders that two paths lead to. The left one is read first, and is current. It takes a look for each
     /// child of both.
     pub fn open<T: ReadTree>(

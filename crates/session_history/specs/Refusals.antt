@@ -2,7 +2,8 @@
 use Rattle.std.specs.Prelude.{◌≡◌, ◌⊎◌, ℕ, ⊤, List, [], ◌∷◌, Some, None, Err}
 use Rattle.mc_text.specs.Routes.{Route}
 use Rattle.tree_trait.specs.declared.calls.TreeError.{TreeError}
-use Rattle.tree_trait.specs.Calls.{ListFolder, Stat}
+use Rattle.tree_trait.specs.declared.calls.TreeError.TheVariants as tree
+use Rattle.tree_trait.specs.Calls.{ListFolder, ReadAt, Stat}
 use Rattle.tree_trait.specs.Change.{CallLog, current}
 use Rattle.tree_trait.specs.Refusals.{refusal_of}
 use Rattle.resolving.specs.declared.error.ResolveError.{ResolveError}
@@ -52,10 +53,17 @@ IsResolveRefused log e =
     ((folder : Route) × IsListRefused log folder e)
     ⊎ LeadsNowhere log e
 
--- A refusal is that of a look at its path, of reading a folder, or of a plan. That of a job's beginning has its cause in the history,
+-- reading a file is refused as reading none of its bytes is; a device may fail
+abbrev pub IsReadRefused : CallLog → Route → TreeError → Type 0
+IsReadRefused log path tree.Fault = ⊤
+IsReadRefused log path tree.Memory = ⊥
+IsReadRefused log path e = refusal_of (current log) (ReadAt path 0 0) ≡ Some e
+
+-- A refusal is that of a look at its path, of reading a file or a folder, or of a plan. That of a job's beginning has its cause in the history,
 -- and that of what was typed in the text.
 abbrev pub HasCause : CallLog → Refusal → Type 0
 HasCause log (refusal.Tree path e) = IsRefusedWith (current log) (Stat path) e
+HasCause log (refusal.Read path e) = IsReadRefused log path e
 HasCause log (refusal.Resolve e) = IsResolveRefused log e
 HasCause log (refusal.Plan error) = IsPlanRefused log error
 HasCause log (refusal.Begin error) = ⊤

@@ -56,8 +56,10 @@ pub enum TypedError {
 /// What a key or a look wanted and was refused.
 #[derive(Debug, Drop)]
 pub enum Refusal {
-    /// This call of the tree.
+    /// This look at a path.
     Tree(Path, TreeError),
+    /// The reading of this file.
+    Read(Path, TreeError),
     /// The reading of a folder, or the way to it.
     Resolve(ResolveError),
     /// This plan of a job.
@@ -75,6 +77,7 @@ impl Refusal {
     {
         match self {
             Refusal::Tree(path, error) => Ok(Refusal::Tree(path.copy(alloc)?, *error)),
+            Refusal::Read(path, error) => Ok(Refusal::Read(path.copy(alloc)?, *error)),
             Refusal::Resolve(error) => Refusal::resolve(alloc, error),
             Refusal::Plan(error) => Ok(Refusal::Plan(error.copy(alloc)?)),
             Refusal::Begin(error) => Ok(Refusal::Begin(*error)),

@@ -1,14 +1,14 @@
 //! A row, and what comes of it.
-use crate::running::{run_mute, run_told, started_in};
+use crate::running::{run_mute, run_told, started_in, started_small};
 use crate::scenes::planted;
-use crate::telling::told;
+use crate::telling::{shown_of, told};
 use anyhow::{Result, bail};
 use mc_main::Env;
 use mc_text::{Bytes, Text};
 use std::alloc::Global;
 
-/// A run: its tree; whether its devices tell what they hold, or are silent, and then which of their calls fail; the folder in
-/// which it is started; its words, where `''` is an empty one; and its keys.
+/// A run: its tree; whether its devices tell what they hold, as where its screen is `shown` too, or are silent, and then which of
+/// their calls fail; the folder in which it is started; its words, where `''` is an empty one; and its keys.
 #[derive(Clone, Copy)]
 struct Row<'a> {
     tree: &'a str,
@@ -22,8 +22,12 @@ struct Row<'a> {
 pub fn told_of(alloc: Global, row: &str) -> Result<String> {
     let row = read_row(row)?;
     let words = words_of(alloc, row.words)?;
-    let env = started_in(alloc, row.folder)?;
     let keys = keys_of(alloc, row.keys)?;
+    if row.devices == "shown" {
+        let env = started_small(alloc, row.folder)?;
+        return shown_lines(alloc, row.tree, words.as_slice(), &env, keys);
+    }
+    let env = started_in(alloc, row.folder)?;
     if row.devices == "telling" {
         telling_line(alloc, row.tree, words.as_slice(), &env, keys)
     } else {
@@ -76,12 +80,19 @@ fn keys_of(alloc: Global, keys: &str) -> Result<Bytes> {
 fn bytes_of_key(key: &str) -> &str {
     match key {
         "down" => "\x1b[B",
+        "up" => "\x1b[A",
+        "right" => "\x1b[C",
+        "end" => "\x1b[F",
+        "pgdn" => "\x1b[6~",
         "enter" => "\r",
         "tab" => "\t",
         "insert" => "\x1b[2~",
         "c-u" => "\x15",
         "c-x" => "\x18",
         "escape" => "\x1b",
+        "f2" => "\x1bOQ",
+        "f3" => "\x1bOR",
+        "f4" => "\x1bOS",
         "f5" => "\x1b[15~",
         "f7" => "\x1b[18~",
         "f8" => "\x1b[19~",
@@ -109,6 +120,23 @@ fn telling_line(
         outcome.screen.bytes(),
         &outcome.history,
     )
+}
+
+/// The same, and below it the screen at the end.
+fn shown_lines(
+    alloc: Global,
+    tree: &str,
+    words: &[Text],
+    env: &Env,
+    keys: Bytes,
+) -> Result<String> {
+    let tree = planted(alloc, tree, &[])?;
+    let outcome = run_told(alloc, tree, words, env, keys);
+    let mut tree = outcome.tree;
+    let bytes = outcome.screen.bytes();
+    let line = told(alloc, outcome.status, &mut tree, bytes, &outcome.history)?;
+    let shown = shown_of(alloc, bytes)?;
+    Ok(format!(in alloc; "{line}{shown}")?)
 }
 
 /// A run over devices that tell nothing, of which the named calls fail.

@@ -25,6 +25,17 @@ pub fn started_in(alloc: Global, folder: &str) -> Result<Env> {
     })
 }
 
+/// The surroundings of such a run, on a screen of 10 lines and 40 columns.
+pub fn started_small(alloc: Global, folder: &str) -> Result<Env> {
+    Ok(Env {
+        folder: Text::from_str(alloc, folder)?,
+        lines: Some(Text::from_str(alloc, "10")?),
+        columns: Some(Text::from_str(alloc, "40")?),
+        home: None,
+        workers: None,
+    })
+}
+
 /// A run over devices that tell what they hold; the type that the call is given names what they tell.
 pub fn run_told(
     alloc: Global,

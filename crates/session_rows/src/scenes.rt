@@ -20,6 +20,7 @@ fn scene_tree(alloc: Global, scene: &str) -> Result<MemTree> {
         "fixed folder" => one_file(alloc, 0o555),
         "two files" => two_files(alloc),
         "no files" => no_files(alloc),
+        "things to view" => things_to_view(alloc),
         "folders" => folders(alloc, 0o755),
         "fixed inner folder" => folders(alloc, 0o555),
         "room for 9" => file_and_mount(alloc, 9),
@@ -53,6 +54,21 @@ fn no_files(alloc: Global) -> Result<MemTree> {
     put_folder(alloc, &mut tree, "/a", 0o755)?;
     put_link(alloc, &mut tree, "/a/l", "x")?;
     put_pipe(alloc, &mut tree, "/a/p")?;
+    Ok(tree)
+}
+
+/// The folder `/a` with the file `x` of twelve lines, `u` that may not be read, the pipe `p`, the folder `d`, and links: `l` to `x`, `m` to
+/// `d`, and `n` to nothing.
+fn things_to_view(alloc: Global) -> Result<MemTree> {
+    let mut tree = MemTree::new(alloc, 0)?;
+    put_folder(alloc, &mut tree, "/a", 0o755)?;
+    put_folder(alloc, &mut tree, "/a/d", 0o755)?;
+    put_file(alloc, &mut tree, "/a/x", 0o644, b"one\ntwo\nthree\nfour\nfive\nsix\nseven\neight\nnine\nten\neleven\ntwelve\n")?;
+    put_file(alloc, &mut tree, "/a/u", 0, b"no")?;
+    put_pipe(alloc, &mut tree, "/a/p")?;
+    put_link(alloc, &mut tree, "/a/l", "x")?;
+    put_link(alloc, &mut tree, "/a/m", "d")?;
+    put_link(alloc, &mut tree, "/a/n", "none")?;
     Ok(tree)
 }
 
@@ -93,7 +109,7 @@ fn put_folder(alloc: Global, tree: &mut MemTree, path: &str, mode: u16) -> Resul
 fn put_file(alloc: Global, tree: &mut MemTree, path: &str, mode: u16, bytes: &[u8]) -> Result<()>
     requires unused { tree.old.log.changes ≡ [] }
     requires twelve_bits { mode ≤ 0o7777 }
-    requires short { length bytes.now < 8 }
+    requires short { length bytes.now < 80 }
     ensures unused { tree.new.log.changes ≡ [] }
 {
     let path = Path::parse(alloc, path)?;

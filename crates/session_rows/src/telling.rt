@@ -1,7 +1,7 @@
 //! What came of a run, in one line.
-use anyhow::Result;
+use anyhow::{Result, bail};
 use job_reports::{Cause, Did, Ending};
-use key_screen::{Base, Key};
+use key_screen::{Base, Cell, Glyph, Key, read_grid};
 use mc_text::{Name, Path};
 use session_history::{Event, History};
 use std::alloc::Global;
@@ -29,6 +29,37 @@ pub fn told<T: Tree>(
         add_folder(alloc, tree, folder, &mut line)?;
     }
     Ok(line)
+}
+
+/// Each row that isn't blank of a screen of 10 lines and 40 columns that was given these bytes, on a line of its own.
+pub fn shown_of(alloc: Global, bytes: &[u8]) -> Result<String> {
+    let Ok(grid) = read_grid(alloc, 10, 40, bytes) else {
+        bail!("bytes that no terminal reads");
+    };
+    let mut lines = String::new(alloc);
+    let mut number = 0u64;
+    for cells in grid.cells().chunks(40) {
+        number = number.saturating_add(1);
+        let row = row_of(alloc, cells)?;
+        let text = row.trim_end();
+        if !text.is_empty() {
+            lines.push_str(format!(in alloc; "\n  {number:2} {text}")?.as_str())?;
+        }
+    }
+    Ok(lines)
+}
+
+/// The text of a row.
+fn row_of(alloc: Global, cells: &[Cell]) -> Result<String> {
+    let mut text = String::new(alloc);
+    for cell in cells {
+        match &cell.glyph {
+            Glyph::Blank => text.push(' ')?,
+            Glyph::Cluster(cluster) => text.push_str(cluster.as_str())?,
+            Glyph::RightHalf => (),
+        }
+    }
+    Ok(text)
 }
 
 /// The lines that were printed.

@@ -1,10 +1,10 @@
--- The folder that a word names, below the one in which the program was started (POSIX.1-2017, 4.13 Pathname Resolution; that
+-- The path that a word names, below the folder in which the program was started (POSIX.1-2017, 4.13 Pathname Resolution; that
 -- dot-dot takes the name before it away, with no look at the tree, is as in `cd`). Dot is 46.
 use Rattle.std.specs.Prelude.{ℕ, Bool, not, ◌||◌, nat_lt, is_none, is_some, if◌then◌else◌, List, [], ◌∷◌, length, filter, Option, Some, None, option_map}
 use Rattle.std.specs.Str.{bytes_eq}
 use Rattle.mc_text.specs.Names.{name_fault}
 use Rattle.mc_text.specs.Routes.{Route, spelled, path_text, components_of, is_empty, begins_with_slash, path_fault, route_of}
-use Rattle.start_words.specs.declared.folders.StartFolder.{StartFolder}
+use Rattle.start_words.specs.declared.folders.StartPath.{StartPath}
 
 -- the folder in which the program was started; the root where its text is no absolute path
 abbrev pub started_in : List ℕ → Route
@@ -47,11 +47,15 @@ begins_in started word = if begins_with_slash word then [] else started
 abbrev pub folder_named : Route → List ℕ → Option Route
 folder_named started word = below (Some (begins_in started word)) (steps_of word)
 
--- a folder as it was typed, and its path
-abbrev pub typed_folder : List ℕ → Route → StartFolder
-typed_folder word path = record { typed = word; path = path }
+-- a path, and how it was typed
+abbrev pub typed_path : List ℕ → Route → StartPath
+typed_path word path = record { typed = word; path = path }
+
+-- the path that a word names, if there can be one
+abbrev pub path_named : Route → List ℕ → Option StartPath
+path_named started word = option_map (typed_path word) (folder_named started word)
 
 -- the folder of a panel: the one that its word names, or without a word the one in which the program was started
-abbrev pub panel_folder : Route → Option (List ℕ) → Option StartFolder
-panel_folder started None = Some (typed_folder (path_text started) started)
-panel_folder started (Some word) = option_map (typed_folder word) (folder_named started word)
+abbrev pub panel_folder : Route → Option (List ℕ) → Option StartPath
+panel_folder started None = Some (typed_path (path_text started) started)
+panel_folder started (Some word) = path_named started word

@@ -1,14 +1,14 @@
-//! The folders that words name, below the one in which the program was started.
+//! The paths that words name, below the folder in which the program was started.
 ghost use Rattle.std.specs.Prelude.{◌≡◌, ◌∷◌, true, false, Err, None, Some, IfOk, option_map};
-ghost use Rattle.start_words.specs.Folders.{above as above_route, begins_in, folder_named as route_named, is_passed, is_refused_in, panel_folder as folder_of_panel, started_in, step_below};
+ghost use Rattle.start_words.specs.Folders.{above as above_route, begins_in, folder_named as route_named, is_passed, is_refused_in, panel_folder as folder_of_panel, path_named, started_in, step_below};
 
 use crate::words::WordsError;
 use mc_text::{Name, NameError, NoMemory, Path, PathError, Text};
 use std::alloc::Global;
 
-/// The folder in which a panel starts, as it was typed, and its path.
+/// What a session starts with: the folder of a panel, or a file that is viewed, as it was typed, and its path.
 #[derive(Debug, Drop)]
-pub struct StartFolder {
+pub struct StartPath {
     pub typed: Text,
     pub path: Path,
 }
@@ -29,25 +29,31 @@ pub fn panel_folder(
     alloc: Global,
     started: &Path,
     word: Option<&str>,
-) -> Result<StartFolder, WordsError>
+) -> Result<StartPath, WordsError>
     ensures read { IfOk result (λ folder. folder_of_panel started.now (option_map (λ text. text.now) word.entry) ≡ Some folder) }
     ensures usage { result ≡ Err WordsError.Usage → folder_of_panel started.now (option_map (λ text. text.now) word.entry) ≡ None }
 {
     match word {
-        Some(word) => {
-            let path = folder_named(alloc, started, word)?;
-            let typed = Text::from_str(alloc, word)?;
-            Ok(StartFolder { typed, path })
-        }
+        Some(word) => named_path(alloc, started, word),
         None => {
             let path = started.copy(alloc)?;
             let typed = started.text(alloc)?;
-            Ok(StartFolder { typed, path })
+            Ok(StartPath { typed, path })
         }
     }
 }
 
-/// The folder that a word names: from the root where a slash stands first, and else from `started`. Dot and dot-dot are read
+/// The path that a word names.
+pub fn named_path(alloc: Global, started: &Path, word: &str) -> Result<StartPath, WordsError>
+    ensures read { IfOk result (λ named. path_named started.now word.now ≡ Some named) }
+    ensures usage { result ≡ Err WordsError.Usage → path_named started.now word.now ≡ None }
+{
+    let path = folder_named(alloc, started, word)?;
+    let typed = Text::from_str(alloc, word)?;
+    Ok(StartPath { typed, path })
+}
+
+/// Where a word leads: from the root where a slash stands first, and else from `started`. Dot and dot-dot are read
 /// without a look at the tree. Each component copies the path so far.
 fn folder_named(alloc: Global, started: &Path, word: &str) -> Result<Path, WordsError>
     ensures read { IfOk result (λ folder. route_named started.now word.now ≡ Some folder) }

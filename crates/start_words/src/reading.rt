@@ -3,13 +3,13 @@ ghost use Rattle.std.specs.Prelude.{◌≡◌, Err, None, Some, IfOk, option_map
 ghost use Rattle.start_words.specs.Asked.{asked_by, at_most_one as one_at_most, is_count as is_count_text};
 
 use crate::command::given_by;
-use crate::folders::panel_folder;
+use crate::folders::{named_path, panel_folder};
 use crate::numbers::number_of;
 use crate::words::{Words, WordsError};
 use mc_text::{Path, Text};
 use std::alloc::Global;
 
-/// Reads the words. A relative folder is below `started`, the folder in which the program was started.
+/// Reads the words. A relative path is below `started`, the folder in which the program was started.
 pub fn read_words(alloc: Global, words: &[Text], started: &Path) -> Result<Words, WordsError>
     ensures read { IfOk result (λ asked. asked_by started.now words.now ≡ Some asked) }
     ensures usage { result ≡ Err WordsError.Usage → asked_by started.now words.now ≡ None }
@@ -27,12 +27,20 @@ pub fn read_words(alloc: Global, words: &[Text], started: &Path) -> Result<Words
     if given.wants_version {
         return Ok(Words::Version);
     }
-    if views || edits || given.place.is_some() || drills {
+    if edits || given.place.is_some() || drills {
         return Ok(Words::NotBuilt);
     }
-    let left = panel_folder(alloc, started, given.left)?;
-    let right = panel_folder(alloc, started, given.right)?;
-    Ok(Words::Panels { left, right })
+    match given.view {
+        Some(word) => {
+            let file = named_path(alloc, started, word)?;
+            Ok(Words::View(file))
+        }
+        None => {
+            let left = panel_folder(alloc, started, given.left)?;
+            let right = panel_folder(alloc, started, given.right)?;
+            Ok(Words::Panels { left, right })
+        }
+    }
 }
 
 /// Whether one of these holds at most.

@@ -1,5 +1,5 @@
 //! What the words of the command line ask for.
-use crate::folders::StartFolder;
+use crate::folders::StartPath;
 use mc_text::NoMemory;
 use thiserror::Error;
 
@@ -31,10 +31,9 @@ pub enum Words {
     Help,
     Version,
     /// A session in two panels that show these folders.
-    Panels {
-        left: StartFolder,
-        right: StartFolder,
-    },
-    /// What is in the profile and isn't built yet: the viewer, the editor, a file that is told the last folder, or the drill.
+    Panels { left: StartPath, right: StartPath },
+    /// A session in which this file is viewed, and nothing else.
+    View(StartPath),
+    /// What is in the profile and isn't built yet: the editor, a file that is told the last folder, or the drill.
     NotBuilt,
 }

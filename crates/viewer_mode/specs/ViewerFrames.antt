@@ -41,6 +41,6 @@ abbrev pub with_message : List ℕ → Option ViewError → CellGrid → CellGri
 with_message title None grid = grid
 with_message title (Some why) grid = with_box grid (plain_lines (message_lines title why))
 
--- the frame: the page has the rows as they were read last
-unfoldable pub frame_of : ViewerScreen → CellGrid
-frame_of s = with_message s.title s.refused (with_asking s.asking (page_frame s.lines s.columns (page_with s.title s.rows)))
+-- the frame of a screen of this size: the page has the rows as they were read last
+unfoldable pub frame_of : ℕ → ℕ → ViewerScreen → CellGrid
+frame_of lines columns s = with_message s.title s.refused (with_asking s.asking (page_frame lines columns (page_with s.title s.rows)))

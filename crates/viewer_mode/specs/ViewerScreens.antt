@@ -27,22 +27,17 @@ use Rattle.viewer_mode.specs.Motions.{MayRefuse, Reads, led, motion_of}
 use Rattle.viewer_mode.specs.Questions.{opened_line, place_question}
 use Rattle.viewer_mode.specs.ViewerKeys.{viewer_command}
 
--- the size of the screen, the title above the page, the viewer, the rows of the page as they were read last, the line that asks, and
--- what was refused
+-- the title above the page, the viewer, the rows of the page as they were read last, the line that asks, and what was refused
 pub record ViewerScreen : Type 0 where
-  pub lines : ℕ
-  pub columns : ℕ
   pub title : List ℕ
   pub viewer : Viewing
   pub rows : List (List ℕ)
   pub asking : Option Asking
   pub refused : Option ViewError
 
--- a file's first page, with these rows; one column is shown at least
+-- a file's first page on a screen of this size, with these rows; one column is shown at least
 abbrev pub opened_screen : Route → ℕ → ℕ → List (List ℕ) → ViewerScreen
 opened_screen path lines columns rows = record {
-  lines = lines;
-  columns = columns;
   title = path_text path;
   viewer = begun (File path) lines (max columns 1);
   rows = rows;

@@ -16,14 +16,14 @@ use mc_viewer::ViewError;
 use std::alloc::Global;
 
 impl ViewerMode {
-    /// The frame of the screen. It reads no tree, and takes the time of the cells and texts on the screen.
+    /// The frame of a screen of so many lines and columns. It reads no tree, and takes the time of the cells and texts on the screen.
     #[tactic(auto, unfolding(crate::specs::ViewerFrames::frame_of))]
-    pub fn frame(&self, alloc: Global) -> Result<Grid, NoMemory>
-        ensures frame { IfOk result (λ grid. grid ≡ frame_of self.now) }
-        ensures size { IfOk result (λ grid. (grid.lines ≡ self.now.lines) × (grid.columns ≡ self.now.columns)) }
+    pub fn frame(&self, alloc: Global, lines: u16, columns: u16) -> Result<Grid, NoMemory>
+        ensures frame { IfOk result (λ grid. grid ≡ frame_of lines columns self.now) }
+        ensures size { IfOk result (λ grid. (grid.lines ≡ lines) × (grid.columns ≡ columns)) }
     {
         let page = shown_page(alloc, self.title(), self.rows())?;
-        let mut grid = paint_page(alloc, self.lines(), self.columns(), &page)?;
+        let mut grid = paint_page(alloc, lines, columns, &page)?;
         paint_asking(&mut grid, alloc, self.asking())?;
         paint_message(&mut grid, alloc, self.title(), self.refused())?;
         Ok(grid)

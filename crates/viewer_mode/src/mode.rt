@@ -24,8 +24,6 @@ use tree_trait::{ReadTree, TreeError};
 /// keeps the rows on the screen alone: a frame reads no tree, so a key reads the page that it leads to.
 #[derive(Debug, Drop)]
 pub struct ViewerMode {
-    lines: u16,
-    columns: u16,
     title: Text,
     viewer: Viewer,
     rows: Rows,
@@ -38,7 +36,7 @@ impl Model for ViewerMode {
 
     ghost Value = { ViewerScreen };
 
-    ghost view = { λ m. record { lines = m.lines; columns = m.columns; title = m.title; viewer = m.viewer; rows = m.rows; asking = m.asking; refused = m.refused } };
+    ghost view = { λ m. record { title = m.title; viewer = m.viewer; rows = m.rows; asking = m.asking; refused = m.refused } };
 }
 
 impl ViewerMode {
@@ -61,8 +59,6 @@ impl ViewerMode {
         let viewer = Viewer::start(alloc, tree, subject, lines, columns.max(1))?;
         let rows = viewer.page(alloc, tree)?;
         Ok(ViewerMode {
-            lines,
-            columns,
             title,
             viewer,
             rows,
@@ -94,18 +90,11 @@ impl ViewerMode {
         }
     }
 
-    /// How many lines the screen has.
-    pub fn lines(&self) -> u16
-        ensures { result ≡ self.now.lines }
+    /// What is viewed.
+    pub fn subject(&self) -> &Subject
+        ensures { result.now ≡ self.now.viewer.subject }
     {
-        self.lines
-    }
-
-    /// How many columns it has.
-    pub fn columns(&self) -> u16
-        ensures { result ≡ self.now.columns }
-    {
-        self.columns
+        self.viewer.subject()
     }
 
     /// The title above the page.

@@ -16,13 +16,19 @@ const LINES: u16 = 10;
 pub fn tell_keyed<T: Tree>(page: &mut Page, tree: &mut T, path: &Path, columns: u16, words: &str) {
     let columns = columns.clamp(40, 400);
     match ViewerMode::open(page.alloc(), tree, path, LINES, columns) {
-        Ok(mut mode) => tell_worked(page, tree, &mut mode, words),
+        Ok(mut mode) => tell_worked(page, tree, &mut mode, columns, words),
         Err(error) => page.tell(format_args!("{error:?}")),
     }
 }
 
 /// Works each key, and shows the screen. What a key comes to stands before it, but where the file is only viewed on.
-fn tell_worked<T: Tree>(page: &mut Page, tree: &mut T, mode: &mut ViewerMode, words: &str) {
+fn tell_worked<T: Tree>(
+    page: &mut Page,
+    tree: &mut T,
+    mode: &mut ViewerMode,
+    columns: u16,
+    words: &str,
+) {
     for word in words.split(' ') {
         match word {
             "" => (),
@@ -30,7 +36,7 @@ fn tell_worked<T: Tree>(page: &mut Page, tree: &mut T, mode: &mut ViewerMode, wo
             _ => tell_word(page, tree, mode, word),
         }
     }
-    match mode.frame(page.alloc()) {
+    match mode.frame(page.alloc(), LINES, columns) {
         Ok(grid) => tell_screen(page, &grid),
         Err(_error) => page.fail(),
     }

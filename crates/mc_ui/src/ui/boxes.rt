@@ -3,7 +3,8 @@ ghost use Rattle.std.specs.Prelude.{◌≡◌, [], false, true, not, OnErr, IfOk
 ghost use Rattle.job_reports.specs.Reports.{passes_over};
 ghost use Rattle.box_words.specs.BoxKeys.{delete_reply_to as deletes_by, trouble_reply_to as answers_by};
 ghost use Rattle.mc_ui.specs.LiveJobs.{can_answer as may_answer, none_live as is_idle, takes_answer as may_take};
-ghost use Rattle.mc_ui.specs.Screens.{DeleteBox, NoBox, TroubleBox, WellAsked, after_delete, after_trouble, is_request, seen_box, with_ask};
+ghost use Rattle.mc_ui.specs.Boxes.{DeleteBox, NoBox, TroubleBox, seen_box};
+ghost use Rattle.mc_ui.specs.Screens.{WellAsked, after_delete, after_trouble, is_request, with_ask};
 
 use super::Ui;
 use super::panel_keys::{asking, asking_nothing};

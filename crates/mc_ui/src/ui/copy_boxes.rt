@@ -6,7 +6,9 @@ ghost use Rattle.mc_ui.specs.declared.asks.KeyAct.{KeyAct as KeyActType};
 ghost use Rattle.box_words.specs.BoxKeys.{line_reply as line_reply_of};
 ghost use Rattle.job_plans.specs.Copies.{target_in};
 ghost use Rattle.job_plans.specs.Reading.{ReadsTree, sight};
-ghost use Rattle.mc_ui.specs.Screens.{MaskBox, MaskLeads, MayRefuseMask, NoBox, PlansCopy, StaysWhereTaken, TargetBox, TargetLeads, WellAsked, is_request, seen_box, with_ask};
+ghost use Rattle.mc_ui.specs.Boxes.{MaskBox, NoBox, TargetBox, seen_box};
+ghost use Rattle.mc_ui.specs.Lines.{MayRefuseMask, StaysWhereTaken};
+ghost use Rattle.mc_ui.specs.Screens.{MaskLeads, PlansCopy, TargetLeads, WellAsked, is_request, with_ask};
 
 use super::Ui;
 use super::boxes::{begin, none_live};

@@ -4,7 +4,8 @@ ghost use Rattle.mc_dialogs.specs.InputKeys.{input_after, input_shut};
 ghost use Rattle.box_words.specs.BoxKeys.{line_reply as line_reply_of};
 ghost use Rattle.job_plans.specs.Reading.{ReadsTree};
 ghost use Rattle.mc_ui.specs.declared.asks.KeyAct.{KeyAct as KeyActType};
-ghost use Rattle.mc_ui.specs.Screens.{FolderBox, HasSameSize, MakeFolderLeads, NoBox, PlansFolder, WellAsked, after_ask_folder, is_request, seen_box, with_ask};
+ghost use Rattle.mc_ui.specs.Boxes.{FolderBox, NoBox, seen_box};
+ghost use Rattle.mc_ui.specs.Screens.{HasSameSize, MakeFolderLeads, PlansFolder, WellAsked, after_ask_folder, is_request, with_ask};
 
 use super::Ui;
 use super::boxes::{begin, none_live};

@@ -7,7 +7,8 @@ ghost use Rattle.session_history.specs.declared.refusal.Refusal.{Refusal as Refu
 ghost use Rattle.mc_ui.specs.LiveJobs.{shown_trouble as trouble_in};
 ghost use Rattle.mc_ui.specs.Looks.{LooksAgain, ReadsAgain, told_unread};
 ghost use Rattle.job_plans.specs.Reading.{ReadsTree};
-ghost use Rattle.mc_ui.specs.Screens.{HasSameSize, LookLeads, first_refusal, page_of, with_news, with_panels, with_refusal, with_told, with_trouble};
+ghost use Rattle.mc_ui.specs.Boxes.{first_refusal, with_news, with_refusal, with_trouble};
+ghost use Rattle.mc_ui.specs.Screens.{HasSameSize, LookLeads, page_of, with_panels, with_told};
 
 use super::Ui;
 use crate::dialog::Dialog;

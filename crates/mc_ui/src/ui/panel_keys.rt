@@ -4,7 +4,8 @@ ghost use Rattle.mc_panels.specs.Selections.{selection};
 ghost use Rattle.mc_ui.specs.declared.asks.KeyAct.{KeyAct as KeyActType};
 ghost use Rattle.mc_ui.specs.PanelKeys.{panel_command_of};
 ghost use Rattle.job_plans.specs.Reading.{ReadsTree, sight};
-ghost use Rattle.mc_ui.specs.Screens.{Chooses, CommandLeads, HasSameSize, NoBox, WellAsked, Works, box_of, is_request, seen_box, told_refusal, with_ask};
+ghost use Rattle.mc_ui.specs.Boxes.{NoBox, box_of, seen_box};
+ghost use Rattle.mc_ui.specs.Screens.{Chooses, CommandLeads, HasSameSize, WellAsked, Works, is_request, told_refusal, with_ask};
 
 use super::Ui;
 use crate::asks::{Ask, KeyAct};
@@ -48,6 +49,7 @@ impl Ui {
                 self.show_help();
                 Ok(asking_nothing(alloc))
             }
+            KeyCommand::View => self.view_current(alloc, tree),
             KeyCommand::Open(opens) => self.open_box(alloc, tree, rows, opens),
             KeyCommand::AskFolder => self.ask_folder(alloc, rows),
             KeyCommand::OpenPanelBox(opening) => {

@@ -5,7 +5,8 @@ ghost use Rattle.panel_boxes.specs.Openings.{opened as opened_box};
 ghost use Rattle.panel_boxes.specs.Replies.{box_after, reply_to};
 ghost use Rattle.mc_ui.specs.declared.asks.Ask.{Ask};
 ghost use Rattle.mc_ui.specs.declared.asks.KeyAct.{KeyAct as KeyActType};
-ghost use Rattle.mc_ui.specs.Screens.{HasSameSize, NoBox, PanelLeads, PanelsBox, seen_box};
+ghost use Rattle.mc_ui.specs.Boxes.{NoBox, PanelsBox, seen_box};
+ghost use Rattle.mc_ui.specs.Screens.{HasSameSize, PanelLeads};
 
 use super::Ui;
 use super::panel_keys::asking_nothing;

@@ -18,6 +18,13 @@ use std::alloc::Global;
 use tree_trait::{ReadTree, TreeError};
 
 impl Viewer {
+    /// What is viewed.
+    pub fn subject(&self) -> &Subject
+        ensures { result.now ≡ self.now.subject }
+    {
+        &self.subject
+    }
+
     /// Whether it shows rows in hexadecimal.
     pub fn is_hex(&self) -> bool
         ensures { result ≡ self.now.state.is_hex }

@@ -242,8 +242,7 @@ returns-in-Ok-clause-untouched g c some =
 
 pub returns-in-Ok-clause-refuses_start : goal.returns-in-Ok-clause-refuses_start
 returns-in-Ok-clause-refuses_start g c log known =
-    let listed = c.in-Ok.ensures.permitted log known in
-    refuses_listed log (session_start (size_in c.args.env.now) (asked_in c.args.env.now.folder c.args.words.now)) c.in-Ok-Session.start c.run_desk.result.status (starts_in (size_in c.args.env.now) (asked_in c.args.env.now.folder c.args.words.now) c.in-Ok-Session.start c.in-Ok-Session.typed (session_is (size_in c.args.env.now) (asked_in c.args.env.now.folder c.args.words.now) c.in-Ok-Session.field-0 c.in-Ok-Session.start c.in-Ok-Session.typed c.in-Ok-Session.ensures c.in-Ok-Session.field-0-is)) listed.0 listed.1
+    refuses_listed log (session_start (size_in c.args.env.now) (asked_in c.args.env.now.folder c.args.words.now)) c.in-Ok-Session.start c.run_desk.result.status (starts_in (size_in c.args.env.now) (asked_in c.args.env.now.folder c.args.words.now) c.in-Ok-Session.start c.in-Ok-Session.typed (session_is (size_in c.args.env.now) (asked_in c.args.env.now.folder c.args.words.now) c.in-Ok-Session.field-0 c.in-Ok-Session.start c.in-Ok-Session.typed c.in-Ok-Session.ensures c.in-Ok-Session.field-0-is)) (c.in-Ok.ensures.permitted log known)
 
 pub returns-in-Ok-clause-complete : goal.returns-in-Ok-clause-complete
 returns-in-Ok-clause-complete g c log known =

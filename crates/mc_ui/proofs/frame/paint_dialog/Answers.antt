@@ -3,7 +3,7 @@ use Rattle.std.proofs.Common.{◌≡◌, sym, ◌∙◌, ap, subst}
 use Rattle.mc_dialogs.specs.Boxes.{with_box}
 use Rattle.mc_dialogs.specs.QuestionKeys.{plain_lines}
 use Rattle.mc_ui.specs.Frames.{with_over}
-use Rattle.mc_ui.specs.Screens.{seen_box}
+use Rattle.mc_ui.specs.Boxes.{seen_box}
 use Rattle.mc_ui.proofs.frame.paint_dialog.Goals as goal
 
 pub returns-in_ok-paint_lines-in-Delete-clause-over : goal.returns-in_ok-paint_lines-in-Delete-clause-over

@@ -1,0 +1,60 @@
+-- What stands over the panels: a box, and a message over it.
+use Rattle.std.specs.Prelude.{List, [], ◌∷◌, Option, Some, None}
+use Rattle.mc_text.specs.Routes.{Route}
+use Rattle.job_reports.specs.declared.report.Trouble.{Trouble}
+use Rattle.session_history.specs.declared.refusal.Refusal.{Refusal}
+use Rattle.mc_dialogs.specs.InputKeys.{InputState}
+use Rattle.box_words.specs.declared.message.Message.{Message}
+use Rattle.box_words.specs.declared.message.Message.TheVariants.{Refused}
+use Rattle.box_words.specs.BoxLines.{mask_line}
+use Rattle.job_plans.specs.declared.choosing.Opens.{Opens}
+use Rattle.job_plans.specs.declared.choosing.Opens.TheVariants as opens
+use Rattle.panel_boxes.specs.declared.panel_box.PanelBox.{PanelBox}
+use Rattle.mc_ui.specs.declared.dialog.Dialog.{Dialog}
+use Rattle.mc_ui.specs.declared.dialog.Dialog.TheVariants as dialog
+
+-- What stands over the panels: nothing, or a box that asks whether to delete a file, asks for the source mask or for the
+-- destination of a copy, or for a new folder, tells of a job's trouble, or asks what the panels are to do.
+pub data Box : Type 0 where
+  NoBox : Box
+  DeleteBox : (path : Route) → Box
+  MaskBox : (path : Route) → (typed : InputState) → Box
+  TargetBox : (path : Route) → (typed : InputState) → Box
+  FolderBox : (typed : InputState) → Box
+  TroubleBox : (trouble : Trouble) → Box
+  PanelsBox : (asks : PanelBox) → Box
+
+-- a box as it is seen
+abbrev pub seen_box : Dialog → Box
+seen_box dialog.Nothing = NoBox
+seen_box (dialog.Delete chosen) = DeleteBox chosen.path
+seen_box (dialog.SourceMask chosen typed) = MaskBox chosen.path typed
+seen_box (dialog.CopyTo chosen typed) = TargetBox chosen.path typed
+seen_box (dialog.MakeFolder typed) = FolderBox typed
+seen_box (dialog.Trouble trouble) = TroubleBox trouble
+seen_box (dialog.Panel asks) = PanelsBox asks
+
+-- the box that such a key opens
+abbrev pub box_of : Opens → Route → Box
+box_of opens.Delete path = DeleteBox path
+box_of opens.SourceMask path = MaskBox path mask_line
+
+-- a trouble's box stands over the panels, in place of another
+abbrev pub with_trouble : Option Trouble → Box → Box
+with_trouble None before = before
+with_trouble (Some trouble) before = TroubleBox trouble
+
+-- the first of some refusals
+abbrev pub first_refusal : List Refusal → Option Refusal
+first_refusal [] = None
+first_refusal (refusal ∷ more) = Some refusal
+
+-- a message tells of a refusal
+abbrev pub with_refusal : Option Refusal → Option Message → Option Message
+with_refusal None before = before
+with_refusal (Some refusal) before = Some (Refused refusal)
+
+-- and above all of a job's end, where something is to be told of it
+abbrev pub with_news : Option Message → Option Message → Option Message
+with_news None before = before
+with_news (Some news) before = Some news
