@@ -12,7 +12,7 @@ use Rattle.find_file.specs.declared.search.Search.{Search}
 use Rattle.find_file.specs.FoundList.{Turn, told_in}
 use Rattle.find_file.specs.FoundList.Turn.{At, Tells}
 use Rattle.find_file.specs.Walks.{of_task}
-use Rattle.find_file.specs.Telling.{Leads, Advances, Answers, IsFirst}
+use Rattle.find_file.specs.Telling.{Leads, Advances, Answers, IsFirst, IsNext}
 
 pub leads-on : (one two three : List Turn) → Leads one two → Leads two three → Leads one three
 leads-on one two three first second = record {
@@ -89,3 +89,8 @@ module _ (s : FileSystem) (search : Search) (before after : List Turn) where
   first-of (Ok (Skipped path CrossMount)) h = first (Skipped path CrossMount) h
   first-of (Ok (Skipped path NoSpace)) h = first (Skipped path NoSpace) h
   first-of (Ok (Skipped path Special)) h = first (Skipped path Special) h
+
+  -- what a step tells is the first of that, if it tells anything
+  pub next-of : (told : Option Found) → Advances s search before (Ok told) after → IsNext (told_in before) told (told_in after)
+  next-of None h = told-leads before after h
+  next-of (Some found) h = first-of (Ok found) h

@@ -7,3 +7,4 @@ mod Places
 mod Ranking
 mod Reading
 mod Standing
+mod Steps

@@ -7,9 +7,11 @@ use Rattle.tree_trait.specs.declared.calls.TreeError.{TreeError}
 use Rattle.tree_trait.specs.declared.calls.TreeError.TheVariants.{Fault, Memory}
 use Rattle.tree_trait.specs.Calls.{Call, Stat, ListFolder}
 use Rattle.tree_trait.specs.Refusals.{refusal_of}
-use Rattle.tree_trait.specs.Answers.{HasRisen}
+use Rattle.tree_trait.specs.Change.{CallLog, current}
+use Rattle.tree_trait.specs.Answers.{HasRisen, IfKnown}
 use Rattle.find_file.specs.declared.found.Found.{Found}
 use Rattle.find_file.specs.declared.found.Found.TheVariants.{Path, Skipped, End}
+use Rattle.find_file.specs.declared.finder.Finder.{Finder}
 use Rattle.find_file.specs.declared.search.Search.{Search}
 use Rattle.find_file.specs.declared.walk.Task.{Task}
 use Rattle.find_file.specs.declared.walk.Task.TheVariants.{Look, List as ListTask}
@@ -17,7 +19,7 @@ use Rattle.find_file.specs.declared.walk.Walk.{Walk}
 use Rattle.find_file.specs.FoundList.{Turn}
 use Rattle.find_file.specs.FoundList.Turn.{At, Tells}
 use Rattle.find_file.specs.Folders.{OpenFolder}
-use Rattle.find_file.specs.Walks.{of_task, left_in, rank}
+use Rattle.find_file.specs.Walks.{of_task, left_in, rank, yet_to_come, yet_to_find}
 
 -- the path that a task is about, and the first call that it makes there
 abbrev pub place_of : Task → Route
@@ -60,6 +62,11 @@ IsFirst before (Ok (Skipped path Fault)) after = ⊤
 IsFirst before (Ok (Skipped path error)) after = before ≡ Skipped path error ∷ after
 IsFirst before (Ok End) after = (before ≡ []) × (after ≡ [])
 IsFirst before (Err error) after = before ≡ after
+
+-- the same of a step, which may tell nothing yet, and then leaves all that is to be found
+abbrev pub IsNext : List Found → Option Found → List Found → Type 0
+IsNext before None after = before ≡ after
+IsNext before (Some found) after = IsFirst before (Ok found) after
 
 -- a step may tell nothing yet
 abbrev pub Advances : FileSystem → Search → List Turn → Result (Option Found) NoMemory → List Turn → Type 0
@@ -123,6 +130,16 @@ pub record IsOver (w : Walk) : Type 0 where
   pub no_task : w.task ≡ None
   pub no_child : w.inner.children ≡ []
   pub no_folder : w.around.nearest ≡ []
+
+-- A step of a search that tells this: it is the first of what is yet to be found, and where it is nothing, fewer steps are left.
+-- Behind the end nothing is left. A path is skipped for a fault only where the count of faults has risen.
+pub record IsStep (contents : Option CallLog) (faults faults_after : ℕ) (finder : Finder) (told : Option Found) (left : Finder) : Type 0 where
+  pub next : IfKnown contents (λ log. IsNext (yet_to_find (current log) finder) told (yet_to_find (current log) left))
+  pub answer : IfKnown contents (λ log.
+      Advances (current log) finder.search (yet_to_come (current log) finder) (Ok told) (yet_to_come (current log) left))
+  pub falls : told ≡ None → rank left.walk < rank finder.walk
+  pub ended : told ≡ Some End → IsOver left.walk
+  pub reason : HasReason faults faults_after (cause_at (Ok told))
 
 -- a step without a call of the tree: what it tells, that fewer steps are left where it tells nothing, that no path is skipped,
 -- and that it tells the end exactly where nothing is left

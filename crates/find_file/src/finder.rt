@@ -1,11 +1,11 @@
 //! A search that runs.
-ghost use Rattle.std.specs.Prelude.{◌≡◌, None, Ok, IfOk, IfSome, unwrap_or, []};
+ghost use Rattle.std.specs.Prelude.{◌≡◌, ◌≤◌, None, Some, Ok, IfOk, IfSome, IsOk, OnErr, unwrap_or, []};
 ghost use Rattle.tree_trait.specs.declared.file_system.FileSystem.{FileSystem};
 ghost use Rattle.tree_trait.specs.Change.{current};
 ghost use Rattle.tree_trait.specs.Answers.{IfKnown};
 ghost use Rattle.find_file.specs.FoundList.{found_list, turns_below};
 ghost use Rattle.find_file.specs.Walks.{yet_to_come, yet_to_find};
-ghost use Rattle.find_file.specs.Telling.{Answers, HasReason, IsFirst, IsOver, cause_in};
+ghost use Rattle.find_file.specs.Telling.{Answers, HasReason, IsFirst, IsOver, IsStep, cause_in};
 
 use crate::found::Found;
 use crate::search::Search;
@@ -24,7 +24,7 @@ pub struct Finder {
 
 impl Finder {
     /// A search for what lies below a folder and has a name that the pattern finds. Where there is a content and it isn't
-    /// empty, only files that hold it are looked for.
+    /// empty, only files that hold it are looked for. It takes no memory.
     pub fn new(
         alloc: Global,
         start: Path,
@@ -37,6 +37,7 @@ impl Finder {
             ≡ record { name = name; content = unwrap_or content []; recursive = recursive; hidden = hidden }) }
         ensures turns { IfOk result (λ finder. (s : FileSystem) → yet_to_come s finder ≡ turns_below s finder.search start) }
         ensures list { IfOk result (λ finder. (s : FileSystem) → yet_to_find s finder ≡ found_list s finder.search start) }
+        ensures made { IsOk result }
     {
         let content = match content {
             Some(bytes) => bytes,
@@ -51,6 +52,25 @@ impl Finder {
             },
             walk: Walk::start(alloc, start),
         })
+    }
+
+    /// One step of the search, which may tell nothing yet: at most a look and the read of a file, or a listing. Where memory is
+    /// short nothing is lost: the next step goes on.
+    pub fn step<T: ReadTree>(
+        &mut self,
+        alloc: Global,
+        tree: &mut T,
+    ) -> Result<Option<Found>, NoMemory>
+        ensures step { IfOk result (λ told. IsStep (T.contents tree.old) (T.fault_count tree.old) (T.fault_count tree.new)
+            self.old told self.new) }
+        ensures waits { OnErr result (IfKnown (T.contents tree.old) (λ log.
+            yet_to_find (current log) self.new ≡ yet_to_find (current log) self.old)) }
+        ensures same { T.contents tree.new ≡ T.contents tree.old }
+        ensures later { T.fault_count tree.old ≤ T.fault_count tree.new }
+        ensures search { self.new.search ≡ self.old.search }
+        ensures over { IsOver self.old.walk → (result ≡ Ok (Some Found.End)) × (tree.new ≡ tree.old) }
+    {
+        self.walk.step(alloc, tree, &self.search)
     }
 
     /// The next answer. Where memory is short nothing is lost: the next call goes on.
