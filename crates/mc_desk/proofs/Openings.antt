@@ -1,14 +1,16 @@
 -- How a session's screen opens, and why it doesn't.
-use Rattle.std.proofs.Common.{◌≡◌, ◌≢◌, ℕ, [], refl, sym, ◌∙◌, ap, subst, Option, Some, None, Result, Ok, Err}
+use Rattle.std.proofs.Common.{◌≡◌, ◌≢◌, ℕ, true, [], IfOk, IfErr, refl, sym, ◌∙◌, ap, subst, Option, Some, None, Result, Ok, Err}
 use Rattle.std.specs.Option.{option_map}
+use Rattle.std.proofs.lemmas.Bool.{false≢true}
 use Rattle.mc_text.specs.Routes.{Route, path_text}
+use Rattle.mc_text.specs.declared.error.NoMemory.{NoMemory}
 use Rattle.tree_trait.specs.declared.calls.TreeError.{TreeError}
 use Rattle.tree_trait.specs.declared.calls.TreeError.TheVariants as tree
 use Rattle.tree_trait.specs.declared.file_system.FileSystem.{FileSystem}
 use Rattle.tree_trait.specs.Calls.{ReadAt}
 use Rattle.tree_trait.specs.Refusals.{refusal_of}
 use Rattle.tree_trait.specs.Change.{CallLog, current}
-use Rattle.tree_trait.specs.Answers.{IfKnown}
+use Rattle.tree_trait.specs.Answers.{HasRisen, IfKnown}
 use Rattle.resolving.specs.declared.error.ResolveError.{ResolveError}
 use Rattle.resolving.specs.declared.error.ResolveError.TheVariants.{Tree, TooManyLinks, TooLong, BadName, Fault, Memory}
 use Rattle.resolving.specs.declared.walking.Wanted.TheVariants.{AnyThing, FolderAlone}
@@ -22,13 +24,15 @@ use Rattle.panel_pair.specs.Openings.{OpensBoth, RefusesSide, ShowsPath}
 use Rattle.panel_pair.specs.Pairs.{PairState}
 use Rattle.mc_viewer.specs.Viewing.{IsReadable, IsRefused}
 use Rattle.viewer_mode.specs.declared.opening.Opening.TheVariants.{Viewed, NoWay, Unread}
-use Rattle.viewer_mode.specs.Openings.{OpensThing}
+use Rattle.viewer_mode.specs.declared.opening.Opening.{Opening}
+use Rattle.viewer_mode.specs.Openings.{OpensThing, ReadsToOpen}
 use Rattle.viewer_mode.specs.ViewerScreens.{ViewerScreen}
 use Rattle.mc_ui.specs.Screens.{Screen, opened_screen}
-use Rattle.mc_desk.specs.Sessions.{OpensPanels, just_opened}
+use Rattle.mc_desk.specs.Sessions.{OpensPanels, OpensViewer, just_opened}
+use Rattle.mc_desk.specs.declared.starts.StartError.{StartError}
 use Rattle.mc_desk.specs.declared.starts.StartMode.TheVariants.{Panels, View}
 use Rattle.mc_desk.specs.declared.starts.StartPlace.TheVariants as place
-use Rattle.mc_desk.specs.Starts.{CanStart, IsRefusal, IsStartCause, file_refusal, path_refusal, place_of, refusal_at_end, start_error, unread_at_end, unread_error}
+use Rattle.mc_desk.specs.Starts.{CanStart, IsRefusal, IsStartCause, Starts, file_refusal, is_start_fault, path_refusal, place_of, refusal_at_end, start_error, unread_at_end, unread_error, viewed_alone}
 
 -- panels that were just opened make a screen as it opens
 pub opens : (contents : Option CallLog) (left right : Route) (lines columns : ℕ) (pair : PairState) (now : ℕ) (screen : Screen) → pair ≡ just_opened pair → screen ≡ opened_screen pair lines columns now
@@ -86,7 +90,7 @@ both_lead log left right pair h = (path_shown log left pair.current h.0, path_sh
 -- THE VIEWER
 
 -- a file that is viewed can be read where its path leads
-pub file_leads : (contents : Option CallLog) (path : Route) (lines columns : ℕ) (viewer : ViewerScreen) → OpensThing contents [] (path_text path) lines columns (Viewed viewer) → IfKnown contents (λ log. CanStart (current log) (View path))
+file_leads : (contents : Option CallLog) (path : Route) (lines columns : ℕ) (viewer : ViewerScreen) → OpensThing contents [] (path_text path) lines columns (Viewed viewer) → IfKnown contents (λ log. CanStart (current log) (View path))
 unfolding IsReadable
 file_leads contents path lines columns viewer (at, leads, opened) log known =
     ap (unread_at_end (current log)) (leads log known) ∙ ap (option_map (λ (e : TreeError). Tree at e)) (opened.readable log known)
@@ -108,7 +112,7 @@ no_memory s path TooManyLinks some h = h
 no_memory s path TooLong some h = h
 no_memory s path BadName some h = h
 
-pub no_way : (contents : Option CallLog) (path : Route) (lines columns : ℕ) (e : ResolveError) → OpensThing contents [] (path_text path) lines columns (NoWay e)
+no_way : (contents : Option CallLog) (path : Route) (lines columns : ℕ) (e : ResolveError) → OpensThing contents [] (path_text path) lines columns (NoWay e)
     → IfKnown contents (λ log. IsStartCause (current log) (View path) (start_error place.File e))
 no_way contents path lines columns e (some, answers) log known =
     no_memory (current log) path e some (way_refuses (current log) (resolved (current log) AnyThing [] (path_text path)) e some (answers log known))
@@ -118,19 +122,72 @@ at_end : (s : FileSystem) (path at file : Route) (e : TreeError) → at ≡ file
 at_end s path at file e same leads refused =
     ap (unread_at_end s) leads ∙ (ap (option_map (λ (e : TreeError). Tree file e)) refused ∙ ap (λ (p : Route). Some (Tree p e)) (sym same))
 
-pub unread : (contents : Option CallLog) (path : Route) (lines columns : ℕ) (at : Route) (e : TreeError) → OpensThing contents [] (path_text path) lines columns (Unread at e)
+unread : (contents : Option CallLog) (path : Route) (lines columns : ℕ) (at : Route) (e : TreeError) → OpensThing contents [] (path_text path) lines columns (Unread at e)
     → IfKnown contents (λ log. IsStartCause (current log) (View path) (unread_error at e))
 unfolding IsRefused
-unread contents path lines columns at tree.Missing h log known = at_end (current log) path at h.0 tree.Missing h.2 (h.1 log known) (h.4 log known)
-unread contents path lines columns at tree.NotFolder h log known = at_end (current log) path at h.0 tree.NotFolder h.2 (h.1 log known) (h.4 log known)
-unread contents path lines columns at tree.Denied h log known = at_end (current log) path at h.0 tree.Denied h.2 (h.1 log known) (h.4 log known)
-unread contents path lines columns at tree.Exists h log known = at_end (current log) path at h.0 tree.Exists h.2 (h.1 log known) (h.4 log known)
-unread contents path lines columns at tree.IsFolder h log known = at_end (current log) path at h.0 tree.IsFolder h.2 (h.1 log known) (h.4 log known)
-unread contents path lines columns at tree.NotEmpty h log known = at_end (current log) path at h.0 tree.NotEmpty h.2 (h.1 log known) (h.4 log known)
-unread contents path lines columns at tree.IntoItself h log known = at_end (current log) path at h.0 tree.IntoItself h.2 (h.1 log known) (h.4 log known)
-unread contents path lines columns at tree.Mounted h log known = at_end (current log) path at h.0 tree.Mounted h.2 (h.1 log known) (h.4 log known)
-unread contents path lines columns at tree.CrossMount h log known = at_end (current log) path at h.0 tree.CrossMount h.2 (h.1 log known) (h.4 log known)
-unread contents path lines columns at tree.NoSpace h log known = at_end (current log) path at h.0 tree.NoSpace h.2 (h.1 log known) (h.4 log known)
-unread contents path lines columns at tree.Special h log known = at_end (current log) path at h.0 tree.Special h.2 (h.1 log known) (h.4 log known)
+unread contents path lines columns at tree.Missing (file, leads, same, some, refused) log known = at_end (current log) path at file tree.Missing same (leads log known) (refused log known)
+unread contents path lines columns at tree.NotFolder (file, leads, same, some, refused) log known = at_end (current log) path at file tree.NotFolder same (leads log known) (refused log known)
+unread contents path lines columns at tree.Denied (file, leads, same, some, refused) log known = at_end (current log) path at file tree.Denied same (leads log known) (refused log known)
+unread contents path lines columns at tree.Exists (file, leads, same, some, refused) log known = at_end (current log) path at file tree.Exists same (leads log known) (refused log known)
+unread contents path lines columns at tree.IsFolder (file, leads, same, some, refused) log known = at_end (current log) path at file tree.IsFolder same (leads log known) (refused log known)
+unread contents path lines columns at tree.NotEmpty (file, leads, same, some, refused) log known = at_end (current log) path at file tree.NotEmpty same (leads log known) (refused log known)
+unread contents path lines columns at tree.IntoItself (file, leads, same, some, refused) log known = at_end (current log) path at file tree.IntoItself same (leads log known) (refused log known)
+unread contents path lines columns at tree.Mounted (file, leads, same, some, refused) log known = at_end (current log) path at file tree.Mounted same (leads log known) (refused log known)
+unread contents path lines columns at tree.CrossMount (file, leads, same, some, refused) log known = at_end (current log) path at file tree.CrossMount same (leads log known) (refused log known)
+unread contents path lines columns at tree.NoSpace (file, leads, same, some, refused) log known = at_end (current log) path at file tree.NoSpace same (leads log known) (refused log known)
+unread contents path lines columns at tree.Special (file, leads, same, some, refused) log known = at_end (current log) path at file tree.Special same (leads log known) (refused log known)
 unread contents path lines columns at tree.Fault h log known = tt
 unread contents path lines columns at tree.Memory h log known = tt
+
+-- the screen on which a file is viewed alone, as the session opens
+pub viewer_opens : (contents : Option CallLog) (path : Route) (lines columns now : ℕ) (opening : Opening) (result : Result Screen StartError) → OpensThing contents [] (path_text path) lines columns opening
+    → result ≡ viewed_alone opening lines columns now → IfOk result (OpensViewer contents path lines columns)
+viewer_opens contents path lines columns now (Viewed viewer) result opens is =
+    subst (λ r. IfOk r (OpensViewer contents path lines columns)) (sym is) (record { viewer = viewer; shows = opens; opened = refl })
+viewer_opens contents path lines columns now (NoWay e) result opens is = subst (λ r. IfOk r (OpensViewer contents path lines columns)) (sym is) tt
+viewer_opens contents path lines columns now (Unread at e) result opens is = subst (λ r. IfOk r (OpensViewer contents path lines columns)) (sym is) tt
+
+-- or why it doesn't
+pub viewer_starts : (contents : Option CallLog) (path : Route) (lines columns now : ℕ) (opening : Opening) (result : Result Screen StartError) → OpensThing contents [] (path_text path) lines columns opening
+    → result ≡ viewed_alone opening lines columns now → IfKnown contents (λ log. Starts (current log) (View path) result)
+viewer_starts contents path lines columns now (Viewed viewer) result opens is log known =
+    subst (λ (r : Result Screen StartError). Starts (current log) (View path) r) (sym is) (file_leads contents path lines columns viewer opens log known)
+viewer_starts contents path lines columns now (NoWay e) result opens is log known =
+    subst (λ (r : Result Screen StartError). Starts (current log) (View path) r) (sym is) (no_way contents path lines columns e opens log known)
+viewer_starts contents path lines columns now (Unread at e) result opens is log known =
+    subst (λ (r : Result Screen StartError). Starts (current log) (View path) r) (sym is) (unread contents path lines columns at e opens log known)
+
+-- a fault that is told was counted
+way_fault : (e : ResolveError) → is_start_fault (start_error place.File e) ≡ true → e ≡ Fault
+way_fault Fault told = refl
+way_fault Memory told = absurd (false≢true told)
+way_fault (Tree at e) told = absurd (false≢true told)
+way_fault TooManyLinks told = absurd (false≢true told)
+way_fault TooLong told = absurd (false≢true told)
+way_fault BadName told = absurd (false≢true told)
+
+read_fault : (at : Route) (e : TreeError) → is_start_fault (unread_error at e) ≡ true → e ≡ tree.Fault
+read_fault at tree.Missing told = absurd (false≢true told)
+read_fault at tree.NotFolder told = absurd (false≢true told)
+read_fault at tree.Denied told = absurd (false≢true told)
+read_fault at tree.Exists told = absurd (false≢true told)
+read_fault at tree.IsFolder told = absurd (false≢true told)
+read_fault at tree.NotEmpty told = absurd (false≢true told)
+read_fault at tree.IntoItself told = absurd (false≢true told)
+read_fault at tree.Mounted told = absurd (false≢true told)
+read_fault at tree.CrossMount told = absurd (false≢true told)
+read_fault at tree.NoSpace told = absurd (false≢true told)
+read_fault at tree.Special told = absurd (false≢true told)
+read_fault at tree.Fault told = refl
+read_fault at tree.Memory told = absurd (false≢true told)
+
+pub viewer_fault : (before after : Option CallLog) (faults faults_after lines columns now : ℕ) (r : Result Opening NoMemory) (opening : Opening) (result : Result Screen StartError) → r ≡ Ok opening
+    → ReadsToOpen r before after faults faults_after → result ≡ viewed_alone opening lines columns now → IfErr result (λ e. is_start_fault e ≡ true → HasRisen faults faults_after)
+viewer_fault before after faults faults_after lines columns now r (Viewed viewer) result same reads is =
+    subst (λ (x : Result Screen StartError). IfErr x (λ e. is_start_fault e ≡ true → HasRisen faults faults_after)) (sym is) tt
+viewer_fault before after faults faults_after lines columns now r (NoWay e) result same reads is =
+    let told = subst (λ (x : Result Opening NoMemory). ReadsToOpen x before after faults faults_after) same reads in
+    subst (λ (x : Result Screen StartError). IfErr x (λ e. is_start_fault e ≡ true → HasRisen faults faults_after)) (sym is) (λ fault. told.way_fault (ap (λ (w : ResolveError). NoWay w) (way_fault e fault)))
+viewer_fault before after faults faults_after lines columns now r (Unread at e) result same reads is =
+    let told = subst (λ (x : Result Opening NoMemory). ReadsToOpen x before after faults faults_after) same reads in
+    subst (λ (x : Result Screen StartError). IfErr x (λ e. is_start_fault e ≡ true → HasRisen faults faults_after)) (sym is) (λ fault. told.read_fault at (ap (λ (w : TreeError). Unread at w) (read_fault at e fault)))

@@ -1,6 +1,6 @@
 -- What the start of a session comes to: it opens where its paths lead to folders that can be listed, or to a file that can be read,
 -- and else says why not.
-use Rattle.std.specs.Prelude.{◌≡◌, ◌≤◌, ⊤, Bool, true, false, [], Option, Some, None, Result, Ok, Err}
+use Rattle.std.specs.Prelude.{◌≡◌, ◌≤◌, ℕ, ⊤, Bool, true, false, [], Option, Some, None, Result, Ok, Err}
 use Rattle.std.specs.Option.{option_map}
 use Rattle.mc_text.specs.Routes.{Route, path_text}
 use Rattle.tree_trait.specs.declared.file_system.FileSystem.{FileSystem}
@@ -19,7 +19,9 @@ use Rattle.mc_ui.specs.Screens.{Screen}
 use Rattle.mc_desk.specs.declared.starts.StartError.{StartError}
 use Rattle.mc_desk.specs.declared.starts.StartError.TheVariants.{Resolve, Memory}
 use Rattle.mc_desk.specs.Logs.{Logged}
-use Rattle.mc_desk.specs.Sessions.{IsOpening}
+use Rattle.viewer_mode.specs.declared.opening.Opening.{Opening}
+use Rattle.viewer_mode.specs.declared.opening.Opening.TheVariants.{Viewed, NoWay, Unread}
+use Rattle.mc_desk.specs.Sessions.{IsOpening, viewing_alone}
 use Rattle.mc_desk.specs.declared.starts.Start.{Start}
 use Rattle.mc_desk.specs.declared.starts.StartMode.{StartMode}
 use Rattle.mc_desk.specs.declared.starts.StartMode.TheVariants.{Panels, View}
@@ -107,6 +109,12 @@ start_error at resolve.BadName = Resolve at resolve.BadName
 -- the same where what lies at a path can't be read
 abbrev pub unread_error : Route → TreeError → StartError
 unread_error path e = start_error place.File (refused_by path e)
+
+-- a session in which a file is viewed alone, by what opening that came to
+abbrev pub viewed_alone : Opening → ℕ → ℕ → ℕ → Result Screen StartError
+viewed_alone (Viewed viewer) lines columns second = Ok (viewing_alone viewer lines columns second)
+viewed_alone (NoWay e) lines columns second = Err (start_error place.File e)
+viewed_alone (Unread path e) lines columns second = Err (unread_error path e)
 
 -- the start tells of a fault
 abbrev pub is_start_fault : StartError → Bool

@@ -1,12 +1,13 @@
 //! The opening of a session: the folders or the file are read, and room is made for the entry that will close it.
-ghost use Rattle.std.specs.Prelude.{◌≡◌, ◌≤◌, ◌≢◌, true, false, IfErr, IfOk};
-ghost use Rattle.mc_text.specs.Routes.{path_text};
+ghost use Rattle.std.specs.Prelude.{◌≡◌, ◌≤◌, [], true, false, IfErr, IfOk};
 ghost use Rattle.tree_trait.specs.Change.{current};
 ghost use Rattle.tree_trait.specs.Answers.{IfKnown, HasRisen};
 ghost use Rattle.mc_desk.specs.Outputs.{FitsScreen};
+ghost use Rattle.mc_text.specs.Routes.{path_text};
 ghost use Rattle.panel_pair.specs.Pairs.{unread_pair};
+ghost use Rattle.viewer_mode.specs.Openings.{OpensThing, ReadsToOpen};
 ghost use Rattle.mc_desk.specs.Sessions.{IsOpeningIn, OpensPanels, OpensViewer, viewing_alone};
-ghost use Rattle.mc_desk.specs.Starts.{IsOpened, Starts, is_start_fault, place_of as place_on, start_error, unread_error};
+ghost use Rattle.mc_desk.specs.Starts.{IsOpened, Starts, is_start_fault, place_of as place_on, start_error, unread_error, viewed_alone};
 
 use crate::log::Log;
 use crate::starts::{Start, StartError, StartMode, StartPlace};
@@ -115,34 +116,59 @@ fn open_viewer<T: ReadTree>(
     ensures same { T.contents tree.new ≡ T.contents tree.old }
     ensures later { T.fault_count tree.old ≤ T.fault_count tree.new }
 {
-    let text = match path.text(alloc) {
-        Ok(text) => text,
-        Err(NoMemory) => return Err(StartError::Memory),
-    };
     let panels = match Panels::unread(alloc) {
         Ok(panels) => panels,
         Err(NoMemory) => return Err(StartError::Memory),
     };
-    match open_thing(
+    match open_file(alloc, tree, path, lines, columns) {
+        Ok(opening) => view_alone(panels, opening, lines, columns, now),
+        Err(NoMemory) => Err(StartError::Memory),
+    }
+}
+
+/// Opens the file that a path leads to.
+fn open_file<T: ReadTree>(
+    alloc: Global,
+    tree: &mut T,
+    path: &Path,
+    lines: u16,
+    columns: u16,
+) -> Result<Opening, NoMemory>
+    ensures opens { IfOk result (OpensThing (T.contents tree.old) [] (path_text path.now) lines columns) }
+    ensures reads { ReadsToOpen result (T.contents tree.old) (T.contents tree.new) (T.fault_count tree.old) (T.fault_count tree.new) }
+{
+    let text = path.text(alloc)?;
+    open_thing(
         alloc,
         tree,
         &Path::root(alloc),
         text.as_str(),
         lines,
         columns,
-    ) {
-        Ok(Opening::Viewed(mode)) => Ok(viewing(panels, mode, lines, columns, now)),
-        Ok(Opening::NoWay(error)) => Err(refused(StartPlace::File, error)),
-        Ok(Opening::Unread(path, error)) => Err(unread(path, error)),
-        Err(NoMemory) => Err(StartError::Memory),
+    )
+}
+
+/// What opening the file came to: it is viewed alone, or the session doesn't start.
+fn view_alone(
+    panels: Panels,
+    opening: Opening,
+    lines: u16,
+    columns: u16,
+    now: u64,
+) -> Result<Ui, StartError>
+    requires { panels ≡ unread_pair }
+    ensures { result ≡ viewed_alone opening lines columns now }
+{
+    match opening {
+        Opening::Viewed(mode) => Ok(viewing(panels, mode, lines, columns, now)),
+        Opening::NoWay(error) => Err(refused(StartPlace::File, error)),
+        Opening::Unread(path, error) => Err(unread(path, error)),
     }
 }
 
-/// A file is viewed, and leaving the viewer ends the session.
+/// The file is viewed, and leaving the viewer ends the session.
 fn viewing(panels: Panels, mode: ViewerMode, lines: u16, columns: u16, now: u64) -> Ui
-    requires lines { mode.lines ≡ lines }
-    requires columns { mode.columns ≡ columns }
-    requires panels { panels ≡ unread_pair }
+    requires { panels ≡ unread_pair }
     ensures { result ≡ viewing_alone mode lines columns now }
 {
     let mut ui = Ui::new(panels, lines, columns, now);

@@ -13,13 +13,13 @@ use Rattle.mc_desk.specs.declared.starts.StartError.{StartError}
 use Rattle.mc_desk.specs.declared.starts.StartError.TheVariants.{Resolve, Memory}
 use Rattle.mc_desk.specs.declared.starts.Start.{Start}
 use Rattle.mc_desk.specs.declared.starts.StartMode.{StartMode}
-use Rattle.mc_desk.specs.declared.starts.StartMode.TheVariants as mode
+use Rattle.mc_desk.specs.declared.starts.StartMode.TheVariants as opens
 use Rattle.mc_desk.specs.declared.starts.StartPlace.{StartPlace}
 use Rattle.mc_desk.specs.Starts.{IsStartCause, is_start_fault}
 use Rattle.mc_main.specs.declared.words.Printed.{Printed}
 use Rattle.mc_main.specs.declared.words.Printed.TheVariants.{Usage, Help, Version}
 use Rattle.mc_main.specs.declared.words.Typed.{Typed}
-use Rattle.mc_main.specs.declared.words.Typed.TheVariants as typed
+use Rattle.mc_main.specs.declared.words.Typed.TheVariants as said
 use Rattle.mc_main.specs.declared.words.Beginning.{Beginning}
 use Rattle.mc_main.specs.declared.words.Beginning.TheVariants.{Session, Print}
 use Rattle.mc_main.specs.Beginnings.{AskFor, IsBeginning, asked_in, printed_for, session_start, start_with, start_word, status_with, text_of, word_for}
@@ -28,17 +28,17 @@ use Rattle.mc_main.specs.Printed.{IsCauseIn, MayPut, MayPutCause, PrintsCause, P
 
 -- what was typed for a path is the word that names it
 names_word : (place : StartPlace) (asked : Option Words) (start : StartMode) (word : Typed) → AskFor asked start word → start_word place asked ≡ word_for place word
-names_word place asked (mode.Panels left right) (typed.Panels on_left on_right) is = ap (start_word place) is
-names_word place asked (mode.Panels left right) (typed.File word) is = absurd is
-names_word place asked (mode.View path) (typed.Panels on_left on_right) is = absurd is
-names_word place asked (mode.View path) (typed.File word) is = ap (start_word place) is
+names_word place asked (opens.Panels left right) (said.Panels on_left on_right) is = ap (start_word place) is
+names_word place asked (opens.Panels left right) (said.File word) is = absurd is
+names_word place asked (opens.View path) (said.Panels on_left on_right) is = absurd is
+names_word place asked (opens.View path) (said.File word) is = ap (start_word place) is
 
 -- a session starts at the paths that its words name
 starts_at : (size : ScreenSize) (asked : Option Words) (start : StartMode) (word : Typed) → AskFor asked start word → session_start size asked ≡ Some (start_with size start)
-starts_at size asked (mode.Panels left right) (typed.Panels on_left on_right) is = ap (session_start size) is
-starts_at size asked (mode.Panels left right) (typed.File word) is = absurd is
-starts_at size asked (mode.View path) (typed.Panels on_left on_right) is = absurd is
-starts_at size asked (mode.View path) (typed.File word) is = ap (session_start size) is
+starts_at size asked (opens.Panels left right) (said.Panels on_left on_right) is = ap (session_start size) is
+starts_at size asked (opens.Panels left right) (said.File word) is = absurd is
+starts_at size asked (opens.View path) (said.Panels on_left on_right) is = absurd is
+starts_at size asked (opens.View path) (said.File word) is = ap (session_start size) is
 
 -- in the size of its screen
 pub starts_in : (size : ScreenSize) (asked : Option Words) (start : Start) (typed : Typed) → IsBeginning size asked (Session start typed) → session_start size asked ≡ Some start
@@ -85,10 +85,10 @@ asked_read folder text words started asked is same read = sym (ap (λ route. ask
 
 -- nothing is printed in place of a session
 asks_for_none : (asked : Option Words) (start : StartMode) (word : Typed) → AskFor asked start word → printed_for asked ≡ None
-asks_for_none asked (mode.Panels left right) (typed.Panels on_left on_right) is = ap printed_for is
-asks_for_none asked (mode.Panels left right) (typed.File word) is = absurd is
-asks_for_none asked (mode.View path) (typed.Panels on_left on_right) is = absurd is
-asks_for_none asked (mode.View path) (typed.File word) is = ap printed_for is
+asks_for_none asked (opens.Panels left right) (said.Panels on_left on_right) is = ap printed_for is
+asks_for_none asked (opens.Panels left right) (said.File word) is = absurd is
+asks_for_none asked (opens.View path) (said.Panels on_left on_right) is = absurd is
+asks_for_none asked (opens.View path) (said.File word) is = ap printed_for is
 
 pub prints_none : (size : ScreenSize) (asked : Option Words) (start : Start) (typed : Typed) → IsBeginning size asked (Session start typed) → printed_for asked ≡ None
 prints_none size asked start typed is = asks_for_none asked start.mode typed is.0

@@ -9,14 +9,14 @@ use Rattle.start_words.specs.Asked.{asked_by}
 use Rattle.start_words.specs.Sizes.{ScreenSize, size_said}
 use Rattle.mc_desk.specs.declared.starts.Start.{Start}
 use Rattle.mc_desk.specs.declared.starts.StartMode.{StartMode}
-use Rattle.mc_desk.specs.declared.starts.StartMode.TheVariants as mode
+use Rattle.mc_desk.specs.declared.starts.StartMode.TheVariants as opens
 use Rattle.mc_desk.specs.declared.starts.StartPlace.{StartPlace}
 use Rattle.mc_desk.specs.declared.starts.StartPlace.TheVariants.{Left, Right, File}
 use Rattle.mc_main.specs.declared.run.Env.{Env}
 use Rattle.mc_main.specs.declared.words.Printed.{Printed}
 use Rattle.mc_main.specs.declared.words.Printed.TheVariants.{Usage, Help, Version}
 use Rattle.mc_main.specs.declared.words.Typed.{Typed}
-use Rattle.mc_main.specs.declared.words.Typed.TheVariants as typed
+use Rattle.mc_main.specs.declared.words.Typed.TheVariants as said
 use Rattle.mc_main.specs.declared.words.Beginning.{Beginning}
 use Rattle.mc_main.specs.declared.words.Beginning.TheVariants.{Session, Print}
 
@@ -59,11 +59,11 @@ size_in env = size_said env.lines env.columns
 
 -- the words ask for a session of these paths, which were typed so
 abbrev pub AskFor : Option Words → StartMode → Typed → Type 0
-AskFor words (mode.Panels left right) (typed.Panels on_left on_right) =
+AskFor words (opens.Panels left right) (said.Panels on_left on_right) =
     words ≡ Some (Panels (record { typed = on_left; path = left }) (record { typed = on_right; path = right }))
-AskFor words (mode.Panels left right) (typed.File word) = ⊥
-AskFor words (mode.View path) (typed.Panels on_left on_right) = ⊥
-AskFor words (mode.View path) (typed.File word) = words ≡ Some (View (record { typed = word; path = path }))
+AskFor words (opens.Panels left right) (said.File word) = ⊥
+AskFor words (opens.View path) (said.Panels on_left on_right) = ⊥
+AskFor words (opens.View path) (said.File word) = words ≡ Some (View (record { typed = word; path = path }))
 
 -- a run begins as its words ask for it, on a screen of this size
 abbrev pub IsBeginning : ScreenSize → Option Words → Beginning → Type 0
@@ -79,8 +79,8 @@ abbrev pub session_start : ScreenSize → Option Words → Option Start
 session_start size None = None
 session_start size (Some asked.Help) = None
 session_start size (Some asked.Version) = None
-session_start size (Some (Panels left right)) = Some (start_with size (mode.Panels left.path right.path))
-session_start size (Some (View file)) = Some (start_with size (mode.View file.path))
+session_start size (Some (Panels left right)) = Some (start_with size (opens.Panels left.path right.path))
+session_start size (Some (View file)) = Some (start_with size (opens.View file.path))
 session_start size (Some NotBuilt) = None
 
 -- what the session starts with that words and surroundings ask for
@@ -89,16 +89,16 @@ start_in env words = session_start (size_in env) (asked_in env.folder words)
 
 -- what was typed for a path of the session; a session of panels views no file
 abbrev pub word_for : StartPlace → Typed → List ℕ
-word_for place (typed.File word) = word
-word_for Left (typed.Panels left right) = left
-word_for Right (typed.Panels left right) = right
-word_for File (typed.Panels left right) = []
+word_for place (said.File word) = word
+word_for Left (said.Panels left right) = left
+word_for Right (said.Panels left right) = right
+word_for File (said.Panels left right) = []
 
 -- the word that names a path of the session, or without a word the folder in which the program was started
 abbrev pub start_word : StartPlace → Option Words → List ℕ
 start_word place None = []
 start_word place (Some asked.Help) = []
 start_word place (Some asked.Version) = []
-start_word place (Some (Panels left right)) = word_for place (typed.Panels left.typed right.typed)
-start_word place (Some (View file)) = word_for place (typed.File file.typed)
+start_word place (Some (Panels left right)) = word_for place (said.Panels left.typed right.typed)
+start_word place (Some (View file)) = word_for place (said.File file.typed)
 start_word place (Some NotBuilt) = []

@@ -1,2 +1,4 @@
 pub mod BoxSizes
+mod NoWays
+mod Readings
 pub mod UnknownKeys

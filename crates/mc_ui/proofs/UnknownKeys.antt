@@ -1,5 +1,5 @@
 -- A key that is none leaves the screen as it was but for the second, so it asks for nothing that is to be carried out.
-use Rattle.std.proofs.Common.{◌≡◌, ℕ, Bool, true, false, List, [], refl, sym, ◌∙◌, ap, subst, Option}
+use Rattle.std.proofs.Common.{◌≡◌, ℕ, Bool, true, false, List, [], refl, sym, ◌∙◌, ap, subst, Option, Some, None}
 use Rattle.std.specs.Prelude.{MatchBool, is_some}
 use Rattle.key_screen.specs.declared.keys.Key.{Key}
 use Rattle.key_screen.specs.declared.keys.Base.TheVariants.{Unknown}
@@ -7,7 +7,11 @@ use Rattle.tree_trait.specs.Change.{CallLog}
 use Rattle.job_reports.specs.declared.row.JobRow.{JobRow}
 use Rattle.session_history.specs.declared.refusal.Refusal.{Refusal}
 use Rattle.mc_ui.specs.Boxes.{Box, NoBox, DeleteBox, MaskBox, TargetBox, FolderBox, TroubleBox, PanelsBox}
-use Rattle.mc_ui.specs.Screens.{ByBox, KeyLeads, Screen, WorksKey, after_message, at_second}
+use Rattle.viewer_mode.specs.declared.act.ViewerAct.{ViewerAct}
+use Rattle.viewer_mode.specs.ViewerScreens.{ViewerScreen}
+use Rattle.viewer_mode.proofs.UnknownKeys.{unknown_stays as viewer_stays}
+use Rattle.mc_ui.specs.declared.viewing.ViewedFile.{ViewedFile}
+use Rattle.mc_ui.specs.Screens.{ByBox, ByViewing, KeyLeads, Screen, WorksKey, after_act, after_message, at_second, with_viewer}
 use Rattle.mc_ui.specs.PanelKeys.{plain_base}
 
 abbrev pub unknown_key : Bool → Key
@@ -40,10 +44,20 @@ module _ (contents : Option CallLog) (rows : List JobRow) (refusals : List Refus
   by_message true false h = by_box true before.over refl h
   by_message false false h = by_box false before.over refl h
 
+  by_viewing : (meta : Bool) (viewing : Option ViewedFile) → before.viewing ≡ viewing → ByViewing viewing contents rows (unknown_key meta) refusals before after
+      → after ≡ before
+  by_viewing meta None is h = by_message meta (is_some before.message) h
+  by_viewing meta (Some viewed) is h =
+      let stays = viewer_stays contents (unknown_key meta) h.act viewed.mode h.page refl h.leads in
+      h.after_is
+      ∙ (ap (λ (act : ViewerAct). after_act act viewed.leaving (with_viewer h.page viewed.leaving before)) stays.0
+      ∙ (ap (λ (page : ViewerScreen). with_viewer page viewed.leaving before) stays.1
+      ∙ ap (λ v. let same : Screen = record before { viewing = v } in same) (sym is)))
+
 -- the screen stays
 pub unknown_stays : (contents : Option CallLog) (rows : List JobRow) (now : ℕ) (key : Key) (refusals : List Refusal) (before after : Screen)
     → key.base ≡ Unknown → KeyLeads contents rows now key refusals before after → after ≡ at_second now before
 unknown_stays contents rows now key refusals before after is leads =
     let at : Screen = at_second now before in
-    by_message contents rows refusals at after key.meta (is_some before.message)
+    by_viewing contents rows refusals at after key.meta before.viewing refl
     (subst (λ b. WorksKey contents rows (let k : Key = record { meta = key.meta; base = b } in k) refusals at after) is leads)

@@ -63,7 +63,13 @@ fn things_to_view(alloc: Global) -> Result<MemTree> {
     let mut tree = MemTree::new(alloc, 0)?;
     put_folder(alloc, &mut tree, "/a", 0o755)?;
     put_folder(alloc, &mut tree, "/a/d", 0o755)?;
-    put_file(alloc, &mut tree, "/a/x", 0o644, b"one\ntwo\nthree\nfour\nfive\nsix\nseven\neight\nnine\nten\neleven\ntwelve\n")?;
+    put_file(
+        alloc,
+        &mut tree,
+        "/a/x",
+        0o644,
+        b"one\ntwo\nthree\nfour\nfive\nsix\nseven\neight\nnine\nten\neleven\ntwelve\n",
+    )?;
     put_file(alloc, &mut tree, "/a/u", 0, b"no")?;
     put_pipe(alloc, &mut tree, "/a/p")?;
     put_link(alloc, &mut tree, "/a/l", "x")?;

@@ -122,11 +122,11 @@ impl Ui {
         let mut mode = mode;
         let deed = work_viewer(alloc, tree, &mut mode, key);
         self.view(mode, leaving);
-        Ok(self.follow(leaving, deed?))
+        Ok(self.leave_or_stay(leaving, deed?))
     }
 
     /// Follows what a key of the viewer came to: it is left, or stays.
-    fn follow(&mut self, leaving: Leaving, deed: ViewerDeed) -> KeyAct
+    fn leave_or_stay(&mut self, leaving: Leaving, deed: ViewerDeed) -> KeyAct
         ensures after { with_ask result.ask self.new ≡ after_act deed.act leaving self.old }
         ensures refusals { result.refusals ≡ deed.refusals }
         ensures unasked { is_request result.ask ≡ false }
