@@ -18,6 +18,7 @@ import tempfile
 import termios
 import time
 
+from big_home import make_home, name_row, rows_of
 from frames import LONG_AGO, PARENT, SMALL, SMALL_LOOKS, SMALL_PAGE, file_row, frame, page, with_box
 from terminal_screen import Screen
 
@@ -368,6 +369,12 @@ def check_panels(program, base, check):
     rows = left_panel(told.screens[0])[1]
     check("folders come first, and links to them are among them", [row[0] for row in rows] == ["/", "/", "~", "!"])
 
+    for word, names in [("to", ["one", "two"]), ("one/../to/three", ["one", "two", "three"])]:
+        _, told, _ = run(program, [path(word), base], [F10])
+        check(f"a start path leads along links: {word}", left_panel(told.screens[0])[0] == path(*names))
+    status, told, same = run(program, [path("round"), base], [])
+    check("a link to itself is refused at the start", status == 2 and f"mc: {path('round')}: too many links".encode() in told and same)
+
     inside = path("one", "two")
     make_file(os.path.join(inside, "g"), 3, 0o644)
     remove = lambda _: os.remove(os.path.join(inside, "g"))
@@ -478,6 +485,25 @@ def check_panel_boxes(program, base, check):
     check("nothing is to be seen of C-x", screens[1].rows() == plain or screens[1].rows() == screens[0].rows())
     check("C-x d tags what differs in both panels", bold_names(screens[2]) == ["a.c", "b.c"] and right_bold(screens[2]) == ["a.c", "n.h"])
     check("behind C-x another key does nothing", bold_names(screens[4]) == bold_names(screens[2]))
+
+
+def check_big_home(program, base, check):
+    """A home of 5,000 hidden, wide and linked names, and one that is not UTF-8: both ends of its list, in several orders."""
+    folder = os.path.join(base, "home")
+    things = make_home(folder)
+    plain = lambda thing: not thing.name.startswith(".")
+    ends_in_5 = lambda thing: thing.is_folder() or thing.name.endswith("5")
+    keys = [END, option("Sort size") + HOME, END, option("Reverse") + HOME, END, option("Reverse") + option("Sort name") + HIDDEN + HOME, END]
+    keys += [HIDDEN + option("Filter") + b"*5" + ENTER + HOME, END]
+    wanted = [("by name", rows_of(things)), ("by size", rows_of(things, by_size=True)), ("by size reversed", rows_of(things, by_size=True, reverse=True))]
+    wanted += [("without hidden names", rows_of(list(filter(plain, things)))), ("filtered", rows_of(list(filter(ends_in_5, things))))]
+    status, told, same = run(program, [folder, base], keys + [F10])
+    check("the panel of a big home ends well", status == 0 and same and len(told.screens) == len(keys) + 1)
+    shown = [["".join(text for text, _ in cells[1:39]) for cells in screen.cells[2:21]] for screen in told.screens]
+    shown += [[]] * (len(keys) + 1 - len(shown))
+    for at, (order, rows) in enumerate(wanted):
+        check(f"a big home {order}: the first rows", shown[2 * at] == rows[:18] + [name_row("..")])
+        check(f"a big home {order}: the last rows", shown[2 * at + 1] == rows[-18:] + [name_row(rows[-1][1:].split("|")[0].strip())])
 
 
 def check_new_folders(program, base, check):
@@ -759,6 +785,7 @@ def main():
         check_viewer(program, base, check)
         check_panels(program, base, check)
         check_panel_boxes(program, base, check)
+        check_big_home(program, base, check)
         check_new_folders(program, base, check)
         check_closed_folder(program, base, check)
         check_long_path(program, base, check)
