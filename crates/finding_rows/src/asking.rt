@@ -33,7 +33,7 @@ fn tell_move<T: Tree>(page: &mut Page, tree: &mut T, paths: &str) {
     page.put(" moved");
 }
 
-fn path_of(page: &mut Page, field: &str) -> Option<Path> {
+pub fn path_of(page: &mut Page, field: &str) -> Option<Path> {
     let path = path_spelled(page, field);
     Path::parse(page.alloc(), path.text()).ok()
 }
@@ -111,7 +111,7 @@ fn tell_next<T: Tree>(page: &mut Page, tree: &mut T, finder: &mut Finder) -> boo
 }
 
 /// A path, or, where it is long, how its last name begins and how many bytes the path has.
-fn tell_path(page: &mut Page, path: &Path) {
+pub fn tell_path(page: &mut Page, path: &Path) {
     match path.text(page.alloc()) {
         Ok(text) => tell_text(page, text.as_str()),
         Err(_error) => page.fail(),

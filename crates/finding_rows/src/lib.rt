@@ -4,9 +4,11 @@
 ghost use Rattle.std.specs.Prelude.{◌≡◌, []};
 
 mod asking;
+mod keyed;
 mod things;
 
 use crate::asking::tell_row;
+use crate::keyed::tell_key_row;
 use crate::things::put_things;
 use mem_tree::MemTree;
 use row_page::Page;
@@ -30,7 +32,10 @@ fn tell_in(page: &mut Page, tree: &mut MemTree, lines: &str)
     for row in rows.lines() {
         page.put(row);
         page.put(" =>");
-        tell_row(page, tree, row);
+        match row.strip_prefix("keys|") {
+            Some(row) => tell_key_row(page, tree, row),
+            None => tell_row(page, tree, row),
+        }
         page.put("\n");
     }
 }
