@@ -125,17 +125,17 @@ at_end s path at file e same leads refused =
 unread : (contents : Option CallLog) (path : Route) (lines columns : ℕ) (at : Route) (e : TreeError) → OpensThing contents [] (path_text path) lines columns (Unread at e)
     → IfKnown contents (λ log. IsStartCause (current log) (View path) (unread_error at e))
 unfolding IsRefused
-unread contents path lines columns at tree.Missing (file, leads, same, some, refused) log known = at_end (current log) path at file tree.Missing same (leads log known) (refused log known)
-unread contents path lines columns at tree.NotFolder (file, leads, same, some, refused) log known = at_end (current log) path at file tree.NotFolder same (leads log known) (refused log known)
-unread contents path lines columns at tree.Denied (file, leads, same, some, refused) log known = at_end (current log) path at file tree.Denied same (leads log known) (refused log known)
-unread contents path lines columns at tree.Exists (file, leads, same, some, refused) log known = at_end (current log) path at file tree.Exists same (leads log known) (refused log known)
-unread contents path lines columns at tree.IsFolder (file, leads, same, some, refused) log known = at_end (current log) path at file tree.IsFolder same (leads log known) (refused log known)
-unread contents path lines columns at tree.NotEmpty (file, leads, same, some, refused) log known = at_end (current log) path at file tree.NotEmpty same (leads log known) (refused log known)
-unread contents path lines columns at tree.IntoItself (file, leads, same, some, refused) log known = at_end (current log) path at file tree.IntoItself same (leads log known) (refused log known)
-unread contents path lines columns at tree.Mounted (file, leads, same, some, refused) log known = at_end (current log) path at file tree.Mounted same (leads log known) (refused log known)
-unread contents path lines columns at tree.CrossMount (file, leads, same, some, refused) log known = at_end (current log) path at file tree.CrossMount same (leads log known) (refused log known)
-unread contents path lines columns at tree.NoSpace (file, leads, same, some, refused) log known = at_end (current log) path at file tree.NoSpace same (leads log known) (refused log known)
-unread contents path lines columns at tree.Special (file, leads, same, some, refused) log known = at_end (current log) path at file tree.Special same (leads log known) (refused log known)
+unread contents path lines columns at tree.Missing (file, leads, (same, some, refused)) log known = at_end (current log) path at file tree.Missing same (leads log known) (refused log known)
+unread contents path lines columns at tree.NotFolder (file, leads, (same, some, refused)) log known = at_end (current log) path at file tree.NotFolder same (leads log known) (refused log known)
+unread contents path lines columns at tree.Denied (file, leads, (same, some, refused)) log known = at_end (current log) path at file tree.Denied same (leads log known) (refused log known)
+unread contents path lines columns at tree.Exists (file, leads, (same, some, refused)) log known = at_end (current log) path at file tree.Exists same (leads log known) (refused log known)
+unread contents path lines columns at tree.IsFolder (file, leads, (same, some, refused)) log known = at_end (current log) path at file tree.IsFolder same (leads log known) (refused log known)
+unread contents path lines columns at tree.NotEmpty (file, leads, (same, some, refused)) log known = at_end (current log) path at file tree.NotEmpty same (leads log known) (refused log known)
+unread contents path lines columns at tree.IntoItself (file, leads, (same, some, refused)) log known = at_end (current log) path at file tree.IntoItself same (leads log known) (refused log known)
+unread contents path lines columns at tree.Mounted (file, leads, (same, some, refused)) log known = at_end (current log) path at file tree.Mounted same (leads log known) (refused log known)
+unread contents path lines columns at tree.CrossMount (file, leads, (same, some, refused)) log known = at_end (current log) path at file tree.CrossMount same (leads log known) (refused log known)
+unread contents path lines columns at tree.NoSpace (file, leads, (same, some, refused)) log known = at_end (current log) path at file tree.NoSpace same (leads log known) (refused log known)
+unread contents path lines columns at tree.Special (file, leads, (same, some, refused)) log known = at_end (current log) path at file tree.Special same (leads log known) (refused log known)
 unread contents path lines columns at tree.Fault h log known = tt
 unread contents path lines columns at tree.Memory h log known = tt
 

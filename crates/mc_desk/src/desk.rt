@@ -41,7 +41,9 @@ impl<N: Tag, T: Tree, S: Sink, P: Spawner> Model for Desk<N, T, S, P> {
 
 impl<N: Tag, T: Tree, S: Sink, P: Spawner> Desk<N, T, S, P> {
     /// Opens a session at a second of the clock: in the folders to which two paths lead, or in the viewer on the file to which one
-    /// does. It is refused as the first path is that leads to none which can be read, or since memory ran out; the devices are as they were then, but for the tree's count of faults.
+    /// does. It is refused as the first of its paths that leads to no folder that can be listed, or to no file that can be read, or
+    /// since memory ran out; the devices are as they were then, but for the tree's
+    /// count of faults.
     pub fn begin(
         alloc: Global,
         start: Start,

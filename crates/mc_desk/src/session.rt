@@ -52,7 +52,8 @@ impl<N: Tag, T: Tree, S: Sink, P: Spawner> Model for Session<N, T, S, P> {
 
 impl<N: Tag, T: Tree, S: Sink, P: Spawner> Session<N, T, S, P> {
     /// Opens a session at a second of the clock: in the folders to which two paths lead, or in the viewer on the file to which one
-    /// does. It is refused as the first path is that leads to none which can be read, or since memory ran out; the tree is as it was then.
+    /// does. It is refused as the first of its paths that leads to no folder that can be listed, or to no file that can be read, or
+    /// since memory ran out; the tree is as it was then.
     pub fn begin(
         alloc: Global,
         start: Start,

@@ -1,5 +1,5 @@
 -- What a run promises, from what its session does, or where none began.
-use Rattle.std.proofs.Common.{◌≡◌, ◌⊎◌, ◌≤◌, ℕ, Bool, true, List, [], refl, sym, subst, inl, inr, Option, Some, None, IsSome, ◌∷◌, ◌++◌, ◌∙◌}
+use Rattle.std.proofs.Common.{◌≡◌, ◌⊎◌, ◌≤◌, ℕ, Bool, true, List, [], refl, sym, subst, inl, inr, Option, Some, None, ◌∷◌, ◌++◌, ◌∙◌}
 use Rattle.mc_text.specs.Routes.{Route}
 use Rattle.tree_trait.specs.Change.{CallLog, current}
 use Rattle.tree_trait.specs.Answers.{IfKnown, HasRisen}

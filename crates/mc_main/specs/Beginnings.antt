@@ -87,12 +87,13 @@ session_start size (Some NotBuilt) = None
 abbrev pub start_in : Env → List (List ℕ) → Option Start
 start_in env words = session_start (size_in env) (asked_in env.folder words)
 
--- what was typed for a path of the session; a session of panels views no file
+-- What was typed for a path of the session. One that views a file has one word, and one of panels, which views none, has the left
+-- panel's in its place.
 abbrev pub word_for : StartPlace → Typed → List ℕ
 word_for place (said.File word) = word
 word_for Left (said.Panels left right) = left
 word_for Right (said.Panels left right) = right
-word_for File (said.Panels left right) = []
+word_for File (said.Panels left right) = left
 
 -- the word that names a path of the session, or without a word the folder in which the program was started
 abbrev pub start_word : StartPlace → Option Words → List ℕ

@@ -82,8 +82,9 @@ pub fn mc_run<N: Tag, T: Tree, K: Source, S: Sink, P: Spawner, C: Clock, G: Gate
         IsReplayedRun opening now (reverse result.history.entries))) }
 
     // The history is a session: a job is begun directly after the key that confirmed it, as it was planned; its trouble is
-    // answered directly after the key that answers it; no key is taken where a step or a look is due; F10 without a box, or the
-    // leaving of the viewer with which the session began, asks for the end, and then only steps and the closing follow. At status 0 the end was asked for, or all bytes were taken.
+    // answered directly after the key that answers it; no key is taken where a step or a look is due; F10 in the panels, without a
+    // box, or leaving the viewer with which the session began, asks for the end, and then only steps and the closing follow. At
+    // status 0 the end was asked for, or all bytes were taken.
     // Each entry of a step is a piece of the job's work with the calls that belong to it, or the sync of a folder that an ended
     // job left. A tree that tells what it holds is handed back telling it.
     ensures traced { IsTracedTo (T.contents tree) (T.contents result.tree) (reverse result.history.entries) }

@@ -53,7 +53,7 @@ pub enum Typed {
 }
 
 impl Typed {
-    /// What was typed for a path; for the file of a session of panels, which has none, nothing.
+    /// What was typed for a path. A session of panels views no file; for that it has the left panel's word.
     pub fn word_for(&self, place: StartPlace) -> &str
         ensures { result.now ≡ word_of place self.now }
     {
@@ -61,7 +61,7 @@ impl Typed {
             Typed::Panels { left, right } => match place {
                 StartPlace::Left => left.0.as_str(),
                 StartPlace::Right => right.0.as_str(),
-                StartPlace::File => "",
+                StartPlace::File => left.0.as_str(),
             },
             Typed::File(word) => word.0.as_str(),
         }

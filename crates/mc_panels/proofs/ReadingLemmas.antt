@@ -1,7 +1,8 @@
 -- What a refused reading is told as, and how many rows a listing has.
 use Rattle.std.proofs.Common.{◌≡◌, ◌⊎◌, inl, inr, ℕ, ◌+◌, ◌<◌, ◌≤◌, ◌^◌, Bool, true, false, if◌then◌else◌, List, [], ◌∷◌, ◌++◌, length, map, filter, Option, Some, None, Err, refl, sym, ap, ◌∙◌, arith, length-append}
 use Rattle.std.proofs.lemmas.List.{length-map}
-use Rattle.std.proofs.lemmas.List.Sorted.{length_permutation}
+use Rattle.std.proofs.lemmas.List.Sorted.{IsPermutation-refl, length_permutation}
+use Rattle.std.specs.List.Sorted.{IsStrictlySortedBy}
 use Rattle.mc_text.specs.Routes.{Route}
 use Rattle.tree_trait.specs.declared.calls.TreeError.{TreeError}
 use Rattle.tree_trait.specs.declared.calls.TreeError.TheVariants as tree
@@ -14,7 +15,8 @@ use Rattle.resolving.specs.Errors.{refused_by, CarriesCause, count_told}
 use Rattle.panel_listing.specs.declared.item.Item.{Item}
 use Rattle.panel_listing.specs.declared.wish.Wish.{Wish}
 use Rattle.panel_listing.specs.Orders.{is_shown, AreArranged}
-use Rattle.panel_listing.specs.Listings.{Listed, IsListingOf, rows_in}
+use Rattle.panel_listing.specs.Listings.{Listed, IsListingOf, nothing_listed, rows_in}
+use Rattle.mc_panels.specs.Panels.{IsSteady}
 use Rattle.mc_panels.specs.Readings.{ListsFolder}
 
 -- a refusal of `list` is told as it is
@@ -96,3 +98,13 @@ rows_within wish listing arranged = go listing.has_parent
     go : (above : Bool) → length ((if above then None ∷ [] else []) ++ map {A = Item} {B = Option Item} Some listing.shown) ≤ 1 + length listing.items
     go true = omega (arith, shown, length-map {A = Item} {B = Option Item} listing.shown Some)
     go false = omega (arith, shown, length-map {A = Item} {B = Option Item} listing.shown Some)
+
+-- where nothing is listed, nothing is out of order
+pub nothing_steady : (wish : Wish) → IsSteady wish nothing_listed 0 0
+unfolding IsStrictlySortedBy
+nothing_steady wish = record {
+  arranged = record { kept = IsPermutation-refl []; ordered = tt };
+  small = omega arith;
+  within = omega arith;
+  near = omega arith;
+}

@@ -14,6 +14,7 @@ use Rattle.mc_dialogs.specs.InputKeys.{InputState, input_after, input_shut}
 use Rattle.box_words.specs.declared.replies.LineReply.{LineReply}
 use Rattle.box_words.specs.declared.replies.LineReply.TheVariants as line
 use Rattle.box_words.specs.BoxKeys.{line_reply}
+use Rattle.session_history.specs.declared.refusal.Refusal.{Refusal}
 use Rattle.session_history.specs.declared.refusal.Refusal.TheVariants.{Read}
 use Rattle.session_history.specs.Refusals.{AreRefused, IsReadRefused}
 use Rattle.job_plans.specs.Refused.{has_fault, is_fault}
@@ -172,3 +173,24 @@ told_fault (Refused error.NotFound) subject f0 f1 risen h = absurd (false≢true
 told_fault (Refused error.BadPattern) subject f0 f1 risen h = absurd (false≢true h)
 told_fault (Refused (error.LineTooLong line)) subject f0 f1 risen h = absurd (false≢true h)
 told_fault (Refused error.Memory) subject f0 f1 risen h = absurd (false≢true h)
+
+-- what is told of a key of the viewer, told of what it is part of
+pub told_reads : {D : Type 0} (refusals : D → List Refusal) (contents after : Option CallLog) (key : Key) (before page : ViewerScreen) (act : ViewerAct) (f0 f1 : ℕ) (deed : D)
+    → refusals deed ≡ told_by act (viewed_path before.viewer.subject) → KeyLeads contents key act before page
+    → screens.ReadsTree {A = ViewerAct} {E = NoMemory} (λ act. act) (Ok act) contents after f0 f1 → ReadsTree {A = D} {E = NoMemory} refusals (Ok deed) contents after f0 f1
+told_reads refusals contents after key before page act f0 f1 deed is leads reads = record {
+  same = reads.same;
+  later = reads.later;
+  called = λ log known. subst (λ told. AreRefused log told) (sym is) (told_cause contents key before page act before.viewer.subject refl leads log known);
+  fault = λ h. told_fault act before.viewer.subject f0 f1 reads.fault (subst (λ told. has_fault told ≡ true) is h);
+}
+
+-- the same refusals, told of another answer
+pub reads_on : {A B : Type 0} (told : A → List Refusal) (told_on : B → List Refusal) (x : A) (y : B) (before after : Option CallLog) (f0 f1 : ℕ)
+    → told_on y ≡ told x → ReadsTree {A = A} {E = NoMemory} told (Ok x) before after f0 f1 → ReadsTree {A = B} {E = NoMemory} told_on (Ok y) before after f0 f1
+reads_on told told_on x y before after f0 f1 is reads = record {
+  same = reads.same;
+  later = reads.later;
+  called = λ log known. subst (λ told. AreRefused log told) (sym is) (reads.called log known);
+  fault = λ h. reads.fault (subst (λ told. has_fault told ≡ true) is h);
+}

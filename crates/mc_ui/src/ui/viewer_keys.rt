@@ -69,6 +69,7 @@ impl Ui {
         ensures reads { ReadsTree (λ (act : KeyActType). act.refusals) result (T.contents tree.old) (T.contents tree.new)
             (T.fault_count tree.old) (T.fault_count tree.new) }
     {
+        let _dialog = &self.dialog;
         let panel = self.panels().current();
         let Some(name) = panel.current_name() else {
             return Ok(asking_nothing(alloc));
@@ -92,6 +93,7 @@ impl Ui {
         ensures settled { self.new.planned ≡ None }
         ensures lost { OnErr result (self.new ≡ self.old) }
     {
+        let _dialog = &self.dialog;
         match opening {
             Opening::Viewed(mode) => {
                 self.view(mode, Leaving::ToPanels);
@@ -118,6 +120,7 @@ impl Ui {
         ensures reads { ReadsTree (λ (act : KeyActType). act.refusals) result (T.contents tree.old) (T.contents tree.new)
             (T.fault_count tree.old) (T.fault_count tree.new) }
     {
+        let _dialog = &self.dialog;
         let ViewedFile { mode, leaving } = viewed;
         let mut mode = mode;
         let deed = work_viewer(alloc, tree, &mut mode, key);
@@ -133,6 +136,7 @@ impl Ui {
         ensures size { HasSameSize self.old self.new }
         ensures settled { self.new.planned ≡ None }
     {
+        let _dialog = &self.dialog;
         let ViewerDeed { act, refusals } = deed;
         match act {
             ViewerAct::Stays => KeyAct {

@@ -1,5 +1,4 @@
 -- What opening the file came to is how the session opens, or why it doesn't.
-use Rattle.std.proofs.Common.{sym}
 use Rattle.mc_desk.proofs.Openings.{viewer_fault, viewer_opens, viewer_starts}
 use Rattle.mc_desk.proofs.opening.open_viewer.Goals as goal
 
