@@ -1,1 +1,2 @@
 mod KeptLists
+pub mod UnknownKeys
