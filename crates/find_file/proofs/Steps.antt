@@ -7,23 +7,27 @@ use Rattle.find_file.specs.declared.found.Found.{Found}
 use Rattle.find_file.specs.declared.found.Found.TheVariants.{End}
 use Rattle.find_file.specs.declared.finder.Finder.{Finder}
 use Rattle.find_file.specs.Walks.{rank, yet_to_come, yet_to_find}
-use Rattle.find_file.specs.Telling.{Advances, HasReason, IsOver, IsStep, cause_at}
+use Rattle.find_file.specs.declared.walk.Task.{Task}
+use Rattle.find_file.specs.Telling.{Advances, HasReason, IsOver, IsStep, Leaves, cause_at}
 use Rattle.find_file.proofs.Leading.{next-of, told-leads}
 
 module _ (contents : Option CallLog) (faults faults_after : ℕ) (finder left : Finder) where
   pub step_is : (r : Result (Option Found) NoMemory)
       → IfKnown contents (λ log. Advances (current log) finder.search (yet_to_come (current log) finder) r (yet_to_come (current log) left))
       → (r ≡ Ok None → rank left.walk < rank finder.walk) → (r ≡ Ok (Some End) → IsOver left.walk)
+      → ((task : Task) → finder.walk.task ≡ Some task → Leaves finder.walk task r left.walk) → (finder.walk.task ≡ None → faults_after ≡ faults)
       → HasReason faults faults_after (cause_at r)
       → IfOk r (λ told. IsStep contents faults faults_after finder told left)
-  step_is (Ok told) answer falls ended reason = record {
+  step_is (Ok told) answer falls ended leaves apart reason = record {
     next = λ log tells. next-of (current log) finder.search (yet_to_come (current log) finder) (yet_to_come (current log) left) told (answer log tells);
     answer = answer;
     falls = λ none. falls (cc);
+    leaves = leaves;
+    apart = apart;
     ended = λ end. ended (cc);
     reason = reason;
   }
-  step_is (Err e) answer falls ended reason = tt
+  step_is (Err e) answer falls ended leaves apart reason = tt
 
   pub step_waits : (r : Result (Option Found) NoMemory)
       → IfKnown contents (λ log. Advances (current log) finder.search (yet_to_come (current log) finder) r (yet_to_come (current log) left))

@@ -131,13 +131,16 @@ pub record IsOver (w : Walk) : Type 0 where
   pub no_child : w.inner.children ≡ []
   pub no_folder : w.around.nearest ≡ []
 
--- A step of a search that tells this: it is the first of what is yet to be found, and where it is nothing, fewer steps are left.
--- Behind the end nothing is left. A path is skipped for a fault only where the count of faults has risen.
+-- A step of a search that tells this: it is the first of what is yet to be found, and where it is nothing, fewer steps are left. It works
+-- the walk's task and no other, and without one makes no call that could fail. Behind the end nothing is left. A path is skipped for a
+-- fault only where the count of faults has risen.
 pub record IsStep (contents : Option CallLog) (faults faults_after : ℕ) (finder : Finder) (told : Option Found) (left : Finder) : Type 0 where
   pub next : IfKnown contents (λ log. IsNext (yet_to_find (current log) finder) told (yet_to_find (current log) left))
   pub answer : IfKnown contents (λ log.
       Advances (current log) finder.search (yet_to_come (current log) finder) (Ok told) (yet_to_come (current log) left))
   pub falls : told ≡ None → rank left.walk < rank finder.walk
+  pub leaves : (task : Task) → finder.walk.task ≡ Some task → Leaves finder.walk task (Ok told) left.walk
+  pub apart : finder.walk.task ≡ None → faults_after ≡ faults
   pub ended : told ≡ Some End → IsOver left.walk
   pub reason : HasReason faults faults_after (cause_at (Ok told))
 

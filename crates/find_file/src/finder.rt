@@ -5,11 +5,11 @@ ghost use Rattle.tree_trait.specs.Change.{current};
 ghost use Rattle.tree_trait.specs.Answers.{IfKnown};
 ghost use Rattle.find_file.specs.FoundList.{found_list, turns_below};
 ghost use Rattle.find_file.specs.Walks.{yet_to_come, yet_to_find};
-ghost use Rattle.find_file.specs.Telling.{Answers, HasReason, IsFirst, IsOver, IsStep, cause_in};
+ghost use Rattle.find_file.specs.Telling.{Answers, HasReason, IsFirst, IsOver, IsStep, Leaves, cause_in};
 
 use crate::found::Found;
 use crate::search::Search;
-use crate::walk::Walk;
+use crate::walk::{Task, Walk};
 use mc_text::{Bytes, NoMemory, Path};
 use std::alloc::Global;
 use tagging::Pattern;
@@ -69,6 +69,10 @@ impl Finder {
         ensures later { T.fault_count tree.old ≤ T.fault_count tree.new }
         ensures search { self.new.search ≡ self.old.search }
         ensures over { IsOver self.old.walk → (result ≡ Ok (Some Found.End)) × (tree.new ≡ tree.old) }
+
+        // It is one step of the walk: it works the task, and without one doesn't touch the tree.
+        ensures leaves { (task : Task) → self.old.walk.task ≡ Some task → Leaves self.old.walk task result self.new.walk }
+        ensures apart { self.old.walk.task ≡ None → tree.new ≡ tree.old }
     {
         self.walk.step(alloc, tree, &self.search)
     }
