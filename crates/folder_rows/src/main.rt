@@ -1,4 +1,4 @@
-//! Runs the rows of the viewer, searches below a folder, the two panels, and the editor.
+//! Runs the rows of the viewer, searches below a folder, the two panels, the editor, and copies of subtrees.
 #![tactic(auto)]
 
 use row_page::{Fault, Page};
@@ -15,6 +15,7 @@ impl Sections for Libraries {
             "finding" => finding_rows::tell_rows(page, rows),
             "panels" => pair_rows::tell_rows(page, rows),
             "editor" => edit_rows::tell_rows(page, rows),
+            "subtrees" => subtree_rows::tell_rows(page, rows),
             _ => page.fail(),
         }
     }

@@ -36,7 +36,7 @@ use Rattle.tree_copy.specs.Standing.{Seen, after_report, due_at, pair_of}
 use Rattle.tree_copy.specs.Steps.{FileWorks, FolderEnds, FolderMakes, GoesOn, Leaves, LeavesAll, LinkWorks, WorksOn, at_end, idle, noted as noted_seen, settled}
 
 -- the paths of a copy stay
-file_paths : (f new : Copying) (did : Did) → file.Tells f did new → (new.source ≡ f.source) × (new.target ≡ f.target)
+pub file_paths : (f new : Copying) (did : Did) → file.Tells f did new → (new.source ≡ f.source) × (new.target ≡ f.target)
 file_paths f new (Began part) t = (ap (λ (x : Copying). x.source) t.1.1, ap (λ (x : Copying). x.target) t.1.1)
 file_paths f new (Chunk count) t = (ap (λ (x : Copying). x.source) t.7, ap (λ (x : Copying). x.target) t.7)
 file_paths f new (Placed path) t = (ap (λ (x : Copying). x.source) t.4, ap (λ (x : Copying). x.target) t.4)
@@ -52,7 +52,7 @@ file_paths f new (Made made) t = absurd t
 file_paths f new (Kept path) t = absurd t
 file_paths f new (Skipped path cause) t = absurd t
 
-link_paths : (l new : LinkCopying) (did : Did) → link.Tells l did new → (new.source ≡ l.source) × (new.target ≡ l.target)
+pub link_paths : (l new : LinkCopying) (did : Did) → link.Tells l did new → (new.source ≡ l.source) × (new.target ≡ l.target)
 link_paths l new (Began part) t = (ap (λ (x : LinkCopying). x.source) t.2, ap (λ (x : LinkCopying). x.target) t.2)
 link_paths l new (Placed path) t = (ap (λ (x : LinkCopying). x.source) t.2, ap (λ (x : LinkCopying). x.target) t.2)
 link_paths l new (Cleaned part) t = (ap (λ (x : LinkCopying). x.source) t.3, ap (λ (x : LinkCopying). x.target) t.3)
@@ -72,17 +72,17 @@ folder_paths c new folder_did.Barrier t = (ap (λ (x : FolderCopying). x.source)
 folder_paths c new folder_did.Closed t = (ap (λ (x : FolderCopying). x.source) t.2, ap (λ (x : FolderCopying). x.target) t.2)
 folder_paths c new (folder_did.Troubled trouble) t = (ap (λ (x : FolderCopying). x.source) t.1, ap (λ (x : FolderCopying). x.target) t.1)
 
-moved_to : (top : Pair) (source target s t : Route) → s ≡ source → t ≡ target → IsMoved top source target → IsMoved top s t
+pub moved_to : (top : Pair) (source target s t : Route) → s ≡ source → t ≡ target → IsMoved top source target → IsMoved top s t
 moved_to top source target s t a b m = record { rest = m.rest; from = a ∙ m.from; to = b ∙ m.to }
 
 -- a level changes while its paths stay
-levels_keep : (top : Pair) (old new : Level) (around : List Level) → new.copy.source ≡ old.copy.source → new.copy.target ≡ old.copy.target
+pub levels_keep : (top : Pair) (old new : Level) (around : List Level) → new.copy.source ≡ old.copy.source → new.copy.target ≡ old.copy.target
     → (owed_of old.copy.stage ≡ None → owed_of new.copy.stage ≡ None) → ((name : List ℕ) → Among new.names.names name → Among old.names.names name)
     → AreMoved top old around → AreMoved top new around
 levels_keep top old new [] s t owed among h = record { from = s ∙ h.from; to = t ∙ h.to; keeps = owed h.keeps; only = λ name is. h.only name (among name is) }
 levels_keep top old new (outer ∷ around) s t owed among h = (moved_to top old.copy.source old.copy.target new.copy.source new.copy.target s t h.0, h.1)
 
-fewer : (names : List (List ℕ)) (name : List ℕ) → Among (let d = drop 1 names in d) name → Among names name
+pub fewer : (names : List (List ℕ)) (name : List ℕ) → Among (let d = drop 1 names in d) name → Among names name
 fewer [] name h = h
 fewer (x ∷ names) name h = inr h
 
@@ -100,19 +100,19 @@ owes_none c new folder_did.Barrier t h = ap (λ (x : FolderCopying). owed_of x.s
 owes_none c new folder_did.Closed t h = ap (λ (x : FolderCopying). owed_of x.stage) t.2
 owes_none c new (folder_did.Troubled trouble) t h = ap (λ (x : FolderCopying). owed_of x.stage) t.1 ∙ h
 
-dirty_keeps : (changed : Bool) (top : Pair) (inner : Level) (around : List Level) → AreMoved top inner around
+pub dirty_keeps : (changed : Bool) (top : Pair) (inner : Level) (around : List Level) → AreMoved top inner around
     → AreMoved top (let l = dirtied changed (record { inner = inner; around = around; left = 0 }) in l.inner) around
 dirty_keeps true top inner around h = levels_keep top inner (record inner { copy = record inner.copy { names = Dirty } }) around refl refl (λ o. o) (λ name is. is) h
 dirty_keeps false top inner around h = levels_keep top inner (record inner { copy = inner.copy }) around refl refl (λ o. o) (λ name is. is) h
 
 module _ (top : Pair) where
-  idle_in_place : (c : Seen) → IsInPlace top c → IsInPlace top (idle c)
+  pub idle_in_place : (c : Seen) → IsInPlace top c → IsInPlace top (idle c)
   idle_in_place c h = record { name = h.name; levels = h.levels; item = tt }
 
   noted_in_place : (did : CopyDid) (changed : Bool) (c : Seen) → IsInPlace top c → IsInPlace top (noted_seen did changed c)
   noted_in_place did changed c h = record { name = h.name; levels = dirty_keeps changed top c.levels.inner c.levels.around h.levels; item = h.item }
 
-  settled_in_place : (p : Progress) (item : Item) (c : Seen) → ItemMoved top item → IsInPlace top c → IsInPlace top (settled p item c)
+  pub settled_in_place : (p : Progress) (item : Item) (c : Seen) → ItemMoved top item → IsInPlace top c → IsInPlace top (settled p item c)
   settled_in_place UnderWay item c moved h = record { name = h.name; levels = h.levels; item = moved }
   settled_in_place Decided item c moved h = record {
     name = h.name;
@@ -168,7 +168,7 @@ module _ (top : Pair) where
       )
 
   -- what is taken up lies in its place
-  pair_moved : (names : List (List ℕ)) (c : Seen) (pair : Pair) → c.levels.inner.names.names ≡ names → due_at names c ≡ Thing pair → IsInPlace top c → IsMoved top pair.source pair.target
+  pub pair_moved : (names : List (List ℕ)) (c : Seen) (pair : Pair) → c.levels.inner.names.names ≡ names → due_at names c ≡ Thing pair → IsInPlace top c → IsMoved top pair.source pair.target
   pair_moved [] c pair is due_is h = absurd (let f : ⊥ = cc in f)
   pair_moved (name ∷ names) c pair is due_is h =
       let same : pair_of c name ≡ pair = cc in
@@ -221,7 +221,7 @@ module _ (top : Pair) where
       )
 
   -- at the end of a folder
-  closed_in_place : (c : Seen) → IsInPlace top c → IsInPlace top (at_end c)
+  pub closed_in_place : (c : Seen) → IsInPlace top c → IsInPlace top (at_end c)
   closed_in_place c h = record {
     name = h.name;
     levels = levels_keep top c.levels.inner (let l = closed c.levels in l.inner) c.levels.around refl refl (closing_owed c.levels.inner.copy.stage) (λ name is. is) h.levels;
@@ -268,7 +268,7 @@ module _ (top : Pair) where
         item = b.item;
       }
 
-  leaves_all : (n : ℕ) (old new : Seen) → LeavesAll n old new → IsInPlace top old → IsInPlace top new
+  pub leaves_all : (n : ℕ) (old new : Seen) → LeavesAll n old new → IsInPlace top old → IsInPlace top new
   leaves_all zero old new is h = subst (IsInPlace top) (sym is) h
   leaves_all (suc n) old new l h = leaves_keep l.0 new l.3 (leaves_all n old l.0 l.1 h)
 

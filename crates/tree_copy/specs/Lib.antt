@@ -1,4 +1,5 @@
 pub mod Levels
+pub mod MadeCalls
 pub mod Progress
 pub mod Reports
 pub mod Standing
@@ -9,3 +10,4 @@ pub mod Beginning
 pub mod Ending
 pub mod Falling
 pub mod InPlace
+pub mod WorkedFolder

@@ -45,10 +45,10 @@ use Rattle.tree_copy.specs.Reports.{IsFault, IsToldAs}
 use Rattle.tree_copy.specs.Standing.{Seen, after_report, due}
 use Rattle.tree_copy.specs.Taking.{DueStops, IsInReach, IsTaken, LooksStop}
 
--- a step can be made: no part is left that could not be removed
+-- a step can be made: a file or a link is at work while its part stands, and no part is left that could not be removed
 abbrev pub IsWorkable : Item → Type 0
 IsWorkable Next = ⊤
-IsWorkable (File f) = left_at f.stage ≡ None
+IsWorkable (File f) = (progress f.stage ≡ UnderWay) × (left_at f.stage ≡ None)
 IsWorkable (Link l) = (link_progress l.stage ≡ UnderWay) × (link.is_ready l.stage l.folder ≡ true)
 IsWorkable (Stays part) = ⊥
 

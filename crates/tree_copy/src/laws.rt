@@ -2,6 +2,8 @@
 ghost use Rattle.tree_copy.specs.Beginning.{BeginningLaw};
 ghost use Rattle.tree_copy.specs.Falling.{FallingLaw};
 ghost use Rattle.tree_copy.specs.InPlace.{PlaceLaw};
+ghost use Rattle.tree_copy.specs.MadeCalls.{CallLaw, StayingLaw};
+ghost use Rattle.tree_copy.specs.WorkedFolder.{WorkedFolderLaw};
 
 /// A copy that begins is in its place, and steady, as the laws below want it.
 pub fn a_copy_begins_in_its_place()
@@ -16,4 +18,19 @@ pub fn a_copy_keeps_to_its_place()
 /// No step of a copy leaves more things, and each that places a thing or makes a folder leaves fewer.
 pub fn each_decision_leaves_fewer_things()
     ensures { FallingLaw }
+{}
+
+/// A skip, a retry and a last step keep a copy in its place, too.
+pub fn skips_and_last_steps_keep_a_copy_in_its_place()
+    ensures { StayingLaw }
+{}
+
+/// A copy changes nothing but the targets of what lies at or below its source, and parts beside them: which calls its steps make.
+pub fn a_copy_changes_targets_and_their_parts_alone()
+    ensures { CallLaw }
+{}
+
+/// The folder of the file or link at work is the one that is worked.
+pub fn what_is_at_work_lies_in_the_folder_that_is_worked()
+    ensures { WorkedFolderLaw }
 {}
