@@ -66,6 +66,10 @@ pub record StepsOn (old new : FolderCopying) (did : FolderDid) (calls : ℕ) (be
   pub fault : IsFault did → HasRisen faults faults_after
   pub falls : Falls did old new
 
+-- a sync is the step of a folder at its end, and of one that is filled, too
+abbrev pub at_sync : FolderCopying → FolderCopying
+at_sync c = record c { stage = Close None; names = Dirty }
+
 -- A step that says where it left the copy: the copy then is sound.
 pub record MovesOn (old : FolderCopying) (moved : AfterStep) (before after : Option CallLog) (faults faults_after : ℕ) : Type 0 where
   pub steps : StepsOn old (record old { stage = moved.stage; names = moved.names }) moved.did moved.calls before after faults faults_after

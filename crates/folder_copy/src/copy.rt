@@ -1,10 +1,10 @@
 //! The copy of a folder: its beginning, and its end when its children are decided.
 ghost use Rattle.std.specs.Prelude.{◌≡◌, ◌≤◌, true, None};
 ghost use Rattle.folder_copy.specs.FolderCopying.{IsSound, at_barrier, closing, copying, is_dirty, is_ready, skipped as skipped_to};
-ghost use Rattle.folder_copy.specs.FolderSteps.{Skips, StepsOn, SyncTried};
+ghost use Rattle.folder_copy.specs.FolderSteps.{Skips, StepsOn, SyncTried, at_sync};
 
 use crate::stage::{FolderStep, NamesState, Stage};
-use crate::work::work;
+use crate::work::{sync, work};
 use job_reports::{Cause, Did, LastStepResult, calls_made, out_of_memory, refusal_in};
 use mc_text::Path;
 use std::alloc::Global;
@@ -126,6 +126,20 @@ impl FolderCopy {
     {
         let moved = work(alloc, tree, &self.target, self.stage, self.names);
         self.stage = moved.stage;
+        self.names = moved.names;
+        FolderStep {
+            did: moved.did,
+            calls: moved.calls,
+        }
+    }
+
+    /// Syncs the folder, which may still be filled.
+    pub fn sync<T: Tree>(&mut self, alloc: Global, tree: &mut T) -> FolderStep
+        ensures steps { StepsOn (at_sync self.old) (record (at_sync self.old) { names = self.new.names }) result.did result.calls
+            (T.contents tree.old) (T.contents tree.new) (T.fault_count tree.old) (T.fault_count tree.new) }
+        ensures rest { self.new ≡ record self.old { names = self.new.names } }
+    {
+        let moved = sync(alloc, tree, &self.target);
         self.names = moved.names;
         FolderStep {
             did: moved.did,

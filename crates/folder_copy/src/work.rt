@@ -154,8 +154,9 @@ fn give_mode<T: Tree>(
     }
 }
 
-fn sync<T: Tree>(alloc: Global, tree: &mut T, target: &Path) -> AfterStep
-    ensures { (source : Route) → MovesOn (copying source target.now (Stage.Close None) NamesState.Dirty) result (T.contents tree.old) (T.contents tree.new)
+pub(crate) fn sync<T: Tree>(alloc: Global, tree: &mut T, target: &Path) -> AfterStep
+    ensures stays { result.stage ≡ Stage.Close None }
+    ensures moves { (source : Route) → MovesOn (copying source target.now (Stage.Close None) NamesState.Dirty) result (T.contents tree.old) (T.contents tree.new)
         (T.fault_count tree.old) (T.fault_count tree.new) }
 {
     let stage = Stage::Close { owed: None };

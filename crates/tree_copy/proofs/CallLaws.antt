@@ -17,6 +17,7 @@ use Rattle.file_copy.specs.CopySteps as file_steps
 use Rattle.file_copy.specs.declared.stage.Stage.{Stage as FileStage}
 use Rattle.file_copy.specs.declared.stage.Stage.TheVariants as file_stage
 use Rattle.folder_copy.specs.FolderCopying.{FolderCopying}
+use Rattle.folder_copy.specs.FolderSteps.{at_sync}
 use Rattle.link_copy.specs.LinkCopying as link
 use Rattle.link_copy.specs.LastTries.{answer_in}
 use Rattle.link_copy.specs.LinkSteps as link_steps
@@ -30,15 +31,15 @@ use Rattle.tree_copy.specs.declared.progress.Progress.TheVariants.{UnderWay, Dec
 use Rattle.tree_copy.specs.declared.report.CopyDid.{CopyDid}
 use Rattle.tree_copy.specs.Ending.{EndsAll, FileWinds, FoldersWind, LinkCleaned, LinkStays, LinkWinds, TriesFolder, WindsAfter, WindsAt, stays_if}
 use Rattle.tree_copy.specs.InPlace.{AreMoved, IsInPlace, IsMoved, ItemMoved}
-use Rattle.tree_copy.specs.Levels.{LeftAll, Levels, with_copy}
+use Rattle.tree_copy.specs.Levels.{LeftAll, Levels, level, with_copy}
 use Rattle.tree_copy.specs.MadeCalls.{CallLaw, HasPart, IsBeside, IsPartFor, ItemBeside, MakesOnly, MayCall}
 use Rattle.tree_copy.specs.Progress.{link_progress, progress}
 use Rattle.tree_copy.specs.Skipping.{SkipsAt, SkipsFile, SkipsLink, SkipsName, SkipsNamed, SkipsRest, retried_at}
 use Rattle.tree_copy.specs.Standing.{Seen}
-use Rattle.tree_copy.specs.Steps.{FileWorks, GoesOn, Leaves, LeavesAll, LinkWorks, WorksOn, at_end, idle, link_begun, noted, settled}
+use Rattle.tree_copy.specs.Steps.{FileWorks, GoesOn, Leaves, LeavesAll, LinkWorks, SyncsAround, TakesNext, WorksOn, at_end, idle, link_begun, noted, settled}
 use Rattle.tree_copy.proofs.Callings.{followed, none, one, told_after}
 use Rattle.tree_copy.proofs.CallsMade.{KeepsFile, file_makes, file_winds, folder_sync, level_makes, link_makes, make_makes, part_of}
-use Rattle.tree_copy.proofs.InPlaces.{closed_in_place, leaves_all, pair_moved}
+use Rattle.tree_copy.proofs.InPlaces.{closed_in_place, leaves_all, levels_keep, pair_moved}
 use Rattle.tree_copy.proofs.Staying.{left_moved}
 
 -- what goes on keeps its part
@@ -89,24 +90,36 @@ module _ (top : Pair) (job : ℕ) where
   no_call : (old new : Seen) (before after : Option CallLog) → after ≡ before → new ≡ old → HasPart job old → Makes before after new
   no_call old new before after same stays h log known = (subst (HasPart job) (sym stays) h, none (MayCall top job) log after (same ∙ known))
 
-  goes : (unclaimed : Route → Type 0) (old new : Seen) (did : CopyDid) (before after : Option CallLog) → GoesOn unclaimed old new did before after → IsInPlace top old → HasPart job old → Makes before after new
-  goes unclaimed old new did before after (inl s) p h = no_call old new before after s.same s.stands h
-  goes unclaimed old new did before after (inr (inl t)) p h =
+  takes : (unclaimed : Route → Type 0) (old new : Seen) (did : CopyDid) (before after : Option CallLog) → TakesNext unclaimed old new did before after → IsInPlace top old → HasPart job old → Makes before after new
+  takes unclaimed old new did before after (inl s) p h = no_call old new before after s.same s.stands h
+  takes unclaimed old new did before after (inr (inl t)) p h =
       file_step unclaimed (file.begun old.job t.pair.source t.pair.target) old new did before after t.works (pair_moved top old.levels.inner.names.names old t.pair refl t.next p) h.by tt h
-  goes unclaimed old new did before after (inr (inr (inl t))) p h =
+  takes unclaimed old new did before after (inr (inr (inl t))) p h =
       link_step (link_begun t.pair t.part) old new did before after t.works (pair_moved top old.levels.inner.names.names old t.pair refl t.next p)
       (λ log known. let chosen = t.chosen log known in subst (λ n. IsPartFor n t.pair.target t.part) h.by (chosen.0, chosen.1)) h
-  goes unclaimed old new did before after (inr (inr (inr (inl t)))) p h = λ log known.
+  takes unclaimed old new did before after (inr (inr (inr (inl t)))) p h = λ log known.
       let w = t.works in (
         subst (HasPart job) (sym w.stands) record { by = h.by; beside = h.beside },
         make_makes top job t.pair t.mode w.report log after (pair_moved top old.levels.inner.names.names old t.pair refl t.next p) (w.called log known),
       )
-  goes unclaimed old new did before after (inr (inr (inr (inr (next, inl (debt, e)))))) p h = λ log known.
+  takes unclaimed old new did before after (inr (inr (inr (inr (next, inl (debt, e)))))) p h = λ log known.
       let at = closed_in_place top old p in (
         subst (HasPart job) (sym e.stands) record { by = h.by; beside = h.beside },
         level_makes top job old.levels.around (let c = at_end old in c.levels.inner) e.report log after at.levels (e.called log known),
       )
-  goes unclaimed old new did before after (inr (inr (inr (inr (next, inr (debt, f, same)))))) p h = no_call (at_end old) new before after same f.stands record { by = h.by; beside = h.beside }
+  takes unclaimed old new did before after (inr (inr (inr (inr (next, inr (debt, f, same)))))) p h = no_call (at_end old) new before after same f.stands record { by = h.by; beside = h.beside }
+
+  syncs : (old new : Seen) (did : CopyDid) (before after : Option CallLog) → SyncsAround old new did before after → IsInPlace top old → HasPart job old → Makes before after new
+  syncs old new did before after s p h = λ log known.
+      let k = subst (λ (xs : List Level). AreMoved top old.levels.inner xs) s.was p.levels in (
+        subst (HasPart job) (sym s.stands) record { by = h.by; beside = h.beside },
+        level_makes top job s.around (level s.outer.names (at_sync s.outer.copy)) s.report log after
+            (levels_keep top s.outer (level s.outer.names (at_sync s.outer.copy)) s.around refl refl (λ o. refl) (λ name n. n) k.1) (s.called log known),
+      )
+
+  goes : (unclaimed : Route → Type 0) (old new : Seen) (did : CopyDid) (before after : Option CallLog) → GoesOn unclaimed old new did before after → IsInPlace top old → HasPart job old → Makes before after new
+  goes unclaimed old new did before after (inl s) p h = syncs old new did before after s p h
+  goes unclaimed old new did before after (inr s) p h = takes unclaimed old new did before after s.1 p h
 
   works : (unclaimed : Route → Type 0) (item : Item) (old new : Seen) (did : CopyDid) (before after : Option CallLog) → WorksOn item unclaimed old new did before after → ItemMoved top item → ItemBeside job item
       → IsInPlace top old → HasPart job old → Makes before after new

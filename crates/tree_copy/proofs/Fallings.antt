@@ -13,12 +13,14 @@ use Rattle.link_copy.specs.LinkCopying as link
 use Rattle.link_copy.specs.LinkCopying.{LinkCopying}
 use Rattle.folder_copy.specs.FolderCopying as folder
 use Rattle.folder_copy.specs.FolderCopying.{FolderCopying}
+use Rattle.folder_copy.specs.FolderSteps.{at_sync}
 use Rattle.folder_copy.specs.declared.stage.FolderDid.{FolderDid}
 use Rattle.folder_copy.specs.declared.stage.FolderDid.TheVariants as folder_did
 use Rattle.folder_copy.specs.declared.stage.Stage.{Stage}
 use Rattle.folder_copy.specs.declared.stage.Stage.TheVariants.{Make, Fill, Close, Done}
 use Rattle.folder_copy.specs.declared.stage.NamesState.TheVariants.{Synced}
 use Rattle.subtree_walk.specs.Places.{IsLeft as PlaceLeft, OpenFolder, opened}
+use Rattle.subtree_walk.specs.Ranks.{rank}
 use Rattle.subtree_walk.proofs.Falling.{enter_falls, leave_falls, pass_falls}
 use Rattle.tree_copy.specs.declared.due.Due.TheVariants.{Thing}
 use Rattle.tree_copy.specs.declared.item.Item.{Item}
@@ -29,11 +31,11 @@ use Rattle.tree_copy.specs.declared.progress.Progress.TheVariants.{UnderWay, Dec
 use Rattle.tree_copy.specs.declared.report.CopyDid.{CopyDid}
 use Rattle.tree_copy.specs.declared.report.CopyDid.TheVariants.{Common}
 use Rattle.tree_copy.specs.Falling.{AllMade, FallingLaw, HasName, IsSteady, decides, is_made, things_left}
-use Rattle.tree_copy.specs.Levels.{IsLeft, Levels, made_levels, walked, with_copy}
+use Rattle.tree_copy.specs.Levels.{IsLeft, Levels, level, made_levels, walked, with_copy}
 use Rattle.tree_copy.specs.Progress.{link_progress, progress}
 use Rattle.tree_copy.specs.Reports.{IsToldAs}
 use Rattle.tree_copy.specs.Standing.{Seen, after_report, due_at}
-use Rattle.tree_copy.specs.Steps.{FileWorks, FolderEnds, FolderMakes, GoesOn, Leaves, LeavesAll, LinkWorks, WorksOn, at_end, idle, noted, settled}
+use Rattle.tree_copy.specs.Steps.{FileWorks, FolderEnds, FolderMakes, GoesOn, Leaves, LeavesAll, LinkWorks, SyncsAround, TakesNext, WorksOn, at_end, idle, noted, settled}
 
 or_false : (b : Bool) → (b || false) ≡ b
 or_false true = refl
@@ -224,17 +226,41 @@ named_at (name ∷ names) c pair is = omega arith
 stays_so : (old new : Seen) (did : CopyDid) → new ≡ old → decides did ≡ false → IsSteady old → Leaving old new (decides did ≡ true)
 stays_so old new did is none h = subst (λ (s : Seen). Leaving old s (decides did ≡ true)) (sym is) (h, same_many (things_left old), λ yes. absurd (false≢true (sym none ∙ yes)))
 
+takes_leave : (unclaimed : Route → Type 0) (old new : Seen) (did : CopyDid) (before after : Option CallLog) → TakesNext unclaimed old new did before after → old.item ≡ Next → IsSteady old
+    → Leaving old new (decides did ≡ true)
+takes_leave unclaimed old new did before after (inl s) free h = stays_so old new did s.stands (ap decides s.says) h
+takes_leave unclaimed old new did before after (inr (inl t)) free h =
+    file_leaves unclaimed (file.begun old.job t.pair.source t.pair.target) old new did before after t.works (named_at old.levels.inner.names.names old t.pair t.next) h.made
+takes_leave unclaimed old new did before after (inr (inr (inl t))) free h = link_leaves _ old new did before after t.works (named_at old.levels.inner.names.names old t.pair t.next) h.made
+takes_leave unclaimed old new did before after (inr (inr (inr (inl t)))) free h =
+    folder_leaves t.pair t.names t.mode old new did before after t.works (let r = t.reach in r.0) (named_at old.levels.inner.names.names old t.pair t.next) free h.made
+takes_leave unclaimed old new did before after (inr (inr (inr (inr (next, inl (debt, e)))))) free h = end_leaves (at_end old) new did before after e free (closed_made old h.made)
+takes_leave unclaimed old new did before after (inr (inr (inr (inr (next, inr (debt, f, same)))))) free h =
+    stays_so (at_end old) new did f.stands (ap decides f.says) (record { named = subst (λ (i : Item). HasName i (let c = at_end old in c.levels)) (sym free) tt; made = closed_made old h.made })
+
+-- the folder around is synced
+around_made : (inner outer : Level) (new : FolderCopying) (was around : List Level) → was ≡ outer ∷ around → new.stage ≡ outer.copy.stage → AllMade inner was → AllMade inner (level outer.names new ∷ around)
+around_made inner outer new was around is same h =
+    let k = subst (λ (xs : List Level). AllMade inner xs) is h in
+    (k.0, made_inner outer (level outer.names new) around (ap is_made same ∙ inner_made outer around k.1) k.1)
+
+syncs_leave : (old new : Seen) (did : CopyDid) (before after : Option CallLog) → SyncsAround old new did before after → old.item ≡ Next → IsSteady old → Leaving old new (decides did ≡ true)
+syncs_leave old new did before after s free h =
+    let synced : FolderCopying = record s.outer.copy { names = s.names } in
+    let names = ap (λ (xs : List Level). map (λ (o : Level). o.names) xs) s.was in
+    let same : things_left new ≡ things_left old = ap things_left s.stands ∙ ap (λ (xs : List OpenFolder). rank (record { inner = old.levels.inner.names; around = xs; left = old.levels.left })) (sym names) in (
+      subst IsSteady (sym s.stands) record {
+        named = subst (λ (i : Item). HasName i (record old.levels { around = level s.outer.names synced ∷ s.around })) (sym free) tt;
+        made = around_made old.levels.inner s.outer synced old.levels.around s.around s.was refl h.made;
+      },
+      omega (arith, same),
+      λ yes. absurd (end_decides_not (at_sync s.outer.copy) (record (at_sync s.outer.copy) { names = s.names }) s.report did s.says s.tells refl yes),
+    )
+
 goes_leave : (unclaimed : Route → Type 0) (old new : Seen) (did : CopyDid) (before after : Option CallLog) → GoesOn unclaimed old new did before after → old.item ≡ Next → IsSteady old
     → Leaving old new (decides did ≡ true)
-goes_leave unclaimed old new did before after (inl s) free h = stays_so old new did s.stands (ap decides s.says) h
-goes_leave unclaimed old new did before after (inr (inl t)) free h =
-    file_leaves unclaimed (file.begun old.job t.pair.source t.pair.target) old new did before after t.works (named_at old.levels.inner.names.names old t.pair t.next) h.made
-goes_leave unclaimed old new did before after (inr (inr (inl t))) free h = link_leaves _ old new did before after t.works (named_at old.levels.inner.names.names old t.pair t.next) h.made
-goes_leave unclaimed old new did before after (inr (inr (inr (inl t)))) free h =
-    folder_leaves t.pair t.names t.mode old new did before after t.works (let r = t.reach in r.0) (named_at old.levels.inner.names.names old t.pair t.next) free h.made
-goes_leave unclaimed old new did before after (inr (inr (inr (inr (next, inl (debt, e)))))) free h = end_leaves (at_end old) new did before after e free (closed_made old h.made)
-goes_leave unclaimed old new did before after (inr (inr (inr (inr (next, inr (debt, f, same)))))) free h =
-    stays_so (at_end old) new did f.stands (ap decides f.says) (record { named = subst (λ (i : Item). HasName i (let c = at_end old in c.levels)) (sym free) tt; made = closed_made old h.made })
+goes_leave unclaimed old new did before after (inl s) free h = syncs_leave old new did before after s free h
+goes_leave unclaimed old new did before after (inr s) free h = takes_leave unclaimed old new did before after s.1 free h
 
 works_leave : (unclaimed : Route → Type 0) (item : Item) (old new : Seen) (did : CopyDid) (before after : Option CallLog) → old.item ≡ item → WorksOn item unclaimed old new did before after → IsSteady old
     → Leaving old new (decides did ≡ true)

@@ -14,10 +14,12 @@ use Rattle.link_copy.specs.LinkCopying as link
 use Rattle.link_copy.specs.LinkCopying.{LinkCopying}
 use Rattle.folder_copy.specs.FolderCopying as folder
 use Rattle.folder_copy.specs.FolderCopying.{FolderCopying}
+use Rattle.folder_copy.specs.FolderSteps.{at_sync}
 use Rattle.folder_copy.specs.declared.stage.FolderDid.{FolderDid}
 use Rattle.folder_copy.specs.declared.stage.FolderDid.TheVariants as folder_did
 use Rattle.folder_copy.specs.declared.stage.Stage.{Stage}
 use Rattle.folder_copy.specs.declared.stage.Stage.TheVariants.{Make, Fill, Close, Done}
+use Rattle.folder_copy.specs.declared.stage.NamesState.{NamesState}
 use Rattle.folder_copy.specs.declared.stage.NamesState.TheVariants.{Synced, Dirty}
 use Rattle.subtree_walk.specs.Places.{OpenFolder, is_empty, opened, without_next}
 use Rattle.tree_copy.specs.declared.due.Due.TheVariants.{Thing}
@@ -29,11 +31,11 @@ use Rattle.tree_copy.specs.declared.progress.Progress.TheVariants.{UnderWay, Dec
 use Rattle.tree_copy.specs.declared.report.CopyDid.{CopyDid}
 use Rattle.tree_copy.specs.declared.report.CopyDid.TheVariants.{Common}
 use Rattle.tree_copy.specs.InPlace.{AreMoved, IsInPlace, IsMoved, IsTargetOf, ItemMoved, NamesTarget, PlaceLaw, owed_of}
-use Rattle.tree_copy.specs.Levels.{closed, dirtied, made_levels, passed, with_copy}
+use Rattle.tree_copy.specs.Levels.{closed, dirtied, level, made_levels, passed, with_copy}
 use Rattle.tree_copy.specs.Progress.{link_progress, progress}
 use Rattle.tree_copy.specs.Reports.{IsToldAs}
 use Rattle.tree_copy.specs.Standing.{Seen, after_report, due_at, pair_of}
-use Rattle.tree_copy.specs.Steps.{FileWorks, FolderEnds, FolderMakes, GoesOn, Leaves, LeavesAll, LinkWorks, WorksOn, at_end, idle, noted as noted_seen, settled}
+use Rattle.tree_copy.specs.Steps.{FileWorks, FolderEnds, FolderMakes, GoesOn, Leaves, LeavesAll, LinkWorks, SyncsAround, TakesNext, WorksOn, at_end, idle, noted as noted_seen, settled}
 
 -- the paths of a copy stay
 pub file_paths : (f new : Copying) (did : Did) → file.Tells f did new → (new.source ≡ f.source) × (new.target ≡ f.target)
@@ -272,16 +274,39 @@ module _ (top : Pair) where
   leaves_all zero old new is h = subst (IsInPlace top) (sym is) h
   leaves_all (suc n) old new l h = leaves_keep l.0 new l.3 (leaves_all n old l.0 l.1 h)
 
-  goes_keep : (unclaimed : Route → Type 0) (old new : Seen) (did : CopyDid) (before after : Option CallLog) → GoesOn unclaimed old new did before after → IsInPlace top old → IsInPlace top new × NamesTarget top did
-  goes_keep unclaimed old new did before after (inl s) h = (subst (IsInPlace top) (sym s.stands) h, subst (NamesTarget top) (sym s.says) tt)
-  goes_keep unclaimed old new did before after (inr (inl t)) h =
+  takes_keep : (unclaimed : Route → Type 0) (old new : Seen) (did : CopyDid) (before after : Option CallLog) → TakesNext unclaimed old new did before after → IsInPlace top old → IsInPlace top new × NamesTarget top did
+  takes_keep unclaimed old new did before after (inl s) h = (subst (IsInPlace top) (sym s.stands) h, subst (NamesTarget top) (sym s.says) tt)
+  takes_keep unclaimed old new did before after (inr (inl t)) h =
       file_keeps unclaimed (file.begun old.job t.pair.source t.pair.target) old new did before after t.works (pair_moved old.levels.inner.names.names old t.pair refl t.next h) h
-  goes_keep unclaimed old new did before after (inr (inr (inl t))) h = link_keeps _ old new did before after t.works (pair_moved old.levels.inner.names.names old t.pair refl t.next h) h
-  goes_keep unclaimed old new did before after (inr (inr (inr (inl t)))) h =
+  takes_keep unclaimed old new did before after (inr (inr (inl t))) h = link_keeps _ old new did before after t.works (pair_moved old.levels.inner.names.names old t.pair refl t.next h) h
+  takes_keep unclaimed old new did before after (inr (inr (inr (inl t)))) h =
       folder_keeps t.pair t.names t.mode old new did before after t.works (pair_moved old.levels.inner.names.names old t.pair refl t.next h) h
-  goes_keep unclaimed old new did before after (inr (inr (inr (inr (next, inl (debt, e)))))) h = ends_keep (at_end old) new did before after e (closed_in_place old h)
-  goes_keep unclaimed old new did before after (inr (inr (inr (inr (next, inr (debt, f, same)))))) h =
+  takes_keep unclaimed old new did before after (inr (inr (inr (inr (next, inl (debt, e)))))) h = ends_keep (at_end old) new did before after e (closed_in_place old h)
+  takes_keep unclaimed old new did before after (inr (inr (inr (inr (next, inr (debt, f, same)))))) h =
       (subst (IsInPlace top) (sym f.stands) (closed_in_place old h), subst (NamesTarget top) (sym f.says) tt)
+
+  -- the folder around is synced
+  pub synced_around : (inner outer : Level) (names : NamesState) (was around : List Level) → was ≡ outer ∷ around → AreMoved top inner was → AreMoved top inner (level outer.names (record outer.copy { names = names }) ∷ around)
+  synced_around inner outer names was around is h =
+      let k = subst (λ (xs : List Level). AreMoved top inner xs) is h in
+      (k.0, levels_keep top outer (level outer.names (record outer.copy { names = names })) around refl refl (λ o. o) (λ name n. n) k.1)
+
+  names_sync : (c new : FolderCopying) (report : FolderDid) (did : CopyDid) → c.stage ≡ Close None → IsToldAs report did → folder.Tells c report new → owed_of c.stage ≡ None → NamesTarget top did
+  names_sync c new (folder_did.Made path) did at told t h = absurd (let e = sym at ∙ t.1 in let f : ⊥ = cc in f)
+  names_sync c new (folder_did.Set path) did at told t h = absurd (let e = sym (ap owed_of t.1) ∙ h in let f : ⊥ = cc in f)
+  names_sync c new folder_did.Barrier did at told t h = subst (NamesTarget top) (sym told) tt
+  names_sync c new folder_did.Closed did at told t h = absurd told
+  names_sync c new (folder_did.Troubled trouble) did at told t h = subst (NamesTarget top) (sym told) tt
+
+  syncs_keep : (old new : Seen) (did : CopyDid) (before after : Option CallLog) → SyncsAround old new did before after → IsInPlace top old → IsInPlace top new × NamesTarget top did
+  syncs_keep old new did before after s h = (
+    subst (IsInPlace top) (sym s.stands) record { name = h.name; levels = synced_around old.levels.inner s.outer s.names old.levels.around s.around s.was h.levels; item = h.item },
+    names_sync (at_sync s.outer.copy) (record (at_sync s.outer.copy) { names = s.names }) s.report did refl s.says s.tells refl,
+  )
+
+  goes_keep : (unclaimed : Route → Type 0) (old new : Seen) (did : CopyDid) (before after : Option CallLog) → GoesOn unclaimed old new did before after → IsInPlace top old → IsInPlace top new × NamesTarget top did
+  goes_keep unclaimed old new did before after (inl s) h = syncs_keep old new did before after s h
+  goes_keep unclaimed old new did before after (inr s) h = takes_keep unclaimed old new did before after s.1 h
 
   works_keep : (unclaimed : Route → Type 0) (item : Item) (old new : Seen) (did : CopyDid) (before after : Option CallLog) → WorksOn item unclaimed old new did before after → ItemMoved top item
       → IsInPlace top old → IsInPlace top new × NamesTarget top did

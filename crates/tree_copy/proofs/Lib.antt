@@ -5,6 +5,7 @@ mod CallsMade
 mod Counting
 mod Fallings
 mod InPlaces
+mod OnDisks
 mod Placed
 mod Staying
 mod TakenUp

@@ -18,21 +18,21 @@ use Rattle.tree_copy.specs.declared.report.CopyDid.{CopyDid}
 use Rattle.tree_copy.specs.declared.report.CopyStep.{CopyStep}
 use Rattle.tree_copy.specs.declared.report.CopyDid.TheVariants.{Common}
 use Rattle.tree_copy.specs.Standing.{Seen, due}
-use Rattle.tree_copy.specs.Steps.{Advances, AdvancesNext, GoesOn, Leaves, LinkWorks, RunsOut, WhyStopped, WorksOn, link_begun}
+use Rattle.tree_copy.specs.Steps.{Advances, AdvancesNext, GoesOn, Leaves, LinkWorks, RunsOut, TakesNext, WhyStopped, WorksOn, link_begun}
 use Rattle.tree_copy.specs.Taking.{IsInReach, IsTaken}
 
 module _ (unclaimed : Route → Type 0) (old new : Seen) (did : CopyDid) (before mid after : Option CallLog) (same : mid ≡ before) where
-  pub ran_out : RunsOut old new did mid after → GoesOn unclaimed old new did before after
+  pub ran_out : RunsOut old new did mid after → TakesNext unclaimed old new did before after
   ran_out out = inl record { trouble = out_of_memory_at false; says = out.0; why = inr (inr (inr refl)); apart = refl; same = out.2 ∙ same; stands = out.1 }
 
   -- looks were stopped
-  pub stopped_so : (t : Trouble) → WhyStopped unclaimed old t before → did ≡ Common (common.Troubled t) → t.barrier ≡ false → after ≡ mid → new ≡ old → GoesOn unclaimed old new did before after
+  pub stopped_so : (t : Trouble) → WhyStopped unclaimed old t before → did ≡ Common (common.Troubled t) → t.barrier ≡ false → after ≡ mid → new ≡ old → TakesNext unclaimed old new did before after
   stopped_so t why says apart made stands = inl record { trouble = t; says = says; why = why; apart = apart; same = made ∙ same; stands = stands }
 
   module _ (pair : Pair) (next : due old ≡ Thing pair) (reach : IsInReach old.levels.left (Thing pair)) where
     pub took_link : (part : Route) → IfKnown before (λ log. IsTaken (current log) pair taken.Link)
         → IfKnown before (λ log. IsChosen (current log) unclaimed (file.places old.job pair.source pair.target) part)
-        → RunsOut old new did mid after ⊎ LinkWorks (link_begun pair part) old new did mid after → GoesOn unclaimed old new did before after
+        → RunsOut old new did mid after ⊎ LinkWorks (link_begun pair part) old new did mid after → TakesNext unclaimed old new did before after
     took_link part is chosen (inl out) = ran_out out
     took_link part is chosen (inr works) = inr (inr (inl record {
       pair = pair;

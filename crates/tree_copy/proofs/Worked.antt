@@ -22,7 +22,7 @@ use Rattle.tree_copy.specs.Levels.{Levels, dirtied}
 use Rattle.tree_copy.specs.Progress.{link_progress, progress}
 use Rattle.tree_copy.specs.Skipping.{SkipsAt, SkipsName, SkipsNamed, SkipsRest, retried_at}
 use Rattle.tree_copy.specs.Standing.{Seen, due_at, pair_of}
-use Rattle.tree_copy.specs.Steps.{FileWorks, GoesOn, LeavesAll, LinkWorks, WorksOn, at_end, idle, link_begun, noted, settled}
+use Rattle.tree_copy.specs.Steps.{FileWorks, GoesOn, LeavesAll, LinkWorks, TakesNext, WorksOn, at_end, idle, link_begun, noted, settled}
 use Rattle.tree_copy.specs.WorkedFolder.{IsInWorked, ItemIn, WorkedFolderLaw}
 use Rattle.tree_copy.proofs.InPlaces.{file_paths, link_paths}
 
@@ -61,15 +61,19 @@ link_step l old new did before after w here =
     let changed = link.is_dirty w.moved.folder in
     subst IsInWorked (sym w.stands) (settled_in (link_progress w.moved.stage) (Link w.moved) (noted did changed (idle old)) refl ((ap folder_of same.1 ∙ here) ∙ sym (same_folder changed did (idle old))))
 
-goes : (unclaimed : Route → Type 0) (old new : Seen) (did : CopyDid) (before after : Option CallLog) → GoesOn unclaimed old new did before after → old.item ≡ Next → IsInWorked new
-goes unclaimed old new did before after (inl s) free = subst IsInWorked (sym s.stands) (none_in old free)
-goes unclaimed old new did before after (inr (inl t)) free =
+takes : (unclaimed : Route → Type 0) (old new : Seen) (did : CopyDid) (before after : Option CallLog) → TakesNext unclaimed old new did before after → old.item ≡ Next → IsInWorked new
+takes unclaimed old new did before after (inl s) free = subst IsInWorked (sym s.stands) (none_in old free)
+takes unclaimed old new did before after (inr (inl t)) free =
     file_step unclaimed (file.begun old.job t.pair.source t.pair.target) old new did before after t.works (pair_in old.levels.inner.names.names old t.pair t.next)
-goes unclaimed old new did before after (inr (inr (inl t))) free =
+takes unclaimed old new did before after (inr (inr (inl t))) free =
     link_step (link_begun t.pair t.part) old new did before after t.works (pair_in old.levels.inner.names.names old t.pair t.next)
-goes unclaimed old new did before after (inr (inr (inr (inl t)))) free = let w = t.works in none_in new (ap (λ (c : Seen). c.item) w.stands ∙ free)
-goes unclaimed old new did before after (inr (inr (inr (inr (next, inl (debt, e)))))) free = none_in new (ap (λ (c : Seen). c.item) e.stands ∙ free)
-goes unclaimed old new did before after (inr (inr (inr (inr (next, inr (debt, f, same)))))) free = none_in new (ap (λ (c : Seen). c.item) f.stands ∙ free)
+takes unclaimed old new did before after (inr (inr (inr (inl t)))) free = let w = t.works in none_in new (ap (λ (c : Seen). c.item) w.stands ∙ free)
+takes unclaimed old new did before after (inr (inr (inr (inr (next, inl (debt, e)))))) free = none_in new (ap (λ (c : Seen). c.item) e.stands ∙ free)
+takes unclaimed old new did before after (inr (inr (inr (inr (next, inr (debt, f, same)))))) free = none_in new (ap (λ (c : Seen). c.item) f.stands ∙ free)
+
+goes : (unclaimed : Route → Type 0) (old new : Seen) (did : CopyDid) (before after : Option CallLog) → GoesOn unclaimed old new did before after → old.item ≡ Next → IsInWorked new
+goes unclaimed old new did before after (inl s) free = none_in new (ap (λ (c : Seen). c.item) s.stands ∙ free)
+goes unclaimed old new did before after (inr s) free = takes unclaimed old new did before after s.1 free
 
 works : (unclaimed : Route → Type 0) (item : Item) (old new : Seen) (did : CopyDid) (before after : Option CallLog) → WorksOn item unclaimed old new did before after → old.item ≡ item
     → ItemIn (folder_at old) item → IsInWorked new

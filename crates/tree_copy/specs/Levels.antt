@@ -1,10 +1,13 @@
 -- The folders that are open while a tree is copied: of each the names in it that are yet to be met, and the copy of the folder itself.
-use Rattle.std.specs.Prelude.{◌≡◌, ℕ, suc, zero, ◌+◌, ◌-◌, Bool, true, false, List, [], ◌∷◌, map, if◌then◌else◌, Some, None}
+use Rattle.std.specs.Prelude.{◌≡◌, ℕ, suc, zero, ◌+◌, ◌-◌, Bool, true, false, ◌||◌, List, [], ◌∷◌, map, if◌then◌else◌, Option, Some, None}
+use Rattle.tree_trait.specs.Change.{CallLog}
+use Rattle.folder_copy.specs.declared.stage.FolderDid.{FolderDid}
 use Rattle.folder_copy.specs.declared.stage.Stage.{Stage}
 use Rattle.folder_copy.specs.declared.stage.Stage.TheVariants.{Make, Fill, Close, Done}
 use Rattle.folder_copy.specs.declared.stage.NamesState.{NamesState}
 use Rattle.folder_copy.specs.declared.stage.NamesState.TheVariants.{Dirty}
-use Rattle.folder_copy.specs.FolderCopying.{FolderCopying, closing, is_dirty}
+use Rattle.folder_copy.specs.FolderCopying.{FolderCopying, at_barrier, closing, is_dirty}
+use Rattle.folder_copy.specs.FolderSteps.{StepsOn, at_sync}
 use Rattle.subtree_walk.specs.Places.{OpenFolder, Place, noted, without_next}
 use Rattle.tree_copy.specs.declared.level.Level.{Level}
 
@@ -14,6 +17,11 @@ pub record Levels : Type 0 where
   pub inner : Level
   pub around : List Level
   pub left : ℕ
+
+-- the folders around the one that is worked, the nearest first, and for how many more there is room
+pub record FoldersAround : Type 0 where
+  pub nearest : List Level
+  pub spare : ℕ
 
 -- the open folders, and for how many more there is room
 pub record Stacked : Type 0 where
@@ -74,6 +82,24 @@ owed_at Done dirty = false
 
 abbrev pub owes : Stage → NamesState → Bool
 owes stage names = owed_at stage (is_dirty names)
+
+-- the folder around the one that is worked is dirty: that one was made, and its name isn't on the disk yet
+abbrev pub is_around_dirty : List Level → Bool
+is_around_dirty [] = false
+is_around_dirty (outer ∷ around) = is_dirty outer.copy.names
+
+-- the next call at the open folders is a sync: of the one around, or of the one that is worked, at its end
+abbrev pub is_sync_next : Levels → Bool
+is_sync_next l = is_around_dirty l.around || at_barrier l.inner.copy.stage
+
+-- the nearest folder around was synced, or that was refused
+pub record NearestSyncs (old new : List Level) (did : FolderDid) (calls : ℕ) (before after : Option CallLog) (faults faults_after : ℕ) : Type 0 where
+  pub outer : Level
+  pub around : List Level
+  pub was : old ≡ outer ∷ around
+  pub names : NamesState
+  pub steps : StepsOn (at_sync outer.copy) (record (at_sync outer.copy) { names = names }) did calls before after faults faults_after
+  pub stands : new ≡ level outer.names (record outer.copy { names = names }) ∷ around
 
 -- the folder that is worked is done with, and the one around it is worked again
 pub record IsLeft (old new : Levels) : Type 0 where

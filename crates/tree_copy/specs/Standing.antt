@@ -16,7 +16,7 @@ use Rattle.tree_copy.specs.declared.item.Item.TheVariants.{Next, File, Link, Sta
 use Rattle.tree_copy.specs.declared.due.Due.{Due}
 use Rattle.tree_copy.specs.declared.due.Due.TheVariants.{End, Thing}
 use Rattle.tree_copy.specs.declared.report.CopyDid.{CopyDid}
-use Rattle.tree_copy.specs.Levels.{Levels, outermost}
+use Rattle.tree_copy.specs.Levels.{Levels, is_sync_next, outermost}
 use Rattle.tree_copy.specs.Reports.{changes}
 
 -- the copy of a tree, as it stands: all but the room for more open folders
@@ -46,7 +46,7 @@ is_fresh Going = false
 
 -- the next call is at a barrier: the removal of a part, or the sync of a folder
 abbrev pub barrier_at : Item → Levels → Bool
-barrier_at Next l = folder.at_barrier l.inner.copy.stage
+barrier_at Next l = is_sync_next l
 barrier_at (File f) l = file.at_barrier f.stage
 barrier_at (Link k) l = link.at_barrier k.stage
 barrier_at (Stays part) l = true

@@ -1,6 +1,6 @@
 -- What a step of a tree's copy reports, where the copy stands then, and what it says of the tree's calls. The copies of a file, of a link
 -- and of a folder itself say each what their steps may report and call; here stands which of them is at work, on which paths, and when.
-use Rattle.std.specs.Prelude.{◌≡◌, ◌⊎◌, ℕ, suc, zero, ◌^◌, ◌≤◌, ⊤, Bool, true, false, List, [], length, Option, Some, None}
+use Rattle.std.specs.Prelude.{◌≡◌, ◌⊎◌, ℕ, suc, zero, ◌^◌, ◌≤◌, ⊤, Bool, true, false, List, [], ◌∷◌, length, Option, Some, None}
 use Rattle.mc_text.specs.Routes.{Route}
 use Rattle.tree_trait.specs.Change.{CallLog, current}
 use Rattle.tree_trait.specs.Answers.{IfKnown, HasRisen, IsAscending}
@@ -25,13 +25,15 @@ use Rattle.link_copy.specs.declared.stage.Stage.{Stage as LinkStage}
 use Rattle.link_copy.specs.declared.stage.Stage.TheVariants as link_stage
 use Rattle.folder_copy.specs.FolderCopying as folder
 use Rattle.folder_copy.specs.FolderCopying.{FolderCopying}
-use Rattle.folder_copy.specs.FolderSteps.{Falls as FolderFalls, FolderCalls}
+use Rattle.folder_copy.specs.FolderSteps.{Falls as FolderFalls, FolderCalls, at_sync}
 use Rattle.folder_copy.specs.declared.stage.FolderDid.{FolderDid}
 use Rattle.folder_copy.specs.declared.stage.Stage.TheVariants as folder_stage
+use Rattle.folder_copy.specs.declared.stage.NamesState.{NamesState}
 use Rattle.folder_copy.specs.declared.stage.NamesState.TheVariants as folder_names
 use Rattle.subtree_walk.specs.Places.{opened}
 use Rattle.tree_copy.specs.declared.due.Due.TheVariants.{End, Thing}
 use Rattle.tree_copy.specs.declared.item.Item.{Item}
+use Rattle.tree_copy.specs.declared.level.Level.{Level}
 use Rattle.tree_copy.specs.declared.item.Item.TheVariants.{Next, File, Link, Stays}
 use Rattle.tree_copy.specs.declared.looking.Taken.TheVariants as taken
 use Rattle.tree_copy.specs.declared.progress.Progress.{Progress}
@@ -39,7 +41,7 @@ use Rattle.tree_copy.specs.declared.progress.Progress.TheVariants.{UnderWay, Dec
 use Rattle.tree_copy.specs.declared.report.CopyDid.{CopyDid}
 use Rattle.tree_copy.specs.declared.report.CopyDid.TheVariants.{Common}
 use Rattle.tree_copy.specs.declared.report.CopyStep.{CopyStep}
-use Rattle.tree_copy.specs.Levels.{IsLeft, closed, dirtied, made_levels, owes, passed, with_copy}
+use Rattle.tree_copy.specs.Levels.{IsLeft, closed, dirtied, is_around_dirty, level, made_levels, owes, passed, with_copy}
 use Rattle.tree_copy.specs.Progress.{link_progress, progress}
 use Rattle.tree_copy.specs.Reports.{IsFault, IsToldAs}
 use Rattle.tree_copy.specs.Standing.{Seen, after_report, due}
@@ -196,14 +198,32 @@ pub record Stops (unclaimed : Route → Type 0) (old new : Seen) (did : CopyDid)
   pub same : after ≡ before
   pub stands : new ≡ old
 
--- What a step does with the next name, or the end of a folder.
-abbrev pub GoesOn : (Route → Type 0) → Seen → Seen → CopyDid → Option CallLog → Option CallLog → Type 0
-GoesOn unclaimed old new did before after =
+-- The folder around is synced: only then is the one that is worked, which was made, on the disk.
+pub record SyncsAround (old new : Seen) (did : CopyDid) (before after : Option CallLog) : Type 0 where
+  pub dirty : is_around_dirty old.levels.around ≡ true
+  pub outer : Level
+  pub around : List Level
+  pub was : old.levels.around ≡ outer ∷ around
+  pub names : NamesState
+  pub report : FolderDid
+  pub says : IsToldAs report did
+  pub tells : folder.Tells (at_sync outer.copy) report (record (at_sync outer.copy) { names = names })
+  pub called : IfKnown before (λ log. FolderCalls (at_sync outer.copy) report log after)
+  pub stands : new ≡ record old { stage = after_report did old.stage; levels = record old.levels { around = level outer.names (record outer.copy { names = names }) ∷ around } }
+
+-- What a step does with the next name, or the end of a folder, in a folder that is on the disk.
+abbrev pub TakesNext : (Route → Type 0) → Seen → Seen → CopyDid → Option CallLog → Option CallLog → Type 0
+TakesNext unclaimed old new did before after =
     Stops unclaimed old new did before after
     ⊎ TakesFile unclaimed old new did before after
     ⊎ TakesLink unclaimed old new did before after
     ⊎ TakesFolder old new did before after
     ⊎ WorksAtEnd old new did before after
+
+-- What a step does where nothing is at work: a folder that was made is brought onto the disk, and only then something is put into it.
+abbrev pub GoesOn : (Route → Type 0) → Seen → Seen → CopyDid → Option CallLog → Option CallLog → Type 0
+GoesOn unclaimed old new did before after =
+    SyncsAround old new did before after ⊎ ((is_around_dirty old.levels.around ≡ false) × TakesNext unclaimed old new did before after)
 
 -- What a step does, by what is at work.
 abbrev pub WorksOn : Item → (Route → Type 0) → Seen → Seen → CopyDid → Option CallLog → Option CallLog → Type 0
@@ -229,8 +249,9 @@ pub record Returns (old new : Seen) : Type 0 where
   pub left : IsLeft old.levels new.levels
   pub stands : new ≡ record old { levels = new.levels }
 
--- a folder that owes nothing is left, without a report
+-- a folder that owes nothing, and is on the disk, is left, without a report
 pub record Leaves (old new : Seen) : Type 0 where
+  pub synced : is_around_dirty old.levels.around ≡ false
   pub next : due old ≡ End
   pub done : has_debt (at_end old) ≡ false
   pub returns : Returns (at_end old) new
@@ -250,6 +271,12 @@ abbrev pub AdvancesEnd : Seen → Seen → Option CopyStep → Option CallLog �
 AdvancesEnd old new None before after faults faults_after = Leaves old new × (after ≡ before) × (faults ≤ faults_after)
 AdvancesEnd old new (Some stepped) before after faults faults_after =
     WorksAtEnd old new stepped.did before after × Counts stepped.did stepped.calls before after faults faults_after
+
+-- The next piece of a step in a folder that is on the disk: a folder is left, or something is done that is reported.
+abbrev pub AdvancesIn : (Route → Type 0) → Seen → Seen → Option CopyStep → Option CallLog → Option CallLog → ℕ → ℕ → Type 0
+AdvancesIn unclaimed old new None before after faults faults_after = Leaves old new × (after ≡ before) × (faults ≤ faults_after)
+AdvancesIn unclaimed old new (Some stepped) before after faults faults_after =
+    TakesNext unclaimed old new stepped.did before after × Counts stepped.did stepped.calls before after faults faults_after
 
 -- The next piece of a step where nothing is at work: a folder is left, or something is done that is reported.
 abbrev pub AdvancesNext : (Route → Type 0) → Seen → Seen → Option CopyStep → Option CallLog → Option CallLog → ℕ → ℕ → Type 0

@@ -3,6 +3,7 @@ ghost use Rattle.tree_copy.specs.Beginning.{BeginningLaw};
 ghost use Rattle.tree_copy.specs.Falling.{FallingLaw};
 ghost use Rattle.tree_copy.specs.InPlace.{PlaceLaw};
 ghost use Rattle.tree_copy.specs.MadeCalls.{CallLaw, StayingLaw};
+ghost use Rattle.tree_copy.specs.OnDisk.{OnDiskLaw};
 ghost use Rattle.tree_copy.specs.WorkedFolder.{WorkedFolderLaw};
 
 /// A copy that begins is in its place, and steady, as the laws below want it.
@@ -33,4 +34,10 @@ pub fn a_copy_changes_targets_and_their_parts_alone()
 /// The folder of the file or link at work is the one that is worked.
 pub fn what_is_at_work_lies_in_the_folder_that_is_worked()
     ensures { WorkedFolderLaw }
+{}
+
+/// A folder that was made is on the disk before anything is put into it: of the folders around the innermost only the nearest may be
+/// dirty, and only that long.
+pub fn a_made_folder_is_on_the_disk_before_it_is_filled()
+    ensures { OnDiskLaw }
 {}

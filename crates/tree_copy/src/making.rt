@@ -1,7 +1,8 @@
 //! The beginning and the end of a folder.
-ghost use Rattle.std.specs.Prelude.{◌≡◌, ◌⊎◌, ◌≤◌, true};
+ghost use Rattle.std.specs.Prelude.{◌≡◌, ◌⊎◌, ◌≤◌, false, true};
+ghost use Rattle.tree_copy.specs.Levels.{is_around_dirty};
 ghost use Rattle.tree_copy.specs.Standing.{due, seen};
-ghost use Rattle.tree_copy.specs.Steps.{AdvancesEnd, Counts, FolderEnds, FolderMakes, IsWorkable, LeavesOrFinishes, RunsOut, has_debt};
+ghost use Rattle.tree_copy.specs.Steps.{AdvancesEnd, Counts, FolderEnds, FolderMakes, IsWorkable, LeavesOrFinishes, RunsOut, SyncsAround, has_debt};
 ghost use Rattle.tree_copy.specs.Taking.{IsInReach};
 
 use crate::copy::TreeCopy;
@@ -50,10 +51,28 @@ impl TreeCopy {
         }
     }
 
+    /// The folder around is synced, so that the one that is worked, which was made, is on the disk.
+    pub(crate) fn sync_around<T: Tree>(&mut self, alloc: Global, tree: &mut T) -> CopyStep
+        requires free { self.old.item ≡ Item.Next }
+        requires dirty { is_around_dirty self.old.stack.levels.around ≡ true }
+        ensures works { SyncsAround (seen self.old) (seen self.new) result.did (T.contents tree.old) (T.contents tree.new) }
+        ensures counts { Counts result.did result.calls (T.contents tree.old) (T.contents tree.new) (T.fault_count tree.old) (T.fault_count tree.new) }
+        ensures workable { IsWorkable self.new.item }
+    {
+        let stepped = self.stack.sync_around(alloc, tree);
+        let did = told(stepped.did);
+        self.stage = stage_after(&did, self.stage);
+        CopyStep {
+            did,
+            calls: stepped.calls,
+        }
+    }
+
     /// The folder's children are decided: what it owes comes next, or it is left.
     pub(crate) fn end_folder<T: Tree>(&mut self, alloc: Global, tree: &mut T) -> Option<CopyStep>
         requires free { self.old.item ≡ Item.Next }
         requires next { due (seen self.old) ≡ Due.End }
+        requires synced { is_around_dirty self.old.stack.levels.around ≡ false }
         ensures advances { AdvancesEnd (seen self.old) (seen self.new) result
             (T.contents tree.old) (T.contents tree.new) (T.fault_count tree.old) (T.fault_count tree.new) }
         ensures workable { IsWorkable self.new.item }

@@ -1,10 +1,11 @@
 //! The folders that are open while a tree is copied.
 ghost use Rattle.std.specs.Prelude.{◌≡◌, ◌+◌, ◌<◌, ◌≤◌, ◌==◌, ◌∷◌, [], drop, length, false, true, IfNone, IfSome, OnErr, OnOk};
-ghost use Rattle.folder_copy.specs.FolderCopying.{at_barrier, is_dirty, is_ready};
+ghost use Rattle.folder_copy.specs.FolderCopying.{is_dirty, is_ready};
 ghost use Rattle.folder_copy.specs.FolderSteps.{Skips, StepsOn, SyncTried};
 ghost use Rattle.subtree_walk.specs.Places.{is_empty};
-ghost use Rattle.tree_copy.specs.Levels.{IsLeft, LeavesClean, closed, dirtied, emptied, entered, made_levels, outermost, owed_at, owes, passed, with_copy};
+ghost use Rattle.tree_copy.specs.Levels.{IsLeft, LeavesClean, NearestSyncs, closed, dirtied, emptied, entered, is_around_dirty, is_sync_next, made_levels, outermost, owed_at, owes, passed, with_copy};
 
+use crate::around::Around;
 use crate::level::Level;
 use folder_copy::{FolderCopy, FolderStep, NamesState, Stage};
 use job_reports::{Cause, Did, LastStepResult};
@@ -12,7 +13,7 @@ use mc_text::{Name, Names, NoMemory, Path};
 use std::alloc::Global;
 use std::marker::Model;
 use std::mem;
-use subtree_walk::{Around, Opened};
+use subtree_walk::Opened;
 use tree_trait::Tree;
 
 /// What is copied may lie so many levels below the folder that holds it: 256 below itself, and one.
@@ -22,7 +23,7 @@ pub const LEVELS: u32 = 257;
 #[derive(Debug, Drop)]
 pub struct Stack {
     inner: Level,
-    around: Around<Level>,
+    around: Around,
     left: u32,
 }
 
@@ -99,11 +100,31 @@ impl Stack {
         self.inner.copy.is_dirty()
     }
 
-    /// Whether its sync is next, which can't be skipped.
-    pub fn is_at_barrier(&self) -> bool
-        ensures { result ≡ at_barrier self.now.levels.inner.copy.stage }
+    /// Whether the folder around is dirty: the name of the one that is worked isn't on the disk yet.
+    pub fn is_around_dirty(&self) -> bool
+        ensures { result ≡ is_around_dirty self.now.levels.around }
     {
+        self.around.is_dirty()
+    }
+
+    /// Whether a sync is next, which can't be skipped.
+    pub fn is_at_barrier(&self) -> bool
+        ensures { result ≡ is_sync_next self.now.levels }
+    {
+        if self.is_around_dirty() {
+            return true;
+        }
         self.inner.copy.is_at_barrier()
+    }
+
+    /// Syncs the folder around the one that is worked.
+    pub fn sync_around<T: Tree>(&mut self, alloc: Global, tree: &mut T) -> FolderStep
+        requires dirty { is_around_dirty self.old.levels.around ≡ true }
+        ensures syncs { NearestSyncs self.old.levels.around self.new.levels.around result.did result.calls
+            (T.contents tree.old) (T.contents tree.new) (T.fault_count tree.old) (T.fault_count tree.new) }
+        ensures rest { self.new.levels ≡ record self.old.levels { around = self.new.levels.around } }
+    {
+        self.around.sync(alloc, tree)
     }
 
     /// Makes room to go down a level.

@@ -1,10 +1,11 @@
 //! The next thing is taken up, or the end of a folder is worked.
-ghost use Rattle.std.specs.Prelude.{◌≡◌, ◌⊎◌, true, IfOk};
+ghost use Rattle.std.specs.Prelude.{◌≡◌, ◌⊎◌, false, true, IfOk};
 ghost use Rattle.tree_trait.specs.Change.{current};
 ghost use Rattle.tree_trait.specs.Answers.{IfKnown};
 ghost use Rattle.file_copy.specs.Copying.{begun as file_begun, places};
+ghost use Rattle.tree_copy.specs.Levels.{is_around_dirty};
 ghost use Rattle.tree_copy.specs.Standing.{due, seen};
-ghost use Rattle.tree_copy.specs.Steps.{AdvancesNext, Counts, FileWorks, GoesOn, IsWorkable, LinkWorks, RunsOut, link_begun};
+ghost use Rattle.tree_copy.specs.Steps.{AdvancesIn, AdvancesNext, Counts, FileWorks, IsWorkable, LinkWorks, RunsOut, TakesNext, link_begun};
 ghost use Rattle.tree_copy.specs.Taking.{IsInReach, IsSound, IsTaken};
 
 use crate::copy::TreeCopy;
@@ -20,7 +21,7 @@ use std::alloc::Global;
 use tree_trait::Tree;
 
 impl TreeCopy {
-    /// The next name, or the end of the folder that is worked.
+    /// A folder that was made is brought onto the disk; else the next name comes, or the end of the folder that is worked.
     pub(crate) fn go_on<T: Tree, P: PartTest>(
         &mut self,
         alloc: Global,
@@ -32,13 +33,33 @@ impl TreeCopy {
             (T.contents tree.old) (T.contents tree.new) (T.fault_count tree.old) (T.fault_count tree.new) }
         ensures workable { IsWorkable self.new.item }
     {
+        if self.stack.is_around_dirty() {
+            Some(self.sync_around(alloc, tree))
+        } else {
+            self.take_next(alloc, tree, parts)
+        }
+    }
+
+    /// The next name, or the end of the folder that is worked.
+    fn take_next<T: Tree, P: PartTest>(
+        &mut self,
+        alloc: Global,
+        tree: &mut T,
+        parts: &P,
+    ) -> Option<CopyStep>
+        requires free { self.old.item ≡ Item.Next }
+        requires synced { is_around_dirty self.old.stack.levels.around ≡ false }
+        ensures advances { AdvancesIn (λ path. P.is_free parts.now path ≡ true) (seen self.old) (seen self.new) result
+            (T.contents tree.old) (T.contents tree.new) (T.fault_count tree.old) (T.fault_count tree.new) }
+        ensures workable { IsWorkable self.new.item }
+    {
         match self.due(alloc) {
-            Ok(next) => self.go_on_with(alloc, tree, parts, next),
+            Ok(next) => self.take_due(alloc, tree, parts, next),
             Err(trouble) => Some(stopped(trouble)),
         }
     }
 
-    fn go_on_with<T: Tree, P: PartTest>(
+    fn take_due<T: Tree, P: PartTest>(
         &mut self,
         alloc: Global,
         tree: &mut T,
@@ -46,9 +67,10 @@ impl TreeCopy {
         next: Due,
     ) -> Option<CopyStep>
         requires free { self.old.item ≡ Item.Next }
+        requires synced { is_around_dirty self.old.stack.levels.around ≡ false }
         requires next { next ≡ due (seen self.old) }
         requires reach { IsInReach self.old.stack.levels.left next }
-        ensures advances { AdvancesNext (λ path. P.is_free parts.now path ≡ true) (seen self.old) (seen self.new) result
+        ensures advances { AdvancesIn (λ path. P.is_free parts.now path ≡ true) (seen self.old) (seen self.new) result
             (T.contents tree.old) (T.contents tree.new) (T.fault_count tree.old) (T.fault_count tree.new) }
         ensures workable { IsWorkable self.new.item }
     {
@@ -69,7 +91,7 @@ impl TreeCopy {
         requires free { self.old.item ≡ Item.Next }
         requires next { due (seen self.old) ≡ Due.Thing pair }
         requires reach { IsInReach self.old.stack.levels.left (Due.Thing pair) }
-        ensures works { GoesOn (λ path. P.is_free parts.now path ≡ true) (seen self.old) (seen self.new) result.did (T.contents tree.old) (T.contents tree.new) }
+        ensures works { TakesNext (λ path. P.is_free parts.now path ≡ true) (seen self.old) (seen self.new) result.did (T.contents tree.old) (T.contents tree.new) }
         ensures counts { Counts result.did result.calls (T.contents tree.old) (T.contents tree.new) (T.fault_count tree.old) (T.fault_count tree.new) }
         ensures workable { IsWorkable self.new.item }
     {
@@ -93,7 +115,7 @@ impl TreeCopy {
         requires reach { IsInReach self.old.stack.levels.left (Due.Thing pair) }
         requires known { IfKnown (T.contents tree.old) (λ log. IsTaken (current log) pair taken) }
         requires sound { IsSound taken }
-        ensures works { GoesOn (λ path. P.is_free parts.now path ≡ true) (seen self.old) (seen self.new) result.did (T.contents tree.old) (T.contents tree.new) }
+        ensures works { TakesNext (λ path. P.is_free parts.now path ≡ true) (seen self.old) (seen self.new) result.did (T.contents tree.old) (T.contents tree.new) }
         ensures counts { Counts result.did result.calls (T.contents tree.old) (T.contents tree.new) (T.fault_count tree.old) (T.fault_count tree.new) }
         ensures workable { IsWorkable self.new.item }
     {
@@ -145,7 +167,7 @@ impl TreeCopy {
         requires next { due (seen self.old) ≡ Due.Thing pair }
         requires reach { IsInReach self.old.stack.levels.left (Due.Thing pair) }
         requires taken { IfKnown (T.contents tree.old) (λ log. IsTaken (current log) pair Taken.Link) }
-        ensures works { GoesOn (λ path. P.is_free parts.now path ≡ true) (seen self.old) (seen self.new) result.did (T.contents tree.old) (T.contents tree.new) }
+        ensures works { TakesNext (λ path. P.is_free parts.now path ≡ true) (seen self.old) (seen self.new) result.did (T.contents tree.old) (T.contents tree.new) }
         ensures counts { Counts result.did result.calls (T.contents tree.old) (T.contents tree.new) (T.fault_count tree.old) (T.fault_count tree.new) }
         ensures workable { IsWorkable self.new.item }
     {

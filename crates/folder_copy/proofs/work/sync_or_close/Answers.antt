@@ -7,4 +7,4 @@ use Rattle.folder_copy.proofs.work.sync_or_close.Goals as goal
 
 pub returns-in-Dirty : goal.returns-in-Dirty
 returns-in-Dirty g c =
-    moves_with c.args.target.now (Close None) c.args.names Dirty c.sync.result _ _ _ _ c.in-Dirty.is c.sync.ensures
+    moves_with c.args.target.now (Close None) c.args.names Dirty c.sync.result _ _ _ _ c.in-Dirty.is c.sync.ensures.moves
