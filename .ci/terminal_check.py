@@ -593,7 +593,7 @@ def check_stty(program, base, check):
             file.write(f'#!/bin/sh\necho "$1" >>{said}\n{broken}\nexec {real} "$@"\n')
         os.chmod(file.name, 0o755)
         folders = folder + os.pathsep + os.environ["PATH"]
-        for words, want in ([["-x"], 1], [["-v", "a"], 1], [["a", "b", "c"], 1], [["-V"], 0], [["-h"], 0]):
+        for words, want in ([["-x"], 1], [["-e", "a"], 1], [["a", "b", "c"], 1], [["-V"], 0], [["-h"], 0]):
             status, _, _ = run(program, words, [], folders=folders)
             check(f"the words {words} touch no terminal", status == want and not os.path.exists(said))
         status, _, same = run(program, ["/"], [F10], folders=folders)
@@ -623,7 +623,7 @@ def check_signals(starter, base, check):
             check(f"{sent.name} to {name}: the terminal is as it was", ended and same and told.written.endswith(b"\r\n"))
     status, _, same = run(starter, [base], [DOWN, F10])
     check("the starter ends with the program's status", status == 0 and same)
-    status, told, same = run(starter, ["-v", "x"], [])
+    status, told, same = run(starter, ["-e", "x"], [])
     check("and says what the program says", status == 1 and USAGE in told and same)
 
 
