@@ -10,6 +10,11 @@ use Rattle.start_words.specs.declared.folders.StartPath.{StartPath}
 abbrev pub started_in : List ℕ → Route
 started_in text = if is_none (path_fault text) then route_of text else []
 
+-- HOME, where its text is an absolute path; else it counts as missing
+abbrev pub home_in : Option (List ℕ) → Option Route
+home_in None = None
+home_in (Some text) = if is_none (path_fault text) then Some (route_of text) else None
+
 -- the folder above; the root is its own
 abbrev pub above : Route → Route
 above [] = []

@@ -1,6 +1,6 @@
 //! The paths that words name, below the folder in which the program was started.
 ghost use Rattle.std.specs.Prelude.{◌≡◌, ◌∷◌, true, false, Err, None, Some, IfOk, option_map};
-ghost use Rattle.start_words.specs.Folders.{above as above_route, begins_in, folder_named as route_named, is_passed, is_refused_in, panel_folder as folder_of_panel, path_named, started_in, step_below};
+ghost use Rattle.start_words.specs.Folders.{above as above_route, begins_in, folder_named as route_named, home_in, is_passed, is_refused_in, panel_folder as folder_of_panel, path_named, started_in, step_below};
 
 use crate::words::WordsError;
 use mc_text::{Name, NameError, NoMemory, Path, PathError, Text};
@@ -21,6 +21,27 @@ pub fn started_folder(alloc: Global, text: &str) -> Result<Path, NoMemory>
         Ok(folder) => Ok(folder),
         Err(PathError::Memory) => Err(NoMemory),
         Err(_) => Ok(Path::root(alloc)),
+    }
+}
+
+/// HOME, by its text in the surroundings; missing where that is no absolute path.
+pub fn home_folder(alloc: Global, home: &Option<Text>) -> Result<Option<Path>, NoMemory>
+    ensures { IfOk result (λ path. path ≡ home_in home.now) }
+{
+    match home {
+        None => Ok(None),
+        Some(text) => path_of(alloc, text.0.as_str()),
+    }
+}
+
+/// The path of a text, if it is an absolute one.
+fn path_of(alloc: Global, text: &str) -> Result<Option<Path>, NoMemory>
+    ensures { IfOk result (λ path. path ≡ home_in (Some text.now)) }
+{
+    match Path::parse(alloc, text) {
+        Ok(path) => Ok(Some(path)),
+        Err(PathError::Memory) => Err(NoMemory),
+        Err(_) => Ok(None),
     }
 }
 

@@ -8,7 +8,7 @@ mod reading;
 mod size;
 mod words;
 
-pub use folders::{StartPath, started_folder};
+pub use folders::{StartPath, home_folder, started_folder};
 pub use reading::read_words;
 pub use size::Size;
 pub use words::{Words, WordsError};
