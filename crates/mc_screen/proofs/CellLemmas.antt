@@ -16,8 +16,7 @@ use Rattle.key_screen.proofs.LayoutLemmas.{cell, freed_front, freed_cell-same, d
 use Rattle.mc_screen.specs.declared.changes.Change.{Change}
 use Rattle.mc_screen.specs.Changes.{is_same_attr, is_same_glyph, is_same_cell, is_due, changes_from, with_changes, IsWithin}
 use Rattle.mc_screen.proofs.ReadingLemmas.{drawn-drawable}
-use Rattle.mc_screen.proofs.StrokeLemmas.{same_attr}
-use Rattle.mc_screen.proofs.TestLemmas.{and_left, and_right}
+use Rattle.mc_screen.proofs.TestLemmas.{and_left, and_right, same_attr}
 
 -- a put into cells at a place where no right half stands
 put-at : (put : List Cell → ℕ → List Cell) (columns : ℕ) → IsPutting put columns → (xs : List Cell) (y : Cell) (ys : List Cell) (at : ℕ) → at ≡ length xs → columns ≤ length (y ∷ ys)

@@ -18,13 +18,13 @@ blank-shown lines columns = ap shown_grid (text_read-none (blank_terminal lines 
 
 -- the bytes that a screen with these fields puts for a frame
 abbrev pub put_bytes : Bool → List Cell → CellGrid → List ℕ
-put_bytes has_drawn cells frame = drawn_bytes frame.columns (changes_from has_drawn 0 cells frame.cells)
+put_bytes has_drawn cells frame = drawn_bytes frame.columns frame.cells (changes_from has_drawn 0 cells frame.cells)
 
 pub put-is : (columns : ℕ) (was cells : List Cell) (has_drawn : Bool) (kept : List Cell) (frame : CellGrid) → columns ≡ frame.columns → was ≡ kept → cells ≡ frame.cells
-    → drawn_bytes columns (changes_from has_drawn 0 was cells) ≡ put_bytes has_drawn kept frame
+    → drawn_bytes columns cells (changes_from has_drawn 0 was cells) ≡ put_bytes has_drawn kept frame
 put-is columns was cells has_drawn kept frame width before after =
-    ap (λ n. drawn_bytes n (changes_from has_drawn 0 was cells)) width ∙ ap (λ (x : List Cell). drawn_bytes frame.columns (changes_from has_drawn 0 x cells)) before
-    ∙ ap (λ (x : List Cell). drawn_bytes frame.columns (changes_from has_drawn 0 kept x)) after
+    ap (λ n. drawn_bytes n cells (changes_from has_drawn 0 was cells)) width ∙ ap (λ (x : List Cell). drawn_bytes frame.columns cells (changes_from has_drawn 0 x cells)) before
+    ∙ ap (λ (x : List Cell). drawn_bytes frame.columns x (changes_from has_drawn 0 kept x)) after
 
 pub same_count : (lines columns : ℕ) (cells : List Cell) (screen : Display) (has_drawn : Bool) (frame : CellGrid)
     → record { grid = record { lines = lines; columns = columns; cells = cells }; has_drawn = has_drawn } ≡ screen → length cells ≡ lines * columns

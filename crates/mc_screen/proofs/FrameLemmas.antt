@@ -13,8 +13,8 @@ use Rattle.mc_screen.specs.Changes.{changes_from}
 use Rattle.mc_screen.specs.DrawnBytes.{drawing, drawn_bytes}
 use Rattle.mc_screen.specs.Drawings.{HasSizeOf, Shows}
 use Rattle.mc_screen.proofs.EscapeLemmas.{segments-some, segments-behind}
-use Rattle.mc_screen.proofs.ReadingLemmas.{Leads, text_read-none}
-use Rattle.mc_screen.proofs.StrokeLemmas.{state, Begins, drawing-begins}
+use Rattle.mc_screen.proofs.ReadingLemmas.{Leads, text_read-none, state}
+use Rattle.mc_screen.proofs.StrokeLemmas.{Begins, drawing-begins}
 use Rattle.mc_screen.proofs.CellLemmas.{laid-front, changes-first}
 use Rattle.mc_screen.proofs.DrawnLemmas.{NoneBegins, draws-on}
 use Rattle.mc_screen.proofs.LaidLemmas.{IsTerminal, shows-terminal}
@@ -82,10 +82,10 @@ drawn-nothing given was frame same size_was size none shows =
 -- the changes of a frame that has columns
 drawn-changes : (given : List ℕ) (was frame : CellGrid) (has_drawn : Bool) → HasSizeOf was frame → frame.lines < 65536 → frame.columns < 65536
     → length frame.cells ≡ frame.lines * frame.columns → IsLaidOut frame.columns frame.cells → 1 ≤ frame.columns → Shows given was
-    → Shows (given ++ drawing frame.columns Away (changes_from has_drawn 0 was.cells frame.cells)) frame
+    → Shows (given ++ drawing frame.columns frame.cells Away (changes_from has_drawn 0 was.cells frame.cells)) frame
 drawn-changes given was frame has_drawn same short narrow size laid some shows =
     let terminal = shows-terminal given was shows in
-    let bytes = drawing frame.columns Away (changes_from has_drawn 0 was.cells frame.cells) in
+    let bytes = drawing frame.columns frame.cells Away (changes_from has_drawn 0 was.cells frame.cells) in
     let blank = blank_terminal frame.lines frame.columns in
     let old = state frame.lines frame.columns was.cells terminal.at terminal.room terminal.mode in
     let before : all_read blank (segments given) ≡ Ok old =
@@ -95,19 +95,19 @@ drawn-changes given was frame has_drawn same short narrow size laid some shows =
     terminal.size ∙ ap (λ n. n * was.columns) (sym same.lines) ∙ ap (λ n. frame.lines * n) (sym same.columns) ∙ sym size in
     let begin : NoneBegins frame.columns 0 frame.cells = λ row behind.
     ap (right_half_at frame.cells) (let place : row * frame.columns - 0 ≡ row * frame.columns = omega arith in place) ∙ laid.row_starts row in
-    let drawn = draws-on frame.lines frame.columns some short narrow has_drawn 0 [] was.cells frame.cells refl (omega arith) equal laid.halves begin None Away terminal.at terminal.room terminal.mode
+    let drawn = draws-on frame.lines frame.columns some short narrow has_drawn frame.cells laid.halves 0 [] was.cells frame.cells refl (omega arith) equal laid.halves begin refl None Away terminal.at terminal.room terminal.mode
     terminal.laid.halves tt in
     let new = state frame.lines frame.columns frame.cells drawn.0 drawn.1 drawn.2 in
     let leads : Leads old bytes new =
     subst (λ (x : List Cell). Leads (state frame.lines frame.columns x terminal.at terminal.room terminal.mode) bytes new) (laid-front was.cells terminal.laid.halves) drawn.3 in
     let all : all_read blank (segments (given ++ bytes)) ≡ Ok new =
-    read-behind blank old new given bytes before (drawing-begins frame.columns Away (changes_from has_drawn 0 was.cells frame.cells)) leads in
+    read-behind blank old new given bytes before (drawing-begins frame.columns frame.cells Away (changes_from has_drawn 0 was.cells frame.cells)) leads in
     ap shown_grid {x = all_read blank (segments (given ++ bytes))} {y = Ok new} all
 
 -- the bytes of a frame draw it on a terminal that shows the one before, and the first on any
 pub frame-drawn : (has_drawn : Bool) (grid frame : CellGrid) → length grid.cells ≡ length frame.cells → frame.lines < 65536 → frame.columns < 65536
     → length frame.cells ≡ frame.lines * frame.columns → IsLaidOut frame.columns frame.cells → (given : List ℕ) (was : CellGrid) → Shows given was → HasSizeOf was frame
-    → (has_drawn ≡ true → was ≡ grid) → Shows (given ++ drawn_bytes frame.columns (changes_from has_drawn 0 grid.cells frame.cells)) frame
+    → (has_drawn ≡ true → was ≡ grid) → Shows (given ++ drawn_bytes frame.columns frame.cells (changes_from has_drawn 0 grid.cells frame.cells)) frame
 frame-drawn has_drawn grid frame equal short narrow size laid given was shows same kept = by_test (frame.columns == 0) refl where
   terminal : IsTerminal (all_read (blank_terminal was.lines was.columns) (segments given)) was
   terminal = shows-terminal given was shows
@@ -122,7 +122,7 @@ frame-drawn has_drawn grid frame equal short narrow size laid given was shows sa
       ∙ ap (λ test. changes_from test 0 grid.cells frame.cells) (sym is)
 
   by_test : (test : Bool) → (frame.columns == 0) ≡ test
-      → Shows (given ++ (if test then [] else drawing frame.columns Away (changes_from has_drawn 0 grid.cells frame.cells))) frame
+      → Shows (given ++ (if test then [] else drawing frame.columns frame.cells Away (changes_from has_drawn 0 grid.cells frame.cells))) frame
   by_test true none = drawn-nothing given was frame same terminal.size size (grind (arith, nat_tests)) shows
-  by_test false some = subst (λ (c : List Change). Shows (given ++ drawing frame.columns Away c) frame) (changes has_drawn refl)
+  by_test false some = subst (λ (c : List Change). Shows (given ++ drawing frame.columns frame.cells Away c) frame) (changes has_drawn refl)
       (drawn-changes given was frame has_drawn same short narrow size laid (grind (arith, nat_tests)) shows)

@@ -20,7 +20,7 @@ use Rattle.key_screen.specs.Layout.{IsLaidOut, IsRowEnd}
 use Rattle.key_screen.specs.Terminal.{TerminalState, blank_terminal, can_show, with_cluster, clusters_read, text_read, up_to_fault, looking, controlled, behind_control, behind_sequence, sequence_read, sequences_read, all_read, segments, shown_grid}
 use Rattle.key_screen.proofs.RowLemmas.{blanks-laid_out, blank_room, row_end, cluster-laid_out, length-put_glyph}
 use Rattle.mc_screen.specs.Drawings.{Shows}
-use Rattle.mc_screen.proofs.StrokeLemmas.{state}
+use Rattle.mc_screen.proofs.ReadingLemmas.{state}
 use Rattle.mc_screen.proofs.TestLemmas.{and_left, and_right}
 
 -- what a terminal keeps

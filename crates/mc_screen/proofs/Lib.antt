@@ -3,8 +3,9 @@ pub mod EscapeLemmas
 pub mod NumberLemmas
 pub mod PrintableLemmas
 pub mod ReadingLemmas
-pub mod StrokeLemmas
 pub mod CellLemmas
+pub mod GapLemmas
+pub mod StrokeLemmas
 pub mod DrawnLemmas
 pub mod LaidLemmas
 pub mod FrameLemmas

@@ -10,6 +10,7 @@ use Rattle.unicode_segmentation.proofs.SegmentsLemmas.{concat-segments}
 use Rattle.unicode_segmentation.specs.Grapheme.{graphemes, is_grapheme_break}
 use Rattle.key_screen.specs.declared.cells.Attr.{Attr}
 use Rattle.key_screen.specs.declared.cells.Attr.TheVariants.{Plain, Bold, Reverse}
+use Rattle.key_screen.specs.declared.cells.Cell.{Cell}
 use Rattle.key_screen.specs.declared.cells.Glyph.{Glyph}
 use Rattle.key_screen.specs.declared.cells.Glyph.TheVariants.{Blank, Cluster, RightHalf}
 use Rattle.key_screen.specs.declared.control.Control.TheVariants.{Place}
@@ -19,11 +20,15 @@ use Rattle.key_screen.specs.KeySpelling.{is_within}
 use Rattle.key_screen.specs.Layout.{IsDrawn}
 use Rattle.key_screen.specs.Terminal.{TerminalState, with_cluster, clusters_read, text_read, up_to_fault, behind_control, behind_sequence, sequence_read, sequences_read, segments}
 use Rattle.key_screen.proofs.DrawnGlyphs.{question_mark-drawable, blank-drawable, blank_columns}
-use Rattle.mc_screen.specs.DrawnBytes.{glyph_text, is_printable, look, place}
+use Rattle.mc_screen.specs.DrawnBytes.{glyph_text, is_printable, look, turn, place}
 use Rattle.mc_screen.proofs.EscapeLemmas.{HasNoEscape, segments-plain, first_segment, text-no_escape}
 use Rattle.mc_screen.proofs.NumberLemmas.{placement, placement-no_escape, control_of-placement, drop_placement}
 use Rattle.mc_screen.proofs.PrintableLemmas.{ArePrintable, first-typed}
 use Rattle.mc_screen.proofs.TestLemmas.{and_left, and_right}
+
+-- a terminal of this size, with these cells, place, room and look
+abbrev pub state : ℕ → ℕ → List Cell → ℕ → ℕ → Attr → TerminalState
+state lines columns cells at room mode = record { lines = lines; columns = columns; cells = cells; at = at; room = room; mode = mode }
 
 -- bytes that are cut at their escapes, read from a position on
 abbrev pub read_from : TerminalState → ℕ → List (List ℕ) → Result TerminalState ℕ
@@ -69,6 +74,16 @@ leads-look t new Bold rest leads =
 leads-look t new Reverse rest leads =
     leads-escape t (record t { mode = Plain }) new (91 ∷ 48 ∷ 109 ∷ []) (27 ∷ 91 ∷ 55 ∷ 109 ∷ rest) (refl, (refl, (refl, tt))) (λ position segment. refl)
     (leads-escape (record t { mode = Plain }) (record t { mode = Reverse }) new (91 ∷ 55 ∷ 109 ∷ []) rest (refl, (refl, (refl, tt))) (λ position segment. refl) leads)
+
+-- the same behind text of another look
+pub leads-turn : (t new : TerminalState) (before attr : Attr) (rest : List ℕ) → Leads (record t { mode = attr }) rest new → Leads (record t { mode = before }) (turn before attr ++ rest) new
+leads-turn t new Plain Plain rest leads = leads-look (record t { mode = Plain }) new Plain rest leads
+leads-turn t new Plain Bold rest leads =
+    leads-escape (record t { mode = Plain }) (record t { mode = Bold }) new (91 ∷ 49 ∷ 109 ∷ []) rest (refl, (refl, (refl, tt))) (λ position segment. refl) leads
+leads-turn t new Plain Reverse rest leads =
+    leads-escape (record t { mode = Plain }) (record t { mode = Reverse }) new (91 ∷ 55 ∷ 109 ∷ []) rest (refl, (refl, (refl, tt))) (λ position segment. refl) leads
+leads-turn t new Bold attr rest leads = leads-look (record t { mode = Bold }) new attr rest leads
+leads-turn t new Reverse attr rest leads = leads-look (record t { mode = Reverse }) new attr rest leads
 
 -- a terminal whose next cluster goes there
 abbrev pub placed_at : TerminalState → ℕ → ℕ → TerminalState

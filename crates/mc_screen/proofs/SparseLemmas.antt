@@ -18,12 +18,13 @@ use Rattle.mc_screen.specs.declared.strokes.Pen.TheVariants.{Away, Behind, Typin
 use Rattle.mc_screen.specs.declared.strokes.Approach.{Approach}
 use Rattle.mc_screen.specs.declared.strokes.Approach.TheVariants as Approaches
 use Rattle.mc_screen.specs.Changes.{is_due, changes_from}
-use Rattle.mc_screen.specs.DrawnBytes.{glyph_text, is_printable, look, place, approach_to, lead, pen_after, drawing, drawn_bytes}
+use Rattle.mc_screen.specs.DrawnBytes.{glyph_text, is_printable, look, turn, place, cells_text, cells_between, approach_to, lead, pen_after, drawing, drawn_bytes}
 use Rattle.mc_screen.specs.Sparse.{DifferInRow, MayFollow, IsPlacing, BeginPlacing, IsSparse}
 use Rattle.mc_screen.proofs.EscapeLemmas.{HasNoEscape, segments-plain, first_segment}
 use Rattle.mc_screen.proofs.NumberLemmas.{placement, placement-no_escape, control_of-placement}
 use Rattle.mc_screen.proofs.ReadingLemmas.{text-no_escapes}
-use Rattle.mc_screen.proofs.StrokeLemmas.{placed-there, row-within}
+use Rattle.mc_screen.proofs.GapLemmas.{printable-no_escape, texts-printable, goes-over}
+use Rattle.mc_screen.proofs.StrokeLemmas.{Approached, IsTypingOn, approached, placed-there, row-within}
 use Rattle.mc_screen.proofs.CellLemmas.{before_rest, due-differs, changes-none}
 
 -- all that follows an escape has a property
@@ -87,6 +88,13 @@ module _ (was frame : CellGrid) (some : 1 ≤ frame.columns) (short : frame.line
       follow-control MayStand (91 ∷ 48 ∷ 109 ∷ []) (27 ∷ 91 ∷ 55 ∷ 109 ∷ rest) (refl, (refl, (refl, tt))) (λ segment. tt)
       (follow-control MayStand (91 ∷ 55 ∷ 109 ∷ []) rest (refl, (refl, (refl, tt))) (λ segment. tt) all)
 
+  follow-turn : (before attr : Attr) (rest : List ℕ) → AllFollow MayStand rest → AllFollow MayStand (turn before attr ++ rest)
+  follow-turn Plain Plain rest all = follow-look Plain rest all
+  follow-turn Plain Bold rest all = follow-control MayStand (91 ∷ 49 ∷ 109 ∷ []) rest (refl, (refl, (refl, tt))) (λ segment. tt) all
+  follow-turn Plain Reverse rest all = follow-control MayStand (91 ∷ 55 ∷ 109 ∷ []) rest (refl, (refl, (refl, tt))) (λ segment. tt) all
+  follow-turn Bold attr rest all = follow-look attr rest all
+  follow-turn Reverse attr rest all = follow-look attr rest all
+
   row_small : (change : Change) → IsDrawnChange change → change.at / frame.columns + 1 < 65536
   row_small change is = let last = row-within frame.lines frame.columns change.at is.within in omega arith
 
@@ -101,26 +109,42 @@ module _ (was frame : CellGrid) (some : 1 ≤ frame.columns) (short : frame.line
       follow-control MayStand (placement row column) rest (placement-no_escape row column)
       (λ segment. subst (MayFollow was frame) (sym (control_of-placement row column segment (row_small change is) (column_small change))) (row-differs change is)) all
 
-  follow-lead : (change : Change) (how : Approach) (rest : List ℕ) → IsDrawnChange change → AllFollow MayStand rest → AllFollow MayStand (lead frame.columns how change ++ rest)
-  follow-lead change Approaches.Place rest is all =
+  follow-gap : (pen : Pen) (from : ℕ) (change : Change) (rest : List ℕ) → IsTypingOn frame.columns frame.cells pen from change → AllFollow MayStand rest
+      → AllFollow MayStand (cells_text (cells_between frame.cells from change.at) ++ rest)
+  follow-gap Away from change rest typing all = absurd typing
+  follow-gap (Behind last width attr) from change rest typing all = absurd typing
+  follow-gap (Typing last width attr) from change rest typing all =
+      let gap = cells_between frame.cells from change.at in
+      follow-text MayStand (cells_text gap) rest (printable-no_escape (cells_text gap) (texts-printable attr gap (goes-over frame.columns frame.cells attr from change typing.1))) all
+
+  follow-lead : (pen : Pen) (change : Change) (how : Approach) (rest : List ℕ) → IsDrawnChange change → Approached frame.columns frame.cells pen change how → AllFollow MayStand rest
+      → AllFollow MayStand (lead frame.columns frame.cells how change ++ rest)
+  follow-lead pen change Approaches.Place rest is how all =
       subst (AllFollow MayStand) (sym (append_assoc (place (change.at / frame.columns + 1) (change.at % frame.columns + 1)) (look change.cell.attr) rest))
       (follow-place change (look change.cell.attr ++ rest) is (follow-look change.cell.attr rest all))
-  follow-lead change Approaches.Move rest is all = follow-place change rest is all
-  follow-lead change Approaches.Look rest is all = follow-look change.cell.attr rest all
-  follow-lead change Approaches.Type rest is all = all
+  follow-lead pen change (Approaches.Turn before) rest is how all =
+      subst (AllFollow MayStand) (sym (append_assoc (place (change.at / frame.columns + 1) (change.at % frame.columns + 1)) (turn before change.cell.attr) rest))
+      (follow-place change (turn before change.cell.attr ++ rest) is (follow-turn before change.cell.attr rest all))
+  follow-lead pen change Approaches.Move rest is how all = follow-place change rest is all
+  follow-lead pen change (Approaches.Look before) rest is how all = follow-turn before change.cell.attr rest all
+  follow-lead pen change (Approaches.Type from) rest is how all = follow-gap pen from change rest how all
 
-  drawing-follows : (pen : Pen) (changes : List Change) → AreDrawnChanges changes → AllFollow MayStand (drawing frame.columns pen changes)
+  drawing-follows : (pen : Pen) (changes : List Change) → AreDrawnChanges changes → AllFollow MayStand (drawing frame.columns frame.cells pen changes)
   drawing-follows pen [] all = All-nil MayStand
   drawing-follows pen (change ∷ changes) all = by_half (is_right_half change.cell.glyph) (drawing-follows (pen_after pen change) changes all.1) where
     rest : List ℕ
-    rest = drawing frame.columns (pen_after pen change) changes
+    rest = drawing frame.columns frame.cells (pen_after pen change) changes
+
+    how : Approach
+    how = approach_to frame.columns frame.cells pen change
 
     by_half : (test : Bool) → AllFollow MayStand rest
-        → AllFollow MayStand ((if test then [] else lead frame.columns (approach_to frame.columns pen change) change ++ glyph_text change.cell.glyph) ++ rest)
+        → AllFollow MayStand ((if test then [] else lead frame.columns frame.cells how change ++ glyph_text change.cell.glyph) ++ rest)
     by_half true more = more
     by_half false more =
-        subst (AllFollow MayStand) (sym (append_assoc (lead frame.columns (approach_to frame.columns pen change) change) (glyph_text change.cell.glyph) rest))
-        (follow-lead change (approach_to frame.columns pen change) (glyph_text change.cell.glyph ++ rest) all.0 (follow-text MayStand (glyph_text change.cell.glyph) rest all.0.plain more))
+        subst (AllFollow MayStand) (sym (append_assoc (lead frame.columns frame.cells how change) (glyph_text change.cell.glyph) rest))
+        (follow-lead pen change how (glyph_text change.cell.glyph ++ rest) all.0 (approached frame.columns frame.cells pen change)
+        (follow-text MayStand (glyph_text change.cell.glyph) rest all.0.plain more))
 
   -- the first of them is placed
   begins-placing : (change : Change) (rest : List ℕ) → IsDrawnChange change → BeginPlacing (segments (place (change.at / frame.columns + 1) (change.at % frame.columns + 1) ++ rest))
@@ -136,7 +160,7 @@ module _ (was frame : CellGrid) (some : 1 ≤ frame.columns) (short : frame.line
       subst IsPlacing (sym (control_of-placement row column segment (row_small change is) (column_small change))) (row, column, refl) in
       subst BeginPlacing (sym cut) placing
 
-  drawing-placed : (changes : List Change) → AreDrawnChanges changes → BeginPlacing (segments (drawing frame.columns Away changes))
+  drawing-placed : (changes : List Change) → AreDrawnChanges changes → BeginPlacing (segments (drawing frame.columns frame.cells Away changes))
   drawing-placed [] all = tt
   drawing-placed (change ∷ changes) all = by_half (is_right_half change.cell.glyph) (drawing-placed changes all.1) where
     printable : Bool
@@ -145,13 +169,13 @@ module _ (was frame : CellGrid) (some : 1 ≤ frame.columns) (short : frame.line
     after : Bool → Pen
     after test = if test then Away else if printable then Typing change.at (glyph_columns change.cell.glyph) change.cell.attr else Behind change.at (glyph_columns change.cell.glyph) change.cell.attr
 
-    by_half : (test : Bool) → BeginPlacing (segments (drawing frame.columns Away changes))
+    by_half : (test : Bool) → BeginPlacing (segments (drawing frame.columns frame.cells Away changes))
         → BeginPlacing (segments ((if test then [] else (place (change.at / frame.columns + 1) (change.at % frame.columns + 1) ++ look change.cell.attr) ++ glyph_text change.cell.glyph)
-        ++ drawing frame.columns (if test then Away else if is_printable (glyph_text change.cell.glyph) then Typing change.at (glyph_columns change.cell.glyph) change.cell.attr else Behind change.at (glyph_columns change.cell.glyph) change.cell.attr) changes))
+        ++ drawing frame.columns frame.cells (if test then Away else if is_printable (glyph_text change.cell.glyph) then Typing change.at (glyph_columns change.cell.glyph) change.cell.attr else Behind change.at (glyph_columns change.cell.glyph) change.cell.attr) changes))
     by_half true more = more
     by_half false more =
         let placing = place (change.at / frame.columns + 1) (change.at % frame.columns + 1) in
-        let rest = drawing frame.columns (if is_printable (glyph_text change.cell.glyph) then Typing change.at (glyph_columns change.cell.glyph) change.cell.attr else Behind change.at (glyph_columns change.cell.glyph) change.cell.attr) changes in
+        let rest = drawing frame.columns frame.cells (if is_printable (glyph_text change.cell.glyph) then Typing change.at (glyph_columns change.cell.glyph) change.cell.attr else Behind change.at (glyph_columns change.cell.glyph) change.cell.attr) changes in
         subst (λ (bytes : List ℕ). BeginPlacing (segments bytes))
         (sym (append_assoc (placing ++ look change.cell.attr) (glyph_text change.cell.glyph) rest ∙ append_assoc placing (look change.cell.attr) (glyph_text change.cell.glyph ++ rest)))
         (begins-placing change (look change.cell.attr ++ (glyph_text change.cell.glyph ++ rest)) all.0)
@@ -191,12 +215,12 @@ module _ (was frame : CellGrid) (some : 1 ≤ frame.columns) (short : frame.line
 
 -- the bytes of a frame are sparse
 pub frame-sparse : (was frame : CellGrid) → frame.lines < 65536 → frame.columns < 65536 → length frame.cells ≡ frame.lines * frame.columns → IsLaidOut frame.columns frame.cells
-    → IsSparse was frame (drawn_bytes frame.columns (changes_from true 0 was.cells frame.cells))
+    → IsSparse was frame (drawn_bytes frame.columns frame.cells (changes_from true 0 was.cells frame.cells))
 frame-sparse was frame short narrow size laid = by_test (frame.columns == 0) refl where
   changes : List Change
   changes = changes_from true 0 was.cells frame.cells
 
-  by_test : (test : Bool) → (frame.columns == 0) ≡ test → IsSparse was frame (if test then [] else drawing frame.columns Away changes)
+  by_test : (test : Bool) → (frame.columns == 0) ≡ test → IsSparse was frame (if test then [] else drawing frame.columns frame.cells Away changes)
   by_test true none = record { begins = tt; allowed = All-nil (λ sequence. MayFollow was frame (control_of sequence)); quiet = λ same. refl }
   by_test false is =
       let some : 1 ≤ frame.columns = grind (arith, nat_tests) in
@@ -204,6 +228,6 @@ frame-sparse was frame short narrow size laid = by_test (frame.columns == 0) ref
         begins = drawing-placed was frame some short narrow changes drawn;
         allowed = drawing-follows was frame some short narrow Away changes drawn;
         quiet = λ same.
-            ap (λ (g : CellGrid). drawing frame.columns Away (changes_from true 0 g.cells frame.cells)) same
-            ∙ ap (drawing frame.columns Away) (changes-none 0 frame.cells);
+            ap (λ (g : CellGrid). drawing frame.columns frame.cells Away (changes_from true 0 g.cells frame.cells)) same
+            ∙ ap (drawing frame.columns frame.cells Away) (changes-none 0 frame.cells);
       }

@@ -71,10 +71,11 @@ impl Screen {
         ensures cause { HasCause SinkError.Fault (S.fault_count sink.old) (S.fault_count sink.new) result }
     {
         let columns = usize::from(frame.columns());
-        let Ok(changes) = changes_of(alloc, self.has_drawn, &self.cells, frame.cells()) else {
+        let cells = frame.cells();
+        let Ok(changes) = changes_of(alloc, self.has_drawn, &self.cells, cells) else {
             return Err(SinkError::Memory);
         };
-        let Ok(bytes) = bytes_of(alloc, columns, &changes) else {
+        let Ok(bytes) = bytes_of(alloc, columns, cells, &changes) else {
             return Err(SinkError::Memory);
         };
         put(alloc, &bytes, sink)?;

@@ -1,11 +1,11 @@
 //! The bytes that draw changes on a terminal.
-ghost use Rattle.std.specs.Prelude.{◌≡◌, ◌<◌, ◌++◌, ◌/◌, ◌^◌, All, IfOk, OnOk};
+ghost use Rattle.std.specs.Prelude.{◌≡◌, ◌+◌, ◌<◌, ◌≤◌, ◌++◌, ◌/◌, ◌%◌, ◌^◌, true, All, IfOk, OnOk, length};
 ghost use Rattle.key_screen.specs.DrawnText.{glyph_columns, cluster_columns};
 ghost use Rattle.mc_screen.specs.Changes.{IsWithin};
-ghost use Rattle.mc_screen.specs.DrawnBytes.{glyph_text, is_printable as is_printable_of, look, digit, digit_at, number, place, is_here as is_here_of, place_as as place_as_of, approach_to as approach_of, lead, stroke, pen_after as pen_after_of, drawing, drawn_bytes};
+ghost use Rattle.mc_screen.specs.DrawnBytes.{glyph_text, is_printable as is_printable_of, look, turn, digit, digit_at, number, place, is_here as is_here_of, is_typed as is_typed_of, are_typed as are_typed_of, cells_text, cells_between, is_near as is_near_of, goes_on as goes_on_of, place_as as place_as_of, approach_to as approach_of, lead, stroke, pen_after as pen_after_of, drawing, drawn_bytes};
 
 use crate::changes::{Change, looks_same};
-use key_screen::{Attr, Glyph};
+use key_screen::{Attr, Cell, Glyph};
 use std::alloc::{AllocError, Global};
 use std::convert::AsStr;
 use unicode_width::UnicodeWidthStr;
@@ -34,18 +34,29 @@ pub enum Pen {
 pub enum Approach {
     /// Its placement, and how it looks.
     Place,
+    /// Its placement, and how it looks behind text of this look.
+    Turn(Attr),
     /// Its placement alone, since it looks as the text before it.
     Move,
-    /// How it looks.
-    Look,
-    /// Nothing.
-    Type,
+    /// How it looks behind text of this look.
+    Look(Attr),
+    /// The text from this place up to it, again. There is none where it stands directly behind the text before it.
+    Type(usize),
 }
 
-/// The bytes that draw changes on a screen of so many columns, in time proportional to the changes and their texts.
-pub fn bytes_of(alloc: Global, columns: usize, changes: &[Change]) -> Result<Vec<u8>, AllocError>
-    requires { All (IsWithin (2 ^ 63)) changes.now }
-    ensures { IfOk result (λ bytes. bytes.items ≡ drawn_bytes columns changes.now) }
+/// The most cells between two changes that are written again. A placement takes six bytes at least.
+const LONGEST_GAP: usize = 5;
+
+/// The bytes that draw changes in a frame of these cells, of so many columns, in time proportional to the changes and their
+/// texts.
+pub fn bytes_of(
+    alloc: Global,
+    columns: usize,
+    cells: &[Cell],
+    changes: &[Change],
+) -> Result<Vec<u8>, AllocError>
+    requires { All (IsWithin (length cells.now)) changes.now }
+    ensures { IfOk result (λ bytes. bytes.items ≡ drawn_bytes columns cells.now changes.now) }
 {
     let mut bytes = Vec::new(alloc);
     if columns == 0 {
@@ -53,7 +64,7 @@ pub fn bytes_of(alloc: Global, columns: usize, changes: &[Change]) -> Result<Vec
     }
     let mut pen = Pen::Away;
     for change in changes {
-        push_stroke(&mut bytes, columns, pen, change)?;
+        push_stroke(&mut bytes, columns, cells, pen, change)?;
         pen = pen_after(pen, change);
     }
     Ok(bytes)
@@ -63,17 +74,18 @@ pub fn bytes_of(alloc: Global, columns: usize, changes: &[Change]) -> Result<Vec
 fn push_stroke(
     bytes: &mut Vec<u8>,
     columns: usize,
+    cells: &[Cell],
     pen: Pen,
     change: &Change,
 ) -> Result<(), AllocError>
     requires some { 0 < columns }
-    requires within { change.now.at < 2 ^ 63 }
-    ensures { OnOk result (bytes.new.items ≡ bytes.old.items ++ stroke columns pen change.now) }
+    requires within { change.now.at < length cells.now }
+    ensures { OnOk result (bytes.new.items ≡ bytes.old.items ++ stroke columns cells.now pen change.now) }
 {
     if matches!(change.cell.glyph, Glyph::RightHalf) {
         return Ok(());
     }
-    push_lead(bytes, columns, pen, change)?;
+    push_lead(bytes, columns, cells, pen, change)?;
     bytes.extend_from_slice(text_of(&change.cell.glyph))
 }
 
@@ -81,28 +93,34 @@ fn push_stroke(
 fn push_lead(
     bytes: &mut Vec<u8>,
     columns: usize,
+    cells: &[Cell],
     pen: Pen,
     change: &Change,
 ) -> Result<(), AllocError>
     requires some { 0 < columns }
-    requires within { change.now.at < 2 ^ 63 }
-    ensures { OnOk result (bytes.new.items ≡ bytes.old.items ++ lead columns (approach_of columns pen change.now) change.now) }
+    requires within { change.now.at < length cells.now }
+    ensures { OnOk result (bytes.new.items ≡ bytes.old.items ++ lead columns cells.now (approach_of columns cells.now pen change.now) change.now) }
 {
-    match approach_to(columns, pen, change) {
+    match approach_to(columns, cells, pen, change) {
         Approach::Place => {
-            push_place(bytes, change.at / columns + 1, change.at % columns + 1)?;
+            push_place_of(bytes, columns, change.at)?;
             push_look(bytes, change.cell.attr)
         }
-        Approach::Move => push_place(bytes, change.at / columns + 1, change.at % columns + 1),
-        Approach::Look => push_look(bytes, change.cell.attr),
-        Approach::Type => Ok(()),
+        Approach::Turn(before) => {
+            push_place_of(bytes, columns, change.at)?;
+            push_turn(bytes, before, change.cell.attr)
+        }
+        Approach::Move => push_place_of(bytes, columns, change.at),
+        Approach::Look(before) => push_turn(bytes, before, change.cell.attr),
+        Approach::Type(from) => push_texts(bytes, &cells[from..change.at]),
     }
 }
 
 /// What has to stand before the text of a change.
-fn approach_to(columns: usize, pen: Pen, change: &Change) -> Approach
-    requires { 0 < columns }
-    ensures { result ≡ approach_of columns pen change.now }
+fn approach_to(columns: usize, cells: &[Cell], pen: Pen, change: &Change) -> Approach
+    requires some { 0 < columns }
+    requires within { change.now.at < length cells.now }
+    ensures { result ≡ approach_of columns cells.now pen change.now }
 {
     match pen {
         Pen::Away => Approach::Place,
@@ -112,7 +130,7 @@ fn approach_to(columns: usize, pen: Pen, change: &Change) -> Approach
             attr,
         } => {
             if is_here(columns, last, width, change.at) {
-                Approach::Look
+                Approach::Look(attr)
             } else {
                 place_as(attr, change)
             }
@@ -122,14 +140,12 @@ fn approach_to(columns: usize, pen: Pen, change: &Change) -> Approach
             columns: width,
             attr,
         } => {
-            if !is_here(columns, last, width, change.at) {
-                place_as(attr, change)
-            } else if looks_same(attr, change.cell.attr)
-                && is_printable(text_of(&change.cell.glyph))
-            {
-                Approach::Type
+            if goes_on(columns, cells, attr, last, width, change) {
+                Approach::Type(last + width)
+            } else if is_here(columns, last, width, change.at) {
+                Approach::Look(attr)
             } else {
-                Approach::Look
+                place_as(attr, change)
             }
         }
     }
@@ -142,8 +158,59 @@ fn place_as(attr: Attr, change: &Change) -> Approach
     if looks_same(attr, change.cell.attr) {
         Approach::Move
     } else {
-        Approach::Place
+        Approach::Turn(attr)
     }
+}
+
+/// Whether text that looks so goes on from behind the last one up to a change.
+fn goes_on(
+    columns: usize,
+    cells: &[Cell],
+    attr: Attr,
+    last: usize,
+    width: usize,
+    change: &Change,
+) -> bool
+    requires some { 0 < columns }
+    requires within { change.now.at < length cells.now }
+    ensures exact { result ≡ goes_on_of columns cells.now attr (last + width) change.now }
+    ensures reached { result ≡ true → last + width ≤ change.now.at }
+{
+    is_near(columns, last, width, change.at)
+        && is_typed(attr, &change.cell)
+        && are_typed(attr, &cells[last + width..change.at])
+}
+
+/// Whether few cells lie between the last place and another, which stands in the same row.
+fn is_near(columns: usize, last: usize, width: usize, at: usize) -> bool
+    requires { 0 < columns }
+    ensures exact { result ≡ is_near_of columns (last + width) at }
+    ensures reached { result ≡ true → last + width ≤ at }
+{
+    if last > at || at - last < width {
+        return false;
+    }
+    let from = last + width;
+    at - from <= LONGEST_GAP && from % columns != 0 && at - from < columns - from % columns
+}
+
+/// Whether all cells are printable ASCII that looks so.
+fn are_typed(attr: Attr, cells: &[Cell]) -> bool
+    ensures { result ≡ are_typed_of attr cells.now }
+{
+    for cell in cells {
+        if !is_typed(attr, cell) {
+            return false;
+        }
+    }
+    true
+}
+
+/// Whether a cell is a printable character of ASCII that looks so.
+fn is_typed(attr: Attr, cell: &Cell) -> bool
+    ensures { result ≡ is_typed_of attr cell.now }
+{
+    looks_same(attr, cell.attr) && is_printable(text_of(&cell.glyph))
 }
 
 /// Whether a place stands directly behind the last one, in the same row.
@@ -226,6 +293,36 @@ fn push_look(bytes: &mut Vec<u8>, attr: Attr) -> Result<(), AllocError>
         Attr::Bold => bytes.extend_from_slice(b"\x1b[0m\x1b[1m"),
         Attr::Reverse => bytes.extend_from_slice(b"\x1b[0m\x1b[7m"),
     }
+}
+
+/// Adds how the text behind it looks, where the text before it looks so.
+fn push_turn(bytes: &mut Vec<u8>, before: Attr, attr: Attr) -> Result<(), AllocError>
+    ensures { OnOk result (bytes.new.items ≡ bytes.old.items ++ turn before attr) }
+{
+    match (before, attr) {
+        (Attr::Plain, Attr::Bold) => bytes.extend_from_slice(b"\x1b[1m"),
+        (Attr::Plain, Attr::Reverse) => bytes.extend_from_slice(b"\x1b[7m"),
+        _ => push_look(bytes, attr),
+    }
+}
+
+/// Adds the text that shows cells.
+fn push_texts(bytes: &mut Vec<u8>, cells: &[Cell]) -> Result<(), AllocError>
+    ensures { OnOk result (bytes.new.items ≡ bytes.old.items ++ cells_text cells.now) }
+{
+    for cell in cells {
+        bytes.extend_from_slice(text_of(&cell.glyph))?;
+    }
+    Ok(())
+}
+
+/// Adds the placement of a cell.
+fn push_place_of(bytes: &mut Vec<u8>, columns: usize, at: usize) -> Result<(), AllocError>
+    requires some { 0 < columns }
+    requires within { at < 2 ^ 63 }
+    ensures { OnOk result (bytes.new.items ≡ bytes.old.items ++ place (at / columns + 1) (at % columns + 1)) }
+{
+    push_place(bytes, at / columns + 1, at % columns + 1)
 }
 
 /// Adds a placement.

@@ -7,4 +7,4 @@ use Rattle.mc_screen.proofs.strokes.bytes_of.Given as goal
 abbrev pub invariant-loop-change : goal.invariant-loop-change
 invariant-loop-change l =
     (0 < l.columns)
-    × (l.bytes.items ++ drawing l.columns l.pen (drop l.change-index l.changes) ≡ drawing l.columns Away l.changes)
+    × (l.bytes.items ++ drawing l.columns l.cells l.pen (drop l.change-index l.changes) ≡ drawing l.columns l.cells Away l.changes)
