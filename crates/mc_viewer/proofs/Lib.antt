@@ -1,9 +1,11 @@
 pub mod UnitLemmas
+pub mod PlainLemmas
 pub mod LineLemmas
 pub mod RowLemmas
 pub mod LineTextLemmas
 pub mod LocalLemmas
 pub mod StartLemmas
+pub mod NearLemmas
 pub mod ReadingLemmas
 pub mod SightLemmas
 pub mod StepLemmas

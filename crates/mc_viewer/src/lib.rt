@@ -1,11 +1,13 @@
 //! A viewer of a file or an output: pages of rows, moves and searches, that read no more of it than they have to.
 #![tactic(auto)]
 
+mod above;
 mod error;
 mod hex;
 mod layout;
 mod lines;
 mod moves;
+mod near;
 mod pages;
 mod passing;
 mod reading;

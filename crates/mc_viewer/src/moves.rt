@@ -5,9 +5,11 @@ ghost use Rattle.mc_viewer.specs.Viewing.{held, IfHeld, IsReadError, AsTheTreeSa
 ghost use Rattle.mc_viewer.specs.Rows.{all_rows, IsRow, rows_down, rows_up, line_behind};
 ghost use Rattle.mc_viewer.specs.Steps.{after_step, to_byte, down, up, to_end, NeedsNoLook};
 
+use crate::above::row_above;
 use crate::error::ViewError;
 use crate::layout::Layout;
 use crate::lines::line_behind;
+use crate::near::nothing_near;
 use crate::reading::size_of;
 use crate::state::{
     State, ViewStep, layout_of, page_lines, to_left, to_right, with_hex_turned, with_top,
@@ -206,7 +208,7 @@ fn rows_down<T: ReadTree>(
     Ok(row)
 }
 
-/// So many rows up.
+/// So many rows up. A piece is kept from row to row, so that the bytes of short lines are read once.
 fn rows_up<T: ReadTree>(
     alloc: Global,
     tree: &mut T,
@@ -226,9 +228,10 @@ fn rows_up<T: ReadTree>(
     ensures apart { is_output subject.now ≡ true → tree.new ≡ tree.old }
     ensures cause { HasCause (ViewError.Tree TreeError.Fault) (T.fault_count tree.old) (T.fault_count tree.new) result }
 {
+    let mut near = nothing_near(alloc);
     let mut row = from;
     for _ in 0..count {
-        row = row_holding(alloc, tree, subject, layout, size, row.saturating_sub(1))?;
+        row = row_above(alloc, tree, subject, layout, size, &mut near, row)?;
     }
     Ok(row)
 }

@@ -2,9 +2,8 @@
 ghost use Rattle.std.specs.Prelude.{◌≡◌, ◌<◌, ◌≤◌, ◌+◌, ◌*◌, ◌^◌, length, drop};
 ghost use Rattle.mc_viewer.specs.Rows.{line_length, wrapped_length};
 
-use crate::units::{front, rest_from, unit_length};
+use crate::units::{front, rest_from, unit_columns, unit_length};
 use memchr::memchr;
-use shown_units::unit_columns;
 
 /// The bytes of the first line, with the newline that ends it.
 pub fn line_length(bytes: &[u8]) -> usize

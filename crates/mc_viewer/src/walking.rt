@@ -71,9 +71,9 @@ fn wrapped_end<T: ReadTree>(
 }
 
 /// So many bytes further, at least one, and at most at the end.
-fn end_behind(at: u64, count: usize, size: u64) -> u64
+pub fn end_behind(at: u64, count: usize, size: u64) -> u64
     requires low { at ≤ 2 ^ 63 }
-    requires few { count < 2 ^ 32 }
+    requires few { count < 2 ^ 60 }
     ensures { result ≡ min size (at + max 1 count) }
 {
     size.min(at + (count as u64).max(1))

@@ -1,7 +1,7 @@
 -- One row further.
 use Rattle.std.proofs.Common.{◌≡◌, ◌+◌, ◌-◌, suc, ap, sym, ◌∙◌, arith}
 use Rattle.mc_viewer.specs.Viewing.{held}
-use Rattle.mc_viewer.specs.Rows.{all_rows, row_holding, rows_up}
+use Rattle.mc_viewer.specs.Rows.{all_rows, rows_up}
 use Rattle.mc_viewer.proofs.StepLemmas.{up-further, up-none}
 use Rattle.mc_viewer.proofs.moves.rows_up.Goals as goal
 
@@ -10,16 +10,14 @@ loop-preserved g c = record {
   same = c.in_ok-row.ensures.same ∙ c.loop.invariant.same;
   apart = λ out. c.in_ok-row.ensures.apart out ∙ c.loop.invariant.apart out;
   later = omega (arith, c.in_ok-row.ensures.cause.later, c.loop.invariant.later);
+  kept = c.in_ok-row.ensures.kept;
   way = λ bytes known size_is.
-      let shape = c.args.layout.shape in
-      let columns = c.args.layout.columns in
-      let rows = all_rows shape columns bytes in
+      let rows = all_rows c.args.layout.shape c.args.layout.columns bytes in
       let left = c.args.count - (c.loop.counter + 1) in
       let more = c.args.count - c.loop.counter in
       let one_more : more ≡ suc left = omega arith in
       let still = ap (λ t. held t c.args.subject.now) c.loop.invariant.same ∙ known in
-      up-further left more one_more rows c.loop.row c.in_ok-row.row
-      (c.in_ok-row.ensures.shown bytes still size_is ∙ ap (row_holding shape columns bytes) c.saturating_sub.ensures)
+      up-further left more one_more rows c.loop.row c.in_ok-row.row (c.in_ok-row.ensures.shown bytes still size_is)
       ∙ c.loop.invariant.way bytes known size_is;
 }
 
