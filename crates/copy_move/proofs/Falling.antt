@@ -5,7 +5,7 @@ use Rattle.mc_text.specs.Routes.{Route}
 use Rattle.job_reports.specs.declared.report.Ending.{Ending}
 use Rattle.job_reports.specs.declared.report.Ending.TheVariants.{Finished, Aborted, Killed, NoMemory}
 use Rattle.job_reports.specs.declared.report.Did.{Did}
-use Rattle.job_reports.specs.declared.report.Did.TheVariants.{Began, Chunk, Placed, Removed, Made, Kept, Skipped, Cleaned, Barrier, Troubled, Ended}
+use Rattle.job_reports.specs.declared.report.Did.TheVariants.{Began, Chunk, Placed, Removed, Made, Set, Kept, Skipped, Cleaned, Barrier, Troubled, Ended}
 use Rattle.file_copy.specs.declared.stage.Stage.{Stage}
 use Rattle.file_copy.specs.declared.stage.Stage.TheVariants.{Begin, Fill, Clean, Left, Decided}
 use Rattle.file_copy.specs.declared.stage.Next.TheVariants as next
@@ -79,6 +79,7 @@ copy_falls old new (Began part) t sound h =
     below old new Begin (record old { stage = Fill part facts 0; folder = Dirty }) t.0 t.1.1 (begins_below (2 ^ 63) facts.size range.1)
 copy_falls old new (Chunk count) (part, facts, done, at, some, few, within, is) sound h =
     below old new (Fill part facts done) (record old { stage = Fill part facts (done + count) }) at is (omega (arith, some, within))
+copy_falls old new (Set path) t sound h = absurd t
 copy_falls old new (Placed path) (part, facts, at, target, is) sound h =
     below old new (Fill part facts facts.size) (record old { stage = Decided }) at is (let low = decided_low old.folder in omega (arith, low))
 copy_falls old new (Cleaned part) (follows, at, is) sound h =
@@ -123,6 +124,7 @@ making_falls old new (Ended Killed part) t h = absurd t
 making_falls old new (Ended NoMemory part) t h = absurd t
 making_falls old new (Began part) t h = absurd t
 making_falls old new (Chunk count) t h = absurd t
+making_falls old new (Set path) t h = absurd t
 making_falls old new (Placed path) t h = absurd t
 making_falls old new (Removed made) t h = absurd t
 making_falls old new (Kept kept) t h = absurd t
@@ -136,6 +138,7 @@ last_copy_falls ending old new (Cleaned part) w falls h = falls
 last_copy_falls ending old new Barrier w falls h = falls
 last_copy_falls ending old new (Began part) w falls h = absurd w
 last_copy_falls ending old new (Chunk count) w falls h = absurd w
+last_copy_falls ending old new (Set path) w falls h = absurd w
 last_copy_falls ending old new (Placed path) w falls h = absurd w
 last_copy_falls ending old new (Removed path) w falls h = absurd w
 last_copy_falls ending old new (Made made) w falls h = absurd w
@@ -149,6 +152,7 @@ last_making_falls ending old new Barrier (at, is) h =
 last_making_falls ending old new (Ended how part) w h = absurd cc
 last_making_falls ending old new (Began part) w h = absurd w
 last_making_falls ending old new (Chunk count) w h = absurd w
+last_making_falls ending old new (Set path) w h = absurd w
 last_making_falls ending old new (Placed path) w h = absurd w
 last_making_falls ending old new (Made path) w h = absurd w
 last_making_falls ending old new (Removed made) w h = absurd w

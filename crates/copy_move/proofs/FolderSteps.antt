@@ -16,7 +16,7 @@ use Rattle.job_reports.specs.declared.report.Cause.TheVariants.{Memory, Tree}
 use Rattle.job_reports.specs.declared.report.Ending.{Ending}
 use Rattle.job_reports.specs.declared.report.Ending.TheVariants.{Finished, Aborted, Killed, NoMemory}
 use Rattle.job_reports.specs.declared.report.Did.{Did}
-use Rattle.job_reports.specs.declared.report.Did.TheVariants.{Began, Chunk, Placed, Removed, Made, Kept, Skipped, Cleaned, Barrier, Troubled, Ended}
+use Rattle.job_reports.specs.declared.report.Did.TheVariants.{Began, Chunk, Placed, Removed, Made, Set, Kept, Skipped, Cleaned, Barrier, Troubled, Ended}
 use Rattle.file_copy.specs.declared.stage.Stage.{Stage}
 use Rattle.file_copy.specs.declared.stage.Stage.TheVariants as at
 use Rattle.file_copy.specs.declared.stage.FolderState.{FolderState}
@@ -62,6 +62,7 @@ err_is e h = ap Err h
 pub copy_stays : (c new : Copying) (did : Did) → Tells c did new → new.target ≡ c.target
 copy_stays c new (Began part) t = ap (λ (n : Copying). n.target) t.1.1
 copy_stays c new (Chunk count) (part, facts, done, at, some, few, within, is) = ap (λ (n : Copying). n.target) is
+copy_stays c new (Set path) t = absurd t
 copy_stays c new (Placed path) (part, facts, at, target, is) = ap (λ (n : Copying). n.target) is
 copy_stays c new (Cleaned part) (follows, at, is) = ap (λ (n : Copying). n.target) is
 copy_stays c new Barrier (at, dirty, is) = ap (λ (n : Copying). n.target) is
@@ -81,6 +82,7 @@ copy_winds_there ending c new Barrier w = ap (λ (n : Copying). n.target) w.1
 copy_winds_there ending c new (Ended how part) w = ap (λ (n : Copying). n.target) w.4
 copy_winds_there ending c new (Began part) w = absurd w
 copy_winds_there ending c new (Chunk count) w = absurd w
+copy_winds_there ending c new (Set path) w = absurd w
 copy_winds_there ending c new (Placed path) w = absurd w
 copy_winds_there ending c new (Removed path) w = absurd w
 copy_winds_there ending c new (Made made) w = absurd w
@@ -92,6 +94,7 @@ copy_winds_there ending c new (Troubled trouble) w = absurd w
 pub clean_copy : (c new : Copying) (did : Did) → Tells c did new → copying.is_fresh c.stage c.folder ≡ false → copying.is_dirty c.folder ≡ false → copying.is_dirty new.folder ≡ false
 clean_copy c new (Began part) t changed clean = absurd (true≢false (sym (ap not clean) ∙ (sym (ap (λ s. copying.is_fresh s c.folder) t.0) ∙ changed)))
 clean_copy c new (Chunk count) (part, facts, done, at, some, few, within, is) changed clean = ap (λ (n : Copying). copying.is_dirty n.folder) is ∙ clean
+clean_copy c new (Set path) t changed clean = absurd t
 clean_copy c new (Placed path) (part, facts, at, target, is) changed clean = ap (λ (n : Copying). copying.is_dirty n.folder) is ∙ clean
 clean_copy c new (Cleaned part) (follows, at, is) changed clean = ap (λ (n : Copying). copying.is_dirty n.folder) is ∙ clean
 clean_copy c new Barrier (at, dirty, is) changed clean = ap (λ (n : Copying). copying.is_dirty n.folder) is
@@ -149,6 +152,7 @@ pub tries_after : (did : Did) (work : Work) (dirty : List Route) → tries_left 
 tries_after (Troubled trouble) work dirty = refl
 tries_after (Began part) work dirty = refl
 tries_after (Chunk count) work dirty = refl
+tries_after (Set path) work dirty = refl
 tries_after (Placed path) work dirty = refl
 tries_after (Removed path) work dirty = refl
 tries_after (Made made) work dirty = refl
@@ -230,6 +234,7 @@ tried_more Barrier None folder dirty = let less = fewer folder dirty in omega (a
 tried_more Barrier (Some e) folder dirty = omega arith
 tried_more (Began part) left folder dirty = omega arith
 tried_more (Chunk bytes) left folder dirty = omega arith
+tried_more (Set path) left folder dirty = omega arith
 tried_more (Placed path) left folder dirty = omega arith
 tried_more (Removed path) left folder dirty = omega arith
 tried_more (Made made) left folder dirty = omega arith
@@ -279,6 +284,7 @@ module _ (unclaimed : Route → Type 0) (d new : Deleting) (did : Did) (calls : 
   falls_by (Ended ending part) t h less going = absurd (true≢false going)
   falls_by (Began part) t h less going = absurd t
   falls_by (Chunk count) t h less going = absurd t
+  falls_by (Set path) t h less going = absurd t
   falls_by (Placed path) t h less going = absurd t
   falls_by (Made made) t h less going = absurd t
   falls_by (Skipped path cause) t h less going = let low = less refl in let same = ap length h in omega (arith, low, same)

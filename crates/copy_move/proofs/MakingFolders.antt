@@ -11,7 +11,7 @@ use Rattle.job_reports.specs.declared.report.Cause.TheVariants.{Memory}
 use Rattle.job_reports.specs.declared.report.Ending.{Ending}
 use Rattle.job_reports.specs.declared.report.Ending.TheVariants.{Finished, Aborted, Killed, NoMemory}
 use Rattle.job_reports.specs.declared.report.Did.{Did}
-use Rattle.job_reports.specs.declared.report.Did.TheVariants.{Began, Chunk, Placed, Removed, Made, Kept, Skipped, Cleaned, Barrier, Troubled, Ended}
+use Rattle.job_reports.specs.declared.report.Did.TheVariants.{Began, Chunk, Placed, Removed, Made, Set, Kept, Skipped, Cleaned, Barrier, Troubled, Ended}
 use Rattle.job_reports.specs.Paths.{folder_of}
 use Rattle.job_reports.specs.Stops.{out_of_memory_at}
 use Rattle.copy_move.specs.declared.making.MakingStage.{MakingStage}
@@ -40,6 +40,7 @@ making_stays m new (Ended Killed part) t = absurd t
 making_stays m new (Ended NoMemory part) t = absurd t
 making_stays m new (Began part) t = absurd t
 making_stays m new (Chunk count) t = absurd t
+making_stays m new (Set path) t = absurd t
 making_stays m new (Placed path) t = absurd t
 making_stays m new (Removed made) t = absurd t
 making_stays m new (Kept kept) t = absurd t
@@ -51,6 +52,7 @@ making_winds_there ending m new Barrier w = ap (λ (n : Making). n.path) w.1
 making_winds_there ending m new (Ended how part) w = ap (λ (n : Making). n.path) w.3
 making_winds_there ending m new (Began part) w = absurd w
 making_winds_there ending m new (Chunk count) w = absurd w
+making_winds_there ending m new (Set path) w = absurd w
 making_winds_there ending m new (Placed path) w = absurd w
 making_winds_there ending m new (Made path) w = absurd w
 making_winds_there ending m new (Removed made) w = absurd w
@@ -70,6 +72,7 @@ clean_making m new (Ended Killed part) t changed clean = absurd t
 clean_making m new (Ended NoMemory part) t changed clean = absurd t
 clean_making m new (Began part) t changed clean = absurd t
 clean_making m new (Chunk count) t changed clean = absurd t
+clean_making m new (Set path) t changed clean = absurd t
 clean_making m new (Placed path) t changed clean = absurd t
 clean_making m new (Removed made) t changed clean = absurd t
 clean_making m new (Kept kept) t changed clean = absurd t

@@ -5,7 +5,7 @@ use Rattle.tree_trait.specs.declared.calls.TreeError.{TreeError}
 use Rattle.tree_trait.specs.Change.{CallLog}
 use Rattle.job_reports.specs.declared.report.Ending.{Ending}
 use Rattle.job_reports.specs.declared.report.Did.{Did}
-use Rattle.job_reports.specs.declared.report.Did.TheVariants.{Began, Chunk, Placed, Removed, Made, Kept, Skipped, Cleaned, Barrier, Troubled, Ended}
+use Rattle.job_reports.specs.declared.report.Did.TheVariants.{Began, Chunk, Placed, Removed, Made, Set, Kept, Skipped, Cleaned, Barrier, Troubled, Ended}
 use Rattle.job_reports.specs.Reports.{IsFault}
 use Rattle.copy_move.specs.declared.work.Work.{Work}
 use Rattle.copy_move.specs.declared.work.Work.TheVariants.{Copy, Delete, Make}
@@ -28,6 +28,7 @@ quiet_end ending (Delete d) (Delete new) (Troubled trouble) w h = w
 quiet_end ending (Make m) (Make new) (Troubled trouble) w h = w
 quiet_end ending old new (Began part) w h = h
 quiet_end ending old new (Chunk count) w h = h
+quiet_end ending old new (Set path) w h = h
 quiet_end ending old new (Placed path) w h = h
 quiet_end ending old new (Removed path) w h = h
 quiet_end ending old new (Made made) w h = h

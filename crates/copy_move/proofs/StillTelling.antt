@@ -9,7 +9,7 @@ use Rattle.tree_trait.specs.Answers.{Performs}
 use Rattle.job_reports.specs.declared.report.Cause.{Cause}
 use Rattle.job_reports.specs.declared.report.Cause.TheVariants.{Tree, TargetKind, SpecialSource, TooDeep, PartTaken, TooLong, Unnamed, Changed, Memory}
 use Rattle.job_reports.specs.declared.report.Did.{Did}
-use Rattle.job_reports.specs.declared.report.Did.TheVariants.{Began, Chunk, Placed, Removed, Made, Kept, Skipped, Cleaned, Barrier, Troubled, Ended}
+use Rattle.job_reports.specs.declared.report.Did.TheVariants.{Began, Chunk, Placed, Removed, Made, Set, Kept, Skipped, Cleaned, Barrier, Troubled, Ended}
 use Rattle.file_copy.specs.declared.stage.Stage.{Stage}
 use Rattle.file_copy.specs.declared.stage.Stage.TheVariants.{Begin, Fill, Clean, Left, Decided}
 use Rattle.job_reports.specs.CallRuns.{RunStops, StopsAt}
@@ -58,6 +58,7 @@ deletion_tells (Troubled trouble) log after (inr (e, cause, h)) = refused_tells 
 deletion_tells (Ended ending part) log after h = (log, h)
 deletion_tells (Began part) log after h = absurd h
 deletion_tells (Chunk count) log after h = absurd h
+deletion_tells (Set path) log after h = absurd h
 deletion_tells (Placed path) log after h = absurd h
 deletion_tells (Made made) log after h = absurd h
 deletion_tells (Kept kept) log after h = (log, h)
@@ -73,6 +74,7 @@ making_tells m (Troubled trouble) log after h = call_tells log (makings.call_of 
 making_tells m (Ended ending part) log after h = (log, h)
 making_tells m (Began part) log after h = absurd h
 making_tells m (Chunk count) log after h = absurd h
+making_tells m (Set path) log after h = absurd h
 making_tells m (Placed path) log after h = absurd h
 making_tells m (Removed made) log after h = absurd h
 making_tells m (Kept kept) log after h = absurd h
@@ -84,6 +86,7 @@ last_tells Barrier log after (folder, answer, h) = performs_tells log (SyncFolde
 last_tells (Ended ending part) log after h = (log, h)
 last_tells (Began part) log after h = absurd h
 last_tells (Chunk count) log after h = absurd h
+last_tells (Set path) log after h = absurd h
 last_tells (Placed path) log after h = absurd h
 last_tells (Removed path) log after h = absurd h
 last_tells (Made made) log after h = absurd h
@@ -97,6 +100,7 @@ last_making_tells m Barrier log after h = call_tells log (makings.call_of making
 last_making_tells m (Ended ending part) log after h = (log, h)
 last_making_tells m (Began part) log after h = absurd h
 last_making_tells m (Chunk count) log after h = absurd h
+last_making_tells m (Set path) log after h = absurd h
 last_making_tells m (Placed path) log after h = absurd h
 last_making_tells m (Made path) log after h = absurd h
 last_making_tells m (Removed made) log after h = absurd h
@@ -138,6 +142,7 @@ trouble_tells unclaimed p Decided cause path log after h = run_tells (SyncFolder
 copy_tells : (unclaimed : Route → Type 0) (c : Copying) (did : Did) (new : Copying) (log : CallLog) (after : Option CallLog) → CopyCalls unclaimed c did new log after → StillTells after
 copy_tells unclaimed c (Began part) new log after h = all_some (making (current log) (places_of c) h.2.0 ∷ []) log after h.2.3
 copy_tells unclaimed c (Chunk count) new log after h = all_some (writing (current log) (places_of c) h.0 h.1 h.2 ∷ []) log after h.5
+copy_tells unclaimed c (Set path) new log after h = absurd h
 copy_tells unclaimed c (Placed path) new log after h = all_some (placing h.1.mode h.0 c.target) log after h.3
 copy_tells unclaimed c (Cleaned part) new log after h = all_some (RemoveFile part ∷ []) log after h
 copy_tells unclaimed c Barrier new log after h = all_some (SyncFolder (folder_of c.target) ∷ []) log after h
@@ -158,6 +163,7 @@ wind_tells c Barrier log after h = sync_tells c (removable c.stage) log after h
 wind_tells c (Ended how part) log after h = (log, h)
 wind_tells c (Began part) log after h = absurd h
 wind_tells c (Chunk count) log after h = absurd h
+wind_tells c (Set path) log after h = absurd h
 wind_tells c (Placed path) log after h = absurd h
 wind_tells c (Removed path) log after h = absurd h
 wind_tells c (Made made) log after h = absurd h

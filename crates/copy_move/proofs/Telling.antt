@@ -11,7 +11,7 @@ use Rattle.job_reports.specs.declared.report.Trouble.{Trouble}
 use Rattle.job_reports.specs.declared.report.Ending.{Ending}
 use Rattle.job_reports.specs.declared.report.Ending.TheVariants.{Finished, Aborted, Killed, NoMemory}
 use Rattle.job_reports.specs.declared.report.Did.{Did}
-use Rattle.job_reports.specs.declared.report.Did.TheVariants.{Began, Chunk, Placed, Removed, Made, Kept, Skipped, Cleaned, Barrier, Troubled, Ended}
+use Rattle.job_reports.specs.declared.report.Did.TheVariants.{Began, Chunk, Placed, Removed, Made, Set, Kept, Skipped, Cleaned, Barrier, Troubled, Ended}
 use Rattle.file_copy.specs.declared.stage.Next.{Next}
 use Rattle.file_copy.specs.declared.stage.Next.TheVariants as next
 use Rattle.file_copy.specs.declared.stage.Stage.{Stage}
@@ -166,6 +166,7 @@ copy_told : (id : ℕ) (old new : Copying) (did : Did) → Tells old did new →
     → after_step did (told (job_of id (Copy old) GoesOn)) ≡ Some (told (job_of id (Copy new) (course_after did)))
 copy_told id old new (Began part) (from, (facts, is)) h = rw is refl
 copy_told id old new (Chunk count) (part, facts, done, from, some, few, within, is) h = rw is (rw from refl)
+copy_told id old new (Set path) t h = absurd t
 copy_told id old new (Placed path) (part, facts, from, target, is) h = rw is refl
 copy_told id old new (Cleaned part) (follows, from, is) h = rw is (rw from (cleaned_told id old part follows))
 copy_told id old new Barrier (from, dirty, is) h = rw is (rw from refl)
@@ -195,6 +196,7 @@ deletion_told id old new (Ended Killed part) t h = absurd t
 deletion_told id old new (Ended NoMemory part) t h = absurd t
 deletion_told id old new (Began part) t h = absurd t
 deletion_told id old new (Chunk count) t h = absurd t
+deletion_told id old new (Set path) t h = absurd t
 deletion_told id old new (Placed path) t h = absurd t
 deletion_told id old new (Made made) t h = absurd t
 deletion_told id old new (Skipped path cause) (going, passes, at) h = ap (λ w. Some (job_of id w GoesOn)) (stage_is_told old new (after_item old.path path old.stage) at)
@@ -212,6 +214,7 @@ making_told id old new (Ended Killed part) t h = absurd t
 making_told id old new (Ended NoMemory part) t h = absurd t
 making_told id old new (Began part) t h = absurd t
 making_told id old new (Chunk count) t h = absurd t
+making_told id old new (Set path) t h = absurd t
 making_told id old new (Placed path) t h = absurd t
 making_told id old new (Removed made) t h = absurd t
 making_told id old new (Kept kept) t h = absurd t
@@ -226,6 +229,7 @@ copy_winds id ending old new Barrier (dirty, is) h = rw is (ap (λ stage. Some (
 copy_winds id ending old new (Ended how part) t h = absurd cc
 copy_winds id ending old new (Began part) t h = absurd t
 copy_winds id ending old new (Chunk count) t h = absurd t
+copy_winds id ending old new (Set path) t h = absurd t
 copy_winds id ending old new (Placed path) t h = absurd t
 copy_winds id ending old new (Removed path) t h = absurd t
 copy_winds id ending old new (Made made) t h = absurd t
@@ -239,6 +243,7 @@ deletion_winds id ending old new Barrier (path_is, stage_is, skips_is) h = ap (�
 deletion_winds id ending old new (Ended how part) t h = absurd cc
 deletion_winds id ending old new (Began part) t h = absurd t
 deletion_winds id ending old new (Chunk count) t h = absurd t
+deletion_winds id ending old new (Set path) t h = absurd t
 deletion_winds id ending old new (Placed path) t h = absurd t
 deletion_winds id ending old new (Removed path) t h = absurd t
 deletion_winds id ending old new (Made made) t h = absurd t
@@ -253,6 +258,7 @@ making_winds id ending old new Barrier (from, is) h = rw is (ap (λ stage. Some 
 making_winds id ending old new (Ended how part) t h = absurd cc
 making_winds id ending old new (Began part) t h = absurd t
 making_winds id ending old new (Chunk count) t h = absurd t
+making_winds id ending old new (Set path) t h = absurd t
 making_winds id ending old new (Placed path) t h = absurd t
 making_winds id ending old new (Made path) t h = absurd t
 making_winds id ending old new (Removed made) t h = absurd t
@@ -302,6 +308,7 @@ told_follows job new did t h = told_on job.course job.id job.work new did t h
 pub step_told : (job new : Running) (did : Did) → JobTells job did new → option_map told (if ends did then None else Some new) ≡ after_step did (told job)
 step_told job new (Began part) t = sym (told_follows job new (Began part) t refl)
 step_told job new (Chunk count) t = sym (told_follows job new (Chunk count) t refl)
+step_told job new (Set path) t = sym (told_follows job new (Set path) t refl)
 step_told job new (Placed path) t = sym (told_follows job new (Placed path) t refl)
 step_told job new (Removed path) t = sym (told_follows job new (Removed path) t refl)
 step_told job new (Made made) t = sym (told_follows job new (Made made) t refl)

@@ -4,7 +4,7 @@ use Rattle.tree_trait.specs.declared.calls.TreeError.TheVariants as refused
 use Rattle.job_reports.specs.declared.report.Cause.{Cause}
 use Rattle.job_reports.specs.declared.report.Cause.TheVariants.{Tree}
 use Rattle.job_reports.specs.declared.report.Did.{Did}
-use Rattle.job_reports.specs.declared.report.Did.TheVariants.{Began, Chunk, Placed, Removed, Made, Kept, Skipped, Cleaned, Barrier, Troubled, Ended}
+use Rattle.job_reports.specs.declared.report.Did.TheVariants.{Began, Chunk, Placed, Removed, Made, Set, Kept, Skipped, Cleaned, Barrier, Troubled, Ended}
 use Rattle.copy_move.specs.declared.run.Course.{Course}
 use Rattle.copy_move.specs.declared.run.Course.TheVariants.{GoesOn, InTrouble, OwedSyncFailed, Skips, Ends}
 
@@ -22,6 +22,7 @@ MeetsFault course (Troubled trouble) = trouble.cause ≡ Tree refused.Fault
 MeetsFault course (Skipped path cause) = PassesFault course cause
 MeetsFault course (Began part) = ⊥
 MeetsFault course (Chunk count) = ⊥
+MeetsFault course (Set path) = ⊥
 MeetsFault course (Placed path) = ⊥
 MeetsFault course (Removed path) = ⊥
 MeetsFault course (Made path) = ⊥

@@ -9,7 +9,7 @@ use Rattle.job_answers.specs.Skipping.{kind_in, with_kind}
 use Rattle.job_reports.specs.declared.report.Ending.{Ending}
 use Rattle.job_reports.specs.declared.report.Ending.TheVariants.{Aborted}
 use Rattle.job_reports.specs.declared.report.Did.{Did}
-use Rattle.job_reports.specs.declared.report.Did.TheVariants.{Began, Chunk, Placed, Removed, Made, Kept, Skipped, Cleaned, Barrier, Troubled, Ended}
+use Rattle.job_reports.specs.declared.report.Did.TheVariants.{Began, Chunk, Placed, Removed, Made, Set, Kept, Skipped, Cleaned, Barrier, Troubled, Ended}
 use Rattle.job_reports.specs.Reports.{passes_over}
 use Rattle.file_copy.specs.Copying.{begun}
 use Rattle.file_copy.specs.Copying as copying
@@ -156,6 +156,7 @@ abbrev pub course_after : Did → Course
 course_after (Troubled trouble) = InTrouble trouble.cause
 course_after (Began part) = GoesOn
 course_after (Chunk count) = GoesOn
+course_after (Set path) = GoesOn
 course_after (Placed path) = GoesOn
 course_after (Removed path) = GoesOn
 course_after (Made made) = GoesOn

@@ -10,7 +10,7 @@ use Rattle.job_reports.specs.declared.report.Trouble.{Trouble}
 use Rattle.job_reports.specs.declared.report.Ending.{Ending}
 use Rattle.job_reports.specs.declared.report.Ending.TheVariants.{Finished}
 use Rattle.job_reports.specs.declared.report.Did.{Did}
-use Rattle.job_reports.specs.declared.report.Did.TheVariants.{Began, Chunk, Placed, Removed, Made, Kept, Skipped, Cleaned, Barrier, Troubled, Ended}
+use Rattle.job_reports.specs.declared.report.Did.TheVariants.{Began, Chunk, Placed, Removed, Made, Set, Kept, Skipped, Cleaned, Barrier, Troubled, Ended}
 use Rattle.job_reports.specs.Jobs.{new_folder_mode}
 use Rattle.job_reports.specs.Stops.{sync_answer, cause_of, trouble_at}
 use Rattle.copy_move.specs.declared.making.MakingStage.{MakingStage}
@@ -88,6 +88,7 @@ Tells m (Ended Finished part) new = (is_done m.stage ≡ true) × (part ≡ None
 Tells m (Ended ending part) new = ⊥
 Tells m (Began part) new = ⊥
 Tells m (Chunk count) new = ⊥
+Tells m (Set path) new = ⊥
 Tells m (Placed path) new = ⊥
 Tells m (Removed path) new = ⊥
 Tells m (Kept kept) new = ⊥
@@ -100,6 +101,7 @@ Winds ending m Barrier new = (m.stage ≡ Sync) × (new ≡ record m { stage = F
 Winds ending m (Ended how part) new = (m.stage ≢ Sync) × (how ≡ ending) × (part ≡ None) × (new ≡ m)
 Winds ending m (Began part) new = ⊥
 Winds ending m (Chunk count) new = ⊥
+Winds ending m (Set path) new = ⊥
 Winds ending m (Placed path) new = ⊥
 Winds ending m (Removed path) new = ⊥
 Winds ending m (Made made) new = ⊥
@@ -122,6 +124,7 @@ MakingCalls m (Troubled trouble) log after = (e : TreeError) × (trouble.cause �
 MakingCalls m (Ended ending part) log after = after ≡ Some log
 MakingCalls m (Began part) log after = ⊥
 MakingCalls m (Chunk count) log after = ⊥
+MakingCalls m (Set path) log after = ⊥
 MakingCalls m (Placed path) log after = ⊥
 MakingCalls m (Removed path) log after = ⊥
 MakingCalls m (Kept kept) log after = ⊥
@@ -134,6 +137,7 @@ LastMakingCalls m Barrier log after = (answer : Result (Unit {0}) TreeError) × 
 LastMakingCalls m (Ended ending part) log after = after ≡ Some log
 LastMakingCalls m (Began part) log after = ⊥
 LastMakingCalls m (Chunk count) log after = ⊥
+LastMakingCalls m (Set path) log after = ⊥
 LastMakingCalls m (Placed path) log after = ⊥
 LastMakingCalls m (Removed path) log after = ⊥
 LastMakingCalls m (Made made) log after = ⊥

@@ -6,7 +6,7 @@ use Rattle.mc_text.specs.Routes.{Route}
 use Rattle.job_reports.specs.declared.report.Trouble.{Trouble}
 use Rattle.job_reports.specs.declared.report.Ending.TheVariants.{NoMemory}
 use Rattle.job_reports.specs.declared.report.Did.{Did}
-use Rattle.job_reports.specs.declared.report.Did.TheVariants.{Began, Chunk, Placed, Removed, Made, Kept, Skipped, Cleaned, Barrier, Troubled, Ended}
+use Rattle.job_reports.specs.declared.report.Did.TheVariants.{Began, Chunk, Placed, Removed, Made, Set, Kept, Skipped, Cleaned, Barrier, Troubled, Ended}
 use Rattle.file_copy.specs.declared.stage.SourceFacts.{SourceFacts}
 use Rattle.file_copy.specs.declared.stage.Stage.{Stage}
 use Rattle.file_copy.specs.declared.stage.Stage.TheVariants as at
@@ -108,6 +108,7 @@ course_told work trouble = if is_fresh work && trouble.barrier then OwedSyncFail
 abbrev pub after_step : Did → Running → Option Running
 after_step (Began part) job = Some (record job { work = with_part part job.work })
 after_step (Chunk count) job = Some job
+after_step (Set path) job = Some job
 after_step (Placed path) job = Some (record job { work = placed job.work })
 after_step (Removed path) job = Some (record job { work = removed path job.work })
 after_step (Made path) job = Some (record job { work = made job.work })

@@ -161,6 +161,7 @@ fn tell(page: &mut Page, did: &Did) {
         Did::Placed(target) => tell_path(page, "Placed", target),
         Did::Removed(path) => tell_path(page, "Removed", path),
         Did::Made(path) => tell_path(page, "Made", path),
+        Did::Set(path) => tell_path(page, "Set", path),
         Did::Kept(path) => tell_path(page, "Kept", path),
         Did::Skipped(source, cause) => {
             tell_path(page, "Skipped", source);

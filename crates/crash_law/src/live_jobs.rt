@@ -1,6 +1,6 @@
 //! Several live jobs: what their steps keep, and what a crash leaves.
 ghost use Rattle.crash_law.specs.Steps.{FrameLaw, MeanwhileLaw, OpeningLaw, OthersLaw};
-ghost use Rattle.crash_law.specs.Table.{BeginLaw, CalmLaw, NodesLaw, RestLaw, SafeLaw, StepLaw};
+ghost use Rattle.crash_law.specs.Table.{BeginLaw, CalmLaw, ModeStepLaw, NodesLaw, RestLaw, SafeLaw, StepLaw};
 
 /// What one job changes is nothing to another's paths.
 pub fn what_another_job_sees()
@@ -20,6 +20,11 @@ pub fn what_a_step_of_a_job_keeps()
 /// A sync, and a write to a part, of whichever job, keep it.
 pub fn what_a_calm_step_keeps()
     ensures { CalmLaw }
+{}
+
+/// A mode that is set, of whichever job, and the sync of the thing itself keep it, with the mode before.
+pub fn what_a_mode_of_a_job_keeps()
+    ensures { ModeStepLaw }
 {}
 
 /// A job may begin wherever it clashes with none.

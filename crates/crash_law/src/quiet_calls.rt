@@ -1,4 +1,5 @@
 //! Syncs, writes and modes: what they keep, and what a sync settles.
+ghost use Rattle.crash_law.specs.Modes.{ModesLaw, SettingLaw};
 ghost use Rattle.crash_law.specs.Steps.{BelowLaw, FirmLaw, GoneLaw, ModeLaw, SyncLaw, SyncedLaw, UnalteredLaw, WriteLaw};
 
 /// A sync keeps what is known.
@@ -29,6 +30,16 @@ pub fn what_is_gone()
 /// Another mode of a part that was not synced keeps what is known.
 pub fn what_another_mode_keeps()
     ensures { ModeLaw }
+{}
+
+/// A mode that is set is there in each image or, until the sync of the thing itself, the mode before.
+pub fn what_a_mode_leaves()
+    ensures { ModesLaw }
+{}
+
+/// A job may set the mode of a thing of which nothing waits: what is known of the tree is kept.
+pub fn what_a_setting_of_a_mode_keeps()
+    ensures { SettingLaw }
 {}
 
 /// What lies below a settled path is settled, where nothing below waits.

@@ -7,7 +7,7 @@ use Rattle.tree_trait.specs.Answers.{IfKnown}
 use Rattle.job_reports.specs.declared.report.Cause.{Cause}
 use Rattle.job_reports.specs.declared.report.Ending.TheVariants.{Finished, Aborted, Killed, NoMemory}
 use Rattle.job_reports.specs.declared.report.Did.{Did}
-use Rattle.job_reports.specs.declared.report.Did.TheVariants.{Began, Chunk, Placed, Removed, Made as MadeFolder, Kept, Skipped, Cleaned, Barrier, Troubled, Ended}
+use Rattle.job_reports.specs.declared.report.Did.TheVariants.{Began, Chunk, Placed, Removed, Made as MadeFolder, Set, Kept, Skipped, Cleaned, Barrier, Troubled, Ended}
 use Rattle.job_reports.specs.declared.report.Trouble.{Trouble}
 use Rattle.file_copy.specs.declared.stage.SourceFacts.{SourceFacts}
 use Rattle.file_copy.specs.declared.stage.Next.{Next}
@@ -128,6 +128,7 @@ calls_any : (P Q : Route → Type 0) (c : Copying) (did : Did) (new : Copying) (
     → (c.stage ≡ Begin → ⊥) → Tells c did new → CopyCalls P c did new log after → CopyCalls Q c did new log after
 calls_any P Q c (Began part) new log after past tells h = absurd (past tells.0)
 calls_any P Q c (Chunk count) new log after past tells h = h
+calls_any P Q c (Set path) new log after past tells h = h
 calls_any P Q c (Placed path) new log after past tells h = h
 calls_any P Q c (Cleaned part) new log after past tells h = h
 calls_any P Q c Barrier new log after past tells h = h
@@ -187,6 +188,7 @@ cleaned_ready next.Decided = refl
 pub tells_ready : (c : Copying) (did : Did) (new : Copying) → Tells c did new → left_at c.stage ≡ None → left_at new.stage ≡ None
 tells_ready c (Began part) new t ready = subst (λ (n : Copying). left_at n.stage ≡ None) (sym t.1.1) refl
 tells_ready c (Chunk count) new t ready = subst (λ (n : Copying). left_at n.stage ≡ None) (sym t.7) refl
+tells_ready c (Set path) new t ready = absurd t
 tells_ready c (Placed path) new t ready = subst (λ (n : Copying). left_at n.stage ≡ None) (sym t.4) refl
 tells_ready c (Cleaned part) new t ready = subst (λ (n : Copying). left_at n.stage ≡ None) (sym t.2) (cleaned_ready t.0)
 tells_ready c Barrier new t ready = subst (λ (n : Copying). left_at n.stage ≡ None) (sym t.2) ready

@@ -8,7 +8,7 @@ use Rattle.tree_trait.specs.Change.{CallLog}
 use Rattle.tree_trait.specs.Answers.{IfKnown, HasCause, HasRisen, Performs}
 use Rattle.job_reports.specs.declared.report.Ending.{Ending}
 use Rattle.job_reports.specs.declared.report.Did.{Did}
-use Rattle.job_reports.specs.declared.report.Did.TheVariants.{Began, Chunk, Placed, Removed, Made, Kept, Skipped, Cleaned, Barrier, Troubled, Ended}
+use Rattle.job_reports.specs.declared.report.Did.TheVariants.{Began, Chunk, Placed, Removed, Made, Set, Kept, Skipped, Cleaned, Barrier, Troubled, Ended}
 use Rattle.file_copy.specs.declared.stage.Stage.{Stage}
 use Rattle.file_copy.specs.declared.stage.Stage.TheVariants.{Begin, Fill, Clean, Left, Decided}
 use Rattle.file_copy.specs.declared.stage.FolderState.{FolderState}
@@ -171,6 +171,7 @@ winds_sound ending c new Barrier w = subst (λ (n : Copying). IsSound n.stage n.
 winds_sound ending c new (Ended how part) w = subst (λ (n : Copying). IsSound n.stage n.folder) (sym w.4) (let_go_sound c.stage c.folder w.0)
 winds_sound ending c new (Began part) w = absurd w
 winds_sound ending c new (Chunk count) w = absurd w
+winds_sound ending c new (Set path) w = absurd w
 winds_sound ending c new (Placed path) w = absurd w
 winds_sound ending c new (Removed path) w = absurd w
 winds_sound ending c new (Made made) w = absurd w

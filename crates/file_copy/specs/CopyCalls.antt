@@ -7,7 +7,7 @@ use Rattle.tree_trait.specs.Change.{CallLog, current}
 use Rattle.job_reports.specs.declared.report.Cause.{Cause}
 use Rattle.job_reports.specs.declared.report.Cause.TheVariants.{Tree, TargetKind, SpecialSource, TooDeep, PartTaken, TooLong, Unnamed, Changed, Memory}
 use Rattle.job_reports.specs.declared.report.Did.{Did}
-use Rattle.job_reports.specs.declared.report.Did.TheVariants.{Began, Chunk, Placed, Removed, Made, Kept, Skipped, Cleaned, Barrier, Troubled, Ended}
+use Rattle.job_reports.specs.declared.report.Did.TheVariants.{Began, Chunk, Placed, Removed, Made, Set, Kept, Skipped, Cleaned, Barrier, Troubled, Ended}
 use Rattle.file_copy.specs.declared.stage.SourceFacts.{SourceFacts}
 use Rattle.file_copy.specs.declared.stage.Stage.{Stage}
 use Rattle.file_copy.specs.declared.stage.Stage.TheVariants.{Begin, Fill, Clean, Left, Decided}
@@ -105,6 +105,7 @@ CopyCalls unclaimed c Barrier new log after = AllDone log (SyncFolder (folder_of
 CopyCalls unclaimed c (Troubled trouble) new log after = CopyStops unclaimed (places_of c) c.stage trouble.cause trouble.path log after
 CopyCalls unclaimed c (Removed path) new log after = ⊥
 CopyCalls unclaimed c (Made made) new log after = ⊥
+CopyCalls unclaimed c (Set path) new log after = ⊥
 CopyCalls unclaimed c (Kept path) new log after = ⊥
 CopyCalls unclaimed c (Skipped path cause) new log after = after ≡ Some log
 CopyCalls unclaimed c (Ended ending part) new log after = after ≡ Some log

@@ -8,7 +8,7 @@ use Rattle.tree_trait.specs.Change.{CallLog}
 use Rattle.tree_trait.specs.Answers.{IfKnown, HasRisen, Performs}
 use Rattle.job_reports.specs.declared.report.Ending.{Ending}
 use Rattle.job_reports.specs.declared.report.Did.{Did}
-use Rattle.job_reports.specs.declared.report.Did.TheVariants.{Began, Chunk, Placed, Removed, Made, Kept, Skipped, Cleaned, Barrier, Troubled, Ended}
+use Rattle.job_reports.specs.declared.report.Did.TheVariants.{Began, Chunk, Placed, Removed, Made, Set, Kept, Skipped, Cleaned, Barrier, Troubled, Ended}
 use Rattle.job_reports.specs.Stops.{IsTried, refusal_in, sync_answer, calls_made_for}
 use Rattle.file_copy.specs.declared.stage.Stage.{Stage}
 use Rattle.file_copy.specs.declared.stage.Stage.TheVariants.{Begin, Fill, Clean, Left, Decided}
@@ -60,6 +60,7 @@ Winds ending c (Ended how part) new =
     (removable c.stage ≡ None) × (c.folder ≡ Synced) × (how ≡ ending) × (part ≡ left_at c.stage) × (new ≡ record c { stage = let_go c.stage })
 Winds ending c (Began part) new = ⊥
 Winds ending c (Chunk count) new = ⊥
+Winds ending c (Set path) new = ⊥
 Winds ending c (Placed path) new = ⊥
 Winds ending c (Removed path) new = ⊥
 Winds ending c (Made made) new = ⊥
@@ -80,6 +81,7 @@ WindCalls c Barrier log after = SyncTried c (removable c.stage) log after
 WindCalls c (Ended how part) log after = after ≡ Some log
 WindCalls c (Began part) log after = ⊥
 WindCalls c (Chunk count) log after = ⊥
+WindCalls c (Set path) log after = ⊥
 WindCalls c (Placed path) log after = ⊥
 WindCalls c (Removed path) log after = ⊥
 WindCalls c (Made made) log after = ⊥

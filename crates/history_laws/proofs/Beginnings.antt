@@ -6,7 +6,7 @@ use Rattle.tree_trait.specs.Shape.{IsTree}
 use Rattle.tree_trait.specs.Change.{CallLog, current}
 use Rattle.tree_trait.proofs.Visible.{same_path-self}
 use Rattle.job_reports.specs.declared.report.Did.{Did}
-use Rattle.job_reports.specs.declared.report.Did.TheVariants.{Began, Chunk, Placed, Removed, Made, Kept, Skipped, Cleaned, Barrier, Troubled, Ended}
+use Rattle.job_reports.specs.declared.report.Did.TheVariants.{Began, Chunk, Placed, Removed, Made, Set, Kept, Skipped, Cleaned, Barrier, Troubled, Ended}
 use Rattle.job_reports.specs.declared.report.Ending.{Ending}
 use Rattle.session_history.specs.Named.{begins_change}
 use Rattle.copy_move.specs.declared.run.Course.{Course}
@@ -25,18 +25,21 @@ winds_none : (ending : Ending) (old new : Work) (did : Did) → WorkWinds ending
 winds_none ending (Copy c) (Copy new) (Began part) t h = t
 winds_none ending (Copy c) (Copy new) (Removed path) t h = t
 winds_none ending (Copy c) (Copy new) (Made path) t h = t
+winds_none ending (Copy c) (Copy new) (Set path) t h = t
 winds_none ending (Copy c) (Delete new) did t h = t
 winds_none ending (Copy c) (Make new) did t h = t
 winds_none ending (Delete d) (Copy new) did t h = t
 winds_none ending (Delete d) (Delete new) (Began part) t h = t
 winds_none ending (Delete d) (Delete new) (Removed path) t h = t
 winds_none ending (Delete d) (Delete new) (Made path) t h = t
+winds_none ending (Delete d) (Delete new) (Set path) t h = t
 winds_none ending (Delete d) (Make new) did t h = t
 winds_none ending (Make m) (Copy new) did t h = t
 winds_none ending (Make m) (Delete new) did t h = t
 winds_none ending (Make m) (Make new) (Began part) t h = t
 winds_none ending (Make m) (Make new) (Removed path) t h = t
 winds_none ending (Make m) (Make new) (Made path) t h = t
+winds_none ending (Make m) (Make new) (Set path) t h = t
 winds_none ending old new (Chunk count) t h = false≢true h
 winds_none ending old new (Placed path) t h = false≢true h
 winds_none ending old new (Kept kept) t h = false≢true h
@@ -77,6 +80,7 @@ folder_stays job new (Removed path) dirty dirty_after log now folders tree works
 folder_stays job new (Began part) dirty dirty_after log now folders tree works known = or_left _ _ (same_path-self (changed_folder job.work))
 folder_stays job new (Made path) dirty dirty_after log now folders tree works known = or_left _ _ (same_path-self (changed_folder job.work))
 folder_stays job new (Chunk count) dirty dirty_after log now folders tree works known = elim known [ inl stands ↦ stands | inr begins ↦ absurd (false≢true begins) ]
+folder_stays job new (Set path) dirty dirty_after log now folders tree works known = or_left _ _ (same_path-self (changed_folder job.work))
 folder_stays job new (Placed path) dirty dirty_after log now folders tree works known = elim known [ inl stands ↦ stands | inr begins ↦ absurd (false≢true begins) ]
 folder_stays job new (Kept path) dirty dirty_after log now folders tree works known = elim known [ inl stands ↦ stands | inr begins ↦ absurd (false≢true begins) ]
 folder_stays job new (Skipped path why) dirty dirty_after log now folders tree works known = elim known [ inl stands ↦ stands | inr begins ↦ absurd (false≢true begins) ]

@@ -8,7 +8,7 @@ use Rattle.tree_trait.specs.Change.{CallLog, current}
 use Rattle.tree_trait.specs.CrashImages.{all_settled}
 use Rattle.crash_law.specs.Guarded.{Marks}
 use Rattle.job_reports.specs.declared.report.Did.{Did}
-use Rattle.job_reports.specs.declared.report.Did.TheVariants.{Began, Chunk, Placed, Removed, Made, Kept, Skipped, Cleaned, Barrier, Troubled, Ended}
+use Rattle.job_reports.specs.declared.report.Did.TheVariants.{Began, Chunk, Placed, Removed, Made, Set, Kept, Skipped, Cleaned, Barrier, Troubled, Ended}
 use Rattle.job_reports.specs.Paths.{folder_of}
 use Rattle.file_copy.specs.Copying as copying
 use Rattle.session_history.specs.declared.history.Event.TheVariants.{Step}
@@ -63,6 +63,7 @@ module _ (told : Said) (dirty : List Route) (marks : Marks) (s : FileSystem) (co
       (ap (λ x. copying.is_fresh x c.folder) t.0 ∙ ap not clean, let k = subst (λ x. StageKnows told marks s course c x) t.0 stage in k.0)
   fresh_then (Copy c) (Copy new) (Removed path) t h clean k = absurd t
   fresh_then (Copy c) (Copy new) (Chunk count) t h clean k = absurd (false≢true h)
+  fresh_then (Copy c) (Copy new) (Set path) t h clean k = absurd t
   fresh_then (Copy c) (Copy new) (Placed path) t h clean k = absurd (false≢true h)
   fresh_then (Copy c) (Copy new) (Made made) t h clean k = absurd t
   fresh_then (Copy c) (Copy new) (Kept kept) t h clean k = absurd (false≢true h)
@@ -78,6 +79,7 @@ module _ (told : Said) (dirty : List Route) (marks : Marks) (s : FileSystem) (co
   fresh_then (Delete d) (Delete new) (Removed path) t h clean (name, none, intact) = (fresh_stage d.stage t.0 clean, none)
   fresh_then (Delete d) (Delete new) (Began part) t h clean k = absurd t
   fresh_then (Delete d) (Delete new) (Chunk count) t h clean k = absurd (false≢true h)
+  fresh_then (Delete d) (Delete new) (Set path) t h clean k = absurd t
   fresh_then (Delete d) (Delete new) (Placed path) t h clean k = absurd (false≢true h)
   fresh_then (Delete d) (Delete new) (Made made) t h clean k = absurd t
   fresh_then (Delete d) (Delete new) (Kept kept) t h clean k = absurd (false≢true h)
@@ -91,6 +93,7 @@ module _ (told : Said) (dirty : List Route) (marks : Marks) (s : FileSystem) (co
   fresh_then (Make m) (Make new) (Made path) t h clean (name, none) = (ap makings.is_fresh t.0, none)
   fresh_then (Make m) (Make new) (Began part) t h clean k = absurd t
   fresh_then (Make m) (Make new) (Chunk count) t h clean k = absurd (false≢true h)
+  fresh_then (Make m) (Make new) (Set path) t h clean k = absurd t
   fresh_then (Make m) (Make new) (Placed path) t h clean k = absurd (false≢true h)
   fresh_then (Make m) (Make new) (Removed made) t h clean k = absurd t
   fresh_then (Make m) (Make new) (Kept kept) t h clean k = absurd (false≢true h)

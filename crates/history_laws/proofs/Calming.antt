@@ -128,6 +128,7 @@ module _ (said : Said) (dirty : List Route) (marks : Marks) (log : CallLog) (kno
   cleared_known f at = record {
     guarded = k.guarded;
     files = k.files;
+    moded = k.moded;
     folders = k.folders;
     aside = k.aside;
     was_there = k.was_there;

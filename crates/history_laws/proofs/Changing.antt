@@ -321,6 +321,7 @@ module _ (told after : Said) (dirty dirty_after : List Route) (marks : Marks) (l
       unborn = unborn_more log removes (λ i past. naming.bytes i) naming.count known.files.unborn;
       mounts = mounts_sure;
     };
+    moded = known.moded;
     folders = λ i folder. known.folders i (was_folder i folder);
     aside = says.named;
     was_there = λ p i out is. let t = known.was_there p i out is in (subst (λ n. i < n) (sym same_count) t.0, t.1);

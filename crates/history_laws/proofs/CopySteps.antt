@@ -20,7 +20,7 @@ use Rattle.job_reports.specs.declared.report.Cause.{Cause}
 use Rattle.job_reports.specs.declared.report.Cause.TheVariants as cause
 use Rattle.job_reports.specs.declared.report.Ending.TheVariants.{Finished, Aborted, Killed, NoMemory}
 use Rattle.job_reports.specs.declared.report.Did.{Did}
-use Rattle.job_reports.specs.declared.report.Did.TheVariants.{Began, Chunk, Placed, Removed, Made, Kept, Skipped, Cleaned, Barrier, Troubled, Ended}
+use Rattle.job_reports.specs.declared.report.Did.TheVariants.{Began, Chunk, Placed, Removed, Made, Set, Kept, Skipped, Cleaned, Barrier, Troubled, Ended}
 use Rattle.file_copy.specs.declared.stage.FolderState.TheVariants.{Synced, Dirty}
 use Rattle.file_copy.specs.declared.stage.Next.{Next}
 use Rattle.file_copy.specs.declared.stage.Next.TheVariants as next
@@ -258,5 +258,6 @@ module _ (told : Said) (dirty dirty_after : List Route) (marks : Marks) (log now
   copy_tells new (Ended NoMemory part) knows tells done settled leaves = absurd tells
   copy_tells new (Removed path) knows tells done settled leaves = absurd tells
   copy_tells new (Made made) knows tells calls settled leaves = absurd tells
+  copy_tells new (Set path) knows tells calls settled leaves = absurd tells
   copy_tells new (Kept path) knows tells calls settled leaves = absurd tells
   copy_tells new (Skipped path why) knows tells done settled leaves = absurd tells

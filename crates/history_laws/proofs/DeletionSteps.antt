@@ -16,7 +16,7 @@ use Rattle.crash_law.proofs.Leading.{current_more}
 use Rattle.job_reports.specs.declared.report.Ending.{Ending}
 use Rattle.job_reports.specs.declared.report.Ending.TheVariants.{Finished, Aborted, Killed, NoMemory}
 use Rattle.job_reports.specs.declared.report.Did.{Did}
-use Rattle.job_reports.specs.declared.report.Did.TheVariants.{Began, Chunk, Placed, Removed, Made, Kept, Skipped, Cleaned, Barrier, Troubled, Ended}
+use Rattle.job_reports.specs.declared.report.Did.TheVariants.{Began, Chunk, Placed, Removed, Made, Set, Kept, Skipped, Cleaned, Barrier, Troubled, Ended}
 use Rattle.job_reports.specs.Paths.{folder_of, without}
 use Rattle.job_reports.specs.Stops.{sync_answer}
 use Rattle.job_reports.proofs.CallAnswers.{some_log}
@@ -200,6 +200,7 @@ module _ (told : Said) (dirty dirty_after : List Route) (marks : Marks) (log now
   deletion_tells d new (Ended NoMemory part) knows tells done settled leaves = absurd tells
   deletion_tells d new (Began part) knows tells done settled leaves = absurd tells
   deletion_tells d new (Chunk count) knows tells done settled leaves = absurd tells
+  deletion_tells d new (Set path) knows tells done settled leaves = absurd tells
   deletion_tells d new (Placed path) knows tells done settled leaves = absurd tells
   deletion_tells d new (Made made) knows tells done settled leaves = absurd tells
   deletion_tells d new (Skipped path cause) knows (going, passes, at) done settled leaves =
@@ -220,6 +221,7 @@ module _ (told : Said) (dirty dirty_after : List Route) (marks : Marks) (log now
       subst (λ o. Steps (Ended how o) (Ends ending) (Delete d) (Delete new)) (sym part_is) (ends (Delete d) knows.1 leaves (some_log now log calls))
   deletion_winds d new ending (Began part) left folder knows tells answer calls leaves = absurd tells
   deletion_winds d new ending (Chunk count) left folder knows tells answer calls leaves = absurd tells
+  deletion_winds d new ending (Set path) left folder knows tells answer calls leaves = absurd tells
   deletion_winds d new ending (Placed path) left folder knows tells answer calls leaves = absurd tells
   deletion_winds d new ending (Removed path) left folder knows tells answer calls leaves = absurd tells
   deletion_winds d new ending (Made path) left folder knows tells answer calls leaves = absurd tells

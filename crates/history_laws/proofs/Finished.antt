@@ -12,7 +12,7 @@ use Rattle.job_reports.specs.declared.report.Ending.{Ending}
 use Rattle.job_reports.specs.declared.report.Ending.TheVariants.{Finished, Aborted}
 use Rattle.job_reports.specs.declared.report.Cause.{Cause}
 use Rattle.job_reports.specs.declared.report.Did.{Did}
-use Rattle.job_reports.specs.declared.report.Did.TheVariants.{Began, Chunk, Placed, Removed, Made, Kept, Skipped, Cleaned, Barrier, Troubled, Ended}
+use Rattle.job_reports.specs.declared.report.Did.TheVariants.{Began, Chunk, Placed, Removed, Made, Set, Kept, Skipped, Cleaned, Barrier, Troubled, Ended}
 use Rattle.job_reports.specs.Stops.{cause_of, trouble_at}
 use Rattle.job_reports.specs.Jobs.{folder_changed}
 use Rattle.file_copy.specs.Copying.{Copying}
@@ -20,7 +20,7 @@ use Rattle.file_copy.specs.Copying as copying
 use Rattle.job_reports.specs.declared.answer.Answer.{Answer}
 use Rattle.job_reports.specs.declared.answer.Answer.TheVariants.{Retry, Skip, SkipAll, Abort}
 use Rattle.session_history.specs.declared.history.Event.{Event}
-use Rattle.session_history.specs.declared.history.Event.TheVariants.{Key, Look, Order, Step, Closed}
+use Rattle.session_history.specs.declared.history.Event.TheVariants.{Key, Look, Sought, Order, Step, Closed}
 use Rattle.session_history.specs.declared.history.Event.TheVariants as event
 use Rattle.session_history.specs.declared.history.JobOrder.{JobOrder}
 use Rattle.session_history.specs.declared.history.JobOrder.TheVariants.{Answered}
@@ -63,6 +63,7 @@ dirty_then : (c new : Copying) (did : Did) → copying.Tells c did new → begin
 dirty_then c new (Began part) t h = ap (λ (x : Copying). copying.is_dirty x.folder) t.1.1
 dirty_then c new (Removed path) t h = absurd t
 dirty_then c new (Chunk count) t h = absurd (false≢true h)
+dirty_then c new (Set path) t h = absurd t
 dirty_then c new (Placed path) t h = absurd (false≢true h)
 dirty_then c new (Made made) t h = absurd t
 dirty_then c new (Kept kept) t h = absurd (false≢true h)
@@ -78,6 +79,7 @@ making_dirty m new (Made path) (stage, path_is, new_is) h = ap (λ (x : Making).
 making_dirty m new (Began part) t h = absurd t
 making_dirty m new (Removed path) t h = absurd t
 making_dirty m new (Chunk count) t h = absurd (false≢true h)
+making_dirty m new (Set path) t h = absurd t
 making_dirty m new (Placed path) t h = absurd (false≢true h)
 making_dirty m new (Kept kept) t h = absurd (false≢true h)
 making_dirty m new (Skipped path why) t h = absurd (false≢true h)
@@ -197,6 +199,7 @@ after_going : (did : Did) → IsGoing (course_after did)
 after_going (Troubled trouble) = tt
 after_going (Began part) = tt
 after_going (Chunk count) = tt
+after_going (Set path) = tt
 after_going (Placed path) = tt
 after_going (Removed path) = tt
 after_going (Made made) = tt
@@ -408,6 +411,8 @@ module _ (opening : CallLog) (tree : IsTree (current opening)) (settled : all_se
       by (Key key time refusals lost) is s t r =
           subst (λ (x : Stand). AreTidy opening (e ∷ older) x.dirty x.jobs) (sym s.after_is) (same_tidy e older was.dirty was.jobs (λ n. ap (λ w. changed_after n w (has_changed n older)) is) (ap (λ w. folders_event w (live_jobs older) (folders_told opening older)) is) t)
       by (Look refusals) is s t r =
+          subst (λ (x : Stand). AreTidy opening (e ∷ older) x.dirty x.jobs) (sym s.after_is) (same_tidy e older was.dirty was.jobs (λ n. ap (λ w. changed_after n w (has_changed n older)) is) (ap (λ w. folders_event w (live_jobs older) (folders_told opening older)) is) t)
+      by Sought is s t r =
           subst (λ (x : Stand). AreTidy opening (e ∷ older) x.dirty x.jobs) (sym s.after_is) (same_tidy e older was.dirty was.jobs (λ n. ap (λ w. changed_after n w (has_changed n older)) is) (ap (λ w. folders_event w (live_jobs older) (folders_told opening older)) is) t)
       by Closed is s t r =
           subst (λ (x : Stand). AreTidy opening (e ∷ older) x.dirty x.jobs) (sym s.after_is) (same_tidy e older was.dirty was.jobs (λ n. ap (λ w. changed_after n w (has_changed n older)) is) (ap (λ w. folders_event w (live_jobs older) (folders_told opening older)) is) t)

@@ -14,7 +14,7 @@ use Rattle.job_reports.specs.declared.report.Did.TheVariants.{Ended}
 use Rattle.job_reports.specs.declared.answer.Answer.{Answer}
 use Rattle.job_reports.specs.declared.answer.Answer.TheVariants.{Retry, Skip, SkipAll, Abort}
 use Rattle.session_history.specs.declared.history.Event.{Event}
-use Rattle.session_history.specs.declared.history.Event.TheVariants.{Key, Look, Began, Order, Step, Closed}
+use Rattle.session_history.specs.declared.history.Event.TheVariants.{Key, Look, Sought, Began, Order, Step, Closed}
 use Rattle.session_history.specs.declared.history.JobOrder.{JobOrder}
 use Rattle.session_history.specs.declared.history.JobOrder.TheVariants.{Answered}
 use Rattle.copy_move.specs.declared.run.Course.{Course}
@@ -139,6 +139,7 @@ module _ (said : Said) (listed : List LiveJob) (was : Stand) (before : CallLog) 
   SaidThen (Step id did) now said_then = (job : Running) × (was.jobs ≡ job ∷ []) × (job.id ≡ id) × (said_then ≡ said_after now did job.work said)
   SaidThen (Key key time refusals lost) now said_then = said_then ≡ said
   SaidThen (Look refusals) now said_then = said_then ≡ said
+  SaidThen Sought now said_then = said_then ≡ said
   SaidThen (Began id plan background) now said_then = said_then ≡ said
   SaidThen (Order id order) now said_then = said_then ≡ said
   SaidThen Closed now said_then = said_then ≡ said
@@ -273,5 +274,7 @@ module _ (said : Said) (listed : List LiveJob) (was : Stand) (before : CallLog) 
       (subst (λ (x : Stand). Goes (Key key time refusals lost) x before) (sym s.after_is) (quiet (Key key time refusals lost) was refl refl refl knows is_live))
   event_goes (Look refusals) after now s =
       subst (λ (l : CallLog). Goes (Look refusals) after l) (sym s.now_is) (subst (λ (x : Stand). Goes (Look refusals) x before) (sym s.after_is) (quiet (Look refusals) was refl refl refl knows is_live))
+  event_goes Sought after now s =
+      subst (λ (l : CallLog). Goes Sought after l) (sym s.now_is) (subst (λ (x : Stand). Goes Sought x before) (sym s.after_is) (quiet Sought was refl refl refl knows is_live))
   event_goes Closed after now s =
       subst (λ (l : CallLog). Goes Closed after l) (sym s.now_is) (subst (λ (x : Stand). Goes Closed x before) (sym s.after_is) (quiet Closed was refl refl refl knows is_live))

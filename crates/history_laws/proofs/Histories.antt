@@ -19,7 +19,7 @@ use Rattle.job_reports.specs.declared.report.Did.{Did}
 use Rattle.job_reports.specs.declared.report.Did.TheVariants.{Ended}
 use Rattle.job_reports.specs.declared.report.Did.TheVariants as reported
 use Rattle.session_history.specs.declared.history.Event.{Event}
-use Rattle.session_history.specs.declared.history.Event.TheVariants.{Key, Look, Began, Order, Step, Closed}
+use Rattle.session_history.specs.declared.history.Event.TheVariants.{Key, Look, Sought, Began, Order, Step, Closed}
 use Rattle.session_history.specs.declared.history.Entry.{Entry}
 use Rattle.copy_move.specs.Jobs.{Running}
 use Rattle.session_history.specs.Entries.{is_closed}
@@ -51,6 +51,7 @@ doubt_anywhere (reported.Placed path) part = refl
 doubt_anywhere (reported.Removed path) part = refl
 doubt_anywhere (reported.Cleaned gone) part = refl
 doubt_anywhere (reported.Chunk count) part = refl
+doubt_anywhere (reported.Set path) part = refl
 doubt_anywhere (reported.Made made) part = refl
 doubt_anywhere (reported.Kept kept) part = refl
 doubt_anywhere (reported.Skipped path cause) part = refl
@@ -137,6 +138,7 @@ module _ (opening : CallLog) (older : List Entry) (calls : ℕ) (was : Stand) (b
       by (Order id order) s n = quiet (Order id order) after now s.now_is n n.then_is refl
       by (Key key time refusals lost) s n = quiet (Key key time refusals lost) after now s.now_is n n.then_is refl
       by (Look refusals) s n = quiet (Look refusals) after now s.now_is n n.then_is refl
+      by Sought s n = quiet Sought after now s.now_is n n.then_is refl
       by Closed s n = quiet Closed after now s.now_is n n.then_is refl
 
 -- a session that is closed
@@ -175,6 +177,7 @@ module _ (opening : CallLog) (tree : IsTree (current opening)) (settled : all_se
         unborn = λ i past. (opening_law opening tree settled).clean i refl;
         mounts = λ p on. none_unsettled p;
       };
+      moded = λ i. refl;
       folders = λ i folder. (refl, refl);
       aside = λ p is. absurd (false≢true is);
       was_there = λ p i out is. (found_there (current opening) tree p i is, refl);

@@ -16,7 +16,7 @@ use Rattle.file_copy.specs.Copying.{Copying}
 use Rattle.file_copy.specs.declared.stage.Stage.{Stage}
 use Rattle.file_copy.specs.declared.stage.Stage.TheVariants.{Begin, Fill, Clean, Left, Decided}
 use Rattle.session_history.specs.declared.history.Event.{Event}
-use Rattle.session_history.specs.declared.history.Event.TheVariants.{Key, Look, Order, Step, Closed}
+use Rattle.session_history.specs.declared.history.Event.TheVariants.{Key, Look, Sought, Order, Step, Closed}
 use Rattle.session_history.specs.declared.history.Event.TheVariants as event
 use Rattle.session_history.specs.declared.history.Entry.{Entry}
 use Rattle.session_history.specs.Entries.{IsMoment, calls_in, is_closed}
@@ -106,6 +106,7 @@ module _ (path : Route) (v : Option Value) (told : Said) where
     known = record {
       guarded = kept.known.guarded;
       files = kept.known.files;
+      moded = kept.known.moded;
       folders = kept.known.folders;
       aside = λ p is. still_listed path p told.named (kept.known.aside p is) (false_from_ne_true _ (λ same. both_ways _ out (subst (λ q. marks.aside q ≡ true) (same_path-true p path same) is)));
       was_there = kept.known.was_there;
@@ -172,6 +173,7 @@ module _ (listed : List LiveJob) (was : Stand) (before : CallLog) (path : Route)
   keeps_then (Order id order) now said_then unnamed is = subst (Keeps path v) (sym is) h.keeps
   keeps_then (Key key time refusals lost) now said_then unnamed is = subst (Keeps path v) (sym is) h.keeps
   keeps_then (Look refusals) now said_then unnamed is = subst (Keeps path v) (sym is) h.keeps
+  keeps_then Sought now said_then unnamed is = subst (Keeps path v) (sym is) h.keeps
   keeps_then Closed now said_then unnamed is = subst (Keeps path v) (sym is) h.keeps
 
   -- what is known at each call of it, and at its end

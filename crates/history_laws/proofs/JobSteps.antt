@@ -17,7 +17,7 @@ use Rattle.crash_law.specs.Guarded.{Marks}
 use Rattle.job_reports.specs.declared.report.Ending.{Ending}
 use Rattle.job_reports.specs.declared.report.Ending.TheVariants.{NoMemory}
 use Rattle.job_reports.specs.declared.report.Did.{Did}
-use Rattle.job_reports.specs.declared.report.Did.TheVariants.{Began, Chunk, Placed, Removed, Made, Kept, Skipped, Cleaned, Barrier, Troubled, Ended}
+use Rattle.job_reports.specs.declared.report.Did.TheVariants.{Began, Chunk, Placed, Removed, Made, Set, Kept, Skipped, Cleaned, Barrier, Troubled, Ended}
 use Rattle.file_copy.specs.declared.stage.FolderState.{FolderState}
 use Rattle.file_copy.specs.declared.stage.FolderState.TheVariants.{Synced, Dirty}
 use Rattle.file_copy.specs.declared.stage.Stage.{Stage}
@@ -69,6 +69,7 @@ module _ (told : Said) (dirty dirty_after : List Route) (marks : Marks) (log now
         known = record {
           guarded = kept.known.guarded;
           files = kept.known.files;
+          moded = kept.known.moded;
           folders = kept.known.folders;
           aside = kept.known.aside;
           was_there = kept.known.was_there;
@@ -174,6 +175,7 @@ module _ (told : Said) (dirty dirty_after : List Route) (marks : Marks) (log now
       ends_copy told dirty dirty_after marks log now kept how c (Ends ending) part knows (part_is ∙ left_is_part c.stage none) leaves (some_log now log done)
   copy_winds c new ending (Began part) left knows winds tells rows leaves = absurd winds
   copy_winds c new ending (Chunk count) left knows winds tells rows leaves = absurd winds
+  copy_winds c new ending (Set path) left knows winds tells rows leaves = absurd winds
   copy_winds c new ending (Placed path) left knows winds tells rows leaves = absurd winds
   copy_winds c new ending (Removed path) left knows winds tells rows leaves = absurd winds
   copy_winds c new ending (Made made) left knows winds tells rows leaves = absurd winds

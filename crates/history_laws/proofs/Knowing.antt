@@ -10,7 +10,7 @@ use Rattle.tree_trait.specs.Refusals.{is_folder}
 use Rattle.tree_trait.specs.Change.{CallLog, current}
 use Rattle.tree_trait.specs.CrashImages.{Among}
 use Rattle.crash_law.specs.Possible.{MayFind, IsImage}
-use Rattle.crash_law.specs.Guarded.{Marks, IsGuarded, Holds}
+use Rattle.crash_law.specs.Guarded.{Marks, IsGuarded, Holds, Shows}
 use Rattle.crash_law.proofs.Guarding.{settle_law, guard_law, found_at}
 use Rattle.crash_law.proofs.Leading.{find_law}
 use Rattle.history_laws.specs.Doubt.{is_pending, is_unsettled, name_waits}
@@ -45,6 +45,8 @@ IsUnreached log f = (p : Route) → find (current log) p ≡ Some f → ⊥
 pub record IsKnown (said : Said) (dirty : List Route) (marks : Marks) (log : CallLog) : Type 0 where
   pub guarded : IsGuarded marks log
   pub files : IsOfFiles log
+  -- no mode of what stands waits: no job sets one
+  pub moded : (i : ℕ) → marks.modes i ≡ None
   -- a folder is never loose, and never roams
   pub folders : (i : ℕ) → is_folder (node (current log) i) ≡ true → (marks.roams i ≡ false) × (marks.loose i ≡ false)
   pub aside : (p : Route) → marks.aside p ≡ true → Among said.named p
@@ -122,7 +124,7 @@ module _ (said : Said) (dirty : List Route) (marks : Marks) (log : CallLog) (kno
   pub settled_guarded : IsGuarded after log
   settled_guarded = settle_law marks after log known.guarded (record {
     paths = λ p h. paths p h (is_unsettled log p) refl;
-    nodes = λ i firm. inl firm;
+    nodes = λ i firm. inl (firm, refl);
     firm = solid;
     places = λ i stays. inl stays;
   })
@@ -162,6 +164,7 @@ module _ (said : Said) (dirty : List Route) (marks : Marks) (log : CallLog) (kno
     known = record {
       guarded = settled_guarded;
       files = known.files;
+      moded = known.moded;
       folders = known.folders;
       aside = λ p h. known.aside p (aside_of p (marks.aside p) refl h).0;
       was_there = λ p i h is. there_by p i h is (is_unsettled log p) refl;
@@ -181,9 +184,9 @@ module _ (said : Said) (dirty : List Route) (marks : Marks) (log : CallLog) (kep
   open_known : IsKnown said dirty marks log
   open_known = kept.known
 
-  seen_by : (p : Route) (o : Option ℕ) (v : Option Value) → marks.aside p ≡ false → ((i : ℕ) → o ≡ Some i → marks.loose i ≡ false) → Holds marks.loose (current log) v o → v ≡ held (current log) o
+  seen_by : (p : Route) (o : Option ℕ) (v : Option Value) → marks.aside p ≡ false → ((i : ℕ) → o ≡ Some i → marks.loose i ≡ false) → Holds marks (current log) v o → v ≡ held (current log) o
   seen_by p None v out firm holds = holds
-  seen_by p (Some i) v out firm holds = holds.1 (firm i refl)
+  seen_by p (Some i) v out firm holds = subst (λ before. Shows before v (node (current log) i)) (kept.known.moded i) (holds.1 (firm i refl))
 
   firm_now : (p : Route) → marks.aside p ≡ false → (i : ℕ) → find (current log) p ≡ Some i → marks.loose i ≡ false
   firm_now p out i is = elim (kept.known.guarded.firm p i out (found_at log p (Some i) is)) [ inl firm ↦ firm | inr folder ↦ (kept.known.folders i folder).1 ]
@@ -198,15 +201,15 @@ module _ (said : Said) (dirty : List Route) (marks : Marks) (log : CallLog) (kep
   pub safe_out : (p : Route) → marks.aside p ≡ false → (value_at image p ≡ (said.tree p).value) ⊎ ((is_unsettled log p ≡ true) × (value_at image p ≡ (said.earlier p).value))
   safe_out p out = by (is_unsettled log p) refl (guard_law marks log image p kept.known.guarded left out)
     where
-      now_is : Holds marks.loose (current log) (value_at image p) (find (current log) p) → value_at image p ≡ (said.tree p).value
+      now_is : Holds marks (current log) (value_at image p) (find (current log) p) → value_at image p ≡ (said.tree p).value
       now_is holds = as_told p (no_part p out) (seen_by p (find (current log) p) (value_at image p) out (firm_now p out) holds)
 
-      by : (u : Bool) → is_unsettled log p ≡ u → Holds marks.loose (current log) (value_at image p) (find (current log) p) ⊎ Holds marks.loose (current log) (value_at image p) (marks.was p)
+      by : (u : Bool) → is_unsettled log p ≡ u → Holds marks (current log) (value_at image p) (find (current log) p) ⊎ Holds marks (current log) (value_at image p) (marks.was p)
           → (value_at image p ≡ (said.tree p).value) ⊎ ((is_unsettled log p ≡ true) × (value_at image p ≡ (said.earlier p).value))
       by u u_is (inl now) = inl (now_is now)
-      by false u_is (inr old) = inl (now_is (subst (Holds marks.loose (current log) (value_at image p)) (kept.was p out u_is) old))
+      by false u_is (inr old) = inl (now_is (subst (Holds marks (current log) (value_at image p)) (kept.was p out u_is) old))
       by true u_is (inr old) = elim (kept.known.was_shown p out) [
-        | inl same ↦ inl (now_is (subst (Holds marks.loose (current log) (value_at image p)) same old))
+        | inl same ↦ inl (now_is (subst (Holds marks (current log) (value_at image p)) same old))
         | inr shown ↦ inr (u_is, seen_by p (marks.was p) (value_at image p) out (λ i is. (kept.known.was_there p i out is).1) old ∙ shown)
       ]
 

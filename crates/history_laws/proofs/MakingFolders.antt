@@ -44,9 +44,9 @@ module _ (told : Said) (dirty : List Route) (marks : Marks) (log : CallLog) (kno
   abbrev n : ℕ
   n = new_node log
 
-  born : (i : ℕ) (b : Bool) → (i == n) ≡ b → (not b && marks.loose i) ≡ false → (marks.loose i ≡ false) ⊎ (Rattle.tree_trait.specs.CrashImages.is_clean i log.changes ≡ true)
-  born i true same h = let e = eqb-true i n same in inr (known.files.unborn i (omega (arith, e)))
-  born i false other h = inl h
+  born : (i : ℕ) (b : Bool) → (i == n) ≡ b → (not b && marks.loose i) ≡ false → ((marks.loose i ≡ false) × (marks.modes i ≡ marks.modes i)) ⊎ ((Rattle.tree_trait.specs.CrashImages.is_clean i log.changes ≡ true) × (marks.modes i ≡ None))
+  born i true same h = let e = eqb-true i n same in inr (known.files.unborn i (omega (arith, e)), known.moded i)
+  born i false other h = inl (h, refl)
 
   unnamed : (i : ℕ) (b : Bool) → (i == n) ≡ b → (not b && marks.roams i) ≡ false → (marks.roams i ≡ false) ⊎ Rattle.crash_law.specs.Guarded.HasOneName log i
   unnamed i true same h = let e = eqb-true i n same in inr (λ g k l m first second. let there = known.guarded.named g l i first in absurd (omega (arith, e, there)))
@@ -61,6 +61,7 @@ module _ (told : Said) (dirty : List Route) (marks : Marks) (log : CallLog) (kno
       places = λ i stays. unnamed i (i == n) refl stays;
     });
     files = known.files;
+    moded = known.moded;
     folders = λ i is. let k = known.folders i is in (low _ _ k.0, low _ _ k.1);
     aside = known.aside;
     was_there = λ p i out is. let t = known.was_there p i out is in (t.0, low _ _ t.1);
@@ -338,6 +339,7 @@ module _ (told after : Said) (dirty dirty_after : List Route) (marks : Marks) (l
       unborn = unborn_more log makes (λ i past. naming.bytes i) naming.count known.files.unborn;
       mounts = mounts_sure;
     };
+    moded = known.moded;
     folders = folder_marks;
     aside = m.named;
     was_there = λ p i out is. let t = known.was_there p i out is in let n = naming.count in let l = t.0 in (omega (arith, n, l), t.1);

@@ -35,6 +35,7 @@ marks_new marks part n = record {
   aside = λ p. same_path p part || marks.aside p;
   loose = λ i. (i == n) || marks.loose i;
   roams = λ i. (i == n) || marks.roams i;
+  modes = marks.modes;
 }
 
 abbrev pub naming_part : Said → Route → Said
@@ -69,7 +70,7 @@ module _ (told : Said) (dirty : List Route) (marks : Marks) (log : CallLog) (kno
   marked_known = record {
     guarded = settle_law marks new_marks log known.guarded (record {
       paths = λ p out. inl ((neither _ _ out).1, refl);
-      nodes = λ i firm. inl (neither _ _ firm).1;
+      nodes = λ i firm. inl ((neither _ _ firm).1, refl);
       firm = λ p i out at. elim (known.guarded.firm p i (neither _ _ out).1 at) [
         | inl firm ↦ inl (both_false _ _ (older i n (known.guarded.there p i at)) firm)
         | inr folder ↦ inr folder
@@ -77,6 +78,7 @@ module _ (told : Said) (dirty : List Route) (marks : Marks) (log : CallLog) (kno
       places = λ i stays. inl (neither _ _ stays).1;
     });
     files = known.files;
+    moded = known.moded;
     folders = λ i is. let o = older i n (there_folder i is) in let k = known.folders i is in (both_false _ _ o k.0, both_false _ _ o k.1);
     aside = λ p is. elim (either _ _ is) [ inl same ↦ inl (same_path-true p part same) | inr before ↦ inr (known.aside p before) ];
     was_there = λ p i out is. let t = known.was_there p i (neither _ _ out).1 is in (t.0, both_false _ _ (older i n t.0) t.1);

@@ -16,7 +16,7 @@ use Rattle.crash_law.specs.Guarded.{Marks}
 use Rattle.job_reports.specs.declared.report.Ending.{Ending}
 use Rattle.job_reports.specs.declared.report.Ending.TheVariants.{Finished, Aborted, Killed, NoMemory}
 use Rattle.job_reports.specs.declared.report.Did.{Did}
-use Rattle.job_reports.specs.declared.report.Did.TheVariants.{Began, Chunk, Placed, Removed, Made, Kept, Skipped, Cleaned, Barrier, Troubled, Ended}
+use Rattle.job_reports.specs.declared.report.Did.TheVariants.{Began, Chunk, Placed, Removed, Made, Set, Kept, Skipped, Cleaned, Barrier, Troubled, Ended}
 use Rattle.job_reports.specs.Jobs.{folder_changed, new_folder_mode}
 use Rattle.job_reports.specs.Paths.{folder_of, without}
 use Rattle.job_reports.specs.Stops.{sync_answer}
@@ -166,6 +166,7 @@ module _ (told : Said) (dirty dirty_after : List Route) (marks : Marks) (log now
   making_tells w new (Ended NoMemory part) knows tells done settled leaves = absurd tells
   making_tells w new (Began part) knows tells done settled leaves = absurd tells
   making_tells w new (Chunk count) knows tells done settled leaves = absurd tells
+  making_tells w new (Set path) knows tells done settled leaves = absurd tells
   making_tells w new (Placed path) knows tells done settled leaves = absurd tells
   making_tells w new (Removed path) knows tells done settled leaves = absurd tells
   making_tells w new (Kept kept) knows tells done settled leaves = absurd tells
@@ -182,6 +183,7 @@ module _ (told : Said) (dirty dirty_after : List Route) (marks : Marks) (log now
       subst (λ o. In (Ended how o) (Ends ending) (Make w) (Make new)) (sym part_is) (ends told dirty dirty_after marks log now kept (Make w) none leaves (some_log now log calls))
   making_winds w new ending (Began part) left knows tells answer calls leaves = absurd tells
   making_winds w new ending (Chunk count) left knows tells answer calls leaves = absurd tells
+  making_winds w new ending (Set path) left knows tells answer calls leaves = absurd tells
   making_winds w new ending (Placed path) left knows tells answer calls leaves = absurd tells
   making_winds w new ending (Removed path) left knows tells answer calls leaves = absurd tells
   making_winds w new ending (Made path) left knows tells answer calls leaves = absurd tells

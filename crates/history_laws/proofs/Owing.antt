@@ -20,7 +20,7 @@ use Rattle.copy_move.specs.Jobs.{TellsOn, WorkTells}
 use Rattle.copy_move.specs.Settling.{LiesApart, NoneOwed, WorkLeaves, changed_folder, is_own, with_change}
 use Rattle.file_copy.specs.Copying as copying
 use Rattle.job_reports.specs.declared.report.Did.{Did}
-use Rattle.job_reports.specs.declared.report.Did.TheVariants.{Began, Chunk, Placed, Removed, Made, Kept, Skipped, Cleaned, Barrier, Troubled, Ended}
+use Rattle.job_reports.specs.declared.report.Did.TheVariants.{Began, Chunk, Placed, Removed, Made, Set, Kept, Skipped, Cleaned, Barrier, Troubled, Ended}
 use Rattle.tree_deletion.specs.Folders.{is_one_of, joined}
 use Rattle.tree_trait.specs.declared.file_system.FileSystem.{FileSystem}
 use Rattle.tree_trait.specs.declared.calls.TreeError.TheVariants.{Missing}
@@ -127,6 +127,7 @@ own_or_before (Delete d) (Delete next) (Delete new) did q dirty dirty_after befo
     by (Ended ending part) t h = inr (subst (λ xs. Among xs q) h.1 among)
     by (Began part) t h = absurd t
     by (Chunk count) t h = absurd t
+    by (Set path) t h = absurd t
     by (Placed path) t h = absurd t
     by (Made path) t h = absurd t
     by (Skipped path why) t h = inr (subst (λ xs. Among xs q) h among)

@@ -43,11 +43,12 @@ pub firm_known : (told : Said) (dirty : List Route) (marks : Marks) (log : CallL
 firm_known told dirty marks log i clean known = record {
   guarded = settle_law marks (marks_firm marks i) log known.guarded (record {
     paths = λ p out. inl (out, refl);
-    nodes = λ j firm. elim (was_or (marks.loose j) (j == i) firm) [ inl same ↦ inl same | inr is ↦ inr (subst (λ k. is_clean k log.changes ≡ true) (sym (eqb-true j i is)) clean) ];
+    nodes = λ j firm. elim (was_or (marks.loose j) (j == i) firm) [ inl same ↦ inl (same, refl) | inr is ↦ inr (subst (λ k. is_clean k log.changes ≡ true) (sym (eqb-true j i is)) clean, known.moded j) ];
     firm = λ p j out at. elim (known.guarded.firm p j out at) [ inl firm ↦ inl (still _ _ firm) | inr folder ↦ inr folder ];
     places = λ j stays. inl stays;
   });
   files = known.files;
+  moded = known.moded;
   folders = λ j is. let k = known.folders j is in (k.0, still _ _ k.1);
   aside = known.aside;
   was_there = λ p j out is. let t = known.was_there p j out is in (t.0, still _ _ t.1);

@@ -5,12 +5,12 @@ use Rattle.std.proofs.lemmas.List.{take-append-le}
 use Rattle.std.specs.Option.{option_map_or}
 use Rattle.mc_text.specs.Routes.{Route, same_path}
 use Rattle.job_reports.specs.declared.report.Did.{Did}
-use Rattle.job_reports.specs.declared.report.Did.TheVariants.{Began, Chunk, Placed, Removed, Made, Kept, Skipped, Cleaned, Barrier, Troubled, Ended}
+use Rattle.job_reports.specs.declared.report.Did.TheVariants.{Began, Chunk, Placed, Removed, Made, Set, Kept, Skipped, Cleaned, Barrier, Troubled, Ended}
 use Rattle.job_reports.specs.Jobs.{Item, folder_changed}
 use Rattle.tree_trait.specs.FileSystem.{View}
 use Rattle.tree_trait.specs.Change.{Change, CallLog, current}
 use Rattle.session_history.specs.declared.history.Event.{Event}
-use Rattle.session_history.specs.declared.history.Event.TheVariants.{Key, Look, Order, Step, Closed}
+use Rattle.session_history.specs.declared.history.Event.TheVariants.{Key, Look, Sought, Order, Step, Closed}
 use Rattle.session_history.specs.declared.history.Event.TheVariants as event
 use Rattle.session_history.specs.declared.history.Entry.{Entry}
 use Rattle.session_history.specs.LiveJobs.{LiveJob, live_item, live_jobs}
@@ -26,6 +26,7 @@ abbrev pub folders_event : Event → List LiveJob → (Route → Bool) → Route
 folders_event (Step id did) jobs before = option_map_or (λ item. folders_by did (folder_changed item) before) (live_item id jobs) before
 folders_event (Key key now refusals lost) jobs before = before
 folders_event (Look refusals) jobs before = before
+folders_event Sought jobs before = before
 folders_event (event.Began id plan background) jobs before = before
 folders_event (Order id order) jobs before = before
 folders_event Closed jobs before = before
@@ -88,6 +89,7 @@ known_by (Began part) folder before p unnamed h = or_right _ _ h
 known_by (Removed path) folder before p unnamed h = and_from (same_path p folder || before p) (not (same_path p path)) (or_right _ _ h) (ap not unnamed)
 known_by (Made path) folder before p unnamed h = or_right _ _ h
 known_by (Chunk count) folder before p unnamed h = h
+known_by (Set path) folder before p unnamed h = or_right _ _ h
 known_by (Placed path) folder before p unnamed h = h
 known_by (Kept kept) folder before p unnamed h = h
 known_by (Skipped path cause) folder before p unnamed h = h
@@ -104,6 +106,7 @@ pub folders_more : (what : Event) (jobs : List LiveJob) (before : Route → Bool
 folders_more (Step id did) jobs before p unnamed h = known_still did (live_item id jobs) before p unnamed h
 folders_more (Key key now refusals lost) jobs before p unnamed h = h
 folders_more (Look refusals) jobs before p unnamed h = h
+folders_more Sought jobs before p unnamed h = h
 folders_more (event.Began id plan background) jobs before p unnamed h = h
 folders_more (Order id order) jobs before p unnamed h = h
 folders_more Closed jobs before p unnamed h = h

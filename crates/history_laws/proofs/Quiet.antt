@@ -158,6 +158,7 @@ module _ (said : Said) (dirty : List Route) (marks : Marks) (log : CallLog) (c :
       unborn = unborn_more log c calm.unborn (let same = quiet_of.count in omega (arith, same)) known.files.unborn;
       mounts = calm_mounts;
     };
+    moded = known.moded;
     folders = λ i folder. known.folders i (was_folder i folder);
     aside = known.aside;
     was_there = λ p i out is. let t = known.was_there p i out is in (subst (λ n. i < n) (sym quiet_of.count) t.0, t.1);

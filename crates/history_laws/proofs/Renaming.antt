@@ -237,6 +237,7 @@ module _ (said after : Said) (dirty dirty_after : List Route) (marks : Marks) (l
       unborn = unborn_more log c (λ i past. naming_of.bytes i) naming_of.count known.files.unborn;
       mounts = mounts_sure;
     };
+    moded = known.moded;
     folders = λ i folder. known.folders i (was_folder i folder);
     aside = n.named;
     was_there = λ p i out is. let t = known.was_there p i out is in (let k = naming_of.count in let l = t.0 in omega (arith, k, l), t.1);

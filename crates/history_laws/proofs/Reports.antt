@@ -6,7 +6,7 @@ use Rattle.mc_text.specs.Routes.{Route, parent_of}
 use Rattle.tree_trait.specs.declared.file_system.FileSystem.{FileSystem}
 use Rattle.crash_law.specs.Guarded.{Marks}
 use Rattle.job_reports.specs.declared.report.Did.{Did}
-use Rattle.job_reports.specs.declared.report.Did.TheVariants.{Began, Chunk, Placed, Removed, Made, Kept, Skipped, Cleaned, Barrier, Troubled, Ended}
+use Rattle.job_reports.specs.declared.report.Did.TheVariants.{Began, Chunk, Placed, Removed, Made, Set, Kept, Skipped, Cleaned, Barrier, Troubled, Ended}
 use Rattle.job_reports.specs.declared.job.Job.{Job}
 use Rattle.job_reports.specs.declared.job.Job.TheVariants as plan
 use Rattle.job_reports.specs.Jobs.{Item}
@@ -44,6 +44,7 @@ module _ (told : Said) (dirty : List Route) (marks : Marks) (s : FileSystem) (ne
   knows_after (Ended ending part) k = k
   knows_after (Began part) k = k
   knows_after (Chunk count) k = k
+  knows_after (Set path) k = k
   knows_after (Placed path) k = k
   knows_after (Removed path) k = k
   knows_after (Made made) k = k
@@ -70,6 +71,7 @@ module _ (id : ℕ) (item : Item) (part : Option Route) (new : Running) (same : 
   live_after (Ended ending left) = kept_if (id == id) _ _ (same_id id)
   live_after (Began p) = stays (Some p) _ (kept_if (id == id) _ _ (same_id id))
   live_after (Chunk count) = stays part _ (kept_if (id == id) _ _ (same_id id))
+  live_after (Set path) = stays part _ (kept_if (id == id) _ _ (same_id id))
   live_after (Placed path) = stays None _ (kept_if (id == id) _ _ (same_id id))
   live_after (Removed path) = stays part _ (kept_if (id == id) _ _ (same_id id))
   live_after (Made made) = stays part _ (kept_if (id == id) _ _ (same_id id))

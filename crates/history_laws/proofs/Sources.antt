@@ -10,7 +10,7 @@ use Rattle.job_reports.specs.declared.report.Ending.{Ending}
 use Rattle.job_reports.specs.declared.report.Ending.TheVariants.{Finished, Aborted, Killed, NoMemory}
 use Rattle.job_reports.specs.declared.report.Cause.{Cause}
 use Rattle.job_reports.specs.declared.report.Did.{Did}
-use Rattle.job_reports.specs.declared.report.Did.TheVariants.{Began, Chunk, Placed, Removed, Made, Kept, Skipped, Cleaned, Barrier, Troubled, Ended}
+use Rattle.job_reports.specs.declared.report.Did.TheVariants.{Began, Chunk, Placed, Removed, Made, Set, Kept, Skipped, Cleaned, Barrier, Troubled, Ended}
 use Rattle.file_copy.specs.Copying.{Copying, Tells}
 use Rattle.file_copy.specs.LastSteps.{Winds}
 use Rattle.job_reports.specs.declared.answer.Answer.{Answer}
@@ -59,6 +59,7 @@ first_item id (plan.MakeFolder path) = first_if (is_some (parent_of path)) (make
 copy_paths : (c new : Copying) (did : Did) → Tells c did new → item_in (Copy new) ≡ item_in (Copy c)
 copy_paths c new (Began part) t = ap (λ (x : Copying). item_in (Copy x)) t.1.1
 copy_paths c new (Chunk count) (part, said, done, stage, least, most, fits, new_is) = ap (λ (x : Copying). item_in (Copy x)) new_is
+copy_paths c new (Set path) t = absurd t
 copy_paths c new (Placed path) (part, said, stage, path_is, new_is) = ap (λ (x : Copying). item_in (Copy x)) new_is
 copy_paths c new (Cleaned part) (follows, stage, new_is) = ap (λ (x : Copying). item_in (Copy x)) new_is
 copy_paths c new Barrier (stage, dirty, new_is) = ap (λ (x : Copying). item_in (Copy x)) new_is
@@ -82,6 +83,7 @@ deletion_paths d new (Ended Killed part) t = absurd t
 deletion_paths d new (Ended NoMemory part) t = absurd t
 deletion_paths d new (Began part) t = absurd t
 deletion_paths d new (Chunk count) t = absurd t
+deletion_paths d new (Set path) t = absurd t
 deletion_paths d new (Placed path) t = absurd t
 deletion_paths d new (Made made) t = absurd t
 deletion_paths d new (Kept path) (going, at) = ap Removes at.path_is
@@ -98,6 +100,7 @@ making_paths m new (Ended Killed part) t = absurd t
 making_paths m new (Ended NoMemory part) t = absurd t
 making_paths m new (Began part) t = absurd t
 making_paths m new (Chunk count) t = absurd t
+making_paths m new (Set path) t = absurd t
 making_paths m new (Placed path) t = absurd t
 making_paths m new (Removed made) t = absurd t
 making_paths m new (Kept kept) t = absurd t
@@ -110,6 +113,7 @@ copy_winds ending c new Barrier (dirty, new_is) = ap (λ (x : Copying). item_in 
 copy_winds ending c new (Ended how part) (none, synced, how_is, part_is, new_is) = ap (λ (x : Copying). item_in (Copy x)) new_is
 copy_winds ending c new (Began part) t = absurd t
 copy_winds ending c new (Chunk count) t = absurd t
+copy_winds ending c new (Set path) t = absurd t
 copy_winds ending c new (Placed path) t = absurd t
 copy_winds ending c new (Removed path) t = absurd t
 copy_winds ending c new (Made made) t = absurd t
@@ -122,6 +126,7 @@ deletion_winds ending d new Barrier (path_is, stage_is, skips_is) = ap Removes p
 deletion_winds ending d new (Ended how part) (how_is, part_is, path_is, stage_is, skips_is) = ap Removes path_is
 deletion_winds ending d new (Began part) t = absurd t
 deletion_winds ending d new (Chunk count) t = absurd t
+deletion_winds ending d new (Set path) t = absurd t
 deletion_winds ending d new (Placed path) t = absurd t
 deletion_winds ending d new (Removed path) t = absurd t
 deletion_winds ending d new (Made made) t = absurd t
@@ -135,6 +140,7 @@ making_winds ending m new Barrier (stage, new_is) = ap (λ (x : Making). item_in
 making_winds ending m new (Ended how part) (stage, how_is, part_is, new_is) = ap (λ (x : Making). item_in (Make x)) new_is
 making_winds ending m new (Began part) t = absurd t
 making_winds ending m new (Chunk count) t = absurd t
+making_winds ending m new (Set path) t = absurd t
 making_winds ending m new (Placed path) t = absurd t
 making_winds ending m new (Made path) t = absurd t
 making_winds ending m new (Removed made) t = absurd t

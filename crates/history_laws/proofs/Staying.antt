@@ -12,12 +12,12 @@ use Rattle.tree_trait.proofs.Visible.{same_path-self, same_path-true}
 use Rattle.job_reports.specs.Jobs.{Item, item_of}
 use Rattle.crash_law.specs.Guarded.{Marks}
 use Rattle.job_reports.specs.declared.report.Did.{Did}
-use Rattle.job_reports.specs.declared.report.Did.TheVariants.{Began, Chunk, Placed, Removed, Made, Kept, Skipped, Cleaned, Barrier, Troubled, Ended}
+use Rattle.job_reports.specs.declared.report.Did.TheVariants.{Began, Chunk, Placed, Removed, Made, Set, Kept, Skipped, Cleaned, Barrier, Troubled, Ended}
 use Rattle.file_copy.specs.declared.stage.Stage.{Stage}
 use Rattle.file_copy.specs.declared.stage.Stage.TheVariants.{Begin, Fill, Clean, Left, Decided}
 use Rattle.file_copy.specs.Copying.{Copying}
 use Rattle.session_history.specs.declared.history.Event.{Event}
-use Rattle.session_history.specs.declared.history.Event.TheVariants.{Key, Look, Order, Step, Closed}
+use Rattle.session_history.specs.declared.history.Event.TheVariants.{Key, Look, Sought, Order, Step, Closed}
 use Rattle.session_history.specs.declared.history.Event.TheVariants as event
 use Rattle.session_history.specs.declared.history.Entry.{Entry}
 use Rattle.copy_move.specs.declared.run.Course.{Course}
@@ -78,6 +78,7 @@ module _ (told : Said) (log : CallLog) where
     known = record {
       guarded = kept.known.guarded;
       files = kept.known.files;
+      moded = kept.known.moded;
       folders = kept.known.folders;
       aside = kept.known.aside;
       was_there = kept.known.was_there;
@@ -111,6 +112,7 @@ unnamed_sure (Placed target) part before path sure unnamed other =
 unnamed_sure (Removed file) part before path sure unnamed other = untold_facts (before path) (same_path path file) sure unnamed
 unnamed_sure (Cleaned gone) part before path sure unnamed other = untold_facts (before path) (same_path path gone) sure unnamed
 unnamed_sure (Chunk count) part before path sure unnamed other = sure
+unnamed_sure (Set changed) part before path sure unnamed other = untold_facts (before path) (same_path path changed) sure unnamed
 unnamed_sure (Made folder) part before path sure unnamed other = untold_facts (before path) (same_path path folder) sure unnamed
 unnamed_sure (Kept kept) part before path sure unnamed other = sure
 unnamed_sure (Skipped file cause) part before path sure unnamed other = sure
@@ -177,6 +179,7 @@ module _ (opening : CallLog) (older : List Entry) (was : Stand) (before : CallLo
   event_still (Order id order) after now s unnamed = none_still now s.now_is
   event_still (Key key time refusals lost) after now s unnamed = none_still now s.now_is
   event_still (Look refusals) after now s unnamed = none_still now s.now_is
+  event_still Sought after now s unnamed = none_still now s.now_is
   event_still Closed after now s unnamed = none_still now s.now_is
 
 -- a path that an entry doesn't name is a part only if it was one
@@ -186,6 +189,7 @@ part_before (Began made) part path unnamed is =
 part_before (Placed target) part path unnamed is = absurd (let f : ⊥ = cc in f)
 part_before (Cleaned gone) part path unnamed is = absurd (let f : ⊥ = cc in f)
 part_before (Chunk count) part path unnamed is = is
+part_before (Set changed) part path unnamed is = is
 part_before (Removed file) part path unnamed is = is
 part_before (Made made) part path unnamed is = is
 part_before (Kept kept) part path unnamed is = is
@@ -212,6 +216,7 @@ module _ (path : Route) where
   report_part id (Ended ending left) (job ∷ jobs) unnamed h = ended_part (job.id == id) job jobs (after_report id (Ended ending left) jobs) (report_part id (Ended ending left) jobs unnamed) h
   report_part id (Began made) (job ∷ jobs) unnamed h = stepped_part (job.id == id) job (Began made) jobs (after_report id (Began made) jobs) unnamed (report_part id (Began made) jobs unnamed) h
   report_part id (Chunk count) (job ∷ jobs) unnamed h = stepped_part (job.id == id) job (Chunk count) jobs (after_report id (Chunk count) jobs) unnamed (report_part id (Chunk count) jobs unnamed) h
+  report_part id (Set path) (job ∷ jobs) unnamed h = stepped_part (job.id == id) job (Set path) jobs (after_report id (Set path) jobs) unnamed (report_part id (Set path) jobs unnamed) h
   report_part id (Placed target) (job ∷ jobs) unnamed h = stepped_part (job.id == id) job (Placed target) jobs (after_report id (Placed target) jobs) unnamed (report_part id (Placed target) jobs unnamed) h
   report_part id (Removed file) (job ∷ jobs) unnamed h = stepped_part (job.id == id) job (Removed file) jobs (after_report id (Removed file) jobs) unnamed (report_part id (Removed file) jobs unnamed) h
   report_part id (Made made) (job ∷ jobs) unnamed h = stepped_part (job.id == id) job (Made made) jobs (after_report id (Made made) jobs) unnamed (report_part id (Made made) jobs unnamed) h
@@ -233,6 +238,7 @@ module _ (path : Route) where
   event_part (Order id order) jobs unnamed h = h
   event_part (Key key time refusals lost) jobs unnamed h = h
   event_part (Look refusals) jobs unnamed h = h
+  event_part Sought jobs unnamed h = h
   event_part Closed jobs unnamed h = h
 
 pub since_longer : (older g : List Entry) (path : Route) → IsUnnamedSince older path g → length older ≤ length g

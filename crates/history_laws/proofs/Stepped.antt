@@ -8,7 +8,7 @@ use Rattle.tree_trait.specs.Change.{Change, CallLog, with_change}
 use Rattle.crash_law.specs.Guarded.{Marks}
 use Rattle.job_reports.specs.Jobs.{folder_changed}
 use Rattle.job_reports.specs.declared.report.Did.{Did}
-use Rattle.job_reports.specs.declared.report.Did.TheVariants.{Began, Chunk, Placed, Removed, Made, Kept, Skipped, Cleaned, Barrier, Troubled, Ended}
+use Rattle.job_reports.specs.declared.report.Did.TheVariants.{Began, Chunk, Placed, Removed, Made, Set, Kept, Skipped, Cleaned, Barrier, Troubled, Ended}
 use Rattle.copy_move.specs.declared.work.Work.{Work}
 use Rattle.history_laws.specs.Replayed.{replayed_step, keeping}
 use Rattle.session_history.specs.Named.{changed_by, named_by}
@@ -64,6 +64,7 @@ part_after (Placed path) before = None
 part_after (Cleaned part) before = None
 part_after (Ended ending part) before = None
 part_after (Chunk count) before = before
+part_after (Set path) before = before
 part_after (Removed path) before = before
 part_after (Made made) before = before
 part_after (Kept kept) before = before
@@ -78,6 +79,7 @@ doubt_by (Placed path) part before = λ p. (before p || same_path p path) || opt
 doubt_by (Removed path) part before = λ p. before p || same_path p path
 doubt_by (Cleaned gone) part before = λ p. before p || same_path p gone
 doubt_by (Chunk count) part before = before
+doubt_by (Set path) part before = λ p. before p || same_path p path
 doubt_by (Made path) part before = λ p. before p || same_path p path
 doubt_by (Kept kept) part before = before
 doubt_by (Skipped path cause) part before = before
@@ -93,6 +95,7 @@ folders_by (Made path) folder before = λ p. same_path p folder || before p
 folders_by (Placed path) folder before = before
 folders_by (Cleaned gone) folder before = before
 folders_by (Chunk count) folder before = before
+folders_by (Set path) folder before = λ p. same_path p folder || before p
 folders_by (Kept kept) folder before = before
 folders_by (Skipped path cause) folder before = before
 folders_by Barrier folder before = before

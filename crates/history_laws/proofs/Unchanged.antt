@@ -4,7 +4,7 @@ use Rattle.std.specs.Prelude.{if◌then◌else◌, is_some, ◌&&◌}
 use Rattle.std.proofs.lemmas.Bool.{true≢false}
 use Rattle.mc_text.specs.Routes.{Route, parent_of, same_path}
 use Rattle.job_reports.specs.declared.report.Did.{Did}
-use Rattle.job_reports.specs.declared.report.Did.TheVariants.{Began, Chunk, Placed, Removed, Made, Kept, Skipped, Cleaned, Barrier, Troubled, Ended}
+use Rattle.job_reports.specs.declared.report.Did.TheVariants.{Began, Chunk, Placed, Removed, Made, Set, Kept, Skipped, Cleaned, Barrier, Troubled, Ended}
 use Rattle.copy_move.specs.declared.making.MakingStage.{MakingStage}
 use Rattle.copy_move.specs.declared.making.MakingStage.TheVariants as making
 use Rattle.job_reports.specs.declared.job.Job.{Job}
@@ -92,6 +92,7 @@ clean_after : (did : Did) (job new : Running) → begins_change did ≡ false �
 clean_after (Began part) job new none h clean = absurd (true≢false none)
 clean_after (Removed path) job new none h clean = absurd (true≢false none)
 clean_after (Chunk count) job new none h clean = some_job job new h ∙ clean
+clean_after (Set path) job new none h clean = absurd (true≢false none)
 clean_after (Placed path) job new none h clean = some_job (record job { work = placed job.work }) new h ∙ (placed_begun job.work ∙ clean)
 clean_after (Made path) job new none h clean = absurd (true≢false none)
 clean_after (Kept path) job new none h clean = some_job (record job { work = spared path job.work }) new h ∙ spared_begun path job.work clean

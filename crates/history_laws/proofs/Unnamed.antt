@@ -7,16 +7,16 @@ use Rattle.tree_trait.specs.Change.{CallLog, current}
 use Rattle.tree_trait.specs.CrashImages.{Among}
 use Rattle.tree_trait.proofs.Visible.{same_path-self}
 use Rattle.job_reports.specs.declared.report.Did.{Did}
-use Rattle.job_reports.specs.declared.report.Did.TheVariants.{Began, Chunk, Placed, Removed, Made, Kept, Skipped, Cleaned, Barrier, Troubled, Ended}
+use Rattle.job_reports.specs.declared.report.Did.TheVariants.{Began, Chunk, Placed, Removed, Made, Set, Kept, Skipped, Cleaned, Barrier, Troubled, Ended}
 use Rattle.job_reports.specs.Jobs.{Item, Copies, Removes, Makes}
 use Rattle.file_copy.specs.Copied.{copied}
 use Rattle.session_history.specs.declared.history.Event.{Event}
-use Rattle.session_history.specs.declared.history.Event.TheVariants.{Key, Look, Order, Step, Closed}
+use Rattle.session_history.specs.declared.history.Event.TheVariants.{Key, Look, Sought, Order, Step, Closed}
 use Rattle.session_history.specs.declared.history.Event.TheVariants as event
 use Rattle.session_history.specs.declared.history.Entry.{Entry}
 use Rattle.session_history.specs.LiveJobs.{LiveJob, live_jobs, live_item}
 use Rattle.session_history.specs.Named.{IsUnnamedSince, changed_by, named_by, names, names_path}
-use Rattle.history_laws.specs.Replayed.{keeping, log_prefix, new_folder, placed_by, replayed_event, replayed_step, replayed_tree}
+use Rattle.history_laws.specs.Replayed.{keeping, log_prefix, new_folder, placed_by, replayed_event, replayed_step, replayed_tree, set_by, with_mode_of}
 use Rattle.history_laws.proofs.Deleted.{put_off}
 use Rattle.history_laws.proofs.Owing.{in_filter}
 
@@ -27,6 +27,12 @@ placed_unnamed (Some (Removes file)) target v path unnamed = refl
 placed_unnamed (Some (Makes folder)) target v path unnamed = refl
 placed_unnamed None target v path unnamed = refl
 
+set_unnamed : (item : Option Item) (changed : Route) (v : View) (path : Route) → same_path path changed ≡ false → set_by item changed v path ≡ v path
+set_unnamed (Some (Copies source target)) changed v path unnamed = put_off v changed (Rattle.std.specs.Option.option_map (with_mode_of (v source).value) (v changed).value) path unnamed
+set_unnamed (Some (Removes file)) changed v path unnamed = refl
+set_unnamed (Some (Makes folder)) changed v path unnamed = refl
+set_unnamed None changed v path unnamed = refl
+
 pub step_unnamed : (log : CallLog) (did : Did) (item : Option Item) (v : View) (path : Route) → names did path ≡ false → replayed_step log did item v path ≡ v path
 step_unnamed log (Removed file) item v path unnamed = put_off v file None path unnamed
 step_unnamed log (Placed target) item v path unnamed = placed_unnamed item target v path unnamed
@@ -34,6 +40,7 @@ step_unnamed log (Ended ending (Some part)) item v path unnamed = put_off v part
 step_unnamed log (Ended ending None) item v path unnamed = refl
 step_unnamed log (Began part) item v path unnamed = refl
 step_unnamed log (Chunk count) item v path unnamed = refl
+step_unnamed log (Set changed) item v path unnamed = set_unnamed item changed v path unnamed
 step_unnamed log (Made folder) item v path unnamed = put_off v folder (Some new_folder) path unnamed
 step_unnamed log (Kept kept) item v path unnamed = refl
 step_unnamed log (Skipped file cause) item v path unnamed = refl
@@ -47,6 +54,7 @@ event_unnamed log (event.Began id plan background) jobs v path unnamed = refl
 event_unnamed log (Order id order) jobs v path unnamed = refl
 event_unnamed log (Key key time refusals lost) jobs v path unnamed = refl
 event_unnamed log (Look refusals) jobs v path unnamed = refl
+event_unnamed log Sought jobs v path unnamed = refl
 event_unnamed log Closed jobs v path unnamed = refl
 
 pub replayed_since : (opening end : CallLog) (older g : List Entry) (path : Route) → IsUnnamedSince older path g → replayed_tree opening end g path ≡ replayed_tree opening end older path
@@ -61,6 +69,7 @@ named_step (Began part) parts path unnamed (inl same) = absurd (both_ways _ unna
 named_step (Began part) parts path unnamed (inr among) = among
 named_step (Placed target) parts path unnamed among = in_filter (λ kept. Rattle.std.specs.Prelude.not (same_path kept target)) path parts among
 named_step (Chunk count) parts path unnamed among = among
+named_step (Set changed) parts path unnamed among = among
 named_step (Removed file) parts path unnamed among = among
 named_step (Made folder) parts path unnamed among = in_filter (λ kept. Rattle.std.specs.Prelude.not (same_path kept folder)) path parts among
 named_step (Kept kept) parts path unnamed among = among
@@ -77,6 +86,7 @@ earlier_unnamed (Removed file) v before path unnamed = put_off before file (v fi
 earlier_unnamed (Made folder) v before path unnamed = put_off before folder (v folder).value path unnamed
 earlier_unnamed (Began part) v before path unnamed = refl
 earlier_unnamed (Chunk count) v before path unnamed = refl
+earlier_unnamed (Set changed) v before path unnamed = put_off before changed (v changed).value path unnamed
 earlier_unnamed (Kept kept) v before path unnamed = refl
 earlier_unnamed (Skipped file cause) v before path unnamed = refl
 earlier_unnamed (Cleaned part) v before path unnamed = refl

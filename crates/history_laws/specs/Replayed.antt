@@ -6,11 +6,11 @@ use Rattle.mc_text.specs.declared.kind.Kind.TheVariants.{Folder}
 use Rattle.tree_trait.specs.FileSystem.{Value, View, put, value_at, visible_tree}
 use Rattle.tree_trait.specs.Change.{CallLog, current}
 use Rattle.job_reports.specs.declared.report.Did.{Did}
-use Rattle.job_reports.specs.declared.report.Did.TheVariants.{Began, Chunk, Placed, Removed, Made, Kept, Skipped, Cleaned, Barrier, Troubled, Ended}
+use Rattle.job_reports.specs.declared.report.Did.TheVariants.{Began, Chunk, Placed, Removed, Made, Set, Kept, Skipped, Cleaned, Barrier, Troubled, Ended}
 use Rattle.session_history.specs.Named.{changed_by}
 use Rattle.file_copy.specs.Copied.{copied}
 use Rattle.session_history.specs.declared.history.Event.{Event}
-use Rattle.session_history.specs.declared.history.Event.TheVariants.{Key, Look, Order, Step, Closed}
+use Rattle.session_history.specs.declared.history.Event.TheVariants.{Key, Look, Sought, Order, Step, Closed}
 use Rattle.session_history.specs.declared.history.Event.TheVariants as event
 use Rattle.session_history.specs.declared.history.Entry.{Entry}
 use Rattle.job_reports.specs.Jobs.{Item, Copies, Removes, Makes, new_folder_mode}
@@ -27,12 +27,24 @@ placed_by (Some (Removes file)) path v = v
 placed_by (Some (Makes folder)) path v = v
 placed_by None path v = v
 
+-- a thing with the mode of another, where there is one
+abbrev pub with_mode_of : Option Value → Value → Value
+with_mode_of None x = x
+with_mode_of (Some from) x = record x { mode = from.mode }
+
+-- a folder that was copied is given its source's mode
+abbrev pub set_by : Option Item → Route → View → View
+set_by (Some (Copies source target)) path v = put v path (option_map (with_mode_of (v source).value) (v path).value)
+set_by (Some (Removes file)) path v = v
+set_by (Some (Makes folder)) path v = v
+set_by None path v = v
+
 -- what stands where a folder was made
 abbrev pub new_folder : Value
 new_folder = record { kind = Folder; bytes = []; mode = new_folder_mode; unnamed = 0 }
 
 -- What a step makes of the tree, which has this log then: a removed path has nothing any more, one that was made an empty
--- folder, and a part that an end names is from then on what it then is.
+-- folder, one that was given a mode has that, and a part that an end names is from then on what it then is.
 abbrev pub replayed_step : CallLog → Did → Option Item → View → View
 replayed_step log (Removed path) item v = put v path None
 replayed_step log (Placed path) item v = placed_by item path v
@@ -40,6 +52,7 @@ replayed_step log (Ended ending (Some part)) item v = put v part (value_at (curr
 replayed_step log (Ended ending None) item v = v
 replayed_step log (Began part) item v = v
 replayed_step log (Chunk count) item v = v
+replayed_step log (Set path) item v = set_by item path v
 replayed_step log (Made path) item v = put v path (Some new_folder)
 replayed_step log (Kept kept) item v = v
 replayed_step log (Skipped path cause) item v = v
@@ -51,6 +64,7 @@ abbrev pub replayed_event : CallLog → Event → List LiveJob → View → View
 replayed_event log (Step id did) jobs v = replayed_step log did (live_item id jobs) v
 replayed_event log (Key key now refusals lost) jobs v = v
 replayed_event log (Look refusals) jobs v = v
+replayed_event log Sought jobs v = v
 replayed_event log (event.Began id plan background) jobs v = v
 replayed_event log (Order id order) jobs v = v
 replayed_event log Closed jobs v = v
@@ -68,11 +82,12 @@ abbrev pub earlier_event : Event → View → View → View
 earlier_event (Step id did) v before = keeping (changed_by did) v before
 earlier_event (Key key now refusals lost) v before = before
 earlier_event (Look refusals) v before = before
+earlier_event Sought v before = before
 earlier_event (event.Began id plan background) v before = before
 earlier_event (Order id order) v before = before
 earlier_event Closed v before = before
 
--- what each path showed before it was placed, removed or made last; what none was stays as at the opening
+-- what each path showed before it was placed, removed, made or given a mode last; what none was stays as at the opening
 abbrev pub earlier_tree : CallLog → CallLog → List Entry → View
 earlier_tree opening now [] = visible_tree (current opening)
 earlier_tree opening now (e ∷ older) = earlier_event e.what (replayed_tree opening now older) (earlier_tree opening now older)

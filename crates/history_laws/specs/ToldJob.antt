@@ -2,7 +2,7 @@
 use Rattle.std.specs.Prelude.{List, [], ◌∷◌, Option, None, option_and_then}
 use Rattle.std.specs.Option.{option_map}
 use Rattle.session_history.specs.declared.history.Event.{Event}
-use Rattle.session_history.specs.declared.history.Event.TheVariants.{Key, Look, Order, Step, Closed}
+use Rattle.session_history.specs.declared.history.Event.TheVariants.{Key, Look, Sought, Order, Step, Closed}
 use Rattle.session_history.specs.declared.history.Event.TheVariants as event
 use Rattle.session_history.specs.declared.history.Entry.{Entry}
 use Rattle.session_history.specs.declared.history.JobOrder.TheVariants.{Answered}
@@ -18,6 +18,7 @@ after_event (Step id did) job = option_and_then (after_step did) job
 after_event Closed job = job
 after_event (Key key now refusals lost) job = job
 after_event (Look refusals) job = job
+after_event Sought job = job
 
 -- the live job after these entries
 abbrev pub live_job : List Entry → Option Running

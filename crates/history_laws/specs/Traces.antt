@@ -10,7 +10,7 @@ use Rattle.job_reports.specs.declared.report.Did.{Did}
 use Rattle.job_reports.specs.declared.report.Did.TheVariants.{Ended}
 use Rattle.job_reports.specs.declared.job.Job.{Job}
 use Rattle.session_history.specs.declared.history.Event.{Event}
-use Rattle.session_history.specs.declared.history.Event.TheVariants.{Key, Look, Began, Order, Step, Closed}
+use Rattle.session_history.specs.declared.history.Event.TheVariants.{Key, Look, Sought, Began, Order, Step, Closed}
 use Rattle.session_history.specs.declared.history.JobOrder.{JobOrder}
 use Rattle.session_history.specs.declared.history.JobOrder.TheVariants.{Answered}
 use Rattle.session_history.specs.declared.history.Entry.{Entry}
@@ -113,6 +113,7 @@ EventLeads was (Began id plan background) after log now = JobBegins was id plan 
 EventLeads was (Order id order) after log now = StandsAt (record was { jobs = map (ordered id order) was.jobs }) after log now
 EventLeads was (Key key time refusals lost) after log now = StandsAt was after log now
 EventLeads was (Look refusals) after log now = StandsAt was after log now
+EventLeads was Sought after log now = StandsAt was after log now
 EventLeads was Closed after log now = StandsAt was after log now
 
 -- on a closed session each job that waits for an answer is aborted

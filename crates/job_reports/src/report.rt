@@ -83,6 +83,8 @@ pub enum Did {
     Removed(Path),
     /// A new, empty folder stands at this path.
     Made(Path),
+    /// The thing at this path was given its mode.
+    Set(Path),
     /// The folder at this path stays, since something in it was left.
     Kept(Path),
     /// The source at this path was left as it is.

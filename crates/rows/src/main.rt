@@ -1,4 +1,4 @@
-//! Runs the rows of formats, the tree in memory, plans, copies, resolving, listings and answers.
+//! Runs the rows of formats, the tree in memory, plans, copies, resolving, listings, answers and modes.
 #![tactic(auto)]
 
 use row_page::{Fault, Page};
@@ -17,6 +17,7 @@ impl Sections for Libraries {
             "resolving" => resolving_rows::tell_rows(page, rows),
             "listings" => listing_rows::tell_rows(page, rows),
             "answers" => answer_rows::tell_rows(page, rows),
+            "modes" => setting_rows::tell_rows(page, rows),
             _ => page.fail(),
         }
     }

@@ -1,7 +1,7 @@
 -- What a history tells of its session. Histories stand newest first here.
 use Rattle.std.specs.Prelude.{◌≡◌, ◌⊎◌, ℕ, ◌≤◌, Bool, true, false, ◌||◌, List, [], ◌∷◌}
 use Rattle.session_history.specs.declared.history.Event.{Event}
-use Rattle.session_history.specs.declared.history.Event.TheVariants.{Key, Look, Order, Step, Closed}
+use Rattle.session_history.specs.declared.history.Event.TheVariants.{Key, Look, Sought, Order, Step, Closed}
 use Rattle.session_history.specs.declared.history.Event.TheVariants as event
 use Rattle.session_history.specs.declared.history.Entry.{Entry}
 
@@ -10,6 +10,7 @@ abbrev pub closes : Event → Bool
 closes Closed = true
 closes (Key key now refusals lost) = false
 closes (Look refusals) = false
+closes Sought = false
 closes (event.Began id plan background) = false
 closes (Order id order) = false
 closes (Step id did) = false
@@ -24,6 +25,7 @@ abbrev pub id_after : Event → ℕ → ℕ
 id_after (event.Began id plan background) before = id
 id_after (Key key now refusals lost) before = before
 id_after (Look refusals) before = before
+id_after Sought before = before
 id_after (Order id order) before = before
 id_after (Step id did) before = before
 id_after Closed before = before

@@ -5,9 +5,9 @@ use Rattle.std.specs.Option.{option_map_or}
 use Rattle.mc_text.specs.Routes.{Route}
 use Rattle.tree_trait.specs.CrashImages.{Among}
 use Rattle.job_reports.specs.declared.report.Did.{Did}
-use Rattle.job_reports.specs.declared.report.Did.TheVariants.{Began, Chunk, Placed, Removed, Made, Kept, Skipped, Cleaned, Barrier, Troubled, Ended}
+use Rattle.job_reports.specs.declared.report.Did.TheVariants.{Began, Chunk, Placed, Removed, Made, Set, Kept, Skipped, Cleaned, Barrier, Troubled, Ended}
 use Rattle.session_history.specs.declared.history.Event.{Event}
-use Rattle.session_history.specs.declared.history.Event.TheVariants.{Key, Look, Order, Step, Closed}
+use Rattle.session_history.specs.declared.history.Event.TheVariants.{Key, Look, Sought, Order, Step, Closed}
 use Rattle.session_history.specs.declared.history.Event.TheVariants as event
 use Rattle.session_history.specs.declared.history.Entry.{Entry}
 use Rattle.job_reports.specs.Jobs.{Item, item_of}
@@ -30,6 +30,7 @@ part_after (Began part) before = Some part
 part_after (Placed path) before = None
 part_after (Cleaned part) before = None
 part_after (Chunk count) before = before
+part_after (Set path) before = before
 part_after (Removed path) before = before
 part_after (Made made) before = before
 part_after (Kept kept) before = before
@@ -50,6 +51,7 @@ after_event (event.Began id plan background) jobs = option_map_or (λ item. live
 after_event (Step id did) jobs = after_report id did jobs
 after_event (Key key now refusals lost) jobs = jobs
 after_event (Look refusals) jobs = jobs
+after_event Sought jobs = jobs
 after_event (Order id order) jobs = jobs
 after_event Closed jobs = jobs
 

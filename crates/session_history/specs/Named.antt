@@ -3,14 +3,14 @@ use Rattle.std.specs.Prelude.{◌≡◌, ◌⊎◌, ℕ, ◌==◌, Bool, true, f
 use Rattle.std.specs.Option.{option_map_or}
 use Rattle.mc_text.specs.Routes.{Route, same_path}
 use Rattle.job_reports.specs.declared.report.Did.{Did}
-use Rattle.job_reports.specs.declared.report.Did.TheVariants.{Began, Chunk, Placed, Removed, Made, Kept, Skipped, Cleaned, Barrier, Troubled, Ended}
+use Rattle.job_reports.specs.declared.report.Did.TheVariants.{Began, Chunk, Placed, Removed, Made, Set, Kept, Skipped, Cleaned, Barrier, Troubled, Ended}
 use Rattle.job_reports.specs.Paths.{without}
 use Rattle.session_history.specs.declared.history.Event.{Event}
-use Rattle.session_history.specs.declared.history.Event.TheVariants.{Key, Look, Order, Step, Closed}
+use Rattle.session_history.specs.declared.history.Event.TheVariants.{Key, Look, Sought, Order, Step, Closed}
 use Rattle.session_history.specs.declared.history.Event.TheVariants as event
 use Rattle.session_history.specs.declared.history.Entry.{Entry}
 
--- a report names this path: as a part that was made, is gone, or is left, or as what was placed, removed or made
+-- a report names this path: as a part that was made, is gone, or is left, or as what was placed, removed, made or given a mode
 abbrev pub names : Did → Route → Bool
 names (Began part) path = same_path path part
 names (Placed target) path = same_path path target
@@ -18,6 +18,7 @@ names (Removed file) path = same_path path file
 names (Cleaned part) path = same_path path part
 names (Ended ending part) path = option_map_or (same_path path) part false
 names (Chunk count) path = false
+names (Set changed) path = same_path path changed
 names (Made folder) path = same_path path folder
 names (Kept kept) path = false
 names (Skipped file cause) path = false
@@ -28,6 +29,7 @@ abbrev pub names_path : Event → Route → Bool
 names_path (Step id did) path = names did path
 names_path (Key key now refusals lost) path = false
 names_path (Look refusals) path = false
+names_path Sought path = false
 names_path (event.Began id plan background) path = false
 names_path (Order id order) path = false
 names_path Closed path = false
@@ -37,12 +39,13 @@ abbrev pub IsUnnamedSince : List Entry → Route → List Entry → Type 0
 IsUnnamedSince older path [] = older ≡ []
 IsUnnamedSince older path (e ∷ entries) = (older ≡ e ∷ entries) ⊎ ((names_path e.what path ≡ false) × IsUnnamedSince older path entries)
 
--- the path that a report says was placed, removed or made
+-- the path that a report says was placed, removed, made or given a mode
 abbrev pub changed_by : Did → Option Route
 changed_by (Placed path) = Some path
 changed_by (Removed path) = Some path
 changed_by (Began part) = None
 changed_by (Chunk count) = None
+changed_by (Set path) = Some path
 changed_by (Made path) = Some path
 changed_by (Kept kept) = None
 changed_by (Skipped path cause) = None
@@ -56,6 +59,7 @@ abbrev pub named_by : Did → List Route → List Route
 named_by (Began part) before = part ∷ before
 named_by (Placed path) before = without path before
 named_by (Chunk count) before = before
+named_by (Set path) before = before
 named_by (Removed path) before = before
 named_by (Made path) before = without path before
 named_by (Kept kept) before = before
@@ -69,6 +73,7 @@ abbrev pub named_after : Event → List Route → List Route
 named_after (Step id did) before = named_by did before
 named_after (Key key now refusals lost) before = before
 named_after (Look refusals) before = before
+named_after Sought before = before
 named_after (event.Began id plan background) before = before
 named_after (Order id order) before = before
 named_after Closed before = before
@@ -78,11 +83,12 @@ abbrev pub named_parts : List Entry → List Route
 named_parts [] = []
 named_parts (e ∷ older) = named_after e.what (named_parts older)
 
--- a report of the first change that work makes: a part or a folder is made, or a file is removed
+-- a report of the first change that work makes: a part or a folder is made, a file is removed, or a mode is given
 abbrev pub begins_change : Did → Bool
 begins_change (Began part) = true
 begins_change (Removed path) = true
 begins_change (Chunk count) = false
+begins_change (Set path) = true
 begins_change (Placed path) = false
 begins_change (Made path) = true
 begins_change (Kept kept) = false
@@ -97,6 +103,7 @@ changed_after id (event.Began number plan background) before = if number == id t
 changed_after id (Step number did) before = before || ((number == id) && begins_change did)
 changed_after id (Key key now refusals lost) before = before
 changed_after id (Look refusals) before = before
+changed_after id Sought before = before
 changed_after id (Order number order) before = before
 changed_after id Closed before = before
 

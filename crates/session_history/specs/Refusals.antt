@@ -1,6 +1,6 @@
 -- What refusals tell of the tree: each has its cause there.
-use Rattle.std.specs.Prelude.{◌≡◌, ◌⊎◌, ℕ, ⊤, List, [], ◌∷◌, Some, None, Err}
-use Rattle.mc_text.specs.Routes.{Route}
+use Rattle.std.specs.Prelude.{◌≡◌, ◌⊎◌, ℕ, ⊤, true, ◌||◌, List, [], ◌∷◌, Some, None, Err}
+use Rattle.mc_text.specs.Routes.{Route, is_prefix}
 use Rattle.tree_trait.specs.declared.calls.TreeError.{TreeError}
 use Rattle.tree_trait.specs.declared.calls.TreeError.TheVariants as tree
 use Rattle.tree_trait.specs.Calls.{ListFolder, ReadAt, Stat}
@@ -13,7 +13,7 @@ use Rattle.resolving.specs.Errors.{Answers}
 use Rattle.resolving.specs.Resolution.{resolved}
 use Rattle.job_reports.specs.Reading.{IsRefusedWith}
 use Rattle.session_history.specs.declared.refusal.PlanError.{PlanError}
-use Rattle.session_history.specs.declared.refusal.PlanError.TheVariants.{NoSelection, TargetThere, TargetTooLong, BadMask, Target}
+use Rattle.session_history.specs.declared.refusal.PlanError.TheVariants.{NoSelection, Source, BadMask, Target, TargetThere, SameFile, IntoItself}
 use Rattle.session_history.specs.declared.refusal.Refusal.{Refusal}
 use Rattle.session_history.specs.declared.refusal.Refusal.TheVariants as refusal
 
@@ -29,14 +29,23 @@ IsUnseen log e = (path : Route) × ((cause : TreeError) × (e ≡ resolve.Tree p
 abbrev pub IsTargetRefused : CallLog → ResolveError → Type 0
 IsTargetRefused log e = LeadsNowhere log e ⊎ (IsUnseen log e ⊎ (e ≡ resolve.TooLong))
 
--- A plan is refused: nothing is selected, something stands at its target, the target's path is too long, its mask isn't read yet or what
--- was typed ends in no name, or no way leads to the target.
+-- a source that was looked at is refused as the look at it is; a device may fail
+abbrev pub IsSourceRefused : CallLog → Route → TreeError → Type 0
+IsSourceRefused log path tree.Fault = ⊤
+IsSourceRefused log path tree.Memory = ⊥
+IsSourceRefused log path e = refusal_of (current log) (Stat path) ≡ Some e
+
+-- A plan is refused: nothing is selected, or the mask leaves it out; the source isn't there; a mask can't be read or makes no name; no way
+-- leads to the target; something stands there; or it is a source that is there, lies in it or holds it.
 abbrev pub IsPlanRefused : CallLog → PlanError → Type 0
 IsPlanRefused log NoSelection = ⊤
-IsPlanRefused log (TargetThere path) = refusal_of (current log) (Stat path) ≡ None
-IsPlanRefused log TargetTooLong = ⊤
+IsPlanRefused log (Source path e) = IsSourceRefused log path e
 IsPlanRefused log BadMask = ⊤
 IsPlanRefused log (Target e) = IsTargetRefused log e
+IsPlanRefused log (TargetThere path) = refusal_of (current log) (Stat path) ≡ None
+IsPlanRefused log (SameFile path) = refusal_of (current log) (Stat path) ≡ None
+IsPlanRefused log (IntoItself source target) =
+    (refusal_of (current log) (Stat source) ≡ None) × ((is_prefix source target || is_prefix target source) ≡ true)
 
 -- reading a folder is refused as `list` of it is, with its path; a device may fail, and memory run out
 abbrev pub IsListRefused : CallLog → Route → ResolveError → Type 0

@@ -1,5 +1,5 @@
-//! What a session writes down of itself: an entry for each key, each look, each job begun, each order to one and each step
-//! of one.
+//! What a session writes down of itself: an entry for each key, each look, the steps of a search up to a draw, each job begun, each
+//! order to one and each step of one.
 use crate::refusal::Refusals;
 use job_reports::{Answer, Did, Job};
 use key_screen::Key;
@@ -25,6 +25,8 @@ pub enum Event {
     Look {
         refusals: Refusals,
     },
+    /// Steps of a search were made, and the screen was drawn.
+    Sought,
     Began {
         job: u32,
         plan: Job,

@@ -10,16 +10,20 @@ use tree_trait::TreeError;
 /// Why a plan could not be made.
 #[derive(Debug, Drop)]
 pub enum PlanError {
-    /// Nothing is selected: the cursor stands on `..`, or on no row.
+    /// Nothing is selected: the cursor stands on `..`, or on no row; or the source mask leaves out what is.
     NoSelection,
+    /// The look at this source is refused.
+    Source(Path, TreeError),
+    /// The source mask is no pattern, the destination asks for what it doesn't take, or what was typed makes no name.
+    BadMask,
+    /// No way leads to the target's folder, nothing can be seen of the target, or its path would have more than 4,096 bytes.
+    Target(ResolveError),
     /// Something stands at the target.
     TargetThere(Path),
-    /// The target's path would have more than 4,096 bytes.
-    TargetTooLong,
-    /// The source mask or the destination is one that is not read yet, or what was typed ends in no name.
-    BadMask,
-    /// No way leads to the target's folder, or nothing can be seen of the target.
-    Target(ResolveError),
+    /// This source is its own target.
+    SameFile(Path),
+    /// The source lies in its target, or the target in it.
+    IntoItself(Path, Path),
 }
 
 impl PlanError {
@@ -29,10 +33,14 @@ impl PlanError {
     {
         match self {
             PlanError::NoSelection => Ok(PlanError::NoSelection),
-            PlanError::TargetThere(path) => Ok(PlanError::TargetThere(path.copy(alloc)?)),
-            PlanError::TargetTooLong => Ok(PlanError::TargetTooLong),
+            PlanError::Source(path, error) => Ok(PlanError::Source(path.copy(alloc)?, *error)),
             PlanError::BadMask => Ok(PlanError::BadMask),
             PlanError::Target(error) => Ok(PlanError::Target(copy_of(alloc, error)?)),
+            PlanError::TargetThere(path) => Ok(PlanError::TargetThere(path.copy(alloc)?)),
+            PlanError::SameFile(path) => Ok(PlanError::SameFile(path.copy(alloc)?)),
+            PlanError::IntoItself(source, target) => {
+                Ok(PlanError::IntoItself(source.copy(alloc)?, target.copy(alloc)?))
+            }
         }
     }
 }

@@ -11,7 +11,7 @@ use Rattle.tree_trait.specs.Answers.{IfKnown, Performs}
 use Rattle.job_reports.specs.declared.job.Pair.{Pair}
 use Rattle.job_reports.specs.declared.report.Cause.{Cause}
 use Rattle.job_reports.specs.declared.report.Did.{Did}
-use Rattle.job_reports.specs.declared.report.Did.TheVariants.{Began, Chunk, Placed, Removed, Made, Kept, Skipped, Cleaned, Barrier, Troubled, Ended}
+use Rattle.job_reports.specs.declared.report.Did.TheVariants.{Began, Chunk, Placed, Removed, Made, Set, Kept, Skipped, Cleaned, Barrier, Troubled, Ended}
 use Rattle.job_reports.specs.declared.report.Ending.{Ending}
 use Rattle.job_reports.specs.declared.report.Ending.TheVariants.{Finished, Aborted, Killed, NoMemory}
 use Rattle.job_reports.specs.declared.report.LastStepResult.{LastStepResult}
@@ -116,6 +116,7 @@ module _ (top : Pair) (job : ℕ) where
       )
   file_makes unclaimed f new (Chunk count) log after by is beside t c =
       (keeps_file f _ new t.7 refl refl (beside_at f.target f.stage (file_stage.Fill t.0 t.1 t.2) t.3 beside), all_done May (writing (current log) (places_of f) c.0 c.1 c.2 ∷ []) log after (part_of f.target c.0 is (beside_at f.target f.stage (file_stage.Fill c.0 c.1 c.2) c.3 beside), tt) c.5)
+  file_makes unclaimed f new (Set path) log after by is beside t c = absurd t
   file_makes unclaimed f new (Placed path) log after by is beside t c =
       (keeps_file f _ new t.4 refl refl tt, all_done May (placing c.1.mode c.0 f.target) log after (may_place (part_mode c.1.mode == c.1.mode) c.0 f.target c.1.mode is (beside_at f.target f.stage (file_stage.Fill c.0 c.1 c.1.size) c.2 beside)) c.3)
   file_makes unclaimed f new (Cleaned part) log after by is beside t c =
@@ -164,6 +165,7 @@ module _ (top : Pair) (job : ℕ) where
   link_makes l new Barrier log after is beside t c = (keeps_link l _ new t.2 beside, all_done May (link_call (current log) l l.stage) log after (link_may (current log) l l.stage is beside) c.1)
   link_makes l new (Troubled trouble) log after is beside t c = (keeps_link l l new t.1 beside, link_stops l l.stage trouble.cause trouble.path log after is beside c)
   link_makes l new (Chunk count) log after is beside t c = absurd t
+  link_makes l new (Set path) log after is beside t c = absurd t
   link_makes l new (Removed path) log after is beside t c = absurd t
   link_makes l new (Made made) log after is beside t c = absurd t
   link_makes l new (Kept path) log after is beside t c = absurd t
@@ -227,6 +229,7 @@ module _ (top : Pair) (job : ℕ) where
   file_winds ending f new (Ended how part) log after is beside t c = none May log after c
   file_winds ending f new (Began part) log after is beside t c = absurd t
   file_winds ending f new (Chunk count) log after is beside t c = absurd t
+  file_winds ending f new (Set path) log after is beside t c = absurd t
   file_winds ending f new (Placed path) log after is beside t c = absurd t
   file_winds ending f new (Removed path) log after is beside t c = absurd t
   file_winds ending f new (Made made) log after is beside t c = absurd t

@@ -6,7 +6,7 @@ use Rattle.tree_trait.specs.Change.{CallLog}
 use Rattle.tree_trait.specs.CrashImages.{Among}
 use Rattle.job_reports.specs.declared.job.Pair.{Pair}
 use Rattle.job_reports.specs.declared.report.Did.{Did}
-use Rattle.job_reports.specs.declared.report.Did.TheVariants.{Began, Chunk, Placed, Removed, Made, Kept, Skipped, Cleaned, Barrier, Troubled, Ended}
+use Rattle.job_reports.specs.declared.report.Did.TheVariants.{Began, Chunk, Placed, Removed, Made, Set, Kept, Skipped, Cleaned, Barrier, Troubled, Ended}
 use Rattle.job_reports.specs.declared.report.Ending.TheVariants.{Finished, Aborted, Killed, NoMemory}
 use Rattle.file_copy.specs.Copying as file
 use Rattle.file_copy.specs.Copying.{Copying}
@@ -41,6 +41,7 @@ use Rattle.tree_copy.specs.Steps.{FileWorks, FolderEnds, FolderMakes, GoesOn, Le
 pub file_paths : (f new : Copying) (did : Did) → file.Tells f did new → (new.source ≡ f.source) × (new.target ≡ f.target)
 file_paths f new (Began part) t = (ap (λ (x : Copying). x.source) t.1.1, ap (λ (x : Copying). x.target) t.1.1)
 file_paths f new (Chunk count) t = (ap (λ (x : Copying). x.source) t.7, ap (λ (x : Copying). x.target) t.7)
+file_paths f new (Set path) t = absurd t
 file_paths f new (Placed path) t = (ap (λ (x : Copying). x.source) t.4, ap (λ (x : Copying). x.target) t.4)
 file_paths f new (Cleaned part) t = (ap (λ (x : Copying). x.source) t.2, ap (λ (x : Copying). x.target) t.2)
 file_paths f new Barrier t = (ap (λ (x : Copying). x.source) t.2, ap (λ (x : Copying). x.target) t.2)
@@ -61,6 +62,7 @@ link_paths l new (Cleaned part) t = (ap (λ (x : LinkCopying). x.source) t.3, ap
 link_paths l new Barrier t = (ap (λ (x : LinkCopying). x.source) t.2, ap (λ (x : LinkCopying). x.target) t.2)
 link_paths l new (Troubled trouble) t = (ap (λ (x : LinkCopying). x.source) t.1, ap (λ (x : LinkCopying). x.target) t.1)
 link_paths l new (Chunk count) t = absurd t
+link_paths l new (Set path) t = absurd t
 link_paths l new (Removed path) t = absurd t
 link_paths l new (Made made) t = absurd t
 link_paths l new (Kept path) t = absurd t
@@ -128,6 +130,7 @@ module _ (top : Pair) where
   names_file f new (Made made) t m = absurd t
   names_file f new (Began part) t m = tt
   names_file f new (Chunk count) t m = tt
+  names_file f new (Set path) t m = tt
   names_file f new (Removed path) t m = tt
   names_file f new (Kept path) t m = tt
   names_file f new (Skipped path cause) t m = tt
@@ -141,6 +144,7 @@ module _ (top : Pair) where
   names_link l new (Made made) t m = absurd t
   names_link l new (Began part) t m = tt
   names_link l new (Chunk count) t m = tt
+  names_link l new (Set path) t m = tt
   names_link l new (Removed path) t m = tt
   names_link l new (Kept path) t m = tt
   names_link l new (Skipped path cause) t m = tt

@@ -10,7 +10,7 @@ use Rattle.link_copy.specs.declared.stage.Next.{Next as Follows}
 use Rattle.link_copy.specs.declared.stage.Next.TheVariants as follows
 use Rattle.file_copy.specs.declared.stage.FolderState.{FolderState}
 use Rattle.job_reports.specs.declared.report.Did.{Did}
-use Rattle.job_reports.specs.declared.report.Did.TheVariants.{Began, Chunk, Placed, Removed, Made, Kept, Skipped, Cleaned, Barrier, Troubled, Ended}
+use Rattle.job_reports.specs.declared.report.Did.TheVariants.{Began, Chunk, Placed, Removed, Made, Set, Kept, Skipped, Cleaned, Barrier, Troubled, Ended}
 use Rattle.tree_copy.specs.declared.item.Item.{Item}
 use Rattle.tree_copy.specs.declared.item.Item.TheVariants.{Next, File, Link}
 use Rattle.tree_copy.specs.declared.progress.Progress.TheVariants.{UnderWay}
@@ -53,6 +53,7 @@ link_stays l new (Cleaned part) ready t = ap (λ (x : LinkCopying). stays_ready 
 link_stays l new Barrier ready t = ap (λ (x : LinkCopying). stays_ready x.stage) t.2 ∙ ready_stays l.stage l.folder ready
 link_stays l new (Troubled trouble) ready t = ap (λ (x : LinkCopying). stays_ready x.stage) t.1 ∙ ready_stays l.stage l.folder ready
 link_stays l new (Chunk count) ready t = absurd t
+link_stays l new (Set path) ready t = absurd t
 link_stays l new (Removed path) ready t = absurd t
 link_stays l new (Made made) ready t = absurd t
 link_stays l new (Kept path) ready t = absurd t

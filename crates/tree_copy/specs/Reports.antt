@@ -46,5 +46,6 @@ changes (Common (common.Chunk count)) = true
 changes (Common (common.Placed path)) = true
 changes (Common (common.Removed path)) = true
 changes (Common (common.Made path)) = true
+changes (Common (common.Set path)) = true
 changes (Common (common.Cleaned part)) = true
 changes (Common common.Barrier) = true

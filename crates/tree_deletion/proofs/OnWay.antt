@@ -4,7 +4,7 @@ use Rattle.std.proofs.lemmas.Bool.{true≢false, false≢true}
 use Rattle.mc_text.specs.Routes.{Route}
 use Rattle.tree_trait.specs.Change.{CallLog}
 use Rattle.job_reports.specs.declared.report.Did.{Did}
-use Rattle.job_reports.specs.declared.report.Did.TheVariants.{Began, Chunk, Placed, Removed, Made, Kept, Skipped, Cleaned, Barrier, Troubled, Ended}
+use Rattle.job_reports.specs.declared.report.Did.TheVariants.{Began, Chunk, Placed, Removed, Made, Set, Kept, Skipped, Cleaned, Barrier, Troubled, Ended}
 use Rattle.job_reports.proofs.Runs.{risen_before}
 use Rattle.subtree_walk.specs.Places.{Place}
 use Rattle.tree_deletion.specs.declared.deletion.Depth.{Depth}
@@ -71,6 +71,7 @@ progress_falls old new (Made made) going w h = absurd (false≢true h)
 progress_falls old new (Kept path) going w h = decided_falls old new true path old.stage going going w.0 w.2
 progress_falls old new (Began part) going w h = absurd (false≢true h)
 progress_falls old new (Chunk count) going w h = absurd (false≢true h)
+progress_falls old new (Set path) going w h = absurd (false≢true h)
 progress_falls old new (Placed path) going w h = absurd (false≢true h)
 progress_falls old new (Skipped path cause) going w h = absurd (false≢true h)
 progress_falls old new (Cleaned part) going w h = absurd (false≢true h)
@@ -100,6 +101,7 @@ works_no_more old new (Troubled trouble) going (barrier, a) = at_most old old ne
 works_no_more old new (Made made) going w = absurd w
 works_no_more old new (Began part) going w = absurd w
 works_no_more old new (Chunk count) going w = absurd w
+works_no_more old new (Set path) going w = absurd w
 works_no_more old new (Placed path) going w = absurd w
 works_no_more old new (Skipped path cause) going w = absurd w
 works_no_more old new (Cleaned part) going w = absurd w

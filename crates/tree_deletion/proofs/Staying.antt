@@ -7,7 +7,7 @@ use Rattle.tree_trait.specs.Change.{CallLog}
 use Rattle.tree_trait.proofs.Visible.{same_path-self}
 use Rattle.job_reports.specs.declared.report.Cause.{Cause}
 use Rattle.job_reports.specs.declared.report.Did.{Did}
-use Rattle.job_reports.specs.declared.report.Did.TheVariants.{Began, Chunk, Placed, Removed, Made, Kept, Skipped, Cleaned, Barrier, Troubled, Ended}
+use Rattle.job_reports.specs.declared.report.Did.TheVariants.{Began, Chunk, Placed, Removed, Made, Set, Kept, Skipped, Cleaned, Barrier, Troubled, Ended}
 use Rattle.subtree_walk.proofs.Falling.{leave_falls}
 use Rattle.subtree_walk.specs.Places.{IsLeft, OpenFolder, Place, is_empty, is_outermost, noted, opened, passed, without_next}
 use Rattle.tree_deletion.specs.declared.deletion.Depth.{Depth}
@@ -88,6 +88,7 @@ works_inside old new (Kept path) w h = decides_inside old new true path old.stag
 works_inside old new (Troubled trouble) w h = inside_at old new w.1 h
 works_inside old new (Began part) w h = absurd w
 works_inside old new (Chunk count) w h = absurd w
+works_inside old new (Set path) w h = absurd w
 works_inside old new (Placed path) w h = absurd w
 works_inside old new (Made path) w h = absurd w
 works_inside old new (Skipped path cause) w h = absurd w

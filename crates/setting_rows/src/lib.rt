@@ -1,0 +1,18 @@
+//! Settings of modes over the tree in memory: what each step reports, and which modes a crash leaves.
+#![tactic(auto)]
+
+mod images;
+mod scene;
+mod telling;
+
+use row_page::Page;
+
+/// Each row with what comes of it: what stands at `/a/x` (`file`, `folder`, `link` or `none`), its mode, the mode that it is given, the numbers of
+/// the tree's calls that fault, and what is answered to a trouble (`retry`, `skip` or `abort`).
+pub fn tell_rows(page: &mut Page, rows: &str) {
+    for row in rows.lines() {
+        page.put(row);
+        page.put("\n");
+        scene::tell_row(page, row);
+    }
+}
