@@ -29,7 +29,7 @@ use Rattle.find_file.specs.Walks.{of_child, of_children, of_folder, of_folders, 
 use Rattle.find_file.specs.Telling.{place_of, call_of, Leads, Leaves, Advances, Steps, StandsAt, Works, with_task}
 use Rattle.find_file.proofs.InOrder.{listed_names}
 use Rattle.find_file.proofs.Levels.{turns_below_is}
-use Rattle.find_file.proofs.Ranking.{rank-in}
+use Rattle.find_file.proofs.Ranking.{rank-done, rank-in}
 use Rattle.find_file.proofs.Standing.{left-at, rank-at, leads-now}
 
 -- what a look at a thing brings, by its kind
@@ -168,10 +168,13 @@ waits-at old new task same = record {
   around_is = ap (λ (w : Walk). w.around.nearest) same;
 }
 
+few_more : (a b c : ℕ) → a ≡ b → b < c → a < c
+few_more a b c same less = omega (arith, same, less)
+
 module _ (task : Task) (old new : Walk) (before after : ℕ) where
   pub works-silent : before ≤ after → rank new < rank (with_task old task) → Leaves old task (Ok None) new → Works task old new before after (Ok None)
   works-silent later fewer leaves = record {
-    falls = λ h. fewer;
+    falls = λ _. fewer;
     reason = record { later = later; risen = λ h. absurd (cc); no_want = λ h. absurd (cc) };
     not_end = λ h. absurd (cc);
     leaves = leaves;
@@ -179,30 +182,34 @@ module _ (task : Task) (old new : Walk) (before after : ℕ) where
 
   pub works-waits : (e : NoMemory) → before ≤ after → StandsAt new (Some task) old.inner old.around.nearest → Works task old new before after (Err e)
   works-waits e later waits = record {
-    falls = λ h. absurd (cc);
+    falls = λ none. absurd (cc);
     reason = record { later = later; risen = λ h. absurd (cc); no_want = λ h. absurd (cc) };
     not_end = λ h. absurd (cc);
     leaves = waits;
   }
 
+  -- a task that is done
+  done : StandsAt new None old.inner old.around.nearest → rank new < rank (with_task old task)
+  done stands =
+      few_more (rank new) (rank_of None old.inner old.around.nearest) (rank (with_task old task))
+      (rank-at new None old.inner old.around.nearest stands) (rank-done task old.inner old.around.nearest)
+
   pub works-refused : (A : Type 0) (e : TreeError) (r : Result (Option Found) NoMemory) → HasCause {T = A} Fault before after (Err e)
       → IfOk r (λ told. (told ≡ Some (Skipped (place_of task) e)) × (e ≢ Memory) × (new ≡ old)) → IfErr r (λ _. (e ≡ Memory) × (new ≡ with_task old task))
       → old.task ≡ None → Works task old new before after r
   works-refused A e (Ok told) cause ok err none =
+      let stands : StandsAt new None old.inner old.around.nearest = stays-at old new none ok.2 in
       subst (λ t. Works task old new before after (Ok t)) (sym ok.0) (record {
-        falls = λ h. absurd (cc);
+        falls = λ _. done stands;
         reason = record {
           later = cause.later;
           risen = λ h. cause.risen (let is : e ≡ Fault = cc in ap (λ x. let r : Result A TreeError = Err x in r) is);
           no_want = λ h. ok.1 (let is : e ≡ Memory = cc in is);
         };
         not_end = λ h. absurd (cc);
-        leaves = (refl, stays-at old new none ok.2);
+        leaves = (refl, stands);
       })
   works-refused A e (Err x) cause ok err none = works-waits x cause.later (waits-at old new task err.1)
-
-few_more : (a b c : ℕ) → a ≡ b → b < c → a < c
-few_more a b c same less = omega (arith, same, less)
 
 -- ---- a folder that was listed
 

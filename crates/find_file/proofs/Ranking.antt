@@ -1,10 +1,13 @@
--- Fewer steps are left after each that tells nothing.
+-- Fewer steps are left after each, but for those that tell the end.
 use Rattle.std.proofs.Common.{◌≡◌, ℕ, zero, suc, ◌+◌, ◌*◌, ◌^◌, ◌<◌, ◌≤◌, Bool, true, false, List, ◌∷◌, length, refl, subst, sym, arith}
-use Rattle.std.specs.Prelude.{nat_lt}
+use Rattle.std.specs.Prelude.{nat_lt, Some, None}
 use Rattle.std.proofs.Math.Nat.{mul-le-mul_right, suc-mul}
 use Rattle.std.proofs.lemmas.Bool.{ltb-true, ltb-false}
 use Rattle.mc_text.specs.Routes.{Route, spelled}
-use Rattle.find_file.specs.Walks.{bytes_left, weight}
+use Rattle.find_file.specs.declared.walk.Task.{Task}
+use Rattle.find_file.specs.declared.walk.Task.TheVariants.{Look, List as ListTask}
+use Rattle.find_file.specs.Folders.{OpenFolder}
+use Rattle.find_file.specs.Walks.{bytes_left, weight, rank_of, rank_of_folder, rank_of_folders}
 use Rattle.find_file.proofs.Levels.{longer}
 
 pub weight-some : (left : ℕ) → 1 ≤ weight left
@@ -45,6 +48,16 @@ pub rank-past : (folder : Route) (n rest : ℕ) → 0 + ((1 + n * weight (bytes_
 rank-past folder n rest =
     subst (λ all. 0 + ((1 + n * weight (bytes_left folder)) + rest) < 0 + ((1 + all) + rest)) (sym (suc-mul n (weight (bytes_left folder))))
     (sums_past (weight (bytes_left folder)) (n * weight (bytes_left folder)) rest (weight-some (bytes_left folder)))
+
+-- a task that is done
+sums_done : (some many rest : ℕ) → 0 < some → 0 + rest < (some + many) + rest
+sums_done some many rest h = omega (arith, h)
+
+pub rank-done : (task : Task) (inner : OpenFolder) (around : List OpenFolder) → rank_of None inner around < rank_of (Some task) inner around
+rank-done (Look path is_named) inner around =
+    sums_done 3 (2 ^ 64 * weight (bytes_left path)) (rank_of_folder inner + rank_of_folders around) (omega arith)
+rank-done (ListTask folder) inner around =
+    sums_done 2 (2 ^ 64 * weight (bytes_left folder)) (rank_of_folder inner + rank_of_folders around) (omega arith)
 
 -- a folder that is gone into
 sums_in : (few many rest : ℕ) → few ≤ many → 0 + ((1 + few) + rest) < (2 + many) + rest

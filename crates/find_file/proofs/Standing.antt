@@ -36,13 +36,18 @@ pub leads-now : (before after : List Turn) → before ≡ after → Leads before
 leads-now before after is = record { past = []; is = is }
 
 module _ (search : Search) (old new : Walk) where
+  falls-at : (t t' : Option Task) (i i' : OpenFolder) (a a' : List OpenFolder) → StandsAt old t i a → StandsAt new t' i' a'
+      → rank_of t' i' a' < rank_of t i a → rank new < rank old
+  falls-at t t' i i' a a' was is fewer =
+      subst (λ n. rank new < n) (sym (rank-at old t i a was)) (subst (λ n. n < rank_of t i a) (sym (rank-at new t' i' a' is)) fewer)
+
   -- a step that tells nothing
   silent : (t t' : Option Task) (i i' : OpenFolder) (a a' : List OpenFolder) → StandsAt old t i a → StandsAt new t' i' a'
       → ((s : FileSystem) → left_of s search t' i' a' ≡ left_of s search t i a) → rank_of t' i' a' < rank_of t i a
       → (IsOver old → ⊥) → Goes search old new (Ok None)
   silent t t' i i' a a' was is left fewer more = record {
     steps = λ s. leads-now (left_in s search old) (left_in s search new) (left-at old t i a s search was ∙ (sym (left s) ∙ sym (left-at new t' i' a' s search is)));
-    falls = λ _. subst (λ n. rank new < n) (sym (rank-at old t i a was)) (subst (λ n. n < rank_of t i a) (sym (rank-at new t' i' a' is)) fewer);
+    falls = λ _ _. falls-at t t' i i' a a' was is fewer;
     cause = refl;
     ended = λ h. absurd (cc);
     over = λ is_over. absurd (more is_over);
@@ -66,7 +71,7 @@ module _ (search : Search) (old new : Walk) where
       leads-now (left_in s search old) [] (left-at old None (record { path = path; children = [] }) [] s search (record { task_is = none; inner_is = empty; around_is = around })),
       left-at new None (record { path = path; children = [] }) [] s search (record { task_is = same ∙ none; inner_is = same_inner ∙ empty; around_is = nothing }),
     );
-    falls = λ h. absurd (cc);
+    falls = λ _ some. absurd (some refl);
     cause = refl;
     ended = λ h. record { no_task = same ∙ none; no_child = ap (λ (f : OpenFolder). f.children) (same_inner ∙ empty); no_folder = nothing };
     over = λ is_over. refl;
@@ -118,7 +123,8 @@ module _ (search : Search) (old new : Walk) where
           ∙ ap (λ b. path_if b (c.name ∷ path) ++ look) named)
           ∙ (ap (λ l. Tells (Path (c.name ∷ path)) ∷ l) (append_assoc look (of_children s search path cs) (of_folders s search fs))
           ∙ ap (λ l. Tells (Path (c.name ∷ path)) ∷ l) (sym (left-at new (Some (Look (c.name ∷ path) c.is_named)) (record { path = path; children = cs }) fs s search is)))));
-      falls = λ h. absurd (cc);
+      falls = λ _ _. falls-at None (Some (Look (c.name ∷ path) c.is_named)) (record { path = path; children = c ∷ cs }) (record { path = path; children = cs }) fs fs was is
+          (rank-taken c.name path (length cs) (rank_of_folders fs) (is_short search c.name path over));
       cause = refl;
       ended = λ h. absurd (cc);
       over = λ is_over. absurd (not_over is_over);
@@ -128,7 +134,7 @@ module _ (search : Search) (old new : Walk) where
     pub goes-nothing : (e : NoMemory) → new ≡ old → Goes search old new (Err e)
     goes-nothing e same = record {
       steps = λ s. leads-now (left_in s search old) (left_in s search new) (ap (λ w. left_in s search w) (sym same));
-      falls = λ h. absurd (cc);
+      falls = λ none. absurd (cc);
       cause = refl;
       ended = λ h. absurd (cc);
       over = λ is_over. absurd (not_over is_over);

@@ -1,5 +1,5 @@
 -- What an answer says of what is yet to come.
-use Rattle.std.specs.Prelude.{⊤, ◌≡◌, ◌≢◌, ◌≤◌, ◌<◌, ℕ, List, [], ◌∷◌, ◌++◌, map, Option, Some, None, Result, Ok, Err}
+use Rattle.std.specs.Prelude.{⊤, ◌≡◌, ◌≢◌, ◌≤◌, ◌<◌, ℕ, List, [], ◌∷◌, ◌++◌, map, Option, Some, None, Result, Ok, Err, IsOk}
 use Rattle.mc_text.specs.declared.error.NoMemory.{NoMemory}
 use Rattle.mc_text.specs.Routes.{Route}
 use Rattle.tree_trait.specs.declared.file_system.FileSystem.{FileSystem}
@@ -19,7 +19,7 @@ use Rattle.find_file.specs.declared.walk.Walk.{Walk}
 use Rattle.find_file.specs.FoundList.{Turn}
 use Rattle.find_file.specs.FoundList.Turn.{At, Tells}
 use Rattle.find_file.specs.Folders.{OpenFolder}
-use Rattle.find_file.specs.Walks.{of_task, left_in, rank, yet_to_come, yet_to_find}
+use Rattle.find_file.specs.Walks.{of_task, left_in, rank, steps_left, yet_to_come, yet_to_find}
 
 -- the path that a task is about, and the first call that it makes there
 abbrev pub place_of : Task → Route
@@ -131,31 +131,31 @@ pub record IsOver (w : Walk) : Type 0 where
   pub no_child : w.inner.children ≡ []
   pub no_folder : w.around.nearest ≡ []
 
--- A step of a search that tells this: it is the first of what is yet to be found, and where it is nothing, fewer steps are left. It works
+-- A step of a search that tells this: it is the first of what is yet to be found, or nothing. But for the end, fewer steps are left. It works
 -- the walk's task and no other, and without one makes no call that could fail. Behind the end nothing is left. A path is skipped for a
 -- fault only where the count of faults has risen.
 pub record IsStep (contents : Option CallLog) (faults faults_after : ℕ) (finder : Finder) (told : Option Found) (left : Finder) : Type 0 where
   pub next : IfKnown contents (λ log. IsNext (yet_to_find (current log) finder) told (yet_to_find (current log) left))
   pub answer : IfKnown contents (λ log.
       Advances (current log) finder.search (yet_to_come (current log) finder) (Ok told) (yet_to_come (current log) left))
-  pub falls : told ≡ None → rank left.walk < rank finder.walk
+  pub falls : told ≢ Some End → steps_left left < steps_left finder
   pub leaves : (task : Task) → finder.walk.task ≡ Some task → Leaves finder.walk task (Ok told) left.walk
   pub apart : finder.walk.task ≡ None → faults_after ≡ faults
   pub ended : told ≡ Some End → IsOver left.walk
   pub reason : HasReason faults faults_after (cause_at (Ok told))
 
--- a step without a call of the tree: what it tells, that fewer steps are left where it tells nothing, that no path is skipped,
+-- a step without a call of the tree: what it tells, that fewer steps are left unless it tells the end, that no path is skipped,
 -- and that it tells the end exactly where nothing is left
 pub record Goes (search : Search) (old new : Walk) (result : Result (Option Found) NoMemory) : Type 0 where
   pub steps : (s : FileSystem) → Steps s search old result new
-  pub falls : result ≡ Ok None → rank new < rank old
+  pub falls : IsOk result → result ≢ Ok (Some End) → rank new < rank old
   pub cause : cause_at result ≡ None
   pub ended : result ≡ Ok (Some End) → IsOver new
   pub over : IsOver old → result ≡ Ok (Some End)
 
 -- a step at a task of a walk, with a call of the tree: the same, but it never tells the end
 pub record Works (task : Task) (old new : Walk) (before after : ℕ) (result : Result (Option Found) NoMemory) : Type 0 where
-  pub falls : result ≡ Ok None → rank new < rank (with_task old task)
+  pub falls : IsOk result → rank new < rank (with_task old task)
   pub reason : HasReason before after (cause_at result)
   pub not_end : result ≢ Ok (Some End)
   pub leaves : Leaves old task result new

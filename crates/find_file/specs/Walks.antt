@@ -73,3 +73,7 @@ rank_of task inner around = rank_of_task task + (rank_of_folder inner + rank_of_
 
 abbrev pub rank : Walk → ℕ
 rank w = rank_of w.task w.inner w.around.nearest
+
+-- How many steps a search has left at most: each leaves fewer, but for those that tell the end (`IsStep`: `falls`).
+abbrev pub steps_left : Finder → ℕ
+steps_left finder = rank finder.walk

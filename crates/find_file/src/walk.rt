@@ -1,5 +1,5 @@
 //! The walk of a search: what is to be done next, the folder that is worked, and the open folders around it.
-ghost use Rattle.std.specs.Prelude.{◌≡◌, ◌≢◌, ◌<◌, ◌≤◌, ◌^◌, ◌∷◌, ◌&&◌, not, false, [], drop, length, map, None, Some, Ok, IfOk, IfErr, IfNone, IfSome, OnOk, if◌then◌else◌};
+ghost use Rattle.std.specs.Prelude.{◌≡◌, ◌≢◌, ◌<◌, ◌≤◌, ◌^◌, ◌∷◌, ◌&&◌, not, false, [], drop, length, map, None, Some, Ok, IfOk, IfErr, IfNone, IfSome, IsOk, OnOk, if◌then◌else◌};
 ghost use Rattle.mc_text.specs.declared.kind.Kind.TheVariants.{File};
 ghost use Rattle.tree_trait.specs.declared.file_system.FileSystem.{FileSystem};
 ghost use Rattle.tree_trait.specs.Calls.{Stat};
@@ -61,7 +61,7 @@ impl Walk {
         search: &Search,
     ) -> Result<Option<Found>, NoMemory>
         ensures answer { IfKnown (T.contents tree.old) (λ log. Steps (current log) search.now self.old result self.new) }
-        ensures falls { result ≡ Ok None → rank self.new < rank self.old }
+        ensures falls { IsOk result → result ≢ Ok (Some Found.End) → rank self.new < rank self.old }
         ensures reason { HasReason (T.fault_count tree.old) (T.fault_count tree.new) (cause_at result) }
         ensures same { T.contents tree.new ≡ T.contents tree.old }
         ensures ended { result ≡ Ok (Some Found.End) → IsOver self.new }

@@ -1,5 +1,5 @@
--- A step of a search leaves what the list comes to.
-use Rattle.std.proofs.Common.{◌≡◌, Bool, true, false, if◌then◌else◌, List, ◌∷◌, refl, sym, ap, ◌∙◌, subst}
+-- A step of a search leaves what the list comes to, and fewer steps.
+use Rattle.std.proofs.Common.{◌≡◌, Bool, true, false, if◌then◌else◌, List, ◌∷◌, refl, sym, ap, ◌∙◌, ◌<◌, arith, subst}
 use Rattle.std.specs.Prelude.{ℕ, Option, Some, None, Result, Ok, IfOk}
 use Rattle.mc_text.specs.declared.error.NoMemory.{NoMemory}
 use Rattle.tree_trait.specs.declared.file_system.FileSystem.{FileSystem}
@@ -9,12 +9,12 @@ use Rattle.tree_trait.specs.Answers.{HasRisen, IfKnown}
 use Rattle.find_file.specs.declared.found.Found.{Found}
 use Rattle.find_file.specs.declared.found.Found.TheVariants.{Path, Skipped, End}
 use Rattle.find_file.specs.declared.finder.Finder.{Finder}
-use Rattle.find_file.specs.Walks.{yet_to_find}
+use Rattle.find_file.specs.Walks.{steps_left, yet_to_find}
 use Rattle.find_file.specs.Telling.{HasReason, IsNext, cause_at}
 use Rattle.find_mode.specs.declared.findings.Course.{Course}
 use Rattle.find_mode.specs.declared.findings.Course.TheVariants.{GoesOn, Ends}
 use Rattle.find_mode.specs.Tellings.{FindingsState}
-use Rattle.find_mode.specs.Listings.{IsTold, after_telling, by_more, comes_to_by, course_after, left_by, told_all, told_to}
+use Rattle.find_mode.specs.Listings.{IsTold, after_telling, by_more, comes_to_by, course_after, left_by, steps_by, told_all, told_to}
 
 -- what comes of what is yet to be found, behind a step that leaves this course
 abbrev on : Course → List Found → FindingsState → FindingsState
@@ -72,6 +72,15 @@ module _ (contents : Option CallLog) (faults faults_after : ℕ) (finder left : 
       by_left (current log) course ∙ same
       ∙ told_on faults faults_after told.told whole rest before (told.step.next log tells) told.step.reason steady
 
+  -- fewer steps are left
+  pub fewer_by : (course : Course) → IsTold contents faults faults_after finder left before after course
+      → steps_by (left_by course left) < steps_by (Some finder)
+  fewer_by Ends told = omega arith
+  fewer_by GoesOn told =
+      let fewer : steps_left left < steps_left finder =
+      told.step.falls (λ end. let ends : GoesOn ≡ Ends = told.course_is ∙ ap (λ t. course_after t after) end in absurd (cc)) in
+      omega (arith, fewer)
+
   -- the same of the answer of a call, over what was told before it
   pub kept_on : (r : Result Course NoMemory) (answer course : Course) (told_before : FindingsState) → r ≡ Ok answer → answer ≡ course → before ≡ told_before
       → IfOk r (IsTold contents faults faults_after finder left before after)
@@ -83,3 +92,7 @@ module _ (contents : Option CallLog) (faults faults_after : ℕ) (finder left : 
       let at_course : IsTold contents faults faults_after finder left before after course =
       subst (λ a. IsTold contents faults faults_after finder left before after a) answer_is at_answer in
       kept_by course at_course log tells steady ∙ ap (λ f. told_all (yet_to_find (current log) finder) f) before_is
+
+  pub fewer_on : (r : Result Course NoMemory) (course : Course) → r ≡ Ok course → IfOk r (IsTold contents faults faults_after finder left before after)
+      → steps_by (left_by course left) < steps_by (Some finder)
+  fewer_on r course is told = fewer_by course (subst (λ q. IfOk q (IsTold contents faults faults_after finder left before after)) is told)

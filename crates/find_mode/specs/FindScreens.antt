@@ -12,6 +12,7 @@ use Rattle.resolving.specs.declared.error.ResolveError.TheVariants as resolve
 use Rattle.resolving.specs.declared.walking.Wanted.TheVariants.{AnyThing}
 use Rattle.resolving.specs.Errors.{Answers}
 use Rattle.resolving.specs.Resolution.{resolved}
+use Rattle.home_paths.specs.Homes.{with_home}
 use Rattle.tagging.specs.declared.pattern.PatternKind.{PatternKind}
 use Rattle.tagging.specs.Patterns.{PatternText}
 use Rattle.find_mode.specs.declared.act.FindAct.{FindAct}
@@ -26,21 +27,23 @@ use Rattle.find_mode.specs.FindKeys.{find_command}
 use Rattle.find_mode.specs.Questions.{asks, pattern_in}
 use Rattle.find_mode.specs.Listings.{IsBegun, ListingState, chosen, moved_by, no_listing, stopped}
 
--- how many lines the screen has, the folder from which a typed start leads, how patterns are read, whether hidden names are met, the
--- line that asks, and the list
+-- how many lines the screen has, the folder from which a typed start leads, HOME, how patterns are read, whether hidden names are met,
+-- the line that asks, and the list
 pub record FindScreen : Type 0 where
   pub lines : ℕ
   pub folder : Route
+  pub home : Option Route
   pub kind : PatternKind
   pub hidden : Bool
   pub asking : Option Asking
   pub listing : ListingState
 
 -- as it opens
-abbrev pub opened : ℕ → Route → PatternKind → Bool → FindScreen
-opened lines folder kind hidden = record {
+abbrev pub opened : ℕ → Route → Option Route → PatternKind → Bool → FindScreen
+opened lines folder home kind hidden = record {
   lines = lines;
   folder = folder;
+  home = home;
   kind = kind;
   hidden = hidden;
   asking = Some (asks Start);
@@ -52,10 +55,10 @@ opened lines folder kind hidden = record {
 abbrev pub with_line : Option Asking → FindScreen → FindScreen
 with_line asking before = record before { asking = asking }
 
--- a way leads to the start, and the names are asked for
+-- a way leads to the start, by what was typed with HOME in place of its tilde, and the names are asked for
 pub record IsStart (text : List ℕ) (contents : Option CallLog) (before after : FindScreen) : Type 0 where
   pub start : Route
-  pub way : IfKnown contents (λ log. Answers {A = Route} (resolved (current log) AnyThing before.folder text) (Ok start))
+  pub way : IfKnown contents (λ log. Answers {A = Route} (resolved (current log) AnyThing before.folder (with_home before.home text)) (Ok start))
   pub after_is : after ≡ with_line (Some (asks (Names start))) before
 
 -- what an answer to the first line comes to: the thing to which it leads along links is the start, whatever it is
@@ -63,7 +66,7 @@ abbrev pub StartLeads : List ℕ → Option CallLog → FindAct → FindScreen �
 StartLeads text contents Stays before after = IsStart text contents before after
 StartLeads text contents (Refused (NoWay why)) before after =
     (after ≡ before) × (why ≢ resolve.Memory)
-    × IfKnown contents (λ log. Answers {A = Route} (resolved (current log) AnyThing before.folder text) (Err why))
+    × IfKnown contents (λ log. Answers {A = Route} (resolved (current log) AnyThing before.folder (with_home before.home text)) (Err why))
 StartLeads text contents (Refused NoPattern) before after = ⊥
 StartLeads text contents (Goes path) before after = ⊥
 StartLeads text contents Leaves before after = ⊥

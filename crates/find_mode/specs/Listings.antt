@@ -1,6 +1,6 @@
 -- The found paths, as a search tells them one after the other, and the list that shows them. Own; what is found, and in which order,
 -- is that of `find_file`.
-use Rattle.std.specs.Prelude.{◌≡◌, ℕ, Bool, false, true, nat_lt, if◌then◌else◌, List, [], ◌∷◌, ◌++◌, length, Option, Some, None, slice_get}
+use Rattle.std.specs.Prelude.{◌≡◌, ℕ, suc, Bool, false, true, nat_lt, if◌then◌else◌, List, [], ◌∷◌, ◌++◌, length, Option, Some, None, slice_get}
 use Rattle.mc_text.specs.Routes.{Route}
 use Rattle.tree_trait.specs.declared.file_system.FileSystem.{FileSystem}
 use Rattle.tree_trait.specs.Change.{CallLog, current}
@@ -12,7 +12,7 @@ use Rattle.find_file.specs.declared.finder.Finder.{Finder}
 use Rattle.find_file.specs.declared.found.Found.{Found}
 use Rattle.find_file.specs.declared.found.Found.TheVariants.{Path, Skipped, End}
 use Rattle.find_file.specs.FoundList.{found_list}
-use Rattle.find_file.specs.Walks.{yet_to_find}
+use Rattle.find_file.specs.Walks.{steps_left, yet_to_find}
 use Rattle.find_file.specs.Telling.{IsStep}
 use Rattle.find_mode.specs.declared.findings.Course.{Course}
 use Rattle.find_mode.specs.declared.findings.Course.TheVariants.{GoesOn, Ends}
@@ -111,6 +111,14 @@ StepLeads (Some finder) contents faults faults_after before after = IsStepped co
 abbrev pub IsKept : Option CallLog → ℕ → ℕ → ListingState → ListingState → Type 0
 IsKept contents faults faults_after before after =
     IfKnown contents (λ log. (HasRisen faults faults_after → ⊥) → comes_to (current log) after ≡ comes_to (current log) before)
+
+-- how many steps are left at most until nothing is sought any more
+abbrev pub steps_by : Option Finder → ℕ
+steps_by None = 0
+steps_by (Some finder) = suc (steps_left finder)
+
+abbrev pub steps_to_end : ListingState → ℕ
+steps_to_end l = steps_by l.search
 
 -- KEYS
 

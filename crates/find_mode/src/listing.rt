@@ -1,7 +1,7 @@
 //! The list of the found paths, and the search that goes on beside it.
-ghost use Rattle.std.specs.Prelude.{◌≡◌, ◌≤◌, ◌<◌, ◌^◌, is_some, None, Some, OnOk, OnErr};
+ghost use Rattle.std.specs.Prelude.{◌≡◌, ◌≤◌, ◌<◌, ◌^◌, is_some, true, None, Some, OnOk, OnErr};
 ghost use Rattle.std.specs.Option.{option_map};
-ghost use Rattle.find_mode.specs.Listings.{IsKept, StepLeads, begun, chosen, moved_by, no_listing, stopped};
+ghost use Rattle.find_mode.specs.Listings.{IsKept, StepLeads, begun, chosen, moved_by, no_listing, steps_to_end, stopped};
 
 use crate::findings::{Course, Findings};
 use find_file::Finder;
@@ -63,6 +63,7 @@ impl Listing {
             self.old self.new) }
         ensures lost { OnErr result (self.new ≡ record self.old { search = self.new.search }) }
         ensures kept { IsKept (T.contents tree.old) (T.fault_count tree.old) (T.fault_count tree.new) self.old self.new }
+        ensures falls { OnOk result (is_some self.old.search ≡ true → steps_to_end self.new < steps_to_end self.old) }
         ensures still { self.old.search ≡ None → (tree.new ≡ tree.old) × (self.new ≡ self.old) }
         ensures same { T.contents tree.new ≡ T.contents tree.old }
         ensures later { T.fault_count tree.old ≤ T.fault_count tree.new }
@@ -86,6 +87,7 @@ impl Listing {
         ensures lost { OnErr result (self.new ≡ record self.old { search = self.new.search }) }
         ensures kept { IsKept (T.contents tree.old) (T.fault_count tree.old) (T.fault_count tree.new)
             (record self.old { search = Some finder }) self.new }
+        ensures falls { OnOk result (steps_to_end self.new < steps_to_end (record self.old { search = Some finder })) }
         ensures same { T.contents tree.new ≡ T.contents tree.old }
         ensures later { T.fault_count tree.old ≤ T.fault_count tree.new }
     {

@@ -1,6 +1,6 @@
 //! Things are sought: what is asked for, and then what was found.
-ghost use Rattle.std.specs.Prelude.{◌≡◌, ◌≤◌, false, is_some, IfOk, OnOk, OnErr};
-ghost use Rattle.find_mode.specs.Listings.{IsKept, StepLeads};
+ghost use Rattle.std.specs.Prelude.{◌≡◌, ◌≤◌, ◌<◌, false, true, is_some, IfOk, OnOk, OnErr};
+ghost use Rattle.find_mode.specs.Listings.{IsKept, StepLeads, steps_to_end};
 ghost use Rattle.find_mode.specs.FindScreens.{KeyLeads, ReadsTree, looks, opened, with_listing};
 
 mod line_keys;
@@ -22,6 +22,7 @@ use tree_trait::ReadTree;
 pub struct FindMode {
     lines: u16,
     folder: Path,
+    home: Option<Path>,
     kind: PatternKind,
     hidden: bool,
     asking: Option<Asking>,
@@ -33,27 +34,30 @@ impl Model for FindMode {
 
     ghost Value = { FindScreen };
 
-    ghost view = { λ m. record { lines = m.lines; folder = m.folder; kind = m.kind; hidden = m.hidden; asking = m.asking; listing = m.listing } };
+    ghost view = { λ m. record { lines = m.lines; folder = m.folder; home = m.home; kind = m.kind; hidden = m.hidden; asking = m.asking; listing = m.listing } };
 }
 
 impl FindMode {
-    /// Asks where to start. A start that is typed leads from a folder on; patterns are of a kind; names that begin with a dot are met
-    /// only with `hidden`.
+    /// Asks where to start. A start that is typed leads from a folder on, and its tilde from HOME; patterns are of a kind; names that begin
+    /// with a dot are met only with `hidden`.
     pub fn open(
         alloc: Global,
         lines: u16,
         folder: &Path,
+        home: &Option<Path>,
         kind: PatternKind,
         hidden: bool,
     ) -> Result<FindMode, NoMemory>
-        ensures { IfOk result (λ mode. mode ≡ opened lines folder.now kind hidden) }
+        ensures { IfOk result (λ mode. mode ≡ opened lines folder.now home.now kind hidden) }
     {
         let asked = Asked::Start;
         let line = start_line(alloc)?;
         let folder = folder.copy(alloc)?;
+        let home = copy_of(alloc, home)?;
         Ok(FindMode {
             lines,
             folder,
+            home,
             kind,
             hidden,
             asking: Some(Asking { asked, line }),
@@ -87,6 +91,7 @@ impl FindMode {
         ensures rest { self.new ≡ with_listing self.new.listing self.old }
         ensures lost { OnErr result (self.new.listing ≡ record self.old.listing { search = self.new.listing.search }) }
         ensures kept { IsKept (T.contents tree.old) (T.fault_count tree.old) (T.fault_count tree.new) self.old.listing self.new.listing }
+        ensures falls { OnOk result (is_some self.old.listing.search ≡ true → steps_to_end self.new.listing < steps_to_end self.old.listing) }
         ensures still { is_some self.old.listing.search ≡ false → (tree.new ≡ tree.old) × (self.new ≡ self.old) }
         ensures same { T.contents tree.new ≡ T.contents tree.old }
         ensures later { T.fault_count tree.old ≤ T.fault_count tree.new }
@@ -122,5 +127,15 @@ impl FindMode {
         ensures { result.now ≡ self.now.listing }
     {
         &self.listing
+    }
+}
+
+/// The same path once more, if there is one.
+fn copy_of(alloc: Global, path: &Option<Path>) -> Result<Option<Path>, NoMemory>
+    ensures { IfOk result (λ copy. copy ≡ path.now) }
+{
+    match path {
+        None => Ok(None),
+        Some(path) => Ok(Some(path.copy(alloc)?)),
     }
 }

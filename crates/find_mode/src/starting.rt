@@ -1,13 +1,44 @@
 //! What the answers to the lines lead to.
-ghost use Rattle.std.specs.Prelude.{◌≡◌, IfOk};
+ghost use Rattle.std.specs.Prelude.{◌≡◌, IfErr, IfOk};
+ghost use Rattle.tree_trait.specs.Answers.{HasCause, IfKnown};
+ghost use Rattle.tree_trait.specs.Change.{current};
+ghost use Rattle.resolving.specs.declared.walking.Wanted.TheVariants.{AnyThing};
+ghost use Rattle.resolving.specs.Errors.{Answers, CarriesCause, count_told};
+ghost use Rattle.resolving.specs.Resolution.{resolved};
+ghost use Rattle.home_paths.specs.Homes.{with_home as with_home_of};
 ghost use Rattle.find_mode.specs.Questions.{pattern_in as pattern_of_text};
 ghost use Rattle.find_mode.specs.Listings.{IsBegun};
 
 use crate::listing::Listing;
 use find_file::Finder;
+use home_paths::with_home;
 use mc_text::{Bytes, NoMemory, Path, Text};
+use resolving::{ResolveError, resolve_thing};
 use std::alloc::Global;
+use std::convert::AsStr;
 use tagging::{Pattern, PatternError, PatternKind};
+use tree_trait::ReadTree;
+
+/// The thing to which a typed start leads from a folder on, with HOME in place of its tilde.
+pub fn start_at<T: ReadTree>(
+    alloc: Global,
+    tree: &mut T,
+    folder: &Path,
+    home: &Option<Path>,
+    typed: &str,
+) -> Result<Path, ResolveError>
+    ensures answer { IfKnown (T.contents tree.old) (λ log.
+        Answers (resolved (current log) AnyThing folder.now (with_home_of home.now typed.now)) result) }
+    ensures same { T.contents tree.new ≡ T.contents tree.old }
+    ensures cause { HasCause ResolveError.Fault (T.fault_count tree.old) (T.fault_count tree.new) result }
+    ensures counts { T.fault_count tree.new ≡ count_told (T.fault_count tree.old) result }
+    ensures carried { IfErr result CarriesCause }
+{
+    match with_home(alloc, home, typed) {
+        Ok(text) => resolve_thing(alloc, tree, folder, text.as_str()),
+        Err(_error) => Err(ResolveError::Memory),
+    }
+}
 
 /// The pattern of a text, or nothing where the text is no pattern of this kind.
 pub fn pattern_in(alloc: Global, kind: PatternKind, text: &str) -> Result<Option<Pattern>, NoMemory>

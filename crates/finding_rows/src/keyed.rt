@@ -3,6 +3,7 @@ use crate::asking::{path_of, tell_path};
 use box_rows::{keys_of, tell_screen};
 use find_mode::{FindAct, FindMode, FindRefusal};
 use key_screen::{Grid, Key};
+use mc_text::Path;
 use row_page::{Page, two_fields};
 use tagging::PatternKind;
 use tree_trait::Tree;
@@ -24,9 +25,19 @@ pub fn tell_key_row<T: Tree>(page: &mut Page, tree: &mut T, row: &str) {
         return page.fail();
     };
     let hidden = ways.contains("hidden");
-    match FindMode::open(page.alloc(), LINES, &folder, kind_of(ways), hidden) {
+    let home = home_of(page, ways);
+    match FindMode::open(page.alloc(), LINES, &folder, &home, kind_of(ways), hidden) {
         Ok(mut mode) => tell_worked(page, tree, &mut mode, words),
         Err(_error) => page.fail(),
+    }
+}
+
+/// HOME, which is `/c` where the words have it.
+fn home_of(page: &mut Page, ways: &str) -> Option<Path> {
+    if ways.contains("home") {
+        path_of(page, "/c")
+    } else {
+        None
     }
 }
 

@@ -1,5 +1,5 @@
 -- The state of a panel, and what moving its cursor makes of it (own, after mc(1), "Directory Panels").
-use Rattle.std.specs.Prelude.{ℕ, zero, ◌+◌, ◌-◌, ◌^◌, ◌<◌, ◌≤◌, min, codes, Bool, false, List, [], ◌∷◌, length, slice_index_or, nat_lt, if◌then◌else◌, Option, Some, None, unwrap_or}
+use Rattle.std.specs.Prelude.{ℕ, ◌+◌, ◌-◌, ◌^◌, ◌<◌, ◌≤◌, min, codes, Bool, false, List, [], ◌∷◌, length, slice_index_or, nat_lt, if◌then◌else◌, Option, Some, None, unwrap_or}
 use Rattle.std.specs.List.{position}
 use Rattle.std.specs.Option.{option_map}
 use Rattle.std.specs.Str.{bytes_eq}
@@ -107,3 +107,7 @@ row_from listing name row = unwrap_or (row_of listing name) (min row (length (ro
 -- the row of the cursor where this is listed: that of its name, or else its row as far as there are rows
 abbrev pub row_among : Listed → PanelState → ℕ
 row_among listing p = row_from listing (current_name p) p.cursor
+
+-- the panel with its cursor on a name, or else on the first row
+abbrev pub with_cursor_on : ℕ → Option (List ℕ) → PanelState → PanelState
+with_cursor_on page name p = with_cursor page (row_from p.listing name 0) p

@@ -1,10 +1,9 @@
 -- What reading a folder comes to, and what it makes of a panel (own, after mc(1), "Keys": ctrl-r, alt-y, alt-u, enter).
 use Rattle.std.specs.Prelude.{◌≡◌, ℕ, true, false, codes, List, [], Option, Some, None, if◌then◌else◌, Result, Ok, Err, ⊤}
 use Rattle.std.specs.FinSet as set
-use Rattle.mc_text.specs.Routes.{Route, same_path}
-use Rattle.tree_trait.specs.declared.calls.TreeError.{TreeError}
+use Rattle.mc_text.specs.Routes.{Route, same_path, last_of}
 use Rattle.tree_trait.specs.Calls.{ListFolder}
-use Rattle.tree_trait.specs.Refusals.{refusal_of}
+use Rattle.tree_trait.specs.Refusals.{refusal_of, holder}
 use Rattle.tree_trait.specs.Change.{CallLog, current}
 use Rattle.resolving.specs.declared.error.ResolveError.{ResolveError}
 use Rattle.resolving.specs.declared.error.ResolveError.TheVariants.{Tree, TooManyLinks, TooLong, BadName, Fault, Memory}
@@ -13,7 +12,7 @@ use Rattle.panel_listing.specs.declared.wish.Wish.{Wish}
 use Rattle.panel_listing.specs.Listings.{Listed, IsListingOf}
 use Rattle.mc_panels.specs.declared.format.Layout.TheVariants.{Columns}
 use Rattle.mc_panels.specs.Visits.{FoldersShown, visited, gone_back, gone_forward}
-use Rattle.mc_panels.specs.Panels.{PanelState, no_tags, tag_set, with_tags, untagged, with_cursor, row_from, row_among}
+use Rattle.mc_panels.specs.Panels.{PanelState, no_tags, tag_set, with_tags, untagged, with_cursor, row_from, row_among, with_cursor_on}
 use Rattle.mc_panels.specs.Wanted.{kept_tags}
 
 -- reading a folder gives its listing, or is refused as `list` of it is; a device may fail, and memory run out
@@ -72,6 +71,13 @@ went_to page folder listing on p = shown_anew page folder listing on (visited p.
 abbrev pub gone_to : ℕ → Route → Listed → PanelState → PanelState
 gone_to page folder listing p =
     if same_path folder p.folder then read_again page listing p else went_to page folder listing None p
+
+-- the panel that was told to go to a path: it shows the folder that holds it, the cursor on the last name, or on the first row
+-- where that isn't shown
+abbrev pub gone_to_path : ℕ → Route → Listed → PanelState → PanelState
+gone_to_path page path listing p =
+    if same_path (holder path) p.folder then with_cursor_on page (last_of path) (read_again page listing p)
+    else went_to page (holder path) listing (last_of path) p
 
 -- the panel that went back to the folder shown before, or forward again
 abbrev pub went_back : ℕ → Route → Listed → PanelState → PanelState

@@ -6,7 +6,8 @@ ghost use Rattle.tree_trait.specs.Answers.{IfKnown, HasCause};
 ghost use Rattle.resolving.specs.Errors.{CarriesCause, count_told};
 ghost use Rattle.panel_listing.specs.Orders.{AreArranged};
 ghost use Rattle.panel_listing.specs.Listings.{rows_in};
-ghost use Rattle.mc_panels.specs.Readings.{ShowsFolder, outcome, went_to, gone_to, shown_anew};
+ghost use Rattle.mc_panels.specs.Panels.{with_cursor_on};
+ghost use Rattle.mc_panels.specs.Readings.{ShowsFolder, outcome, read_again, went_to, gone_to, gone_to_path, shown_anew};
 ghost use Rattle.mc_panels.specs.Goings.{way_of, Enters, Reads, GoesBack, GoesForward, ShowsNext};
 
 use crate::panel::Panel;
@@ -82,6 +83,32 @@ impl Panel {
             return self.read_again(alloc, tree, page);
         }
         self.change_to(alloc, tree, page, folder, None)
+    }
+
+    /// Goes to the folder that holds a path without links, with the cursor on the path's last name, or on the first row where
+    /// that name isn't shown. Its own folder is read again. The root lies in none, and is gone to itself.
+    pub fn go_to_path<T: ReadTree>(
+        &mut self,
+        alloc: Global,
+        tree: &mut T,
+        page: usize,
+        path: Path,
+    ) -> Result<(), ResolveError>
+        requires { page < 2 ^ 16 }
+        ensures done { OnOk result (self.new ≡ gone_to_path page path self.new.listing self.old) }
+        ensures refused { OnErr result (self.new ≡ self.old) }
+        ensures answer { IfKnown (T.contents tree.old) (λ log. ShowsFolder log (holder path) (outcome result self.new)) }
+        ensures same { T.contents tree.new ≡ T.contents tree.old }
+        ensures cause { HasCause ResolveError.Fault (T.fault_count tree.old) (T.fault_count tree.new) result }
+        ensures counts { T.fault_count tree.new ≡ count_told (T.fault_count tree.old) result }
+        ensures carried { IfErr result CarriesCause }
+    {
+        let folder = above(alloc, &path)?;
+        let name = last_name(alloc, &path)?;
+        if folder.same(&self.folder) {
+            return self.read_again_at(alloc, tree, page, name);
+        }
+        self.change_to(alloc, tree, page, folder, name)
     }
 
     /// Goes back to the folder that was shown before this one, if there is one.
@@ -214,6 +241,38 @@ impl Panel {
         self.visits.leave(alloc, &self.folder)?;
         self.show(page, folder, found, on);
         Ok(())
+    }
+
+    /// Reads its folder again, and puts the cursor on a name there.
+    fn read_again_at<T: ReadTree>(
+        &mut self,
+        alloc: Global,
+        tree: &mut T,
+        page: usize,
+        on: Option<Name>,
+    ) -> Result<(), ResolveError>
+        requires { page < 2 ^ 16 }
+        ensures done { OnOk result (self.new ≡ with_cursor_on page on (read_again page self.new.listing self.old)) }
+        ensures refused { OnErr result (self.new ≡ self.old) }
+        ensures answer { IfKnown (T.contents tree.old) (λ log. ShowsFolder log self.old.folder (outcome result self.new)) }
+        ensures same { T.contents tree.new ≡ T.contents tree.old }
+        ensures cause { HasCause ResolveError.Fault (T.fault_count tree.old) (T.fault_count tree.new) result }
+        ensures counts { T.fault_count tree.new ≡ count_told (T.fault_count tree.old) result }
+        ensures carried { IfErr result CarriesCause }
+    {
+        self.read_again(alloc, tree, page)?;
+        self.put_cursor_on(page, &on);
+        Ok(())
+    }
+
+    /// Puts the cursor on a name, or else on the first row.
+    fn put_cursor_on(&mut self, page: usize, name: &Option<Name>)
+        requires { page < 2 ^ 16 }
+        ensures { self.new ≡ with_cursor_on page name.now self.old }
+    {
+        let row = row_from(&self.listing, name, 0);
+        self.first = scrolled(rows_shown(self.format.layout(), page), self.first, row);
+        self.cursor = row;
     }
 
     /// Shows another folder: nothing is tagged, and the cursor is on a name, or else on the first row. It takes no memory.

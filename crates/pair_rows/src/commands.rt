@@ -80,6 +80,10 @@ fn typed_command_of(page: &mut Page, word: &str, field: &str) -> Option<PanelCom
     match word {
         "select" => Some(PanelCommand::Select(pattern_of(page, field)?)),
         "unselect" => Some(PanelCommand::Unselect(pattern_of(page, field)?)),
+        "goto" => match Path::parse(page.alloc(), field) {
+            Ok(path) => Some(PanelCommand::GoTo(path)),
+            Err(_error) => None,
+        },
         "format" => match PanelFormat::user(page.alloc(), field) {
             Ok(format) => Some(PanelCommand::ShowColumns(format)),
             Err(_error) => None,

@@ -14,7 +14,7 @@ use Rattle.mc_panels.specs.declared.going.Way.TheVariants.{Nowhere, Up, Into}
 use Rattle.mc_panels.specs.Panels.{PanelState, current_text}
 use Rattle.mc_panels.specs.Goings.{way_of, Reads, ShowsNext, ShowsResolved}
 use Rattle.panel_pair.specs.declared.command.PanelCommand.{PanelCommand}
-use Rattle.panel_pair.specs.declared.command.PanelCommand.TheVariants.{Move, SwitchPanel, SwapPanels, Enter, ReadAgain, Back, Forward, Toggle, Invert, Select, Unselect, Compare, Arrange, ShowColumns, ShowBrief, ToggleHidden, SwitchPatterns}
+use Rattle.panel_pair.specs.declared.command.PanelCommand.TheVariants.{Move, SwitchPanel, SwapPanels, Enter, ReadAgain, Back, Forward, GoTo, Toggle, Invert, Select, Unselect, Compare, Arrange, ShowColumns, ShowBrief, ToggleHidden, SwitchPatterns}
 use Rattle.panel_pair.specs.Commands.{CommandReads}
 use Rattle.panel_pair.specs.Openings.{ShowsPath}
 use Rattle.panel_pair.specs.Readings.{HasReadCause, ReadsTree}
@@ -60,6 +60,7 @@ command_cause Enter log p e h = enter_cause (way_of p) log p e h
 command_cause ReadAgain log p e h = inl (p.folder, h)
 command_cause Back log p e h = next_cause log p.visits.behind e h
 command_cause Forward log p e h = next_cause log p.visits.ahead e h
+command_cause (GoTo path) log p e h = inl (holder path, h)
 command_cause (Move base) log p e h = memory_cause log e h
 command_cause SwitchPanel log p e h = memory_cause log e h
 command_cause SwapPanels log p e h = memory_cause log e h

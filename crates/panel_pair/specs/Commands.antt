@@ -1,5 +1,6 @@
 -- What each command makes of the panels (mc(1), "Directory Panels", "Keys", "Menu Bar"; own where mc has a mouse or a menu).
 use Rattle.std.specs.Prelude.{◌≡◌, ℕ, not, Result, Ok, Err, ⊤}
+use Rattle.tree_trait.specs.Refusals.{holder}
 use Rattle.tree_trait.specs.Change.{CallLog}
 use Rattle.resolving.specs.declared.error.ResolveError.{ResolveError}
 use Rattle.resolving.specs.declared.error.ResolveError.TheVariants.{Memory}
@@ -7,13 +8,13 @@ use Rattle.mc_panels.specs.declared.arranging.Arrangement.{Arrangement}
 use Rattle.mc_panels.specs.declared.arranging.Arrangement.TheVariants.{Hidden}
 use Rattle.mc_panels.specs.declared.going.Going.{Going}
 use Rattle.mc_panels.specs.Panels.{PanelState, moved_by, with_format, with_brief}
-use Rattle.mc_panels.specs.Readings.{ShowsFolder, read_again}
+use Rattle.mc_panels.specs.Readings.{ShowsFolder, read_again, gone_to_path}
 use Rattle.mc_panels.specs.Goings.{way_of, Enters, Reads, GoesBack, GoesForward, ShowsNext}
 use Rattle.mc_panels.specs.Selections.{toggled_current, selected, unselected, inverted_files}
 use Rattle.mc_panels.specs.Arrangements.{arranged_again, HasSameItems}
 use Rattle.mc_panels.specs.Comparisons.{compared}
 use Rattle.panel_pair.specs.declared.command.PanelCommand.{PanelCommand}
-use Rattle.panel_pair.specs.declared.command.PanelCommand.TheVariants.{Move, SwitchPanel, SwapPanels, Enter, ReadAgain, Back, Forward, Toggle, Invert, Select, Unselect, Compare, Arrange, ShowColumns, ShowBrief, ToggleHidden, SwitchPatterns}
+use Rattle.panel_pair.specs.declared.command.PanelCommand.TheVariants.{Move, SwitchPanel, SwapPanels, Enter, ReadAgain, Back, Forward, GoTo, Toggle, Invert, Select, Unselect, Compare, Arrange, ShowColumns, ShowBrief, ToggleHidden, SwitchPatterns}
 use Rattle.panel_pair.specs.Pairs.{PairState, opposite, other_kind, with_current}
 
 -- Tab makes the other panel current; it stays on its side
@@ -50,6 +51,7 @@ CommandDone Enter page before after = Goes (Enters (way_of before.current) page 
 CommandDone ReadAgain page before after = after ≡ with_current (read_again page after.current.listing before.current) before
 CommandDone Back page before after = Goes (GoesBack page before.current) before after
 CommandDone Forward page before after = Goes (GoesForward page before.current) before after
+CommandDone (GoTo path) page before after = after ≡ with_current (gone_to_path page path after.current.listing before.current) before
 CommandDone Toggle page before after = after ≡ with_current (toggled_current page before.current) before
 CommandDone Invert page before after = after ≡ with_current (inverted_files before.current) before
 CommandDone (Select pattern) page before after = after ≡ with_current (selected pattern before.current) before
@@ -74,6 +76,7 @@ CommandReads Enter log before result = Reads (way_of before) log before result
 CommandReads ReadAgain log before result = ShowsFolder log before.folder result
 CommandReads Back log before result = ShowsNext log before.visits.behind result
 CommandReads Forward log before result = ShowsNext log before.visits.ahead result
+CommandReads (GoTo path) log before result = ShowsFolder log (holder path) result
 CommandReads (Move base) log before result = ReadsNothing result
 CommandReads SwitchPanel log before result = ReadsNothing result
 CommandReads SwapPanels log before result = ReadsNothing result

@@ -1,6 +1,7 @@
 //! What keys do to the panels, but for those that open a box, begin a job or end the session.
 use key_screen::Base;
 use mc_panels::{Arrangement, PanelFormat};
+use mc_text::Path;
 use tagging::Pattern;
 
 /// What a key does to the panels. All but `SwitchPanel`, `SwapPanels`, `Compare`,
@@ -16,6 +17,8 @@ pub enum PanelCommand {
     ReadAgain,
     Back,
     Forward,
+    /// Goes to the folder that holds a path, with the cursor on the path's last name.
+    GoTo(Path),
     /// Tags the current name, or takes its tag, and moves down.
     Toggle,
     Invert,

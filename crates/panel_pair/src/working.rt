@@ -94,6 +94,10 @@ impl Panels {
                 self.current.forward(alloc, tree, page)?;
                 Ok(())
             }
+            PanelCommand::GoTo(path) => {
+                self.current.go_to_path(alloc, tree, page, path)?;
+                Ok(())
+            }
             PanelCommand::Toggle => {
                 self.current.toggle(alloc, page)?;
                 Ok(())

@@ -9,12 +9,12 @@ ghost use Rattle.find_mode.specs.Listings.{IsBegun};
 use super::FindMode;
 use crate::act::{FindAct, FindRefusal};
 use crate::asking::{Asked, Asking, content_line, names_line, type_in};
-use crate::starting::{pattern_in, search_below};
+use crate::starting::{pattern_in, search_below, start_at};
 use box_words::LineReply;
 use key_screen::Key;
 use mc_dialogs::InputLine;
 use mc_text::{NoMemory, Path, Text};
-use resolving::{ResolveError, resolve_thing};
+use resolving::ResolveError;
 use std::alloc::Global;
 use std::convert::AsStr;
 use tagging::Pattern;
@@ -91,7 +91,7 @@ impl FindMode {
         ensures lost { OnErr result (self.new ≡ with_line (Some (record { asked = Asked.Start; line = line })) self.old) }
         ensures reads { ReadsTree result (T.contents tree.old) (T.contents tree.new) (T.fault_count tree.old) (T.fault_count tree.new) }
     {
-        let start = resolve_thing(alloc, tree, &self.folder, text.as_str());
+        let start = start_at(alloc, tree, &self.folder, &self.home, text.as_str());
         match start {
             Ok(start) => self.ask_names(alloc, start, line),
             Err(ResolveError::Memory) => {
