@@ -5,7 +5,8 @@ use Rattle.mc_text.specs.Routes.{Route, path_text, spelled}
 use Rattle.job_reports.specs.declared.report.Trouble.{Trouble}
 use Rattle.resolving.specs.declared.error.ResolveError.{ResolveError}
 use Rattle.resolving.specs.declared.error.ResolveError.TheVariants as resolve
-use Rattle.session_history.specs.declared.refusal.PlanError.TheVariants.{NoSelection, TargetThere, TargetTooLong, BadMask, Target}
+use Rattle.session_history.specs.declared.refusal.PlanError.{PlanError}
+use Rattle.session_history.specs.declared.refusal.PlanError.TheVariants.{NoSelection, Source, BadMask, Target, TargetThere, SameFile, IntoItself}
 use Rattle.session_history.specs.declared.refusal.Refusal.{Refusal}
 use Rattle.session_history.specs.declared.refusal.Refusal.TheVariants.{Tree, Read, Resolve, Plan, Begin, Typed}
 use Rattle.mc_dialogs.specs.InputKeys.{InputState}
@@ -22,16 +23,22 @@ resolve_path resolve.BadName = None
 resolve_path resolve.Fault = None
 resolve_path resolve.Memory = None
 
+-- the path that a plan was refused for, if it was for one: the first, where it was for two
+abbrev pub plan_path : PlanError → Option Route
+plan_path NoSelection = None
+plan_path (Source path e) = Some path
+plan_path BadMask = None
+plan_path (Target e) = resolve_path e
+plan_path (TargetThere path) = Some path
+plan_path (SameFile path) = Some path
+plan_path (IntoItself source target) = Some source
+
 -- the path that a refusal speaks of, if it speaks of one
 abbrev pub refusal_path : Refusal → Option Route
 refusal_path (Tree path e) = Some path
 refusal_path (Read path e) = Some path
 refusal_path (Resolve e) = resolve_path e
-refusal_path (Plan NoSelection) = None
-refusal_path (Plan (TargetThere path)) = Some path
-refusal_path (Plan TargetTooLong) = None
-refusal_path (Plan BadMask) = None
-refusal_path (Plan (Target e)) = resolve_path e
+refusal_path (Plan error) = plan_path error
 refusal_path (Begin error) = None
 refusal_path (Typed error) = None
 

@@ -8,7 +8,7 @@ use Rattle.resolving.specs.declared.error.ResolveError.TheVariants as resolve
 use Rattle.job_reports.specs.declared.report.Cause.{Cause}
 use Rattle.job_reports.specs.declared.report.Cause.TheVariants as cause
 use Rattle.session_history.specs.declared.refusal.PlanError.{PlanError}
-use Rattle.session_history.specs.declared.refusal.PlanError.TheVariants.{NoSelection, TargetThere, TargetTooLong, BadMask, Target}
+use Rattle.session_history.specs.declared.refusal.PlanError.TheVariants as plan
 use Rattle.session_history.specs.declared.refusal.BeginError.{BeginError}
 use Rattle.session_history.specs.declared.refusal.BeginError.TheVariants.{NoMoreIds}
 use Rattle.session_history.specs.declared.refusal.TypedError.{TypedError}
@@ -43,11 +43,13 @@ resolve_words resolve.Memory = codes "out of memory"
 
 -- what is said of a plan that can't be made
 abbrev pub plan_words : PlanError → List ℕ
-plan_words NoSelection = codes "nothing selected"
-plan_words (TargetThere path) = codes "already there"
-plan_words TargetTooLong = codes "path too long"
-plan_words BadMask = codes "bad mask"
-plan_words (Target e) = resolve_words e
+plan_words plan.NoSelection = codes "nothing selected"
+plan_words (plan.Source path e) = cause_words e
+plan_words plan.BadMask = codes "bad mask"
+plan_words (plan.Target e) = resolve_words e
+plan_words (plan.TargetThere path) = codes "already there"
+plan_words (plan.SameFile path) = codes "same file"
+plan_words (plan.IntoItself source target) = codes "inside itself"
 
 -- what is said of a job that can't be begun
 abbrev pub begin_words : BeginError → List ℕ

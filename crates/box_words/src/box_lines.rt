@@ -2,7 +2,7 @@
 ghost use Rattle.std.specs.Prelude.{◌≡◌, ◌∷◌, ◌++◌, [], IfOk};
 ghost use Rattle.std.specs.Option.{option_map_or};
 ghost use Rattle.mc_text.specs.Routes.{path_text as path_text_of};
-ghost use Rattle.box_words.specs.BoxLines.{delete_lines as lines_of_deletion, folder_line as line_of_folder, mask_line as line_of_mask, message_lines as lines_of_message, path_lines, resolve_path, target_line as line_of_target, target_text as text_of_target, trouble_letter_words, trouble_lines as lines_of_trouble};
+ghost use Rattle.box_words.specs.BoxLines.{delete_lines as lines_of_deletion, folder_line as line_of_folder, mask_line as line_of_mask, message_lines as lines_of_message, path_lines, plan_path, resolve_path, target_line as line_of_target, target_text as text_of_target, trouble_letter_words, trouble_lines as lines_of_trouble};
 
 use crate::causes::{refusal_text, trouble_text};
 use crate::message::Message;
@@ -85,13 +85,24 @@ fn refusal_lines(alloc: Global, refusal: &Refusal) -> Result<Rows, NoMemory>
         Refusal::Tree(path, _) => words_and_path(alloc, words, path),
         Refusal::Read(path, _) => words_and_path(alloc, words, path),
         Refusal::Resolve(error) => resolve_lines(alloc, words, error),
-        Refusal::Plan(PlanError::NoSelection) => words_alone(alloc, words),
-        Refusal::Plan(PlanError::TargetThere(path)) => words_and_path(alloc, words, path),
-        Refusal::Plan(PlanError::TargetTooLong) => words_alone(alloc, words),
-        Refusal::Plan(PlanError::BadMask) => words_alone(alloc, words),
-        Refusal::Plan(PlanError::Target(error)) => resolve_lines(alloc, words, error),
+        Refusal::Plan(error) => plan_lines(alloc, words, error),
         Refusal::Begin(_) => words_alone(alloc, words),
         Refusal::Typed(_) => words_alone(alloc, words),
+    }
+}
+
+/// Words, and the path that a plan was refused for: the first, where it was for two.
+fn plan_lines(alloc: Global, words: Text, error: &PlanError) -> Result<Rows, NoMemory>
+    ensures { IfOk result (λ lines. lines ≡ words ∷ path_lines (plan_path error.now)) }
+{
+    match error {
+        PlanError::NoSelection => words_alone(alloc, words),
+        PlanError::Source(path, _) => words_and_path(alloc, words, path),
+        PlanError::BadMask => words_alone(alloc, words),
+        PlanError::Target(error) => resolve_lines(alloc, words, error),
+        PlanError::TargetThere(path) => words_and_path(alloc, words, path),
+        PlanError::SameFile(path) => words_and_path(alloc, words, path),
+        PlanError::IntoItself(source, _) => words_and_path(alloc, words, source),
     }
 }
 
@@ -177,7 +188,7 @@ pub fn folder_line(alloc: Global) -> Result<InputLine, NoMemory>
 }
 
 /// A folder's path and a slash, for the root a slash alone.
-pub fn target_text(alloc: Global, folder: &Path) -> Result<Text, NoMemory>
+fn target_text(alloc: Global, folder: &Path) -> Result<Text, NoMemory>
     ensures { IfOk result (λ text. text ≡ text_of_target folder.now) }
 {
     let text = folder.text(alloc)?;

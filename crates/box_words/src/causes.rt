@@ -50,10 +50,12 @@ fn plan_text(error: &PlanError) -> &'static str
 {
     match error {
         PlanError::NoSelection => "nothing selected",
-        PlanError::TargetThere(_) => "already there",
-        PlanError::TargetTooLong => "path too long",
+        PlanError::Source(_, error) => cause_text(*error),
         PlanError::BadMask => "bad mask",
         PlanError::Target(error) => resolve_text(error),
+        PlanError::TargetThere(_) => "already there",
+        PlanError::SameFile(_) => "same file",
+        PlanError::IntoItself(_, _) => "inside itself",
     }
 }
 

@@ -1,2 +1,5 @@
+mod Refusing
 mod NewFolders
+mod CopyCauses
+mod OneCopies
 mod Sights

@@ -1,8 +1,7 @@
 -- What the path for a new thing says of the tree.
-use Rattle.std.proofs.Common.{◌≡◌, ◌⊎◌, inl, inr, ℕ, Bool, true, false, List, [], ◌∷◌, refl, sym, ◌∙◌, ap, subst, Option, Some, None, Result, Ok, Err}
-use Rattle.std.specs.Prelude.{⊤, ◌≤◌, if◌then◌else◌, is_some, IfOk}
+use Rattle.std.proofs.Common.{◌≡◌, inl, inr, ℕ, Bool, true, false, List, [], ◌∷◌, refl, ap, subst, Option, Some, None, Result, Ok, Err}
+use Rattle.std.specs.Prelude.{if◌then◌else◌, is_some, IfOk}
 use Rattle.std.specs.Option.{option_map}
-use Rattle.std.proofs.lemmas.Bool.{false≢true}
 use Rattle.mc_text.specs.declared.error.NoMemory.{NoMemory}
 use Rattle.mc_text.specs.Routes.{Route, last_of, parent_of}
 use Rattle.tree_trait.specs.declared.calls.TreeError.{TreeError}
@@ -11,44 +10,30 @@ use Rattle.tree_trait.specs.Calls.{Stat}
 use Rattle.tree_trait.specs.FileSystem.{node, value, View, visible_tree}
 use Rattle.tree_trait.specs.Refusals.{refusal_of}
 use Rattle.tree_trait.specs.Change.{CallLog, current}
-use Rattle.tree_trait.specs.Answers.{IfKnown, HasRisen}
+use Rattle.tree_trait.specs.Answers.{IfKnown}
 use Rattle.resolving.specs.declared.error.ResolveError.{ResolveError}
 use Rattle.resolving.specs.declared.error.ResolveError.TheVariants as resolve
 use Rattle.resolving.specs.declared.walking.Wanted.TheVariants.{FolderAlone}
 use Rattle.resolving.specs.Errors.{Answers}
 use Rattle.resolving.specs.Resolution.{resolved}
 use Rattle.job_reports.proofs.PermittedCalls.{stat_missing}
-use Rattle.job_reports.specs.declared.job.Job.{Job}
-use Rattle.job_reports.specs.Jobs.{is_workable}
 use Rattle.op_plan.specs.declared.error.PlanError.{PlanError}
 use Rattle.op_plan.specs.declared.error.PlanError.TheVariants as place
-use Rattle.op_plan.specs.Answering.{HasPlanCause, Plans, and_then, or_bad_mask}
+use Rattle.op_plan.specs.Answering.{IsPlaceError, Plans, and_then, or_bad_mask}
 use Rattle.op_plan.specs.Checks.{is_too_long, target_in}
 use Rattle.op_plan.specs.Destinations.{folder_at, front_of, in_target, last_part}
 use Rattle.op_plan.specs.Naming.{checked_name}
 use Rattle.op_plan.specs.Planning.{nothing_there, place_of}
-use Rattle.session_history.specs.declared.refusal.Refusal.{Refusal}
 use Rattle.session_history.specs.declared.refusal.Refusal.TheVariants.{Plan}
 use Rattle.session_history.specs.declared.refusal.PlanError.TheVariants.{TargetThere, Target, BadMask}
-use Rattle.session_history.specs.Refusals.{AreRefused, HasCause, IsTargetRefused}
+use Rattle.session_history.specs.Refusals.{IsTargetRefused}
 use Rattle.job_plans.specs.declared.copying.JobPlan.{JobPlan}
 use Rattle.job_plans.specs.declared.copying.JobPlan.TheVariants.{Begins, Refuses}
-use Rattle.job_plans.specs.Choices.{plan_refusals}
 use Rattle.job_plans.specs.Copies.{IsVacant}
-use Rattle.job_plans.specs.Folders.{FolderLeads, FolderRefused, IsNewFolder, IsPlace, IsTold, IsToldAs, folder_plan, is_below_home}
-use Rattle.job_plans.specs.Reading.{ReadsTree, sight}
-use Rattle.job_plans.specs.Refused.{has_fault}
-
--- a check that lets something pass, and what comes after it
-after : {A B : Type 0} (r : Result A PlanError) (next : A → Result B PlanError) (y : B) → and_then r next ≡ Ok y → (x : A) × (r ≡ Ok x) × (next x ≡ Ok y)
-after (Ok x) next y h = (x, refl, h)
-after (Err e) next y h = absurd cc
-
--- a refusal is that of a check, or of what comes after it
-refused_in : {A B : Type 0} (P : Type 0) (r : Result A PlanError) (next : A → Result B PlanError) (e : PlanError) → and_then r next ≡ Err e
-    → (r ≡ Err e → P) → ((x : A) → next x ≡ Err e → P) → P
-refused_in P (Ok x) next e h first later = later x h
-refused_in P (Err other) next e h first later = first cc
+use Rattle.job_plans.specs.Folders.{FolderLeads, FolderRefused, IsNewFolder, IsPlace, folder_plan, is_below_home}
+use Rattle.job_plans.specs.Reading.{sight}
+use Rattle.job_plans.specs.Told.{IsToldAs}
+use Rattle.job_plans.proofs.Refusing.{HasTreeCause, after, refused_in}
 
 abbrev in_folder : CallLog → List ℕ → Route → Result Route PlanError
 in_folder log name folder = and_then (target_in folder name) (λ target. nothing_there (refusal_of (current log) (Stat target)) target)
@@ -81,16 +66,10 @@ seen_missing log from typed path h =
     let is = there (refusal_of (current log) (Stat at.0)) at.0 path at.2 in
     subst (λ p. refusal_of (current log) (Stat p) ≡ Some Missing) is.1 is.0
 
--- what the tree has where no path for a new thing is
-abbrev HasPlaceCause : CallLog → PlanError → Type 0
-HasPlaceCause log (place.TargetThere path) = refusal_of (current log) (Stat path) ≡ None
-HasPlaceCause log (place.Target e) = IsTargetRefused log e
-HasPlaceCause log e = ⊤
-
 module _ (log : CallLog) (from : Route) (typed : List ℕ) where
-  bad_mask : (o : Option (List ℕ)) (e : PlanError) → or_bad_mask o ≡ Err e → HasPlaceCause log e
+  bad_mask : (o : Option (List ℕ)) (e : PlanError) → or_bad_mask o ≡ Err e → HasTreeCause log e
   bad_mask (Some x) e h = absurd cc
-  bad_mask None e h = let is : place.BadMask ≡ e = cc in subst (λ e. HasPlaceCause log e) is tt
+  bad_mask None e h = let is : place.BadMask ≡ e = cc in subst (λ e. HasTreeCause log e) is tt
 
   answers : (why : ResolveError) → resolved (current log) FolderAlone from (front_of typed) ≡ Err why
       → Answers {A = Route} (resolved (current log) FolderAlone from (front_of typed)) (Err why)
@@ -101,19 +80,19 @@ module _ (log : CallLog) (from : Route) (typed : List ℕ) where
   answers resolve.Fault is = tt
   answers resolve.Memory is = tt
 
-  nowhere : (r : Result Route ResolveError) (e : PlanError) → resolved (current log) FolderAlone from (front_of typed) ≡ r → in_target r ≡ Err e → HasPlaceCause log e
+  nowhere : (r : Result Route ResolveError) (e : PlanError) → resolved (current log) FolderAlone from (front_of typed) ≡ r → in_target r ≡ Err e → HasTreeCause log e
   nowhere (Ok folder) e is h = absurd cc
-  nowhere (Err why) e is h = let same : place.Target why ≡ e = cc in subst (λ e. HasPlaceCause log e) same (inl (from, (front_of typed, answers why is)))
+  nowhere (Err why) e is h = let same : place.Target why ≡ e = cc in subst (λ e. HasTreeCause log e) same (inl (from, (front_of typed, answers why is)))
 
-  too_long : (long : Bool) (target : Route) (e : PlanError) → (let r : Result Route PlanError = if long then Err (place.Target resolve.TooLong) else Ok target in r) ≡ Err e → HasPlaceCause log e
-  too_long true target e h = let is : place.Target resolve.TooLong ≡ e = cc in subst (λ e. HasPlaceCause log e) is (inr (inr refl))
+  too_long : (long : Bool) (target : Route) (e : PlanError) → (let r : Result Route PlanError = if long then Err (place.Target resolve.TooLong) else Ok target in r) ≡ Err e → HasTreeCause log e
+  too_long true target e h = let is : place.Target resolve.TooLong ≡ e = cc in subst (λ e. HasTreeCause log e) is (inr (inr refl))
   too_long false target e h = absurd cc
 
-  unseen : (cause : TreeError) (target : Route) (e : PlanError) → refusal_of (current log) (Stat target) ≡ Some cause → place.Target (resolve.Tree target cause) ≡ e → HasPlaceCause log e
-  unseen cause target e is h = subst (λ e. HasPlaceCause log e) h (inr (inl (target, (cause, refl, is))))
+  unseen : (cause : TreeError) (target : Route) (e : PlanError) → refusal_of (current log) (Stat target) ≡ Some cause → place.Target (resolve.Tree target cause) ≡ e → HasTreeCause log e
+  unseen cause target e is h = subst (λ e. HasTreeCause log e) h (inr (inl (target, (cause, refl, is))))
 
-  not_there : (told : Option TreeError) (target : Route) (error : PlanError) → refusal_of (current log) (Stat target) ≡ told → nothing_there told target ≡ Err error → HasPlaceCause log error
-  not_there None target error is h = let same : place.TargetThere target ≡ error = cc in subst (λ e. HasPlaceCause log e) same is
+  not_there : (told : Option TreeError) (target : Route) (error : PlanError) → refusal_of (current log) (Stat target) ≡ told → nothing_there told target ≡ Err error → HasTreeCause log error
+  not_there None target error is h = let same : place.TargetThere target ≡ error = cc in subst (λ e. HasTreeCause log e) same is
   not_there (Some Missing) target error is h = absurd cc
   not_there (Some NotFolder) target error is h = unseen NotFolder target error is cc
   not_there (Some Denied) target error is h = unseen Denied target error is cc
@@ -128,15 +107,15 @@ module _ (log : CallLog) (from : Route) (typed : List ℕ) where
   not_there (Some Fault) target error is h = unseen Fault target error is cc
   not_there (Some Memory) target error is h = unseen Memory target error is cc
 
-  place_cause : (e : PlanError) → place_of (current log) from typed ≡ Err e → HasPlaceCause log e
+  place_cause : (e : PlanError) → place_of (current log) from typed ≡ Err e → HasTreeCause log e
   place_cause e h =
-      refused_in (HasPlaceCause log e) (or_bad_mask (checked_name (last_part typed))) (at_front log from typed) e h
+      refused_in (HasTreeCause log e) (or_bad_mask (checked_name (last_part typed))) (at_front log from typed) e h
       (λ bad. bad_mask (checked_name (last_part typed)) e bad)
-      (λ name h. refused_in (HasPlaceCause log e) (folder_at (current log) from (front_of typed)) (in_folder log name) e h
+      (λ name is h. refused_in (HasTreeCause log e) (folder_at (current log) from (front_of typed)) (in_folder log name) e h
       (λ lost. nowhere (resolved (current log) FolderAlone from (front_of typed)) e refl lost)
-      (λ folder h. refused_in (HasPlaceCause log e) (target_in folder name) (λ target. nothing_there (refusal_of (current log) (Stat target)) target) e h
+      (λ folder is h. refused_in (HasTreeCause log e) (target_in folder name) (λ target. nothing_there (refusal_of (current log) (Stat target)) target) e h
       (λ long. too_long (is_too_long folder name) (name ∷ folder) e long)
-      (λ target h. not_there (refusal_of (current log) (Stat target)) target e refl h)))
+      (λ target is h. not_there (refusal_of (current log) (Stat target)) target e refl h)))
 
 -- a path with a name has a folder
 has_folder : (path : Route) (name : List ℕ) → last_of path ≡ Some name → is_some (parent_of path) ≡ true
@@ -157,26 +136,29 @@ module _ (contents : Option CallLog) (from : Route) (typed : List ℕ) where
       let new : IsNewFolder contents from typed path = record { not_home = not_home; named = named; place = place; vacant = is_vacant contents from typed path place } in
       (path, new, refl, has_folder path (last_part typed) named)
 
-  refuses : (error : PlanError) (plan : JobPlan) → is_below_home typed ≡ false → IsPlace contents from typed (Err error) → IsToldAs error plan
-      → FolderLeads contents from typed plan
-  refuses error (Begins plan) not_home known told = absurd told
-  refuses (place.TargetThere path) (Refuses refusal) not_home known told = subst (λ r. FolderRefused contents from typed r) (sym told) (not_home, known)
-  refuses (place.Target e) (Refuses refusal) not_home known told = subst (λ r. FolderRefused contents from typed r) (sym told) (not_home, known)
-  refuses place.BadMask (Refuses refusal) not_home known told = subst (λ r. FolderRefused contents from typed r) (sym told) (inr known)
-  refuses place.NoSelection (Refuses refusal) not_home known told = absurd told
-  refuses (place.Nested one second) (Refuses refusal) not_home known told = absurd told
-  refuses (place.Source path e) (Refuses refusal) not_home known told = absurd told
-  refuses (place.SameFile path) (Refuses refusal) not_home known told = absurd told
-  refuses (place.IntoItself source target) (Refuses refusal) not_home known told = absurd told
-  refuses (place.TwoToOne one second) (Refuses refusal) not_home known told = absurd told
-  refuses place.BadLinkText (Refuses refusal) not_home known told = absurd told
-  refuses place.Memory (Refuses refusal) not_home known told = absurd told
+  refuses : (error : PlanError) (plan : JobPlan) → is_below_home typed ≡ false → IsPlaceError error → IsPlace contents from typed (Err error)
+      → IsToldAs error plan → FolderLeads contents from typed plan
+  refuses error (Begins plan) not_home allowed known told = absurd told
+  refuses (place.TargetThere path) (Refuses refusal) not_home allowed known told =
+      let is : Plan (TargetThere path) ≡ refusal = cc in subst (λ r. FolderRefused contents from typed r) is (not_home, known)
+  refuses (place.Target e) (Refuses refusal) not_home allowed known told =
+      let is : Plan (Target e) ≡ refusal = cc in subst (λ r. FolderRefused contents from typed r) is (not_home, known)
+  refuses place.BadMask (Refuses refusal) not_home allowed known told =
+      let is : Plan BadMask ≡ refusal = cc in subst (λ r. FolderRefused contents from typed r) is (inr known)
+  refuses place.NoSelection (Refuses refusal) not_home allowed known told = absurd allowed
+  refuses (place.Nested one second) (Refuses refusal) not_home allowed known told = absurd allowed
+  refuses (place.Source path e) (Refuses refusal) not_home allowed known told = absurd allowed
+  refuses (place.SameFile path) (Refuses refusal) not_home allowed known told = absurd allowed
+  refuses (place.IntoItself source target) (Refuses refusal) not_home allowed known told = absurd allowed
+  refuses (place.TwoToOne one second) (Refuses refusal) not_home allowed known told = absurd allowed
+  refuses place.BadLinkText (Refuses refusal) not_home allowed known told = absurd allowed
+  refuses place.Memory (Refuses refusal) not_home allowed known told = absurd cc
 
   -- what a refused path comes to
-  pub refused_leads : (error : PlanError) (result : Result JobPlan NoMemory) → is_below_home typed ≡ false → IsPlace contents from typed (Err error)
-      → IfOk result (IsToldAs error) → IfOk result (FolderLeads contents from typed)
-  refused_leads error (Err e) not_home known told = tt
-  refused_leads error (Ok plan) not_home known told = refuses error plan not_home known told
+  pub refused_leads : (error : PlanError) (result : Result JobPlan NoMemory) → is_below_home typed ≡ false → IsPlaceError error
+      → IsPlace contents from typed (Err error) → IfOk result (IsToldAs error) → IfOk result (FolderLeads contents from typed)
+  refused_leads error (Err e) not_home allowed known told = tt
+  refused_leads error (Ok plan) not_home allowed known told = refuses error plan not_home allowed known told
 
   target_cause : (log : CallLog) (e : ResolveError) → Plans {A = Route} (place_of (current log) from typed) (Err (place.Target e)) → IsTargetRefused log e
   target_cause log resolve.Fault known = inl (from, (typed, tt))
@@ -186,50 +168,21 @@ module _ (contents : Option CallLog) (from : Route) (typed : List ℕ) where
   target_cause log resolve.BadName known = place_cause log from typed (place.Target resolve.BadName) (known refl)
   target_cause log resolve.Memory known = place_cause log from typed (place.Target resolve.Memory) (known refl)
 
-  told_cause : (log : CallLog) (error : PlanError) (plan : JobPlan) → Plans {A = Route} (place_of (current log) from typed) (Err error) → IsToldAs error plan
-      → AreRefused log (plan_refusals plan)
-  told_cause log error (Begins plan) known told = absurd told
-  told_cause log (place.TargetThere path) (Refuses refusal) known told =
-      subst (λ r. AreRefused log (r ∷ [])) (sym told) (place_cause log from typed (place.TargetThere path) (known refl), tt)
-  told_cause log (place.Target e) (Refuses refusal) known told = subst (λ r. AreRefused log (r ∷ [])) (sym told) (target_cause log e known, tt)
-  told_cause log place.BadMask (Refuses refusal) known told = subst (λ r. AreRefused log (r ∷ [])) (sym told) (tt, tt)
-  told_cause log place.NoSelection (Refuses refusal) known told = absurd told
-  told_cause log (place.Nested one second) (Refuses refusal) known told = absurd told
-  told_cause log (place.Source path e) (Refuses refusal) known told = absurd told
-  told_cause log (place.SameFile path) (Refuses refusal) known told = absurd told
-  told_cause log (place.IntoItself source target) (Refuses refusal) known told = absurd told
-  told_cause log (place.TwoToOne one second) (Refuses refusal) known told = absurd told
-  told_cause log place.BadLinkText (Refuses refusal) known told = absurd told
-  told_cause log place.Memory (Refuses refusal) known told = absurd told
+  folder_cause : (log : CallLog) (error : PlanError) → IsPlaceError error → Plans {A = Route} (place_of (current log) from typed) (Err error)
+      → HasTreeCause log error
+  folder_cause log (place.TargetThere path) allowed known = place_cause log from typed (place.TargetThere path) (known refl)
+  folder_cause log (place.Target e) allowed known = target_cause log e known
+  folder_cause log place.BadMask allowed known = tt
+  folder_cause log place.Memory allowed known = tt
+  folder_cause log place.NoSelection allowed known = absurd allowed
+  folder_cause log (place.Nested one second) allowed known = absurd allowed
+  folder_cause log (place.Source path e) allowed known = absurd allowed
+  folder_cause log (place.SameFile path) allowed known = absurd allowed
+  folder_cause log (place.IntoItself source target) allowed known = absurd allowed
+  folder_cause log (place.TwoToOne one second) allowed known = absurd allowed
+  folder_cause log place.BadLinkText allowed known = absurd allowed
 
--- what was refused has its cause in the tree
-called : (contents : Option CallLog) (from : Route) (typed : List ℕ) (error : PlanError) (plan : JobPlan) → IsPlace contents from typed (Err error) → IsToldAs error plan
-    → IfKnown contents (λ log. AreRefused log (plan_refusals plan))
-called contents from typed error plan known told = λ log is. told_cause contents from typed log error plan (known log is) told
-
--- it tells of a fault only where the tree's count has risen
-risen : (f0 f1 : ℕ) (error : PlanError) (plan : JobPlan) → HasPlanCause {A = Route} f0 f1 (Err error) → IsToldAs error plan → has_fault (plan_refusals plan) ≡ true → HasRisen f0 f1
-risen f0 f1 error (Begins plan) cause told h = absurd told
-risen f0 f1 (place.TargetThere path) (Refuses refusal) cause told h = absurd (false≢true (subst (λ r. has_fault (r ∷ []) ≡ true) told h))
-risen f0 f1 place.BadMask (Refuses refusal) cause told h = absurd (false≢true (subst (λ r. has_fault (r ∷ []) ≡ true) told h))
-risen f0 f1 (place.Target resolve.Fault) (Refuses refusal) cause told h = cause.risen refl
-risen f0 f1 (place.Target (resolve.Tree path e)) (Refuses refusal) cause told h = absurd (false≢true (subst (λ r. has_fault (r ∷ []) ≡ true) told h))
-risen f0 f1 (place.Target resolve.TooManyLinks) (Refuses refusal) cause told h = absurd (false≢true (subst (λ r. has_fault (r ∷ []) ≡ true) told h))
-risen f0 f1 (place.Target resolve.TooLong) (Refuses refusal) cause told h = absurd (false≢true (subst (λ r. has_fault (r ∷ []) ≡ true) told h))
-risen f0 f1 (place.Target resolve.BadName) (Refuses refusal) cause told h = absurd (false≢true (subst (λ r. has_fault (r ∷ []) ≡ true) told h))
-risen f0 f1 (place.Target resolve.Memory) (Refuses refusal) cause told h = absurd (false≢true (subst (λ r. has_fault (r ∷ []) ≡ true) told h))
-risen f0 f1 place.NoSelection (Refuses refusal) cause told h = absurd told
-risen f0 f1 (place.Nested one second) (Refuses refusal) cause told h = absurd told
-risen f0 f1 (place.Source path e) (Refuses refusal) cause told h = absurd told
-risen f0 f1 (place.SameFile path) (Refuses refusal) cause told h = absurd told
-risen f0 f1 (place.IntoItself source target) (Refuses refusal) cause told h = absurd told
-risen f0 f1 (place.TwoToOne one second) (Refuses refusal) cause told h = absurd told
-risen f0 f1 place.BadLinkText (Refuses refusal) cause told h = absurd told
-risen f0 f1 place.Memory (Refuses refusal) cause told h = absurd told
-
--- what a refused plan tells of the tree
-pub refused_reads : (contents after : Option CallLog) (from : Route) (typed : List ℕ) (f0 f1 : ℕ) (error : PlanError) (result : Result JobPlan NoMemory) → after ≡ contents
-    → IsPlace contents from typed (Err error) → HasPlanCause {A = Route} f0 f1 (Err error) → IfOk result (IsToldAs error) → ReadsTree plan_refusals result contents after f0 f1
-refused_reads contents after from typed f0 f1 error (Err e) same known cause told = record { same = same; later = cause.later; called = λ log is. tt; fault = tt }
-refused_reads contents after from typed f0 f1 error (Ok plan) same known cause told =
-    record { same = same; later = cause.later; called = called contents from typed error plan known told; fault = risen f0 f1 error plan cause told }
+  -- what was refused has its cause in the tree
+  pub folder_causes : (error : PlanError) → IsPlaceError error → IsPlace contents from typed (Err error)
+      → IfKnown contents (λ log. HasTreeCause log error)
+  folder_causes error allowed known = λ log is. folder_cause log error allowed (known log is)

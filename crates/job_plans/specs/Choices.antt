@@ -1,4 +1,4 @@
--- What choosing the thing that is selected comes to, and what planning a copy does.
+-- What choosing the thing that is selected comes to, and what a copy to a target does.
 use Rattle.std.specs.Prelude.{◌≡◌, ◌≢◌, ℕ, true, false, List, [], ◌∷◌, Option}
 use Rattle.mc_text.specs.Routes.{Route}
 use Rattle.tree_trait.specs.declared.calls.TreeError.{TreeError}
@@ -12,7 +12,8 @@ use Rattle.job_plans.specs.declared.choosing.Choice.{Choice}
 use Rattle.job_plans.specs.declared.choosing.Choice.TheVariants.{NoSelection, Nothing, Thing, Refused}
 use Rattle.job_plans.specs.declared.copying.JobPlan.{JobPlan}
 use Rattle.job_plans.specs.declared.copying.JobPlan.TheVariants.{Begins, Refuses}
-use Rattle.job_plans.specs.Copies.{CopyRefused, IsVacant, MayAsk, copy_plan}
+use Rattle.job_plans.specs.Copies.{IsVacant, MayAsk, copy_plan}
+use Rattle.job_plans.specs.CopyPlans.{IsBlocked}
 
 -- a thing may be asked of by a box, or not, or the look at it was refused
 abbrev pub IsLook : Opens → Option View → Route → Choice → Type 0
@@ -34,10 +35,10 @@ choice_refusals Nothing = []
 choice_refusals (Thing chosen) = []
 choice_refusals (Refused path e) = Tree path e ∷ []
 
--- what planning a copy comes to: the plan, where nothing stands at its target, or why it is refused
+-- what a copy to a target comes to: the plan, where nothing stands there, or why it is refused
 abbrev pub PlanLeads : Option View → Route → Route → JobPlan → Type 0
 PlanLeads tree path target (Begins plan) = IsVacant tree target × (plan ≡ copy_plan path target) × (is_workable plan ≡ true)
-PlanLeads tree path target (Refuses refusal) = CopyRefused tree target refusal
+PlanLeads tree path target (Refuses refusal) = IsBlocked tree target refusal
 
 -- what it was refused
 abbrev pub plan_refusals : JobPlan → List Refusal

@@ -13,7 +13,7 @@ use Rattle.op_plan.specs.Planning.{place_of}
 use Rattle.job_reports.specs.declared.job.Job.{Job}
 use Rattle.job_reports.specs.declared.job.Job.TheVariants as plan
 use Rattle.job_reports.specs.Jobs.{is_workable}
-use Rattle.session_history.specs.declared.refusal.PlanError.TheVariants.{NoSelection, TargetThere, TargetTooLong, BadMask, Target}
+use Rattle.session_history.specs.declared.refusal.PlanError.TheVariants.{NoSelection, Source, BadMask, Target, TargetThere, SameFile, IntoItself}
 use Rattle.session_history.specs.declared.refusal.Refusal.{Refusal}
 use Rattle.session_history.specs.declared.refusal.Refusal.TheVariants.{Tree, Read, Resolve, Plan, Begin, Typed}
 use Rattle.job_plans.specs.declared.copying.JobPlan.{JobPlan}
@@ -21,7 +21,7 @@ use Rattle.job_plans.specs.declared.copying.JobPlan.TheVariants.{Begins, Refuses
 use Rattle.job_plans.specs.Copies.{IsVacant}
 use Rattle.job_plans.specs.Reading.{sight}
 
--- A typed tilde, alone or before a slash, stands for HOME, which isn't read yet.
+-- A typed tilde, alone or before a slash, stands for HOME, which isn't known here.
 abbrev pub is_below_home : List ℕ → Bool
 is_below_home typed = bytes_eq typed (codes "~") || is_some (behind_word (codes "~/") typed)
 
@@ -44,23 +44,14 @@ FolderRefused contents from typed (Plan (TargetThere there)) = (is_below_home ty
 FolderRefused contents from typed (Plan (Target e)) = (is_below_home typed ≡ false) × IsPlace contents from typed (Err (place.Target e))
 FolderRefused contents from typed (Plan BadMask) = (is_below_home typed ≡ true) ⊎ IsPlace contents from typed (Err place.BadMask)
 FolderRefused contents from typed (Plan NoSelection) = ⊥
-FolderRefused contents from typed (Plan TargetTooLong) = ⊥
+FolderRefused contents from typed (Plan (Source path e)) = ⊥
+FolderRefused contents from typed (Plan (SameFile path)) = ⊥
+FolderRefused contents from typed (Plan (IntoItself source target)) = ⊥
 FolderRefused contents from typed (Tree path e) = ⊥
 FolderRefused contents from typed (Read path e) = ⊥
 FolderRefused contents from typed (Resolve e) = ⊥
 FolderRefused contents from typed (Begin error) = ⊥
 FolderRefused contents from typed (Typed error) = ⊥
-
--- what an error of the path for a new thing is told as
-abbrev pub IsTold : PlanError → Refusal → Type 0
-IsTold (place.TargetThere path) refusal = refusal ≡ Plan (TargetThere path)
-IsTold (place.Target e) refusal = refusal ≡ Plan (Target e)
-IsTold place.BadMask refusal = refusal ≡ Plan BadMask
-IsTold error refusal = ⊥
-
-abbrev pub IsToldAs : PlanError → JobPlan → Type 0
-IsToldAs error (Begins plan) = ⊥
-IsToldAs error (Refuses refusal) = IsTold error refusal
 
 -- the plan of a new folder
 abbrev pub folder_plan : Route → Job

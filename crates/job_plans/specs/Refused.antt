@@ -5,7 +5,7 @@ use Rattle.tree_trait.specs.declared.calls.TreeError.TheVariants.{Fault}
 use Rattle.resolving.specs.declared.error.ResolveError.{ResolveError}
 use Rattle.resolving.specs.declared.error.ResolveError.TheVariants as resolve
 use Rattle.session_history.specs.declared.refusal.PlanError.{PlanError}
-use Rattle.session_history.specs.declared.refusal.PlanError.TheVariants.{Target}
+use Rattle.session_history.specs.declared.refusal.PlanError.TheVariants.{Source, Target}
 use Rattle.session_history.specs.declared.refusal.Refusal.{Refusal}
 use Rattle.session_history.specs.declared.refusal.Refusal.TheVariants.{Tree, Read, Resolve, Plan, Begin, Typed}
 
@@ -19,8 +19,9 @@ abbrev pub is_resolve_fault : ResolveError → Bool
 is_resolve_fault resolve.Fault = true
 is_resolve_fault e = false
 
--- the tree failed at the target of a plan, or on the way to it
+-- the tree failed at the source or the target of a plan, or on the way to it
 abbrev pub is_plan_fault : PlanError → Bool
+is_plan_fault (Source path e) = is_fault e
 is_plan_fault (Target e) = is_resolve_fault e
 is_plan_fault error = false
 

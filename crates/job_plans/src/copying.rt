@@ -1,46 +1,108 @@
 //! The plans of the jobs that a box confirms.
-ghost use Rattle.std.specs.Prelude.{◌≡◌, ◌≢◌, ◌<◌, true, IfErr, IfOk, is_some, length};
-ghost use Rattle.mc_text.specs.Routes.{parent_of, spelled};
+ghost use Rattle.std.specs.Prelude.{◌≡◌, ◌≢◌, true, IfErr, IfOk, is_some};
+ghost use Rattle.mc_text.specs.Routes.{parent_of};
 ghost use Rattle.tree_trait.specs.Calls.{Stat};
 ghost use Rattle.tree_trait.specs.Change.{current};
 ghost use Rattle.tree_trait.specs.Answers.{HasCause, IfKnown, IsMeta, Reads};
 ghost use Rattle.job_reports.specs.Jobs.{is_workable};
-ghost use Rattle.job_plans.specs.Copies.{IsTaken, IsVacant, copy_plan, delete_plan, target_in};
+ghost use Rattle.job_plans.specs.Copies.{IsTaken, IsVacant, copy_plan, delete_plan};
+ghost use Rattle.job_plans.specs.CopyPlans.{CopyLeads, IsOneCopy, copy_request, only_copy, source_of};
 ghost use Rattle.job_plans.specs.Choices.{AfterLook, PlanLeads, plan_refusals};
+ghost use Rattle.job_plans.specs.Folders.{is_below_home};
 ghost use Rattle.job_plans.specs.Reading.{ReadsTree, sight};
 
+use crate::home::is_below_home;
+use crate::refused::{refuse, refused};
 use box_words::Chosen;
 use job_reports::{Job, Pair, Pairs};
-use mc_text::{NoMemory, Path, PathError, Paths};
+use mc_text::{NoMemory, Path, Paths, Text};
+use op_plan::{Job as Planned, Pair as PlannedPair, Pairs as PlannedPairs, Request, make_plan};
 use session_history::{PlanError, Refusal};
 use std::alloc::Global;
 use tree_trait::{Meta, ReadTree, TreeError};
 
-/// What planning a copy comes to.
+/// What planning a job comes to.
 #[derive(Debug, Drop)]
 pub enum JobPlan {
     Begins(Job),
     Refuses(Refusal),
 }
 
-/// Plans the copy of a file into a folder under its own name, if nothing stands there.
+/// Plans the copy of a file that a mask is to match to where a typed text leads from a folder, if nothing stands there. The text's last part
+/// makes the target's name of the source's, or names the folder that is to hold it. What begins at HOME, which isn't known here, is refused
+/// without a look.
 pub fn plan_copy<T: ReadTree>(
     alloc: Global,
     tree: &mut T,
     chosen: &Chosen,
-    folder: &Path,
+    mask: &str,
+    from: &Path,
+    typed: &str,
 ) -> Result<JobPlan, NoMemory>
-    ensures leads { IfOk result (PlanLeads (sight (T.contents tree.old)) chosen.now.path (target_in folder.now chosen.now.path)) }
+    ensures leads { IfOk result (CopyLeads (T.contents tree.old) chosen.now.path mask.now from.now typed.now) }
+    ensures home { is_below_home typed.now ≡ true → tree.new ≡ tree.old }
     ensures reads { ReadsTree plan_refusals result (T.contents tree.old) (T.contents tree.new)
         (T.fault_count tree.old) (T.fault_count tree.new) }
 {
-    let target = match target_of(alloc, &chosen.path, folder) {
-        Ok(target) => target,
-        Err(PathError::Memory) => return Err(NoMemory),
-        Err(_) => return Ok(JobPlan::Refuses(Refusal::Plan(PlanError::TargetTooLong))),
-    };
+    if is_below_home(typed) {
+        return refuse(PlanError::BadMask);
+    }
+    let request = request_of(alloc, chosen, mask, from, typed)?;
+    match make_plan(alloc, tree, request) {
+        Ok(job) => plan_to(alloc, tree, chosen, target_of(job)),
+        Err(error) => refused(error),
+    }
+}
+
+/// What is asked for: the copy of one file.
+fn request_of(
+    alloc: Global,
+    chosen: &Chosen,
+    mask: &str,
+    from: &Path,
+    typed: &str,
+) -> Result<Request, NoMemory>
+    ensures { IfOk result (λ request. request ≡ copy_request chosen.now.path mask.now from.now typed.now) }
+{
+    let mut sources = Paths::new(alloc);
+    sources.push(chosen.path.copy(alloc)?)?;
+    Ok(Request::Copy {
+        sources,
+        mask: Text::from_str(alloc, mask)?,
+        from: from.copy(alloc)?,
+        to: Text::from_str(alloc, typed)?,
+    })
+}
+
+/// Where the one source of a copy goes.
+fn target_of(job: Planned) -> Path
+    requires { IsOneCopy job }
+    ensures target { job ≡ only_copy (source_of job) result }
+    ensures within { is_some (parent_of result) ≡ true }
+{
+    match job {
+        Planned::Copy(PlannedPairs(mut pairs)) => match pairs.pop() {
+            Some(PlannedPair { target, .. }) => target,
+            None => unreachable!(),
+        },
+        _ => unreachable!(),
+    }
+}
+
+/// Plans the copy of a file to a target, if nothing stands there.
+fn plan_to<T: ReadTree>(
+    alloc: Global,
+    tree: &mut T,
+    chosen: &Chosen,
+    target: Path,
+) -> Result<JobPlan, NoMemory>
+    requires within { is_some (parent_of target) ≡ true }
+    ensures leads { IfOk result (PlanLeads (sight (T.contents tree.old)) chosen.now.path target) }
+    ensures reads { ReadsTree plan_refusals result (T.contents tree.old) (T.contents tree.new)
+        (T.fault_count tree.old) (T.fault_count tree.new) }
+{
     match look_at(alloc, tree, &target) {
-        Ok(_) => Ok(JobPlan::Refuses(Refusal::Plan(PlanError::TargetThere(target)))),
+        Ok(_) => refuse(PlanError::TargetThere(target)),
         Err(error) => after_look(alloc, chosen, target, error),
     }
 }
@@ -54,17 +116,6 @@ fn look_at<T: ReadTree>(alloc: Global, tree: &mut T, target: &Path) -> Result<Me
     ensures same { T.contents tree.new ≡ T.contents tree.old }
 {
     tree.stat(alloc, target)
-}
-
-/// Where a file comes that is copied into a folder.
-fn target_of(alloc: Global, path: &Path, folder: &Path) -> Result<Path, PathError>
-    ensures target { IfOk result (λ target. target ≡ target_in folder.now path.now) }
-    ensures too_long { IfErr result (λ e. e ≢ PathError.Memory → 4096 < length (spelled (target_in folder.now path.now))) }
-{
-    match path.names() {
-        [] => Ok(folder.copy(alloc)?),
-        [.., last] => folder.join(alloc, last),
-    }
 }
 
 /// Plans the copy where the look at its target was refused because nothing is there.

@@ -1,9 +1,11 @@
-//! The thing that is selected, a look at a target, and the plan of the job that a box confirms.
+//! The thing that is selected, and the plan of the job that a box confirms.
 #![tactic(auto)]
 
 mod choosing;
 mod copying;
+mod home;
 mod new_folder;
+mod refused;
 
 pub use choosing::{Choice, Opens, choose};
 pub use copying::{JobPlan, deletion_of, plan_copy};

@@ -1,0 +1,32 @@
+//! What comes of a plan that was refused.
+ghost use Rattle.std.specs.Prelude.{◌≡◌, IfOk, Ok};
+ghost use Rattle.job_plans.specs.Told.{IsToldAs};
+
+use crate::copying::JobPlan;
+use mc_text::NoMemory;
+use op_plan::PlanError as PlaceError;
+use session_history::{PlanError, Refusal};
+
+/// What comes of a plan of one path that was refused so.
+pub(crate) fn refused(error: PlaceError) -> Result<JobPlan, NoMemory>
+    ensures { IfOk result (IsToldAs error) }
+{
+    match error {
+        PlaceError::NoSelection => refuse(PlanError::NoSelection),
+        PlaceError::Source(path, error) => refuse(PlanError::Source(path, error)),
+        PlaceError::BadMask => refuse(PlanError::BadMask),
+        PlaceError::Target(error) => refuse(PlanError::Target(error)),
+        PlaceError::TargetThere(path) => refuse(PlanError::TargetThere(path)),
+        PlaceError::SameFile(path) => refuse(PlanError::SameFile(path)),
+        PlaceError::IntoItself(source, target) => refuse(PlanError::IntoItself(source, target)),
+        // One path is refused in no other way.
+        _ => Err(NoMemory),
+    }
+}
+
+/// A refused plan.
+pub(crate) fn refuse(error: PlanError) -> Result<JobPlan, NoMemory>
+    ensures { result ≡ Ok (JobPlan.Refuses (Refusal.Plan error)) }
+{
+    Ok(JobPlan::Refuses(Refusal::Plan(error)))
+}
