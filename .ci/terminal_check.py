@@ -25,7 +25,7 @@ from terminal_screen import Screen
 UP, DOWN, HOME, END, TAB, INSERT = b"\x1b[A", b"\x1b[B", b"\x1b[H", b"\x1b[F", b"\t", b"\x1b[2~"
 BACK, FORWARD, AGAIN, SWAP = b"\x1by", b"\x1bu", b"\x12", b"\x15"
 F1, F3, F5, F7, F8, F9, F10, ENTER, ESCAPE = b"\x1bOP", b"\x1bOR", b"\x1b[15~", b"\x1b[18~", b"\x1b[19~", b"\x1b[20~", b"\x1b[21~", b"\r", b"\x1b\x1b"
-EMPTY, HIDDEN = b"\x15", b"\x1b."
+EMPTY, HIDDEN, FIND = b"\x15", b"\x1b.", b"\x1b?"
 COPY = [DOWN, F5, ENTER, ENTER]
 USAGE = b"usage: mc [-b] [-V] [-h] [-P FILE] [-v FILE | -e FILE | --drill N | DIR1 [DIR2]]"
 KEYS = b"F1 help  F2 menu  F3 view  F4 edit  F5 copy  F6 move  F7 mkdir  F8 delete  F9 options  F10 quit"
@@ -176,7 +176,11 @@ def check_copies(program, base, check):
     status, told, _ = run(program, [source, target], COPY + [ENTER, F10, F10])
     check("what is there is not overwritten", status == 0 and facts(os.path.join(target, "x")) == old and b"already there" in told)
     status, told, _ = run(program, [source, source], COPY + [ENTER, F10, F10])
-    check("no file is copied onto itself", status == 0 and os.listdir(source) == ["x"] and b"already there" in told)
+    check("no file is copied onto itself", status == 0 and os.listdir(source) == ["x"] and b"same file" in told)
+    beside = os.path.join(source, "x.x")
+    status, _, _ = run(program, [source, target], [DOWN, F5, EMPTY + b"?*", ENTER, EMPTY + b"\\0.\\1", ENTER, F10])
+    check("a copy comes beside its file under the name that masks make", status == 0 and facts(beside) == facts(os.path.join(source, "x")))
+    os.remove(beside)
 
     os.remove(os.path.join(target, "x"))
     make_file(os.path.join(source, "x"), 100000, 0o640)
@@ -334,6 +338,50 @@ def check_viewer(program, base, check):
     for words in (["-v", "v", folder], ["-v", "v", "-e", "v"], ["-v"], ["-v", "v", "-P", "v"]):
         status, told, same = run(program, words, [], inside=folder)
         check(f"{words} are no words of the profile, or not built", status == 1 and same and told.written == USAGE + b"\r\n")
+
+
+def check_find(program, base, check):
+    """M-? on real files: the lines that ask, the list of what is found, and the panel behind it."""
+    folder = os.path.join(base, "sought")
+    deep, many = os.path.join(folder, "in", "deep"), os.path.join(base, "numbered")
+    os.makedirs(deep)
+    os.mkdir(many)
+    for name, text in [("a.c", "one\n"), ("in/b.c", "a needle\n"), ("in/deep/needle", "two\n")]:
+        with open(os.path.join(folder, name), "w") as file:
+            file.write(text)
+        os.utime(os.path.join(folder, name), (LONG_AGO, LONG_AGO))
+    numbered = [f"{number:03}" for number in range(250)]
+    for name in numbered:
+        open(os.path.join(many, name), "w").close()
+    below = [os.path.join(folder, name) for name in ("a.c", "in", "in/b.c", "in/deep", "in/deep/needle")]
+    size = (24, 80)
+
+    status, told, same = run(program, [folder, deep], [FIND, ENTER, ENTER, ENTER, END, ENTER, F10], size)
+    opened, start, names, content, found, _, went, *_ = [screen.rows() for screen in told.screens] + [None] * 7
+    check("M-? asks where to start", status == 0 and same and start == with_box(opened, ["Find from", "."]))
+    check("then it asks for names and a content", names == with_box(opened, ["Name pattern", "*"]) and content == with_box(opened, ["Content", ""]))
+    check("each path below is listed once", found == with_box(opened, ["Found 5"] + below))
+    inside = [PARENT, file_row("needle", 4)]
+    check("Enter goes to the path's folder, the cursor on its name", went == frame(*size, (deep, inside, "needle"), (deep, inside, "..")))
+    check("the current path is in reverse", told.screens[4].looks(11)[10:70] == "r" * 60)
+
+    status, told, _ = run(program, [folder, deep], [FIND, ENTER, EMPTY + b"*.c", ENTER, b"needle", ENTER, b"s", ESCAPE, F10], size)
+    opened, *_, found, stopped, left = [screen.rows() for screen in told.screens]
+    check("a content is sought in the files of a name", status == 0 and found == with_box(opened, ["Found 1", below[2]]))
+    check("a search that has ended stays as it is, and Escape leaves it", stopped == found and left == opened)
+
+    status, told, _ = run(program, [folder, deep], [FIND, EMPTY + b"none", ENTER, ENTER, F10, F10], size)
+    opened, _, typed, refused, again, left = [screen.rows() for screen in told.screens]
+    check("a start to which no way leads is refused", refused == with_box(typed, ["no such file or folder", os.path.join(folder, "none")]))
+    check("and can be mended", status == 0 and typed == again == with_box(opened, ["Find from", "none"]) and left == opened)
+
+    status, told, _ = run(program, [folder, deep], [FIND, ENTER, EMPTY + b"[", ENTER, ENTER, F10, F10], size)
+    typed, refused, again = [screen.rows() for screen in told.screens[3:6]]
+    check("a text that is no pattern is refused", status == 0 and refused == with_box(typed, ["bad pattern"]) and again == typed)
+
+    status, told, _ = run(program, [folder, deep], [FIND, EMPTY + b"../numbered", ENTER, ENTER, ENTER, F10, F10], size)
+    opened, *_, found, left = [screen.rows() for screen in told.screens]
+    check("a page of many paths is shown", status == 0 and found == with_box(opened, ["Found 250"] + [os.path.join(many, name) for name in numbered[:18]]) and left == opened)
 
 
 def left_panel(screen):
@@ -524,8 +572,15 @@ def check_new_folders(program, base, check):
     check("it is made in the current panel's folder, or where the path leads", status == 0 and os.listdir(other) == ["below"] and os.listdir(os.path.join(folder, "new")) == ["in"])
 
     for typed, words in [(b"a", b"already there"), (b"new", b"already there"), (b"no/such", b"no such file or folder"), (b"a/in", b"not a folder"), (b"~/in", b"bad mask"), (b"in/", b"bad mask")]:
-        status, told, _ = run(program, [folder, other], [F7, typed, ENTER, ENTER, F10, F10])
+        status, told, _ = run(program, [folder, other], [F7, typed, ENTER, ENTER, F10, F10], surroundings={"HOME": "no/home"})
         check(f"{typed.decode()} is refused", status == 0 and words in told and sorted(os.listdir(folder)) == ["a", "new"] and facts(os.path.join(folder, "a"))[1] == 0o644)
+
+    home = os.path.join(base, "own home")
+    os.mkdir(home)
+    keys = [F7, b"~/in", ENTER, END, F5, ENTER, EMPTY + b"~/", ENTER, F10]
+    status, _, _ = run(program, [folder, other], keys, surroundings={"HOME": home})
+    copied = facts(os.path.join(home, "a")) == facts(os.path.join(folder, "a"))
+    check("a tilde stands for HOME in what is made and copied", status == 0 and copied and sorted(os.listdir(home)) == ["a", "in"] and sorted(os.listdir(folder)) == ["a", "new"])
 
 
 def check_closed_folder(program, base, check):
@@ -754,7 +809,7 @@ def check_failed_build(starter, base, check):
 
 def main():
     program, starter = os.path.abspath(sys.argv[1]), os.path.abspath(sys.argv[2])
-    base = tempfile.mkdtemp()
+    base = os.environ["HOME"] = tempfile.mkdtemp()
     passed, failed = 0, 0
 
     def check(name, holds):
@@ -783,6 +838,7 @@ def main():
         check_copies(program, base, check)
         check_frames(program, base, check)
         check_viewer(program, base, check)
+        check_find(program, base, check)
         check_panels(program, base, check)
         check_panel_boxes(program, base, check)
         check_big_home(program, base, check)

@@ -92,9 +92,9 @@ const REFUSED_SYNCS: &[u64] = &[12, 13];
 const COPYING_AND_DELETING: &[u8] = b"\x1b[B\x1b[15~\r\rb\x1b[19~\r\x1b[21~";
 
 /// The calls that are the sync after the renaming, and the one of the last steps. Before them comes the opening: for each panel a
-/// look at its path and a listing, and a look at the file; then two looks of the keys, five of the copy, and the part made, filled
-/// from what is read, synced and renamed.
-const REFUSED_TARGET_SYNCS: &[u64] = &[18, 19];
+/// look at its path and a listing, and a look at the file; then four looks of the keys (at the file, at it again, at the folder that
+/// was typed, and at the target), five of the copy, and the part made, filled from what is read, synced and renamed.
+const REFUSED_TARGET_SYNCS: &[u64] = &[20, 21];
 
 /// F7, n, Enter, F10.
 const MAKING: &[u8] = b"\x1b[18~n\r\x1b[21~";

@@ -31,6 +31,7 @@ fn begin(alloc: Global, tree: MemTree, left: &str, right: &str) -> Result<MuteDe
         alloc,
         Start {
             mode: StartMode::Panels { left, right },
+            home: None,
             lines: 24,
             columns: 80,
         },

@@ -11,12 +11,12 @@ use Rattle.tree_trait.specs.Change.{CallLog}
 use Rattle.tree_trait.specs.Answers.{IfKnown, HasRisen}
 use Rattle.job_reports.specs.CallRuns.{HasMore}
 use Rattle.job_reports.specs.declared.report.Did.{Did}
-use Rattle.job_reports.specs.declared.report.Did.TheVariants.{Began as BeganPart, Chunk, Placed, Removed, Made, Kept, Skipped, Cleaned, Barrier, Troubled, Ended}
+use Rattle.job_reports.specs.declared.report.Did.TheVariants.{Began as BeganPart, Chunk, Placed, Removed, Made, Set, Kept, Skipped, Cleaned, Barrier, Troubled, Ended}
 use Rattle.job_reports.specs.declared.report.Trouble.{Trouble}
 use Rattle.job_reports.specs.declared.report.Ending.TheVariants.{NoMemory}
 use Rattle.session_history.specs.declared.history.Entry.{Entry}
 use Rattle.session_history.specs.declared.history.Event.{Event}
-use Rattle.session_history.specs.declared.history.Event.TheVariants.{Key, Look, Began, Order, Step, Closed}
+use Rattle.session_history.specs.declared.history.Event.TheVariants.{Key, Look, Sought, Began, Order, Step, Closed}
 use Rattle.session_history.specs.declared.history.JobOrder.TheVariants.{Answered}
 use Rattle.job_reports.specs.declared.answer.Answer.{Answer}
 use Rattle.job_reports.specs.declared.job.Job.{Job}
@@ -42,6 +42,8 @@ use Rattle.mc_desk.specs.Tallies.{Tally, faults_in, can_step, end_unseen_event, 
 use Rattle.mc_desk.specs.Desks.{Seen, noted, stand_of, stand_with, with_end}
 use Rattle.mc_desk.specs.LiveRows.{row_of, rows_told, trouble_told}
 use Rattle.mc_desk.specs.Granting.{KeyWorks}
+use Rattle.mc_ui.specs.Seekings.{is_seeking}
+use Rattle.mc_desk.specs.Searches.{HasSought}
 use Rattle.mc_desk.specs.Shown.{DrawsFrame, PutsNothing, frame_due, none_before}
 use Rattle.mc_desk.specs.Sessions.{MayEnd, StepFault}
 use Rattle.mc_desk.proofs.Answering.{part_told, waits_told}
@@ -149,6 +151,7 @@ module _ (contents contents_after : Option CallLog) (faults : ℕ) (old new : Se
     timely = unplanned old unasked settled;
     counts = record { seat = main; later = later; fault = fault; calls = omega arith; most = omega arith };
     leads = (record { unclosed = unclosed; looked = looked; unlost = unlost }, leads);
+    sought = tt;
     caused = refused;
     traced = leads_still contents contents_after same old new (entry seat old.tally.calls count shown (Key key now refusals false)) refl dirty (λ log stays. record { after_is = stays; now_is = refl }) (job ∙ open_job old.tally.closed old.job unclosed);
     unknown = still_unknown contents contents_after same;
@@ -168,6 +171,7 @@ module _ (contents contents_after : Option CallLog) (faults : ℕ) (old new : Se
     timely = unplanned old unasked settled;
     counts = record { seat = main; later = later; fault = λ h. absurd cc; calls = omega arith; most = omega arith };
     leads = (record { unclosed = unclosed; looked = looked; unlost = unlost }, same_noted old new screen quit);
+    sought = tt;
     caused = λ log known. tt;
     traced = leads_still contents contents_after same old new (entry seat old.tally.calls count shown (Key key now [] true)) refl dirty (λ log stays. record { after_is = stays; now_is = refl }) (job ∙ open_job old.tally.closed old.job unclosed);
     unknown = still_unknown contents contents_after same;
@@ -195,8 +199,34 @@ module _ (contents contents_after : Option CallLog) (faults : ℕ) (old new : Se
       subst (λ s. LookLeads contents (rows_told old.newest) old.tally.has_unseen_end (news_left old.newest) refusals s (noted new)) (sym (unasked_screen old unasked))
           (subst (λ s. LookLeads contents (rows_told old.newest) old.tally.has_unseen_end (news_left old.newest) refusals old.screen s) (sym (unasked_screen new (quit ∙ unasked))) leads),
     );
+    sought = tt;
     caused = refused;
     traced = leads_still contents contents_after same old new (entry seat old.tally.calls count shown (Look refusals)) refl dirty (λ log stays. record { after_is = stays; now_is = refl }) (job ∙ open_job old.tally.closed old.job unclosed);
+    unknown = still_unknown contents contents_after same;
+  }
+
+  -- steps of a search
+  pub adds_sought : new.newest ≡ entry seat old.tally.calls count shown Sought ∷ old.newest → new.tally ≡ old.tally → new.job ≡ old.job → new.tally.job ≡ option_map told new.job
+      → old.tally.closed ≡ false → old.tally.due ≡ None → is_seeking old.screen ≡ true → old.screen.planned ≡ None → contents_after ≡ contents
+      → (from : ℕ) → faults_in faults old.newest ≤ from → from ≤ count → HasSought contents from count old.screen new.screen → new.quit ≡ old.quit → old.quit ≡ false → new.dirty ≡ old.dirty
+      → DrawsFrame (none_before old.newest) (frame_due (noted new) (next_id old.tally.last) (rows_told old.newest)) shown old.out.put new.out.put
+      → Adds contents contents_after faults old new (entry seat old.tally.calls count shown Sought)
+  adds_sought more tally job tells unclosed looked seeking settled same from had later made quit unasked dirty draws = record {
+    draws = draws;
+    more = more;
+    tally = tally ∙ open_tally old.tally unclosed;
+    told = tells;
+    timely = unplanned old unasked settled;
+    counts = record { seat = main; later = omega (arith, had, later); fault = λ h. absurd h; calls = omega arith; most = omega arith };
+    leads = (unclosed, looked, ap is_seeking (unasked_screen old unasked) ∙ seeking);
+    sought = (
+      from,
+      had,
+      subst (λ s. HasSought contents from count s (noted new)) (sym (unasked_screen old unasked))
+          (subst (λ s. HasSought contents from count old.screen s) (sym (unasked_screen new (quit ∙ unasked))) made),
+    );
+    caused = λ log known. tt;
+    traced = leads_still contents contents_after same old new (entry seat old.tally.calls count shown Sought) refl dirty (λ log stays. record { after_is = stays; now_is = refl }) (job ∙ open_job old.tally.closed old.job unclosed);
     unknown = still_unknown contents contents_after same;
   }
 
@@ -222,6 +252,7 @@ module _ (contents contents_after : Option CallLog) (faults : ℕ) (old new : Se
       number = id_is;
       carried_out = carried_out old new screen quit unasked;
     };
+    sought = tt;
     caused = λ log known. tt;
     traced = leads_on contents contents_after same old new (entry seat old.tally.calls count 0 (Began id plan background)) (Some run) refl
         (λ log known. record { none_live = ap (λ j. before_others j []) none; after_is = begins id plan run old new started dirty; now_is = refl }) (job ∙ open_job old.tally.closed (Some run) unclosed);
@@ -257,6 +288,7 @@ module _ (contents contents_after : Option CallLog) (faults : ℕ) (old new : Se
       fits = takes;
       carried_out = carried_out old new screen quit unasked;
     };
+    sought = tt;
     caused = λ log known. tt;
     traced = leads_on contents contents_after same old new (entry seat old.tally.calls count 0 (Order live.id (Answered answer))) (Some (answered answer live)) refl
         (λ log known. record { after_is = answers answer live old new is dirty; now_is = refl }) (job ∙ open_job old.tally.closed (Some (answered answer live)) unclosed);
@@ -279,6 +311,7 @@ module _ (contents contents_after : Option CallLog) (faults : ℕ) (old new : Se
     timely = may_end old settled;
     counts = record { seat = main; later = later; fault = λ h. absurd h; calls = omega arith; most = omega arith };
     leads = same_noted old new screen quit;
+    sought = tt;
     caused = λ log known. tt;
     traced = leads_still contents contents_after same old new (entry seat old.tally.calls count 0 Closed) refl dirty (λ log stays. record { after_is = stays; now_is = refl }) job;
     unknown = still_unknown contents contents_after same;
@@ -287,6 +320,7 @@ module _ (contents contents_after : Option CallLog) (faults : ℕ) (old new : Se
   unseen_step : (id : ℕ) (did : Did) (b : Bool) → (ends did || b) ≡ end_unseen_event (Step id did) b
   unseen_step id (BeganPart part) b = refl
   unseen_step id (Chunk bytes) b = refl
+  unseen_step id (Set path) b = refl
   unseen_step id (Placed path) b = refl
   unseen_step id (Removed path) b = refl
   unseen_step id (Made made) b = refl
@@ -346,6 +380,7 @@ module _ (contents contents_after : Option CallLog) (faults : ℕ) (old new : Se
           most = let few = s.few in omega (arith, calls_is, few);
         };
         leads = (same_noted old new screen quit, (told live, told_is, refl, inl (live, stepped, refl, s.tells)));
+        sought = tt;
         caused = λ log known. tt;
         traced = step_traced live stepped did made calls before after is (inl o) calls_is job s.counted (λ log known. step_tells IsUnclaimed live did stepped log contents_after (s.called log known));
         unknown = s.unknown;
@@ -378,6 +413,7 @@ module _ (contents contents_after : Option CallLog) (faults : ℕ) (old new : Se
       most = let few = s.few in omega (arith, calls_is, few);
     };
     leads = (same_noted old new screen quit, (told live, told_is, refl, inr (inr (s.goes, fresh_told live.work ∙ s.fresh, reports s.synced))));
+    sought = tt;
     caused = λ log known. tt;
     traced = step_traced live stepped did made calls before after is (inr s) calls_is job s.counted (λ log known. tells_on log known s.synced);
     unknown = s.unknown;
@@ -425,6 +461,7 @@ module _ (contents contents_after : Option CallLog) (faults : ℕ) (old new : Se
     timely = may_end old settled;
     counts = record { seat = main; later = later; fault = λ h. absurd (subst (λ x. StepFault x (Ended NoMemory part)) told_is h); calls = omega arith; most = omega arith };
     leads = (same_noted old new screen quit, (told live, told_is, refl, inr (inl (waits_told live ∙ ready, ap (Ended NoMemory) (part_is ∙ sym (part_told live))))));
+    sought = tt;
     caused = λ log known. tt;
     traced = leads_on contents contents_after same old new (entry seat old.tally.calls count 0 (Step live.id (Ended NoMemory part))) None refl
         (λ log known. steps old new live (Ended NoMemory part) None log log is (inr (record { did_is = ap (Ended NoMemory) part_is; same = dirty; none = refl }, refl))) (job ∙ none_left old.tally.closed);

@@ -1,13 +1,14 @@
 -- A history begins no more jobs than it has entries.
 use Rattle.std.proofs.Common.{◌≡◌, ℕ, ◌+◌, ◌^◌, ◌<◌, ◌≤◌, List, [], ◌∷◌, length, Fits, w64, arith}
 use Rattle.session_history.specs.declared.history.Event.{Event}
-use Rattle.session_history.specs.declared.history.Event.TheVariants.{Key, Look, Began, Order, Step, Closed}
+use Rattle.session_history.specs.declared.history.Event.TheVariants.{Key, Look, Sought, Began, Order, Step, Closed}
 use Rattle.session_history.specs.declared.history.Entry.{Entry}
 use Rattle.mc_desk.specs.Logs.{begun_by, jobs_begun}
 
 one_begun : (what : Event) → begun_by what ≤ 1
 one_begun (Key key now refusals lost) = omega arith
 one_begun (Look refusals) = omega arith
+one_begun Sought = omega arith
 one_begun (Began id plan background) = omega arith
 one_begun (Order id order) = omega arith
 one_begun (Step id did) = omega arith

@@ -6,7 +6,7 @@ use Rattle.tree_trait.specs.Change.{CallLog}
 use Rattle.tree_trait.specs.Answers.{IfKnown}
 use Rattle.session_history.specs.declared.history.Entry.{Entry}
 use Rattle.session_history.specs.declared.history.Event.{Event}
-use Rattle.session_history.specs.declared.history.Event.TheVariants.{Key, Look, Began, Order, Step, Closed}
+use Rattle.session_history.specs.declared.history.Event.TheVariants.{Key, Look, Sought, Began, Order, Step, Closed}
 use Rattle.copy_move.specs.Jobs.{Running}
 use Rattle.copy_move.specs.Told.{told, if_closed}
 use Rattle.session_history.specs.Entries.{closes, is_closed, calls_in}
@@ -24,14 +24,15 @@ use Rattle.mc_desk.specs.Sessions.{Before, IsOpeningIn, IsSession, SessionState,
 use Rattle.mc_desk.specs.Starts.{IsOpened}
 use Rattle.mc_desk.specs.declared.standing.Standing.{Standing}
 use Rattle.mc_desk.specs.Outputs.{FitsScreen, Output}
+use Rattle.mc_desk.specs.Searches.{EventSeeks}
 use Rattle.mc_desk.specs.Shown.{EventDraws, HasPutNothing, Put, frame_due, none_before}
 use Rattle.mc_desk.specs.Standings.{fresh_standing}
 use Rattle.mc_desk.specs.Desks.{Seen, IsWritten, IsDesk, noted, seen_of, stand_of, stand_with, state_of}
 
 -- nothing waits to be carried out as a session opens
-plans_nothing : (mode : StartMode) (contents : Option CallLog) (lines columns : ℕ) (screen : Screen) → IsOpeningIn mode contents lines columns screen → screen.planned ≡ None
-plans_nothing (Panels left right) contents lines columns screen is = ap (λ (s : Screen). s.planned) is.opened
-plans_nothing (View path) contents lines columns screen is = ap (λ (s : Screen). s.planned) is.opened
+plans_nothing : (mode : StartMode) (contents : Option CallLog) (home : Option Route) (lines columns : ℕ) (screen : Screen) → IsOpeningIn mode contents home lines columns screen → screen.planned ≡ None
+plans_nothing (Panels left right) contents home lines columns screen is = ap (λ (s : Screen). s.planned) is.opened
+plans_nothing (View path) contents home lines columns screen is = ap (λ (s : Screen). s.planned) is.opened
 
 -- a desk on which nothing happened yet
 pub kept_opening : (start : Option Start) (opening contents : Option CallLog) (faults : ℕ) (named : Start) (screen : Screen) (log : Logged) (standing : Standing) (dirty : List Route) (out : Output) (taken : ℕ) (pending : List ℕ)
@@ -46,7 +47,7 @@ kept_opening start opening contents faults named screen log standing dirty out t
         told = refl;
         calls = omega arith;
       };
-      settled = plans_nothing named.mode contents named.lines named.columns screen opened.opening;
+      settled = plans_nothing named.mode contents named.home named.lines named.columns screen opened.opening;
       asked = λ asked. absurd cc;
       lost = λ lost. absurd cc;
       shut = λ closed. absurd cc;
@@ -80,6 +81,7 @@ pub record Adds (contents contents_after : Option CallLog) (faults : ℕ) (old n
   pub timely : IsTimely e.what (noted old)
   pub counts : Counts (faults_in faults old.newest) old.tally.calls old.tally.job e
   pub leads : EventLeads (before contents old) e.what (noted new)
+  pub sought : EventSeeks e.what contents (faults_in faults old.newest) e.faults (noted old) (noted new)
   pub caused : IfKnown contents (HasCauses e.what)
   pub traced : Leads contents contents_after old new e
   pub unknown : contents ≡ None → contents_after ≡ None
@@ -138,6 +140,7 @@ module _ (faults : ℕ) (old new : Seen) (e : Entry) where
   three_calls : (what : Event) → most_calls what ≤ 3
   three_calls (Key key now refusals lost) = omega arith
   three_calls (Look refusals) = omega arith
+  three_calls Sought = omega arith
   three_calls (Began id plan background) = omega arith
   three_calls (Order id order) = omega arith
   three_calls (Step id did) = omega arith
@@ -153,6 +156,7 @@ module _ (faults : ℕ) (old new : Seen) (e : Entry) where
         counts = subst (λ (t : Tally). Counts (faults_in faults old.newest) t.calls t.job e) written.tally adds.counts;
         leads = subst (λ t. EventLeads (let b : Before = record { contents = contents; tally = t; rows = rows_told old.newest; news = news_left old.newest; screen = noted old } in b) e.what (noted new)) written.tally
             adds.leads;
+        sought = adds.sought;
         caused = adds.caused;
         traced = traced_more start opening contents contents_after written adds;
         draws = subst (λ n. EventDraws e.what (none_before old.newest) (frame_due (noted new) (next_id n) (rows_told old.newest)) e.shown old.out.put new.out.put) (ap (λ (t : Tally). t.last) written.tally) adds.draws;

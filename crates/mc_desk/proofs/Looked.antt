@@ -45,6 +45,19 @@ open_due start opening contents faults desk due whole is = (go desk.tally.closed
     go false none = refl
     go true none = absurd (let not_due = none refl in cc)
 
+-- the frame that is drawn after a look, or the steps of a search, is the one that is due
+pub frame_is_due : (start : Option Start) (opening contents : Option CallLog) (faults : ℕ) (log : Logged) (screen : Screen) (was : Standing) (dirty : List Route) (out : Output) (taken : ℕ) (pending : List ℕ)
+    → IsDesk start opening contents faults (seen_of log screen was dirty out taken pending) → was.quit ≡ false → (screen_after : Screen) → screen_after.planned ≡ None
+    → frame_of screen_after (rows_of was.job (trouble_told log.newest)) ≡ frame_due (with_end was.quit screen_after) (next_id was.last_id) (rows_told log.newest)
+frame_is_due start opening contents faults log screen was dirty out taken pending desk unasked screen_after settled =
+    ap (frame_of screen_after) (sym told_is)
+    ∙ (ap (λ s. frame_of s (rows_told log.newest)) (ap (λ o. let c : Screen = record screen_after { planned = o } in c) settled)
+    ∙ (ap (λ p. frame_at screen_after (rows_then p (next_id was.last_id) (rows_told log.newest))) (sym settled)
+    ∙ ap (λ b. frame_due (with_end b screen_after) (next_id was.last_id) (rows_told log.newest)) (sym unasked)))
+  where
+    told_is : rows_told log.newest ≡ rows_of was.job (trouble_told log.newest)
+    told_is = rows_are start opening contents faults (seen_of log screen was dirty out taken pending) desk.written
+
 abbrev taken_up : Standing → Standing
 taken_up was = record was { has_unseen_end = false; due = after_look (can_step was.job) was.due }
 
@@ -68,18 +81,9 @@ module _ (start : Option Start) (opening contents contents_after : Option CallLo
       (shown_whole (frame_of screen_after (rows_of was.job (trouble_told log.newest))) r out out_after s))
       still)
       (draws_written (seen_of log screen was dirty out taken pending) (frame_of screen_after (rows_of was.job (trouble_told log.newest)))
-      (frame_due (with_end was.quit screen_after) (next_id was.last_id) (rows_told log.newest)) r out_after desk.shown unclosed s frame_is))
+      (frame_due (with_end was.quit screen_after) (next_id was.last_id) (rows_told log.newest)) r out_after desk.shown unclosed s
+      (frame_is_due start opening contents faults log screen was dirty out taken pending desk unasked screen_after settled)))
     where
-      told_is : rows_told log.newest ≡ rows_of was.job (trouble_told log.newest)
-      told_is = rows_are start opening contents faults (seen_of log screen was dirty out taken pending) desk.written
-
-      frame_is : frame_of screen_after (rows_of was.job (trouble_told log.newest)) ≡ frame_due (with_end was.quit screen_after) (next_id was.last_id) (rows_told log.newest)
-      frame_is =
-          ap (frame_of screen_after) (sym told_is)
-          ∙ (ap (λ s. frame_of s (rows_told log.newest)) (ap (λ o. let c : Screen = record screen_after { planned = o } in c) settled)
-          ∙ (ap (λ p. frame_at screen_after (rows_then p (next_id was.last_id) (rows_told log.newest))) (sym settled)
-          ∙ ap (λ b. frame_due (with_end b screen_after) (next_id was.last_id) (rows_told log.newest)) (sym unasked)))
-
       -- a job that can't be stepped was not due, or is due no longer
       still : was.closed ≡ false → awaited (after_look (can_step was.job) was.due) ≡ None → can_step (option_map told was.job) ≡ false
       still unclosed none = go (can_step was.job) refl none

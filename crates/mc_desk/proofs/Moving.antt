@@ -5,7 +5,7 @@ use Rattle.mc_text.specs.Routes.{Route}
 use Rattle.tree_trait.specs.declared.calls.TreeError.{TreeError}
 use Rattle.tree_trait.specs.Change.{CallLog}
 use Rattle.job_reports.specs.declared.report.Did.{Did}
-use Rattle.job_reports.specs.declared.report.Did.TheVariants.{Began, Chunk, Placed, Removed, Made, Kept, Skipped, Cleaned, Barrier, Troubled, Ended}
+use Rattle.job_reports.specs.declared.report.Did.TheVariants.{Began, Chunk, Placed, Removed, Made, Set, Kept, Skipped, Cleaned, Barrier, Troubled, Ended}
 use Rattle.job_reports.specs.declared.report.Ending.{Ending}
 use Rattle.job_reports.specs.declared.report.Ending.TheVariants.{Finished, Aborted, Killed, NoMemory}
 use Rattle.file_copy.specs.Copying as copying
@@ -55,6 +55,7 @@ copy_synced : (c new : copying.Copying) (did : Did) → copying.Tells c did new 
 copy_synced c new Barrier t was now = refl
 copy_synced c new (Began part) t was now = absurd (true≢false (sym (ap (λ (n : copying.Copying). copying.is_dirty n.folder) t.1.1) ∙ now))
 copy_synced c new (Chunk count) (part, said, done, at, some, few, within, is) was now = absurd (true≢false (sym was ∙ (sym (ap (λ (n : copying.Copying). copying.is_dirty n.folder) is) ∙ now)))
+copy_synced c new (Set path) t was now = absurd t
 copy_synced c new (Placed path) (part, said, at, target, is) was now = absurd (true≢false (sym was ∙ (sym (ap (λ (n : copying.Copying). copying.is_dirty n.folder) is) ∙ now)))
 copy_synced c new (Cleaned part) (follows, at, is) was now = absurd (true≢false (sym was ∙ (sym (ap (λ (n : copying.Copying). copying.is_dirty n.folder) is) ∙ now)))
 copy_synced c new (Troubled trouble) t was now = absurd (true≢false (sym was ∙ (sym (ap (λ (n : copying.Copying). copying.is_dirty n.folder) t.1) ∙ now)))
@@ -71,6 +72,7 @@ making_synced m new (Troubled trouble) t was now = absurd (true≢false (sym was
 making_synced m new (Ended ending part) t was now = absurd (true≢false (sym was ∙ (making_finishes m new ending part t).1))
 making_synced m new (Began part) t was now = absurd t
 making_synced m new (Chunk count) t was now = absurd t
+making_synced m new (Set path) t was now = absurd t
 making_synced m new (Placed path) t was now = absurd t
 making_synced m new (Removed made) t was now = absurd t
 making_synced m new (Kept kept) t was now = absurd t
@@ -107,6 +109,7 @@ module _ (job : Option Running) (newest older : List Entry) (dirty dirty_after :
   deletion_moves live d new before after is work (Ended ending part) did_is t h = inl h.1
   deletion_moves live d new before after is work (Began part) did_is t h = absurd t
   deletion_moves live d new before after is work (Chunk bytes) did_is t h = absurd t
+  deletion_moves live d new before after is work (Set path) did_is t h = absurd t
   deletion_moves live d new before after is work (Placed path) did_is t h = absurd t
   deletion_moves live d new before after is work (Made made) did_is t h = absurd t
   deletion_moves live d new before after is work (Skipped path cause) did_is t h = inl h
@@ -148,6 +151,7 @@ module _ (job : Option Running) (newest older : List Entry) (dirty dirty_after :
   tries folder (Some e) Barrier is left = inl left
   tries folder refusal (Began part) is left = inl left
   tries folder refusal (Chunk bytes) is left = inl left
+  tries folder refusal (Set path) is left = inl left
   tries folder refusal (Placed path) is left = inl left
   tries folder refusal (Removed path) is left = inl left
   tries folder refusal (Made made) is left = inl left

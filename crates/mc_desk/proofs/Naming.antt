@@ -3,12 +3,12 @@ use Rattle.std.proofs.Common.{◌≡◌, ℕ, Bool, true, false, List, [], ◌�
 use Rattle.std.specs.Prelude.{option_and_then, if◌then◌else◌}
 use Rattle.std.specs.Option.{option_map}
 use Rattle.job_reports.specs.declared.report.Did.{Did}
-use Rattle.job_reports.specs.declared.report.Did.TheVariants.{Began as BeganPart, Chunk, Placed, Removed, Made, Kept, Skipped, Cleaned, Barrier, Troubled, Ended}
+use Rattle.job_reports.specs.declared.report.Did.TheVariants.{Began as BeganPart, Chunk, Placed, Removed, Made, Set, Kept, Skipped, Cleaned, Barrier, Troubled, Ended}
 use Rattle.job_reports.specs.declared.answer.Answer.{Answer}
 use Rattle.job_reports.specs.declared.answer.Answer.TheVariants.{Retry, Skip, SkipAll, Abort}
 use Rattle.session_history.specs.declared.history.Entry.{Entry}
 use Rattle.session_history.specs.declared.history.Event.{Event}
-use Rattle.session_history.specs.declared.history.Event.TheVariants.{Key, Look, Began, Order, Step, Closed}
+use Rattle.session_history.specs.declared.history.Event.TheVariants.{Key, Look, Sought, Began, Order, Step, Closed}
 use Rattle.session_history.specs.declared.history.JobOrder.TheVariants.{Answered}
 use Rattle.copy_move.specs.declared.work.Work.{Work}
 use Rattle.copy_move.specs.declared.run.Course.{Course}
@@ -32,6 +32,7 @@ step_numbered : (n : ℕ) (did : Did) (job : Option Running) → Numbered n job 
 step_numbered n did None h live is = absurd cc
 step_numbered n (BeganPart part) (Some job) h live is = let same : job.id ≡ live.id = cc in sym same ∙ h job refl
 step_numbered n (Chunk bytes) (Some job) h live is = let same : job.id ≡ live.id = cc in sym same ∙ h job refl
+step_numbered n (Set path) (Some job) h live is = let same : job.id ≡ live.id = cc in sym same ∙ h job refl
 step_numbered n (Placed path) (Some job) h live is = let same : job.id ≡ live.id = cc in sym same ∙ h job refl
 step_numbered n (Removed path) (Some job) h live is = let same : job.id ≡ live.id = cc in sym same ∙ h job refl
 step_numbered n (Made made) (Some job) h live is = let same : job.id ≡ live.id = cc in sym same ∙ h job refl
@@ -73,6 +74,7 @@ event_numbered n (Look refusals) job due h is = go (can_step job) is
     go : (b : Bool) → (if b then due else None) ≡ Some n → Numbered n job
     go true is = h n is
     go false is = absurd cc
+event_numbered n Sought job due h is = h n is
 event_numbered n (Began id plan background) job due h is = began_numbered n id (first_work id plan) (let number : id ≡ n = cc in number)
 event_numbered n (Order id (Answered answer)) job due h is = order_numbered n answer job is
 event_numbered n (Step id did) job due h is = step_numbered n did job (h n is)

@@ -35,10 +35,10 @@ use Rattle.mc_desk.specs.declared.starts.StartPlace.TheVariants as place
 use Rattle.mc_desk.specs.Starts.{CanStart, IsRefusal, IsStartCause, Starts, file_refusal, is_start_fault, path_refusal, place_of, refusal_at_end, start_error, unread_at_end, unread_error, viewed_alone}
 
 -- panels that were just opened make a screen as it opens
-pub opens : (contents : Option CallLog) (left right : Route) (lines columns : ℕ) (pair : PairState) (now : ℕ) (screen : Screen) → pair ≡ just_opened pair → screen ≡ opened_screen pair lines columns now
-    → IfKnown contents (λ known. OpensBoth known left right (Ok pair)) → OpensPanels contents left right lines columns screen
-opens contents left right lines columns pair now screen fresh is shows =
-    subst (λ s. OpensPanels contents left right lines columns s) (sym is) (record { shows = shows; opened = ap (λ p. opened_screen p lines columns now) fresh })
+pub opens : (contents : Option CallLog) (left right : Route) (home : Option Route) (lines columns : ℕ) (pair : PairState) (now : ℕ) (screen : Screen) → pair ≡ just_opened pair → screen ≡ opened_screen pair home lines columns now
+    → IfKnown contents (λ known. OpensBoth known left right (Ok pair)) → OpensPanels contents left right home lines columns screen
+opens contents left right home lines columns pair now screen fresh is shows =
+    subst (λ s. OpensPanels contents left right home lines columns s) (sym is) (record { shows = shows; opened = ap (λ p. opened_screen p home lines columns now) fresh })
 
 -- a path whose folder is shown leads to one that can be listed
 shown_leads : (log : CallLog) (found : Result Route ResolveError) (panel : PanelState) → ShowsResolved log found (Ok panel) → refusal_at_end (current log) found ≡ None
@@ -140,21 +140,21 @@ unread contents path lines columns at tree.Fault h log known = tt
 unread contents path lines columns at tree.Memory h log known = tt
 
 -- the screen on which a file is viewed alone, as the session opens
-pub viewer_opens : (contents : Option CallLog) (path : Route) (lines columns now : ℕ) (opening : Opening) (result : Result Screen StartError) → OpensThing contents [] (path_text path) lines columns opening
-    → result ≡ viewed_alone opening lines columns now → IfOk result (OpensViewer contents path lines columns)
-viewer_opens contents path lines columns now (Viewed viewer) result opens is =
-    subst (λ r. IfOk r (OpensViewer contents path lines columns)) (sym is) (record { viewer = viewer; shows = opens; opened = refl })
-viewer_opens contents path lines columns now (NoWay e) result opens is = subst (λ r. IfOk r (OpensViewer contents path lines columns)) (sym is) tt
-viewer_opens contents path lines columns now (Unread at e) result opens is = subst (λ r. IfOk r (OpensViewer contents path lines columns)) (sym is) tt
+pub viewer_opens : (contents : Option CallLog) (path : Route) (home : Option Route) (lines columns now : ℕ) (opening : Opening) (result : Result Screen StartError) → OpensThing contents [] (path_text path) lines columns opening
+    → result ≡ viewed_alone opening home lines columns now → IfOk result (OpensViewer contents path home lines columns)
+viewer_opens contents path home lines columns now (Viewed viewer) result opens is =
+    subst (λ r. IfOk r (OpensViewer contents path home lines columns)) (sym is) (record { viewer = viewer; shows = opens; opened = refl })
+viewer_opens contents path home lines columns now (NoWay e) result opens is = subst (λ r. IfOk r (OpensViewer contents path home lines columns)) (sym is) tt
+viewer_opens contents path home lines columns now (Unread at e) result opens is = subst (λ r. IfOk r (OpensViewer contents path home lines columns)) (sym is) tt
 
 -- or why it doesn't
-pub viewer_starts : (contents : Option CallLog) (path : Route) (lines columns now : ℕ) (opening : Opening) (result : Result Screen StartError) → OpensThing contents [] (path_text path) lines columns opening
-    → result ≡ viewed_alone opening lines columns now → IfKnown contents (λ log. Starts (current log) (View path) result)
-viewer_starts contents path lines columns now (Viewed viewer) result opens is log known =
+pub viewer_starts : (contents : Option CallLog) (path : Route) (home : Option Route) (lines columns now : ℕ) (opening : Opening) (result : Result Screen StartError) → OpensThing contents [] (path_text path) lines columns opening
+    → result ≡ viewed_alone opening home lines columns now → IfKnown contents (λ log. Starts (current log) (View path) result)
+viewer_starts contents path home lines columns now (Viewed viewer) result opens is log known =
     subst (λ (r : Result Screen StartError). Starts (current log) (View path) r) (sym is) (file_leads contents path lines columns viewer opens log known)
-viewer_starts contents path lines columns now (NoWay e) result opens is log known =
+viewer_starts contents path home lines columns now (NoWay e) result opens is log known =
     subst (λ (r : Result Screen StartError). Starts (current log) (View path) r) (sym is) (no_way contents path lines columns e opens log known)
-viewer_starts contents path lines columns now (Unread at e) result opens is log known =
+viewer_starts contents path home lines columns now (Unread at e) result opens is log known =
     subst (λ (r : Result Screen StartError). Starts (current log) (View path) r) (sym is) (unread contents path lines columns at e opens log known)
 
 -- a fault that is told was counted
@@ -181,13 +181,13 @@ read_fault at tree.Special told = absurd (false≢true told)
 read_fault at tree.Fault told = refl
 read_fault at tree.Memory told = absurd (false≢true told)
 
-pub viewer_fault : (before after : Option CallLog) (faults faults_after lines columns now : ℕ) (r : Result Opening NoMemory) (opening : Opening) (result : Result Screen StartError) → r ≡ Ok opening
-    → ReadsToOpen r before after faults faults_after → result ≡ viewed_alone opening lines columns now → IfErr result (λ e. is_start_fault e ≡ true → HasRisen faults faults_after)
-viewer_fault before after faults faults_after lines columns now r (Viewed viewer) result same reads is =
+pub viewer_fault : (before after : Option CallLog) (faults faults_after : ℕ) (home : Option Route) (lines columns now : ℕ) (r : Result Opening NoMemory) (opening : Opening) (result : Result Screen StartError) → r ≡ Ok opening
+    → ReadsToOpen r before after faults faults_after → result ≡ viewed_alone opening home lines columns now → IfErr result (λ e. is_start_fault e ≡ true → HasRisen faults faults_after)
+viewer_fault before after faults faults_after home lines columns now r (Viewed viewer) result same reads is =
     subst (λ (x : Result Screen StartError). IfErr x (λ e. is_start_fault e ≡ true → HasRisen faults faults_after)) (sym is) tt
-viewer_fault before after faults faults_after lines columns now r (NoWay e) result same reads is =
+viewer_fault before after faults faults_after home lines columns now r (NoWay e) result same reads is =
     let told = subst (λ (x : Result Opening NoMemory). ReadsToOpen x before after faults faults_after) same reads in
     subst (λ (x : Result Screen StartError). IfErr x (λ e. is_start_fault e ≡ true → HasRisen faults faults_after)) (sym is) (λ fault. told.way_fault (ap (λ (w : ResolveError). NoWay w) (way_fault e fault)))
-viewer_fault before after faults faults_after lines columns now r (Unread at e) result same reads is =
+viewer_fault before after faults faults_after home lines columns now r (Unread at e) result same reads is =
     let told = subst (λ (x : Result Opening NoMemory). ReadsToOpen x before after faults faults_after) same reads in
     subst (λ (x : Result Screen StartError). IfErr x (λ e. is_start_fault e ≡ true → HasRisen faults faults_after)) (sym is) (λ fault. told.read_fault at (ap (λ (w : TreeError). Unread at w) (read_fault at e fault)))

@@ -8,7 +8,7 @@ use Rattle.tree_trait.specs.Change.{CallLog}
 use Rattle.tree_trait.specs.CrashImages.{Among}
 use Rattle.tree_trait.proofs.Visible.{same_path-self}
 use Rattle.job_reports.specs.declared.report.Did.{Did}
-use Rattle.job_reports.specs.declared.report.Did.TheVariants.{Began, Chunk, Placed, Removed, Made, Kept, Skipped, Cleaned, Barrier, Troubled, Ended}
+use Rattle.job_reports.specs.declared.report.Did.TheVariants.{Began, Chunk, Placed, Removed, Made, Set, Kept, Skipped, Cleaned, Barrier, Troubled, Ended}
 use Rattle.file_copy.specs.declared.stage.Stage.{Stage}
 use Rattle.file_copy.specs.declared.stage.Stage.TheVariants.{Begin, Fill, Clean, Left, Decided}
 use Rattle.file_copy.specs.declared.stage.Next.TheVariants as next
@@ -136,6 +136,7 @@ deletion_more d (Kept path) dirty dirty_after before after h = let same = ap len
 deletion_more d (Troubled trouble) dirty dirty_after before after h = let same = ap length h in omega (arith, same)
 deletion_more d (Began part) dirty dirty_after before after h = let same = ap length h in omega (arith, same)
 deletion_more d (Chunk bytes) dirty dirty_after before after h = let same = ap length h in omega (arith, same)
+deletion_more d (Set path) dirty dirty_after before after h = let same = ap length h in omega (arith, same)
 deletion_more d (Placed path) dirty dirty_after before after h = let same = ap length h in omega (arith, same)
 deletion_more d (Made made) dirty dirty_after before after h = let same = ap length h in omega (arith, same)
 deletion_more d (Skipped path cause) dirty dirty_after before after h = let same = ap length h in omega (arith, same)

@@ -11,14 +11,14 @@ use Rattle.job_reports.specs.declared.answer.AnswerError.{AnswerError}
 use Rattle.job_reports.specs.declared.answer.AnswerError.TheVariants.{NotAsked, WrongAnswer}
 use Rattle.job_reports.specs.Reports.{passes_over}
 use Rattle.job_reports.specs.declared.report.Did.{Did}
-use Rattle.job_reports.specs.declared.report.Did.TheVariants.{Began as BeganPart, Chunk, Placed, Removed, Made, Kept, Skipped, Cleaned, Barrier, Troubled, Ended}
+use Rattle.job_reports.specs.declared.report.Did.TheVariants.{Began as BeganPart, Chunk, Placed, Removed, Made, Set, Kept, Skipped, Cleaned, Barrier, Troubled, Ended}
 use Rattle.job_reports.specs.declared.report.Ending.{Ending}
 use Rattle.job_reports.specs.declared.report.Trouble.{Trouble}
 use Rattle.job_reports.specs.declared.row.JobState.TheVariants as state
 use Rattle.job_reports.specs.Stops.{out_of_memory_at}
 use Rattle.session_history.specs.declared.history.Entry.{Entry}
 use Rattle.session_history.specs.declared.history.Event.{Event}
-use Rattle.session_history.specs.declared.history.Event.TheVariants.{Key, Look, Began, Order, Step, Closed}
+use Rattle.session_history.specs.declared.history.Event.TheVariants.{Key, Look, Sought, Began, Order, Step, Closed}
 use Rattle.session_history.specs.declared.history.JobOrder.TheVariants.{Answered}
 use Rattle.session_history.specs.Entries.{is_closed}
 use Rattle.copy_move.specs.declared.making.MakingStage.{MakingStage}
@@ -126,6 +126,7 @@ not_ready live did allowed waits = false≢true (sym (step_ready live did allowe
 step_waits : (id : ℕ) (live : Running) (did : Did) → IsAllowedStep live did → WaitsIn (after_step did live) (reported_trouble (Step id did))
 step_waits id live (BeganPart part) allowed = λ waits. absurd (not_ready live (BeganPart part) allowed waits)
 step_waits id live (Chunk count) allowed = λ waits. absurd (not_ready live (Chunk count) allowed waits)
+step_waits id live (Set path) allowed = λ waits. absurd (not_ready live (Set path) allowed waits)
 step_waits id live (Placed path) allowed = λ waits. absurd (not_ready live (Placed path) allowed waits)
 step_waits id live (Removed path) allowed = λ waits. absurd (not_ready live (Removed path) allowed waits)
 step_waits id live (Made made) allowed = λ waits. absurd (not_ready live (Made made) allowed waits)
@@ -162,6 +163,7 @@ event_waits : (was : Before) (what : Event) (after : Screen) (job : Option Runni
     → WaitsIn (after_event what job) (if is_report what then reported_trouble what else t)
 event_waits was (Key key now refusals lost) after job t is leads h = h
 event_waits was (Look refusals) after job t is leads h = h
+event_waits was Sought after job t is leads h = h
 event_waits was (Began id plan background) after job t is leads h = began_waits id (first_work id plan) t
 event_waits was (Order id (Answered answer)) after job t is leads h = ordered_waits answer job t h
 event_waits was (Step id did) after job t is (same, (live, at, number, allowed)) h =

@@ -13,7 +13,7 @@ use Rattle.job_reports.specs.declared.job.Job.{Job}
 use Rattle.job_reports.specs.declared.row.JobRow.{JobRow}
 use Rattle.job_reports.specs.Jobs.{is_workable}
 use Rattle.session_history.specs.declared.history.Entry.{Entry}
-use Rattle.session_history.specs.declared.history.Event.TheVariants.{Key, Look, Began, Order, Step, Closed}
+use Rattle.session_history.specs.declared.history.Event.TheVariants.{Key, Look, Sought, Began, Order, Step, Closed}
 use Rattle.session_history.specs.declared.history.JobOrder.TheVariants.{Answered}
 use Rattle.job_reports.specs.declared.answer.Answer.{Answer}
 use Rattle.session_history.specs.declared.refusal.Refusal.{Refusal}
@@ -36,10 +36,12 @@ use Rattle.mc_desk.specs.declared.starts.Start.{Start}
 use Rattle.mc_desk.specs.LiveRows.{row_of, rows_of, rows_told, trouble_told}
 use Rattle.mc_desk.specs.Granting.{KeyWorks}
 use Rattle.mc_desk.specs.Outputs.{FitsScreen, Output}
+use Rattle.mc_ui.specs.Seekings.{is_seeking}
+use Rattle.mc_desk.specs.Searches.{HasSought}
 use Rattle.mc_desk.specs.Shown.{DrawsFrame, PutsNothing, frame_due, none_before}
 use Rattle.mc_desk.specs.Desks.{Seen, kept_room, IsShown, IsWritten, IsDesk, noted, state_of}
 use Rattle.mc_desk.proofs.Showing.{shown_closed, shown_stepping}
-use Rattle.mc_desk.proofs.Adding.{adds_began, adds_closed, adds_given_up, adds_key, adds_look, adds_lost, adds_order, adds_settled, adds_step, entry, unasked_screen}
+use Rattle.mc_desk.proofs.Adding.{adds_began, adds_closed, adds_given_up, adds_key, adds_look, adds_lost, adds_order, adds_settled, adds_sought, adds_step, entry, unasked_screen}
 use Rattle.mc_desk.proofs.Answering.{rows_untold}
 use Rattle.mc_desk.proofs.Keeping.{written_more}
 use Rattle.mc_desk.proofs.Troubles.{WaitsIn, may_answer, session_waits}
@@ -240,6 +242,20 @@ desk_looked start opening contents contents_after faults old new count shown ref
     (subst (λ rs. LookLeads contents rs old.tally.has_unseen_end (news_left old.newest) refusals old.screen new.screen) (rows_is ∙ sym (rows_are start opening contents faults old desk.written))
     (subst (λ p. LookLeads contents rows old.tally.has_unseen_end p refusals old.screen new.screen) news_is leads)) quit unasked dirty draws))
     settled (λ h. ap (λ (t : Tally). t.closed) is ∙ desk.lost (sym (ap (λ (t : Tally). t.lost) is) ∙ h)) (λ h. absurd (let no = unasked in cc)) (λ h. absurd (let shut = ap (λ (t : Tally). t.closed) is in cc)) room shown_now
+
+-- the steps of a search, written down
+pub desk_sought : (start : Option Start) (opening contents contents_after : Option CallLog) (faults : ℕ) (old new : Seen) (from count shown : ℕ) → IsDesk start opening contents faults old
+    → old.tally.closed ≡ false → old.tally.due ≡ None → is_seeking old.screen ≡ true → contents_after ≡ contents → faults_in faults old.newest ≤ from → from ≤ count → HasSought contents from count old.screen new.screen
+    → new.newest ≡ entry 0 old.tally.calls count shown Sought ∷ old.newest → new.tally ≡ old.tally → new.job ≡ old.job → new.tally.job ≡ option_map told new.job
+    → new.screen.planned ≡ None → new.quit ≡ old.quit → 2 ≤ new.spare → new.dirty ≡ old.dirty → old.quit ≡ false → IsShown new
+    → DrawsFrame (none_before old.newest) (frame_due (noted new) (next_id old.tally.last) (rows_told old.newest)) shown old.out.put new.out.put
+    → IsDesk start opening contents_after faults new
+desk_sought start opening contents contents_after faults old new from count shown desk unclosed looked seeking same had later made more is job tells settled quit room dirty unasked shown_now draws =
+    desk_of start opening contents_after faults new
+    (written_more faults old new _ start opening contents contents_after desk.written
+    (adds_sought contents contents_after faults old new 0 count shown refl more is job tells unclosed looked seeking desk.settled same from had later made quit unasked dirty draws))
+    settled (λ h. ap (λ (t : Tally). t.closed) is ∙ desk.lost (sym (ap (λ (t : Tally). t.lost) is) ∙ h)) (λ h. ap (λ (t : Tally). t.due) is ∙ looked)
+    (λ h. ap (λ (t : Tally). t.due) is ∙ looked) room shown_now
 
 -- a step makes at most three changing calls
 few_made : (live stepped : Running) (did : Did) (made : ℕ) (dirty dirty_after : List Route) (contents contents_after : Option CallLog) (before after : ℕ)

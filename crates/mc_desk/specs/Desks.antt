@@ -1,5 +1,5 @@
 -- What a desk keeps: its history is a session over its tree, and the rest of it is what the history says.
-use Rattle.std.specs.Prelude.{◌≡◌, ◌⊎◌, ℕ, ◌+◌, ◌*◌, ◌≤◌, Bool, true, false, ◌||◌, is_some, if◌then◌else◌, List, [], ◌∷◌, ◌++◌, length, take, slice_get, Option, Some, None, Result, Ok, Err}
+use Rattle.std.specs.Prelude.{◌≡◌, ◌⊎◌, ℕ, ◌+◌, ◌*◌, ◌≤◌, Bool, true, false, not, ◌||◌, ◌&&◌, is_some, if◌then◌else◌, List, [], ◌∷◌, ◌++◌, length, take, slice_get, Option, Some, None, Result, Ok, Err}
 use Rattle.std.specs.Option.{option_map}
 use Rattle.mc_text.specs.Routes.{Route}
 use Rattle.tree_trait.specs.Change.{CallLog}
@@ -17,6 +17,7 @@ use Rattle.tree_deletion.specs.Folders.{joined}
 use Rattle.job_reports.specs.Paths.{folder_of, without}
 use Rattle.history_laws.specs.Traces.{Stand, before_others}
 use Rattle.mc_ui.specs.Screens.{Screen, Ends}
+use Rattle.mc_ui.specs.Seekings.{is_seeking}
 use Rattle.mc_desk.specs.Shown.{ShowsOverAny, none_before}
 use Rattle.mc_desk.specs.declared.replies.DeskReply.{DeskReply}
 use Rattle.mc_desk.specs.declared.starts.Start.{Start}
@@ -191,6 +192,10 @@ pub record KeepsKeys (old new : Seen) : Type 0 where
 -- the session takes no more keys: it is closed, or its end was asked for
 abbrev pub is_over : Seen → Bool
 is_over desk = desk.tally.closed || desk.quit
+
+-- a search goes on, and the session takes keys
+abbrev pub seeks : Seen → Bool
+seeks desk = not (is_over desk) && is_seeking desk.screen
 
 -- An error closes the desk, unless memory ran out and all was left as it was; there may be more room for entries then.
 abbrev pub FailsClosed : DeskError → Seen → Seen → Type 0

@@ -3,6 +3,7 @@ pub mod Granting
 pub mod LiveRows
 pub mod Logs
 pub mod Outputs
+pub mod Searches
 pub mod Sessions
 pub mod Shown
 pub mod ShownEntries

@@ -9,7 +9,7 @@ use Rattle.job_reports.specs.declared.job.Job.{Job}
 use Rattle.job_reports.specs.declared.row.JobRow.{JobRow}
 use Rattle.job_reports.specs.Jobs.{is_workable}
 use Rattle.session_history.specs.declared.history.Event.{Event}
-use Rattle.session_history.specs.declared.history.Event.TheVariants.{Key, Look, Began, Order, Step, Closed}
+use Rattle.session_history.specs.declared.history.Event.TheVariants.{Key, Look, Sought, Began, Order, Step, Closed}
 use Rattle.session_history.specs.declared.history.JobOrder.TheVariants.{Answered}
 use Rattle.session_history.specs.declared.history.Entry.{Entry}
 use Rattle.job_reports.specs.declared.report.Did.{Did}
@@ -23,6 +23,7 @@ use Rattle.box_words.specs.declared.message.Message.{Message}
 use Rattle.job_plans.specs.Refused.{has_fault}
 use Rattle.mc_ui.specs.LiveJobs.{takes_answer}
 use Rattle.mc_ui.specs.Screens.{Screen, Planned, Begins, Answers, Ends, LookLeads, opened_screen, with_viewer}
+use Rattle.mc_ui.specs.Seekings.{is_seeking}
 use Rattle.mc_ui.specs.declared.viewing.Leaving.TheVariants as leaving
 use Rattle.panel_pair.specs.Openings.{OpensBoth}
 use Rattle.panel_pair.specs.Pairs.{PairState, opened_pair, unread_pair}
@@ -34,6 +35,7 @@ use Rattle.mc_desk.specs.declared.starts.StartMode.{StartMode}
 use Rattle.mc_desk.specs.declared.starts.StartMode.TheVariants.{Panels, View}
 use Rattle.mc_desk.specs.Granting.{KeyWorks}
 use Rattle.mc_desk.specs.LiveRows.{rows_told}
+use Rattle.mc_desk.specs.Searches.{EventSeeks}
 use Rattle.mc_desk.specs.Shown.{EventDraws, HasPutNothing, Put, frame_due, none_before}
 use Rattle.mc_desk.specs.Tallies.{Tally, tally, most_calls, faults_in, next_id, news_left}
 
@@ -72,12 +74,14 @@ pub record IsOrdered (was : Before) (id : ℕ) (answer : Answer) (after : Screen
 
 -- What an event makes of the screen. A look comes only where one is due: the first, which draws the opening frame, and after it
 -- one of the job that was begun or answered. It takes up a job's end, and tells what there is to tell of it, and shows the trouble of the
--- live job as its newest report told it. A step is one that the live job may make.
+-- live job as its newest report told it. A search goes on only where nothing is due (what its steps make of the screen, `EventSeeks` says). A step is
+-- one that the live job may make.
 abbrev pub EventLeads : Before → Event → Screen → Type 0
 EventLeads was (Key key now refusals true) after = TakesKey was.tally × (after ≡ was.screen)
 EventLeads was (Key key now refusals false) after = TakesKey was.tally × KeyWorks was.contents was.rows (next_id was.tally.last) now key refusals was.screen after
 EventLeads was (Look refusals) after =
     (was.tally.closed ≡ false) × IsSome was.tally.due × LookLeads was.contents was.rows was.tally.has_unseen_end was.news refusals was.screen after
+EventLeads was Sought after = (was.tally.closed ≡ false) × (was.tally.due ≡ None) × (is_seeking was.screen ≡ true)
 EventLeads was (Began id plan background) after = IsBegun was id plan background after
 EventLeads was (Order id (Answered answer)) after = IsOrdered was id answer after
 EventLeads was (Step id did) after =
@@ -93,6 +97,7 @@ StepFault (Some live) did = MeetsFault live.course did
 abbrev pub TellsFault : Option Running → Event → Type 0
 TellsFault job (Key key now refusals lost) = has_fault refusals ≡ true
 TellsFault job (Look refusals) = has_fault refusals ≡ true
+TellsFault job Sought = ⊥
 TellsFault job (Began id plan background) = ⊥
 TellsFault job (Order id order) = ⊥
 TellsFault job (Step id did) = StepFault job did
@@ -107,6 +112,7 @@ MayEnd planned = (planned ≡ None) ⊎ (planned ≡ Some Ends)
 abbrev pub IsTimely : Event → Screen → Type 0
 IsTimely (Key key now refusals lost) before = before.planned ≡ None
 IsTimely (Look refusals) before = before.planned ≡ None
+IsTimely Sought before = before.planned ≡ None
 IsTimely (Began id plan background) before = ⊤
 IsTimely (Order id order) before = ⊤
 IsTimely (Step id did) before = MayEnd before.planned
@@ -125,6 +131,7 @@ pub record Counts (failed made : ℕ) (job : Option Running) (e : Entry) : Type 
 abbrev pub HasCauses : Event → CallLog → Type 0
 HasCauses (Key key now refusals lost) log = AreRefused log refusals
 HasCauses (Look refusals) log = AreRefused log refusals
+HasCauses Sought log = ⊤
 HasCauses (Began id plan background) log = ⊤
 HasCauses (Order id order) log = ⊤
 HasCauses (Step id did) log = ⊤
@@ -154,6 +161,7 @@ pub record Enters (opening : Option CallLog) (faults : ℕ) (e : Entry) (older :
   pub timely : IsTimely e.what was.screen
   pub counts : Counts (faults_in faults older) (calls_in older) (let t : Tally = tally older in t.job) e
   pub leads : EventLeads (before_entry was.contents older was.screen) e.what now.screen
+  pub sought : EventSeeks e.what was.contents (faults_in faults older) e.faults was.screen now.screen
   pub caused : IfKnown was.contents (HasCauses e.what)
   pub traced : Traces opening e older was.stand was.contents now.stand now.contents
   pub draws : EventDraws e.what (none_before older) (frame_due now.screen (next_id (last_id older)) (rows_told older)) e.shown was.put now.put
@@ -163,27 +171,27 @@ abbrev pub just_opened : PairState → PairState
 just_opened pair = opened_pair pair.current.folder pair.other.folder pair.current.listing pair.other.listing
 
 -- Each panel shows the folder to which its path leads, as it was read; the left one is current, and the screen has nothing else.
-pub record OpensPanels (contents : Option CallLog) (left right : Route) (lines columns : ℕ) (screen : Screen) : Type 0 where
+pub record OpensPanels (contents : Option CallLog) (left right : Route) (home : Option Route) (lines columns : ℕ) (screen : Screen) : Type 0 where
   pub shows : IfKnown contents (λ log. OpensBoth log left right (Ok screen.panels))
-  pub opened : screen ≡ opened_screen (just_opened screen.panels) lines columns screen.second
+  pub opened : screen ≡ opened_screen (just_opened screen.panels) home lines columns screen.second
 
 -- a screen on which a file is viewed alone: leaving the viewer ends the session, and no panel was read
-abbrev pub viewing_alone : ViewerScreen → ℕ → ℕ → ℕ → Screen
-viewing_alone viewer lines columns second = with_viewer viewer leaving.Ends (opened_screen unread_pair lines columns second)
+abbrev pub viewing_alone : ViewerScreen → Option Route → ℕ → ℕ → ℕ → Screen
+viewing_alone viewer home lines columns second = with_viewer viewer leaving.Ends (opened_screen unread_pair home lines columns second)
 
 -- the file to which a path leads, along links, is viewed alone from its top, as it was read
-pub record OpensViewer (contents : Option CallLog) (path : Route) (lines columns : ℕ) (screen : Screen) : Type 0 where
+pub record OpensViewer (contents : Option CallLog) (path : Route) (home : Option Route) (lines columns : ℕ) (screen : Screen) : Type 0 where
   pub viewer : ViewerScreen
   pub shows : OpensThing contents [] (path_text path) lines columns (Viewed viewer)
-  pub opened : screen ≡ viewing_alone viewer lines columns screen.second
+  pub opened : screen ≡ viewing_alone viewer home lines columns screen.second
 
--- how a screen of this size opens, by what the session starts with
-abbrev pub IsOpeningIn : StartMode → Option CallLog → ℕ → ℕ → Screen → Type 0
-IsOpeningIn (Panels left right) contents lines columns screen = OpensPanels contents left right lines columns screen
-IsOpeningIn (View path) contents lines columns screen = OpensViewer contents path lines columns screen
+-- how a screen of this size opens, by what the session starts with; it knows HOME
+abbrev pub IsOpeningIn : StartMode → Option CallLog → Option Route → ℕ → ℕ → Screen → Type 0
+IsOpeningIn (Panels left right) contents home lines columns screen = OpensPanels contents left right home lines columns screen
+IsOpeningIn (View path) contents home lines columns screen = OpensViewer contents path home lines columns screen
 
 abbrev pub IsOpening : Option CallLog → Start → Screen → Type 0
-IsOpening contents start screen = IsOpeningIn start.mode contents start.lines start.columns screen
+IsOpening contents start screen = IsOpeningIn start.mode contents start.home start.lines start.columns screen
 
 -- the session begins as was named, where that is known
 abbrev pub BeginsIn : Option Start → Start → Type 0

@@ -1,4 +1,4 @@
--- What a session puts on its terminal: each key that is worked and each look draws the frame of what the screen then shows.
+-- What a session puts on its terminal: each key that is worked, each look, and the steps of a search draw the frame of what the screen then shows.
 use Rattle.std.specs.Prelude.{◌≡◌, ◌⊎◌, ℕ, Bool, true, false, List, [], ◌∷◌, ◌++◌, length, map, take, drop, Option, Some, None}
 use Rattle.tree_trait.specs.Answers.{IfKnown}
 use Rattle.key_screen.specs.Grids.{CellGrid}
@@ -6,7 +6,7 @@ use Rattle.job_reports.specs.declared.row.JobRow.{JobRow}
 use Rattle.job_reports.specs.declared.row.JobState.TheVariants.{Ready}
 use Rattle.session_history.specs.declared.history.Entry.{Entry}
 use Rattle.session_history.specs.declared.history.Event.{Event}
-use Rattle.session_history.specs.declared.history.Event.TheVariants.{Key, Look, Began, Order, Step, Closed}
+use Rattle.session_history.specs.declared.history.Event.TheVariants.{Key, Look, Sought, Began, Order, Step, Closed}
 use Rattle.mc_ui.specs.Screens.{Screen, Planned, Begins, Answers, Ends}
 use Rattle.mc_screen.specs.Drawings.{HasSizeOf, Shows}
 use Rattle.mc_screen.specs.Sparse.{IsSparse}
@@ -66,11 +66,12 @@ pub record DrawsNothing (shown : ℕ) (before after : Put) : Type 0 where
   pub same : after ≡ before
   pub none : shown ≡ 0
 
--- A key that was worked and a look draw their frame; nothing else puts anything.
+-- A key that was worked, a look and the steps of a search draw their frame; nothing else puts anything.
 abbrev pub EventDraws : Event → Bool → CellGrid → ℕ → Put → Put → Type 0
 EventDraws (Key key now refusals false) is_first frame shown before after = DrawsFrame is_first frame shown before after
 EventDraws (Key key now refusals true) is_first frame shown before after = PutsNothing shown before after
 EventDraws (Look refusals) is_first frame shown before after = DrawsFrame is_first frame shown before after
+EventDraws Sought is_first frame shown before after = DrawsFrame is_first frame shown before after
 EventDraws (Began id plan background) is_first frame shown before after = DrawsNothing shown before after
 EventDraws (Order id order) is_first frame shown before after = DrawsNothing shown before after
 EventDraws (Step id did) is_first frame shown before after = DrawsNothing shown before after

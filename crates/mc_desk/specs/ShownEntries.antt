@@ -2,7 +2,7 @@
 use Rattle.std.specs.Prelude.{◌≡◌, ◌⊎◌, ℕ, ◌≤◌, Bool, true, false, ⊤, not, List, [], ◌∷◌, ◌++◌, length, take, Option}
 use Rattle.tree_trait.specs.Change.{CallLog}
 use Rattle.session_history.specs.declared.history.Event.{Event}
-use Rattle.session_history.specs.declared.history.Event.TheVariants.{Key, Look, Began, Order, Step, Closed}
+use Rattle.session_history.specs.declared.history.Event.TheVariants.{Key, Look, Sought, Began, Order, Step, Closed}
 use Rattle.session_history.specs.declared.history.Entry.{Entry}
 use Rattle.session_history.specs.Entries.{last_id}
 use Rattle.key_screen.specs.Grids.{CellGrid}
@@ -12,10 +12,11 @@ use Rattle.mc_desk.specs.Sessions.{IsSession, SessionState}
 use Rattle.mc_desk.specs.Shown.{DrawsBehind, ShowsOverAny, frame_due, none_before}
 use Rattle.mc_desk.specs.Tallies.{next_id}
 
--- a key that was worked, and a look, draw
+-- a key that was worked, a look, and the steps of a search draw
 abbrev pub draws : Event → Bool
 draws (Key key now refusals lost) = not lost
 draws (Look refusals) = true
+draws Sought = true
 draws (Began id plan background) = false
 draws (Order id order) = false
 draws (Step id did) = false

@@ -111,10 +111,10 @@ abbrev pub unread_error : Route → TreeError → StartError
 unread_error path e = start_error place.File (refused_by path e)
 
 -- a session in which a file is viewed alone, by what opening that came to
-abbrev pub viewed_alone : Opening → ℕ → ℕ → ℕ → Result Screen StartError
-viewed_alone (Viewed viewer) lines columns second = Ok (viewing_alone viewer lines columns second)
-viewed_alone (NoWay e) lines columns second = Err (start_error place.File e)
-viewed_alone (Unread path e) lines columns second = Err (unread_error path e)
+abbrev pub viewed_alone : Opening → Option Route → ℕ → ℕ → ℕ → Result Screen StartError
+viewed_alone (Viewed viewer) home lines columns second = Ok (viewing_alone viewer home lines columns second)
+viewed_alone (NoWay e) home lines columns second = Err (start_error place.File e)
+viewed_alone (Unread path e) home lines columns second = Err (unread_error path e)
 
 -- the start tells of a fault
 abbrev pub is_start_fault : StartError → Bool

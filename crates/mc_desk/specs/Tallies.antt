@@ -7,7 +7,7 @@ use Rattle.job_reports.specs.declared.report.Did.TheVariants.{Ended}
 use Rattle.job_reports.specs.declared.report.Ending.{Ending}
 use Rattle.job_reports.specs.declared.report.Ending.TheVariants.{Finished, Aborted, Killed, NoMemory}
 use Rattle.session_history.specs.declared.history.Event.{Event}
-use Rattle.session_history.specs.declared.history.Event.TheVariants.{Key, Look, Began, Order, Step, Closed}
+use Rattle.session_history.specs.declared.history.Event.TheVariants.{Key, Look, Sought, Began, Order, Step, Closed}
 use Rattle.session_history.specs.declared.history.Entry.{Entry}
 use Rattle.copy_move.specs.Jobs.{Running, waits_on}
 use Rattle.job_reports.specs.Reports.{ends}
@@ -64,6 +64,7 @@ can_step (Some job) = if waits_on job.course then false else true
 abbrev pub due_after : Event → Option Running → Option ℕ → Option ℕ
 due_after (Key key now refusals lost) job before = before
 due_after (Look refusals) job before = if can_step job then before else None
+due_after Sought job before = before
 due_after (Began id plan background) job before = Some id
 due_after (Order id order) job before = option_map (λ (live : Running). live.id) job
 due_after (Step id did) job before = before
@@ -77,6 +78,7 @@ due_in (e ∷ older) = due_after e.what (live_job older) (due_in older)
 abbrev pub loses : Event → Bool
 loses (Key key now refusals lost) = lost
 loses (Look refusals) = false
+loses Sought = false
 loses (Began id plan background) = false
 loses (Order id order) = false
 loses (Step id did) = false
@@ -129,6 +131,7 @@ after_entry e t = record {
 abbrev pub most_calls : Event → ℕ
 most_calls (Key key now refusals lost) = 0
 most_calls (Look refusals) = 0
+most_calls Sought = 0
 most_calls (Began id plan background) = 0
 most_calls (Order id order) = 0
 most_calls (Step id did) = 3
@@ -138,6 +141,7 @@ most_calls Closed = 0
 abbrev pub keys_of : Event → List KeyType
 keys_of (Key key now refusals lost) = key ∷ []
 keys_of (Look refusals) = []
+keys_of Sought = []
 keys_of (Began id plan background) = []
 keys_of (Order id order) = []
 keys_of (Step id did) = []

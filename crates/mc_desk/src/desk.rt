@@ -13,7 +13,8 @@ ghost use Rattle.mc_desk.specs.Tallies.{can_step, faults_in, has_lost};
 ghost use Rattle.mc_desk.specs.Outputs.{Blames};
 ghost use Rattle.mc_desk.specs.Shown.{HasGiven, put_since};
 ghost use Rattle.mc_desk.specs.Standings.{awaited_by, is_quit};
-ghost use Rattle.mc_desk.specs.Desks.{BlamesScreen, CountsByte, FailsClosed, IsFresh, IsNext, KeepsKeys, MovesDirty, RanNothing, Reads, ShowsDesk, idle_reply, is_over};
+ghost use Rattle.mc_desk.specs.Desks.{BlamesScreen, CountsByte, FailsClosed, IsFresh, IsNext, KeepsKeys, MovesDirty, RanNothing, Reads, ShowsDesk, idle_reply, is_over, seeks};
+ghost use Rattle.mc_desk.specs.Searches.{steps_ahead};
 
 use crate::replies::{DeskError, DeskReply, Ended, Refused, StepReply};
 use crate::session::Session;
@@ -111,6 +112,31 @@ impl<N: Tag, T: Tree, S: Sink, P: Spawner> Desk<N, T, S, P> {
         ensures screen_failed { BlamesScreen result self.new.out.failed }
     {
         self.session.look(alloc)
+    }
+
+    /// Makes steps of the search that goes on, a hundred at most, and draws the list as it then is. Where none goes on the desk stays as it
+    /// is. Where memory is wanting for a step the desk is closed, once what was found by then is drawn.
+    pub fn seek(&mut self, alloc: Global) -> Result<(), DeskError>
+        requires looked { self.old.tally.due ≡ None }
+        ensures shows { OnOk result (self.new.tally.closed ≡ false → ShowsDesk self.new) }
+        ensures nearer { OnOk result (seeks self.old ≡ true → steps_ahead self.new.screen < steps_ahead self.old.screen) }
+        ensures over { seeks self.old ≡ false → self.new ≡ self.old }
+        ensures looked { OnOk result (self.new.tally.due ≡ None) }
+        ensures fails { IfErr result (λ error. FailsClosed error self.old self.new) }
+        ensures keys { KeepsKeys self.old self.new }
+        ensures unclosed { OnOk result (self.new.tally.closed ≡ self.old.tally.closed) }
+        ensures quit { self.new.quit ≡ self.old.quit }
+        ensures dirty { self.new.dirty ≡ self.old.dirty }
+        ensures screen_failed { BlamesScreen result self.new.out.failed }
+    {
+        self.session.seek(alloc)
+    }
+
+    /// Whether a search goes on, on a desk that takes keys.
+    pub fn is_seeking(&self) -> bool
+        ensures { result ≡ seeks self.now }
+    {
+        self.session.is_seeking()
     }
 
     /// What is to be looked at before the next byte: the job of this number, or 0 for the opening frame.

@@ -10,6 +10,7 @@ mod log;
 mod opening;
 mod replies;
 mod rows;
+mod seeking;
 mod session;
 mod standing;
 mod starts;

@@ -42,6 +42,7 @@ pub fn open<T: Tree>(
     };
     let Start {
         mode,
+        home,
         lines,
         columns,
     } = start;
@@ -49,7 +50,7 @@ pub fn open<T: Tree>(
         Ok(screen) => screen,
         Err(NoMemory) => return Err(StartError::Memory),
     };
-    match open_screen(alloc, tree, mode, lines, columns, now) {
+    match open_screen(alloc, tree, mode, home, lines, columns, now) {
         Ok(ui) => Ok((ui, log, screen)),
         Err(error) => Err(error),
     }
@@ -60,11 +61,12 @@ fn open_screen<T: ReadTree>(
     alloc: Global,
     tree: &mut T,
     mode: StartMode,
+    home: Option<Path>,
     lines: u16,
     columns: u16,
     now: u64,
 ) -> Result<Ui, StartError>
-    ensures opened { IfOk result (λ ui. IsOpeningIn mode (T.contents tree.old) lines columns ui) }
+    ensures opened { IfOk result (λ ui. IsOpeningIn mode (T.contents tree.old) home lines columns ui) }
     ensures sized { IfOk result (λ ui. (ui.lines ≡ lines) × (ui.columns ≡ columns)) }
     ensures cause { IfKnown (T.contents tree.old) (λ log. Starts (current log) mode result) }
     ensures fault { IfErr result (λ error. is_start_fault error ≡ true → HasRisen (T.fault_count tree.old) (T.fault_count tree.new)) }
@@ -73,9 +75,9 @@ fn open_screen<T: ReadTree>(
 {
     match mode {
         StartMode::Panels { left, right } => open_panels(
-            alloc, tree, &left, &right, lines, columns, now,
+            alloc, tree, &left, &right, home, lines, columns, now,
         ),
-        StartMode::View(path) => open_viewer(alloc, tree, &path, lines, columns, now),
+        StartMode::View(path) => open_viewer(alloc, tree, &path, home, lines, columns, now),
     }
 }
 
@@ -85,18 +87,19 @@ fn open_panels<T: ReadTree>(
     tree: &mut T,
     left: &Path,
     right: &Path,
+    home: Option<Path>,
     lines: u16,
     columns: u16,
     now: u64,
 ) -> Result<Ui, StartError>
-    ensures opened { IfOk result (λ ui. OpensPanels (T.contents tree.old) left.now right.now lines columns ui) }
+    ensures opened { IfOk result (λ ui. OpensPanels (T.contents tree.old) left.now right.now home lines columns ui) }
     ensures cause { IfKnown (T.contents tree.old) (λ log. Starts (current log) (StartMode.Panels left.now right.now) result) }
     ensures fault { IfErr result (λ error. is_start_fault error ≡ true → HasRisen (T.fault_count tree.old) (T.fault_count tree.new)) }
     ensures same { T.contents tree.new ≡ T.contents tree.old }
     ensures later { T.fault_count tree.old ≤ T.fault_count tree.new }
 {
     match Panels::open(alloc, tree, left, right) {
-        Ok(panels) => Ok(Ui::new(panels, lines, columns, now)),
+        Ok(panels) => Ok(Ui::new(panels, home, lines, columns, now)),
         Err(Unopened { side, error }) => Err(refused(place_of(side), error)),
     }
 }
@@ -106,11 +109,12 @@ fn open_viewer<T: ReadTree>(
     alloc: Global,
     tree: &mut T,
     path: &Path,
+    home: Option<Path>,
     lines: u16,
     columns: u16,
     now: u64,
 ) -> Result<Ui, StartError>
-    ensures opened { IfOk result (λ ui. OpensViewer (T.contents tree.old) path.now lines columns ui) }
+    ensures opened { IfOk result (λ ui. OpensViewer (T.contents tree.old) path.now home lines columns ui) }
     ensures cause { IfKnown (T.contents tree.old) (λ log. Starts (current log) (StartMode.View path.now) result) }
     ensures fault { IfErr result (λ error. is_start_fault error ≡ true → HasRisen (T.fault_count tree.old) (T.fault_count tree.new)) }
     ensures same { T.contents tree.new ≡ T.contents tree.old }
@@ -121,7 +125,7 @@ fn open_viewer<T: ReadTree>(
         Err(NoMemory) => return Err(StartError::Memory),
     };
     match open_file(alloc, tree, path, lines, columns) {
-        Ok(opening) => view_alone(panels, opening, lines, columns, now),
+        Ok(opening) => view_alone(panels, opening, home, lines, columns, now),
         Err(NoMemory) => Err(StartError::Memory),
     }
 }
@@ -152,26 +156,34 @@ fn open_file<T: ReadTree>(
 fn view_alone(
     panels: Panels,
     opening: Opening,
+    home: Option<Path>,
     lines: u16,
     columns: u16,
     now: u64,
 ) -> Result<Ui, StartError>
     requires { panels ≡ unread_pair }
-    ensures { result ≡ viewed_alone opening lines columns now }
+    ensures { result ≡ viewed_alone opening home lines columns now }
 {
     match opening {
-        Opening::Viewed(mode) => Ok(viewing(panels, mode, lines, columns, now)),
+        Opening::Viewed(mode) => Ok(viewing(panels, mode, home, lines, columns, now)),
         Opening::NoWay(error) => Err(refused(StartPlace::File, error)),
         Opening::Unread(path, error) => Err(unread(path, error)),
     }
 }
 
 /// The file is viewed, and leaving the viewer ends the session.
-fn viewing(panels: Panels, mode: ViewerMode, lines: u16, columns: u16, now: u64) -> Ui
+fn viewing(
+    panels: Panels,
+    mode: ViewerMode,
+    home: Option<Path>,
+    lines: u16,
+    columns: u16,
+    now: u64,
+) -> Ui
     requires { panels ≡ unread_pair }
-    ensures { result ≡ viewing_alone mode lines columns now }
+    ensures { result ≡ viewing_alone mode home lines columns now }
 {
-    let mut ui = Ui::new(panels, lines, columns, now);
+    let mut ui = Ui::new(panels, home, lines, columns, now);
     ui.view(mode, Leaving::Ends);
     ui
 }

@@ -7,6 +7,8 @@ use thiserror::Error;
 #[derive(Debug, Drop)]
 pub struct Start {
     pub mode: StartMode,
+    /// For what a typed tilde stands, where that is known.
+    pub home: Option<Path>,
     pub lines: u16,
     pub columns: u16,
 }

@@ -5,7 +5,7 @@ use Rattle.tree_trait.specs.Answers.{HasRisen, IfKnown}
 use Rattle.mc_text.specs.Routes.{Route}
 use Rattle.start_words.specs.Asked.{asked_by}
 use Rattle.start_words.specs.Folders.{started_in}
-use Rattle.start_words.specs.Sizes.{ScreenSize}
+use Rattle.mc_main.specs.declared.words.Surroundings.{Surroundings}
 use Rattle.start_words.specs.declared.words.Words.{Words}
 use Rattle.start_words.specs.declared.words.Words.TheVariants.{Panels, View, NotBuilt}
 use Rattle.start_words.specs.declared.words.Words.TheVariants as asks
@@ -34,43 +34,44 @@ names_word place asked (opens.View path) (said.Panels on_left on_right) is = abs
 names_word place asked (opens.View path) (said.File word) is = ap (start_word place) is
 
 -- a session starts at the paths that its words name
-starts_at : (size : ScreenSize) (asked : Option Words) (start : StartMode) (word : Typed) → AskFor asked start word → session_start size asked ≡ Some (start_with size start)
-starts_at size asked (opens.Panels left right) (said.Panels on_left on_right) is = ap (session_start size) is
-starts_at size asked (opens.Panels left right) (said.File word) is = absurd is
-starts_at size asked (opens.View path) (said.Panels on_left on_right) is = absurd is
-starts_at size asked (opens.View path) (said.File word) is = ap (session_start size) is
+starts_at : (around : Surroundings) (asked : Option Words) (start : StartMode) (word : Typed) → AskFor asked start word → session_start around asked ≡ Some (start_with around start)
+starts_at around asked (opens.Panels left right) (said.Panels on_left on_right) is = ap (session_start around) is
+starts_at around asked (opens.Panels left right) (said.File word) is = absurd is
+starts_at around asked (opens.View path) (said.Panels on_left on_right) is = absurd is
+starts_at around asked (opens.View path) (said.File word) is = ap (session_start around) is
 
--- in the size of its screen
-pub starts_in : (size : ScreenSize) (asked : Option Words) (start : Start) (typed : Typed) → IsBeginning size asked (Session start typed) → session_start size asked ≡ Some start
-starts_in size asked start typed is =
-    starts_at size asked start.mode typed is.0
-    ∙ (ap (λ n. Some (let s : Start = record { mode = start.mode; lines = n; columns = size.columns } in s)) (sym is.1)
-    ∙ ap (λ n. Some (let s : Start = record { mode = start.mode; lines = start.lines; columns = n } in s)) (sym is.2))
+-- in its surroundings
+pub starts_in : (around : Surroundings) (asked : Option Words) (start : Start) (typed : Typed) → IsBeginning around asked (Session start typed) → session_start around asked ≡ Some start
+starts_in around asked start typed is =
+    starts_at around asked start.mode typed is.0
+    ∙ (ap (λ h. Some (let s : Start = record { mode = start.mode; home = h; lines = around.lines; columns = around.columns } in s)) (sym is.1)
+    ∙ ap (λ n. Some (let s : Start = record { mode = start.mode; home = start.home; lines = n; columns = around.columns } in s)) (sym is.2)
+    ∙ ap (λ n. Some (let s : Start = record { mode = start.mode; home = start.home; lines = start.lines; columns = n } in s)) (sym is.3))
 
 -- why it doesn't start is the cause in what was asked for
-cause_in : (log : CallLog) (size : ScreenSize) (asked : Option Words) (start : Start) (typed : Typed) (error : StartError) → IsBeginning size asked (Session start typed) → IsStartCause (current log) start.mode error
-    → IsCauseIn log (session_start size asked) error
-cause_in log size asked start typed error is why = subst (λ o. IsCauseIn log o error) (sym (starts_in size asked start typed is)) why
+cause_in : (log : CallLog) (around : Surroundings) (asked : Option Words) (start : Start) (typed : Typed) (error : StartError) → IsBeginning around asked (Session start typed) → IsStartCause (current log) start.mode error
+    → IsCauseIn log (session_start around asked) error
+cause_in log around asked start typed error is why = subst (λ o. IsCauseIn log o error) (sym (starts_in around asked start typed is)) why
 
 -- the line for a path that is refused has the cause for which the session doesn't start
-pub prints_start : (contents : Option CallLog) (size : ScreenSize) (asked : Option Words) (start : Start) (typed : Typed) (error : StartError) (faults faults_after : ℕ) (before : List ℕ) (given : Option (List ℕ)) → IsBeginning size asked (Session start typed) → error ≢ Memory
+pub prints_start : (contents : Option CallLog) (around : Surroundings) (asked : Option Words) (start : Start) (typed : Typed) (error : StartError) (faults faults_after : ℕ) (before : List ℕ) (given : Option (List ℕ)) → IsBeginning around asked (Session start typed) → error ≢ Memory
     → IfKnown contents (λ log. IsStartCause (current log) start.mode error) → (is_start_fault error ≡ true → HasRisen faults faults_after) → PrintsCause typed error before given
-    → PrintsStart contents size asked faults faults_after before given
-prints_start contents size asked start typed Memory faults faults_after before given is some why risen prints = absurd (some refl)
-prints_start contents size asked start typed (Resolve place cause) faults faults_after before given is some why risen prints = record {
+    → PrintsStart contents around asked faults faults_after before given
+prints_start contents around asked start typed Memory faults faults_after before given is some why risen prints = absurd (some refl)
+prints_start contents around asked start typed (Resolve place cause) faults faults_after before given is some why risen prints = record {
   place = place;
   cause = cause;
-  is_cause = λ log known. cause_in log size asked start typed (Resolve place cause) is (why log known);
+  is_cause = λ log known. cause_in log around asked start typed (Resolve place cause) is (why log known);
   risen = risen;
   line = prints ∙ ap (λ word. Some (before ++ start_line word cause)) (sym (names_word place asked start.mode typed is.0));
 }
 
 -- how a run begins that was told as a match gives it
-pub print_is : (size : ScreenSize) (asked : Option Words) (beginning : Beginning) (printed : Printed) → IsBeginning size asked beginning → beginning ≡ Print printed → printed_for asked ≡ Some printed
-print_is size asked beginning printed is same = subst (λ b. IsBeginning size asked b) same is
+pub print_is : (around : Surroundings) (asked : Option Words) (beginning : Beginning) (printed : Printed) → IsBeginning around asked beginning → beginning ≡ Print printed → printed_for asked ≡ Some printed
+print_is around asked beginning printed is same = subst (λ b. IsBeginning around asked b) same is
 
-pub session_is : (size : ScreenSize) (asked : Option Words) (beginning : Beginning) (start : Start) (typed : Typed) → IsBeginning size asked beginning → beginning ≡ Session start typed → IsBeginning size asked (Session start typed)
-session_is size asked beginning start typed is same = subst (λ b. IsBeginning size asked b) same is
+pub session_is : (around : Surroundings) (asked : Option Words) (beginning : Beginning) (start : Start) (typed : Typed) → IsBeginning around asked beginning → beginning ≡ Session start typed → IsBeginning around asked (Session start typed)
+session_is around asked beginning start typed is same = subst (λ b. IsBeginning around asked b) same is
 
 -- no text has a status above 1
 pub status_few : (printed : Printed) → status_with printed < 2
@@ -90,17 +91,17 @@ asks_for_none asked (opens.Panels left right) (said.File word) is = absurd is
 asks_for_none asked (opens.View path) (said.Panels on_left on_right) is = absurd is
 asks_for_none asked (opens.View path) (said.File word) is = ap printed_for is
 
-pub prints_none : (size : ScreenSize) (asked : Option Words) (start : Start) (typed : Typed) → IsBeginning size asked (Session start typed) → printed_for asked ≡ None
-prints_none size asked start typed is = asks_for_none asked start.mode typed is.0
+pub prints_none : (around : Surroundings) (asked : Option Words) (start : Start) (typed : Typed) → IsBeginning around asked (Session start typed) → printed_for asked ≡ None
+prints_none around asked start typed is = asks_for_none asked start.mode typed is.0
 
 -- where a text is printed no session starts
-pub no_folders : (size : ScreenSize) (asked : Option Words) (printed : Printed) → printed_for asked ≡ Some printed → session_start size asked ≡ None
-no_folders size None printed is = refl
-no_folders size (Some asks.Help) printed is = refl
-no_folders size (Some asks.Version) printed is = refl
-no_folders size (Some (Panels left right)) printed is = cc
-no_folders size (Some (View file)) printed is = cc
-no_folders size (Some NotBuilt) printed is = refl
+pub no_folders : (around : Surroundings) (asked : Option Words) (printed : Printed) → printed_for asked ≡ Some printed → session_start around asked ≡ None
+no_folders around None printed is = refl
+no_folders around (Some asks.Help) printed is = refl
+no_folders around (Some asks.Version) printed is = refl
+no_folders around (Some (Panels left right)) printed is = cc
+no_folders around (Some (View file)) printed is = cc
+no_folders around (Some NotBuilt) printed is = refl
 
 -- only the usage line has status 1
 pub usage_printed : (printed : Printed) (status : ℕ) → IsStatusOr (status_with printed) status → status ≡ 1 → printed ≡ Usage
@@ -154,33 +155,33 @@ pub usage_asked : (asked : Option Words) (printed : Printed) (status : ℕ) → 
 usage_asked asked printed status is at one = is ∙ ap (λ p. Some p) (usage_printed printed status at one)
 
 -- nothing is printed, so nothing is said of it
-pub prints_not : {A : Type 0} (size : ScreenSize) (asked : Option Words) (start : Start) (typed : Typed) (other : Printed) → IsBeginning size asked (Session start typed) → printed_for asked ≡ Some other → A
-prints_not size asked start typed other is known = absurd (let none = prints_none size asked start typed is in cc)
+pub prints_not : {A : Type 0} (around : Surroundings) (asked : Option Words) (start : Start) (typed : Typed) (other : Printed) → IsBeginning around asked (Session start typed) → printed_for asked ≡ Some other → A
+prints_not around asked start typed other is known = absurd (let none = prints_none around asked start typed is in cc)
 
-pub some_prints_not : {A : Type 0} (size : ScreenSize) (asked : Option Words) (start : Start) (typed : Typed) → IsBeginning size asked (Session start typed) → IsSome (printed_for asked) → A
-some_prints_not size asked start typed is some = absurd (let none = prints_none size asked start typed is in cc)
+pub some_prints_not : {A : Type 0} (around : Surroundings) (asked : Option Words) (start : Start) (typed : Typed) → IsBeginning around asked (Session start typed) → IsSome (printed_for asked) → A
+some_prints_not around asked start typed is some = absurd (let none = prints_none around asked start typed is in cc)
 
 -- no session was asked for, so no start is refused
-pub refuses_none : (log : CallLog) (size : ScreenSize) (asked : Option Words) (printed : Printed) (status : ℕ) → printed_for asked ≡ Some printed → RefusesStart log (session_start size asked) status
-refuses_none log size asked printed status is = subst (λ o. RefusesStart log o status) (sym (no_folders size asked printed is)) tt
+pub refuses_none : (log : CallLog) (around : Surroundings) (asked : Option Words) (printed : Printed) (status : ℕ) → printed_for asked ≡ Some printed → RefusesStart log (session_start around asked) status
+refuses_none log around asked printed status is = subst (λ o. RefusesStart log o status) (sym (no_folders around asked printed is)) tt
 
-pub completes_none : (log : CallLog) (size : ScreenSize) (asked : Option Words) (printed : Printed) (status : ℕ) (failed : Type 0) → printed_for asked ≡ Some printed → IsComplete log (session_start size asked) status failed
-completes_none log size asked printed status failed is = subst (λ o. IsComplete log o status failed) (sym (no_folders size asked printed is)) tt
+pub completes_none : (log : CallLog) (around : Surroundings) (asked : Option Words) (printed : Printed) (status : ℕ) (failed : Type 0) → printed_for asked ≡ Some printed → IsComplete log (session_start around asked) status failed
+completes_none log around asked printed status failed is = subst (λ o. IsComplete log o status failed) (sym (no_folders around asked printed is)) tt
 
 -- what a run puts that prints a text, or whose start is refused
-pub put_printed : (contents : Option CallLog) (size : ScreenSize) (asked : Option Words) (printed : Printed) (before text : List ℕ) (given : Option (List ℕ)) → printed_for asked ≡ Some printed → text ≡ text_of printed
-    → PutsSome before text given → MayPut contents size asked before given
-put_printed contents size asked printed before text given is says puts = inr (inl (printed, is, subst (λ t. PutsSome before t given) says puts))
+pub put_printed : (contents : Option CallLog) (around : Surroundings) (asked : Option Words) (printed : Printed) (before text : List ℕ) (given : Option (List ℕ)) → printed_for asked ≡ Some printed → text ≡ text_of printed
+    → PutsSome before text given → MayPut contents around asked before given
+put_printed contents around asked printed before text given is says puts = inr (inl (printed, is, subst (λ t. PutsSome before t given) says puts))
 
-pub put_start : (contents : Option CallLog) (size : ScreenSize) (asked : Option Words) (start : Start) (typed : Typed) (error : StartError) (before : List ℕ) (given : Option (List ℕ)) → IsBeginning size asked (Session start typed)
-    → IfKnown contents (λ log. IsStartCause (current log) start.mode error) → MayPutCause typed error before given → MayPut contents size asked before given
-put_start contents size asked start typed Memory before given is why same = inl same
-put_start contents size asked start typed (Resolve place cause) before given is why (inl same) = inl same
-put_start contents size asked start typed (Resolve place cause) before given is why (inr puts) =
+pub put_start : (contents : Option CallLog) (around : Surroundings) (asked : Option Words) (start : Start) (typed : Typed) (error : StartError) (before : List ℕ) (given : Option (List ℕ)) → IsBeginning around asked (Session start typed)
+    → IfKnown contents (λ log. IsStartCause (current log) start.mode error) → MayPutCause typed error before given → MayPut contents around asked before given
+put_start contents around asked start typed Memory before given is why same = inl same
+put_start contents around asked start typed (Resolve place cause) before given is why (inl same) = inl same
+put_start contents around asked start typed (Resolve place cause) before given is why (inr puts) =
     inr (inr (
       place,
       cause,
-      subst (λ (o : Option Start). IsSome o) (sym (starts_in size asked start typed is)) refl,
-      λ log known. cause_in log size asked start typed (Resolve place cause) is (why log known),
+      subst (λ (o : Option Start). IsSome o) (sym (starts_in around asked start typed is)) refl,
+      λ log known. cause_in log around asked start typed (Resolve place cause) is (why log known),
       subst (λ word. PutsSome before (start_line word cause) given) (sym (names_word place asked start.mode typed is.0)) puts,
     ))

@@ -4,15 +4,16 @@ use Rattle.std.specs.Prelude.{◌≡◌, ℕ, List, [], ◌∷◌, ◌++◌, Opt
 use Rattle.start_words.specs.declared.words.Words.{Words}
 use Rattle.start_words.specs.declared.words.Words.TheVariants.{Panels, View, NotBuilt}
 use Rattle.start_words.specs.declared.words.Words.TheVariants as asked
-use Rattle.start_words.specs.Folders.{started_in}
+use Rattle.start_words.specs.Folders.{home_in, started_in}
 use Rattle.start_words.specs.Asked.{asked_by}
-use Rattle.start_words.specs.Sizes.{ScreenSize, size_said}
+use Rattle.start_words.specs.Sizes.{size_said}
 use Rattle.mc_desk.specs.declared.starts.Start.{Start}
 use Rattle.mc_desk.specs.declared.starts.StartMode.{StartMode}
 use Rattle.mc_desk.specs.declared.starts.StartMode.TheVariants as opens
 use Rattle.mc_desk.specs.declared.starts.StartPlace.{StartPlace}
 use Rattle.mc_desk.specs.declared.starts.StartPlace.TheVariants.{Left, Right, File}
 use Rattle.mc_main.specs.declared.run.Env.{Env}
+use Rattle.mc_main.specs.declared.words.Surroundings.{Surroundings}
 use Rattle.mc_main.specs.declared.words.Printed.{Printed}
 use Rattle.mc_main.specs.declared.words.Printed.TheVariants.{Usage, Help, Version}
 use Rattle.mc_main.specs.declared.words.Typed.{Typed}
@@ -53,9 +54,9 @@ status_with Usage = 1
 status_with Help = 0
 status_with Version = 0
 
--- the size of the screen, as the surroundings say it
-unfoldable pub size_in : Env → ScreenSize
-size_in env = size_said env.lines env.columns
+-- the size of the screen, and HOME, as the surroundings say them
+unfoldable pub surroundings_in : Env → Surroundings
+surroundings_in env = let size = size_said env.lines env.columns in record { home = home_in env.home; lines = size.lines; columns = size.columns }
 
 -- the words ask for a session of these paths, which were typed so
 abbrev pub AskFor : Option Words → StartMode → Typed → Type 0
@@ -65,27 +66,28 @@ AskFor words (opens.Panels left right) (said.File word) = ⊥
 AskFor words (opens.View path) (said.Panels on_left on_right) = ⊥
 AskFor words (opens.View path) (said.File word) = words ≡ Some (View (record { typed = word; path = path }))
 
--- a run begins as its words ask for it, on a screen of this size
-abbrev pub IsBeginning : ScreenSize → Option Words → Beginning → Type 0
-IsBeginning size words (Print printed) = printed_for words ≡ Some printed
-IsBeginning size words (Session start typed) = AskFor words start.mode typed × (start.lines ≡ size.lines) × (start.columns ≡ size.columns)
+-- a run begins as its words ask for it, in these surroundings
+abbrev pub IsBeginning : Surroundings → Option Words → Beginning → Type 0
+IsBeginning around words (Print printed) = printed_for words ≡ Some printed
+IsBeginning around words (Session start typed) =
+    AskFor words start.mode typed × (start.home ≡ around.home) × (start.lines ≡ around.lines) × (start.columns ≡ around.columns)
 
--- what a session starts with on a screen of this size
-abbrev pub start_with : ScreenSize → StartMode → Start
-start_with size mode = record { mode = mode; lines = size.lines; columns = size.columns }
+-- what a session starts with in these surroundings
+abbrev pub start_with : Surroundings → StartMode → Start
+start_with around mode = record { mode = mode; home = around.home; lines = around.lines; columns = around.columns }
 
 -- what the session starts with that is asked for
-abbrev pub session_start : ScreenSize → Option Words → Option Start
-session_start size None = None
-session_start size (Some asked.Help) = None
-session_start size (Some asked.Version) = None
-session_start size (Some (Panels left right)) = Some (start_with size (opens.Panels left.path right.path))
-session_start size (Some (View file)) = Some (start_with size (opens.View file.path))
-session_start size (Some NotBuilt) = None
+abbrev pub session_start : Surroundings → Option Words → Option Start
+session_start around None = None
+session_start around (Some asked.Help) = None
+session_start around (Some asked.Version) = None
+session_start around (Some (Panels left right)) = Some (start_with around (opens.Panels left.path right.path))
+session_start around (Some (View file)) = Some (start_with around (opens.View file.path))
+session_start around (Some NotBuilt) = None
 
 -- what the session starts with that words and surroundings ask for
 abbrev pub start_in : Env → List (List ℕ) → Option Start
-start_in env words = session_start (size_in env) (asked_in env.folder words)
+start_in env words = session_start (surroundings_in env) (asked_in env.folder words)
 
 -- What was typed for a path of the session. One that views a file has one word, and one of panels, which views none, has the left
 -- panel's in its place.

@@ -26,7 +26,7 @@ use Rattle.mc_desk.specs.Shown.{HasGiven, Put}
 use Rattle.mc_desk.specs.ShownEntries.{CutsEntry, ShowsEntry, draws}
 use Rattle.mc_desk.specs.Desks.{LacksSecond}
 use Rattle.start_words.specs.declared.words.Words.{Words}
-use Rattle.start_words.specs.Sizes.{ScreenSize}
+use Rattle.mc_main.specs.declared.words.Surroundings.{Surroundings}
 use Rattle.mc_main.specs.Beginnings.{printed_for, session_start}
 use Rattle.mc_main.specs.Printed.{MayPut}
 use Rattle.mc_main.specs.declared.session.SessionEnd.{SessionEnd}
@@ -77,13 +77,13 @@ pub record RanSession (folders : Option Start) (opening : Option CallLog) (fault
 
 -- What a run wrote down, the newest first: a session at the paths that the words name; or nothing where none began, and then the
 -- screen was given no more than what is printed in its place, or a prefix of that.
-abbrev pub IsRun : ScreenSize → Option Words → Option CallLog → ℕ → ℕ → List Entry → Option CallLog → Type 0 → Option (List ℕ) → Option (List ℕ) → Type 0
-IsRun size asked opening faults status newest contents all_taken given given_after =
-    (IsSome (session_start size asked) × RanSession (session_start size asked) opening faults status newest contents all_taken given given_after)
-    ⊎ ((newest ≡ []) × BeginsNone asked status × IfKnown given (λ before. MayPut opening size asked before given_after))
+abbrev pub IsRun : Surroundings → Option Words → Option CallLog → ℕ → ℕ → List Entry → Option CallLog → Type 0 → Option (List ℕ) → Option (List ℕ) → Type 0
+IsRun around asked opening faults status newest contents all_taken given given_after =
+    (IsSome (session_start around asked) × RanSession (session_start around asked) opening faults status newest contents all_taken given given_after)
+    ⊎ ((newest ≡ []) × BeginsNone asked status × IfKnown given (λ before. MayPut opening around asked before given_after))
 
--- Of each key that was worked and each look each terminal shows, of the bytes that were put by then, the frame of what the screen
--- then showed, whatever it showed before the run; but at status 4 or 5 perhaps of the last, whose drawing was cut short.
+-- Of each key that was worked, each look and each entry of a search each terminal shows, of the bytes that were put by then, the frame of
+-- what the screen then showed, whatever it showed before the run; but at status 4 or 5 perhaps of the last, whose drawing was cut short.
 abbrev pub ShowsRun : Option Start → Option CallLog → ℕ → ℕ → List Entry → List ℕ → Type 0
 ShowsRun folders opening faults status newest put =
     (later : List Entry) (e : Entry) (older : List Entry) → newest ≡ later ++ e ∷ older → draws e.what ≡ true

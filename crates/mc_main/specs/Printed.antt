@@ -5,7 +5,7 @@ use Rattle.resolving.specs.declared.error.ResolveError.{ResolveError}
 use Rattle.tree_trait.specs.Change.{CallLog, current}
 use Rattle.tree_trait.specs.Answers.{HasRisen, IfKnown}
 use Rattle.start_words.specs.declared.words.Words.{Words}
-use Rattle.start_words.specs.Sizes.{ScreenSize}
+use Rattle.mc_main.specs.declared.words.Surroundings.{Surroundings}
 use Rattle.box_words.specs.Causes.{resolve_words}
 use Rattle.mc_desk.specs.declared.starts.StartError.{StartError}
 use Rattle.mc_desk.specs.declared.starts.StartError.TheVariants.{Resolve, Memory}
@@ -41,19 +41,19 @@ IsCauseIn log (Some start) error = IsStartCause (current log) start.mode error
 
 -- The screen was given, after these bytes, the line for a path that is refused, with the cause for that; a fault only where
 -- the tree has counted one since the run began.
-pub record PrintsStart (contents : Option CallLog) (size : ScreenSize) (asked : Option Words) (faults faults_after : ℕ) (before : List ℕ) (given : Option (List ℕ)) : Type 0 where
+pub record PrintsStart (contents : Option CallLog) (around : Surroundings) (asked : Option Words) (faults faults_after : ℕ) (before : List ℕ) (given : Option (List ℕ)) : Type 0 where
   pub place : StartPlace
   pub cause : ResolveError
-  pub is_cause : IfKnown contents (λ log. IsCauseIn log (session_start size asked) (Resolve place cause))
+  pub is_cause : IfKnown contents (λ log. IsCauseIn log (session_start around asked) (Resolve place cause))
   pub risen : is_start_fault (Resolve place cause) ≡ true → HasRisen faults faults_after
   pub line : given ≡ Some (before ++ start_line (start_word place asked) cause)
 
 -- What the screen is given, after these bytes, by a run in which no session begins: nothing; or, whole or cut short, the text that
 -- is printed in place of a session, or the line for a path of the session that was asked for, with a cause for which it doesn't
 -- start there.
-abbrev pub MayPut : Option CallLog → ScreenSize → Option Words → List ℕ → Option (List ℕ) → Type 0
-MayPut contents size asked before given =
+abbrev pub MayPut : Option CallLog → Surroundings → Option Words → List ℕ → Option (List ℕ) → Type 0
+MayPut contents around asked before given =
     (given ≡ Some before)
     ⊎ (((printed : Printed) × (printed_for asked ≡ Some printed) × PutsSome before (text_of printed) given)
-    ⊎ ((place : StartPlace) × (cause : ResolveError) × IsSome (session_start size asked) × IfKnown contents (λ log. IsCauseIn log (session_start size asked) (Resolve place cause))
+    ⊎ ((place : StartPlace) × (cause : ResolveError) × IsSome (session_start around asked) × IfKnown contents (λ log. IsCauseIn log (session_start around asked) (Resolve place cause))
     × PutsSome before (start_line (start_word place asked) cause) given))

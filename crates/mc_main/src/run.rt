@@ -7,7 +7,7 @@ ghost use Rattle.mc_desk.specs.Logs.{jobs_begun};
 ghost use Rattle.mc_desk.specs.Shown.{put_since};
 ghost use Rattle.mc_desk.specs.Tallies.{faults_in, has_lost};
 ghost use Rattle.mc_desk.specs.Desks.{RanNothing};
-ghost use Rattle.mc_main.specs.Beginnings.{asked_in, printed_for, size_in, start_in, status_with, text_of};
+ghost use Rattle.mc_main.specs.Beginnings.{asked_in, printed_for, surroundings_in, start_in, status_with, text_of};
 ghost use Rattle.mc_main.specs.Headline.{IsStatusOr, MayRefuseStart, RefusesStart, IsRun, ReadsKeys, TookAll, IsSafeRun, IsFinishedRun, IsCalmedRun, IsReplayedRun, ShowsRun, IsComplete};
 ghost use Rattle.mc_main.specs.Printed.{PrintsStart};
 
@@ -88,7 +88,7 @@ pub fn mc_run<N: Tag, T: Tree, K: Source, S: Sink, P: Spawner, C: Clock, G: Gate
     // Each entry of a step is a piece of the job's work with the calls that belong to it, or the sync of a folder that an ended
     // job left. A tree that tells what it holds is handed back telling it.
     ensures traced { IsTracedTo (T.contents tree) (T.contents result.tree) (reverse result.history.entries) }
-    ensures session { IsRun (size_in env.now) (asked_in env.now.folder words.now) (T.contents tree) (T.fault_count tree) result.status
+    ensures session { IsRun (surroundings_in env.now) (asked_in env.now.folder words.now) (T.contents tree) (T.fault_count tree) result.status
         (reverse result.history.entries) (T.contents result.tree) (TookAll (K.left keys.old) (K.left keys.new))
         (S.given screen) (S.given result.screen) }
 
@@ -128,7 +128,7 @@ pub fn mc_run<N: Tag, T: Tree, K: Source, S: Sink, P: Spawner, C: Clock, G: Gate
         MayRefuseStart log (start_in env.now words.now) (T.fault_count tree) (T.fault_count result.tree)) }
     ensures refuses_start { IfKnown (T.contents tree) (λ log. RefusesStart log (start_in env.now words.now) result.status) }
     ensures start_line { result.status ≡ 2 → IfKnown (S.given screen) (λ before.
-        PrintsStart (T.contents tree) (size_in env.now) (asked_in env.now.folder words.now) (T.fault_count tree) (T.fault_count result.tree) before (S.given result.screen)) }
+        PrintsStart (T.contents tree) (surroundings_in env.now) (asked_in env.now.folder words.now) (T.fault_count tree) (T.fault_count result.tree) before (S.given result.screen)) }
 
     // Statuses 3 and 4: only where the device's count of faults has risen. There are no others.
     ensures keyboard { result.status ≡ 3 → HasRisen (K.fault_count keys.old) (K.fault_count keys.new) }

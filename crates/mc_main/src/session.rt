@@ -1,7 +1,7 @@
-//! A session: keys are taken one byte at a time, and after each the job that it began is worked.
+//! A session: keys are taken one byte at a time, and after each the job or the search that it began is worked.
 ghost use Rattle.std.specs.Prelude.{◌≡◌, ◌≤◌, true, false, None, Some, IfOk, IfNone, OnOk, slice_get};
 ghost use Rattle.tree_trait.specs.Answers.{HasRisen, HasCause, IfKnown};
-ghost use Rattle.mc_desk.specs.Desks.{IsFresh, KeepsKeys, is_over};
+ghost use Rattle.mc_desk.specs.Desks.{IsFresh, KeepsKeys, is_over, seeks};
 ghost use Rattle.mc_main.specs.Headline.{IsCut, LeavesOthers, TookAll, bytes_given, left_of};
 
 use mc_desk::{Desk, DeskError, DeskReply, Tag};
@@ -44,7 +44,7 @@ pub fn run_session<N: Tag, T: Tree, K: Source, S: Sink, P: Spawner, C: Clock>(
     SessionEnd::NoMemory
 }
 
-/// Works what is due, then takes one byte and works its keys. The answer is the session's end, if it has come.
+/// Works what is due, makes a search to its end, then takes one byte and works its keys. The answer is the session's end, if it has come.
 fn take_turn<N: Tag, T: Tree, K: Source, S: Sink, P: Spawner, C: Clock>(
     alloc: Global,
     desk: &mut Desk<N, T, S, P>,
@@ -64,6 +64,9 @@ fn take_turn<N: Tag, T: Tree, K: Source, S: Sink, P: Spawner, C: Clock>(
     if let Err(error) = work_due(alloc, desk) {
         return Some(failed(error));
     }
+    if let Err(error) = seek_to_end(alloc, desk) {
+        return Some(failed(error));
+    }
     let byte = match take_byte(desk, keys) {
         Err(SourceFault) => return Some(SessionEnd::KeysFailed),
         Ok(None) => return Some(SessionEnd::KeysEnded),
@@ -76,12 +79,13 @@ fn take_turn<N: Tag, T: Tree, K: Source, S: Sink, P: Spawner, C: Clock>(
     }
 }
 
-/// Takes one byte, or none at the end of the keys. It may wait, so on the desk nothing is due.
+/// Takes one byte, or none at the end of the keys. It may wait, so on the desk nothing is due, and no search goes on.
 fn take_byte<N: Tag, T: Tree, K: Source, S: Sink, P: Spawner>(
     _desk: &Desk<N, T, S, P>,
     keys: &mut K,
 ) -> Result<Option<u8>, SourceFault>
     requires worked { _desk.now.tally.due ≡ None }
+    requires sought { seeks _desk.now ≡ false }
     ensures first { IfKnown (K.left keys.old) (λ bytes. IfOk result (λ byte. byte ≡ slice_get bytes 0)) }
     ensures left { K.left keys.new ≡ left_of (K.left keys.old) (bytes_given result) }
     ensures cause { HasCause (record {}) (K.fault_count keys.old) (K.fault_count keys.new) result }
@@ -115,6 +119,23 @@ fn work_due<N: Tag, T: Tree, S: Sink, P: Spawner>(
             desk.look(alloc)
         }
     }
+}
+
+/// Makes the search to its end, if one goes on. The list of what it finds grows on the screen.
+fn seek_to_end<N: Tag, T: Tree, S: Sink, P: Spawner>(
+    alloc: Global,
+    desk: &mut Desk<N, T, S, P>,
+) -> Result<(), DeskError>
+    requires looked { desk.old.tally.due ≡ None }
+    ensures keys { KeepsKeys desk.old desk.new }
+    ensures over { OnOk result (is_over desk.new ≡ is_over desk.old) }
+    ensures looked { OnOk result (desk.new.tally.due ≡ None) }
+    ensures sought { OnOk result (seeks desk.new ≡ false) }
+{
+    while desk.is_seeking() {
+        desk.seek(alloc)?;
+    }
+    Ok(())
 }
 
 fn failed(error: DeskError) -> SessionEnd

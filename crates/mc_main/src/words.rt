@@ -1,11 +1,11 @@
 //! How a run begins, by its words.
 ghost use Rattle.std.specs.Prelude.{◌≡◌, ◌<◌, Some, IfOk};
-ghost use Rattle.mc_main.specs.Beginnings.{IsBeginning, asked_in, size_in, status_with, text_of, word_for as word_of};
+ghost use Rattle.mc_main.specs.Beginnings.{IsBeginning, asked_in, start_with, status_with, surroundings_in, text_of, word_for as word_of};
 
 use crate::run::Env;
 use mc_desk::{Start, StartMode, StartPlace};
-use mc_text::{NoMemory, Text};
-use start_words::{Size, Words, WordsError, read_words, started_folder};
+use mc_text::{NoMemory, Path, Text};
+use start_words::{Size, Words, WordsError, home_folder, read_words, started_folder};
 use std::alloc::Global;
 
 /// A text that is printed in place of a session.
@@ -45,6 +45,14 @@ impl Printed {
     }
 }
 
+/// What the surroundings of a run say: for what a typed tilde stands, where that is known, and the size of the screen.
+#[derive(Debug, Drop)]
+pub struct Surroundings {
+    pub home: Option<Path>,
+    pub lines: u16,
+    pub columns: u16,
+}
+
 /// What was typed for the paths of a session: the folders of its panels, or the file that is viewed.
 #[derive(Debug, Drop)]
 pub enum Typed {
@@ -77,28 +85,34 @@ pub enum Beginning {
 
 /// How a run on these words begins.
 pub fn beginning_of(alloc: Global, words: &[Text], env: &Env) -> Result<Beginning, NoMemory>
-    ensures { IfOk result (λ beginning. IsBeginning (size_in env.now) (asked_in env.now.folder words.now) beginning) }
+    ensures { IfOk result (λ beginning. IsBeginning (surroundings_in env.now) (asked_in env.now.folder words.now) beginning) }
 {
     let started = started_folder(alloc, env.folder.0.as_str())?;
-    let size = size_of(env);
+    let around = surroundings_of(alloc, env)?;
     match read_words(alloc, words, &started) {
-        Ok(asked) => Ok(begun_by(asked, &size)),
+        Ok(asked) => Ok(begun_by(asked, around)),
         Err(WordsError::Usage) => Ok(Beginning::Print(Printed::Usage)),
         Err(WordsError::Memory) => Err(NoMemory),
     }
 }
 
-/// The size of the screen.
-#[tactic(auto, unfolding(crate::specs::Beginnings::size_in))]
-fn size_of(env: &Env) -> Size
-    ensures { result ≡ size_in env.now }
+/// What the surroundings say.
+#[tactic(auto, unfolding(crate::specs::Beginnings::surroundings_in))]
+fn surroundings_of(alloc: Global, env: &Env) -> Result<Surroundings, NoMemory>
+    ensures { IfOk result (λ around. around ≡ surroundings_in env.now) }
 {
-    Size::read(&env.lines, &env.columns)
+    let home = home_folder(alloc, &env.home)?;
+    let size = Size::read(&env.lines, &env.columns);
+    Ok(Surroundings {
+        home,
+        lines: size.lines(),
+        columns: size.columns(),
+    })
 }
 
-/// How a run begins that was asked for, on a screen of this size.
-fn begun_by(asked: Words, size: &Size) -> Beginning
-    ensures { IsBeginning size.now (Some asked) result }
+/// How a run begins that was asked for, in these surroundings.
+fn begun_by(asked: Words, around: Surroundings) -> Beginning
+    ensures { IsBeginning around (Some asked) result }
 {
     match asked {
         Words::Help => Beginning::Print(Printed::Help),
@@ -112,22 +126,28 @@ fn begun_by(asked: Words, size: &Size) -> Beginning
                 left: left.typed,
                 right: right.typed,
             },
-            size,
+            around,
         ),
-        Words::View(file) => session(StartMode::View(file.path), Typed::File(file.typed), size),
+        Words::View(file) => session(StartMode::View(file.path), Typed::File(file.typed), around),
         Words::NotBuilt => Beginning::Print(Printed::Usage),
     }
 }
 
-/// A session that starts so, on a screen of this size.
-fn session(mode: StartMode, typed: Typed, size: &Size) -> Beginning
-    ensures { result ≡ Beginning.Session (record { mode = mode; lines = size.now.lines; columns = size.now.columns }) typed }
+/// A session that starts so, in these surroundings.
+fn session(mode: StartMode, typed: Typed, around: Surroundings) -> Beginning
+    ensures { result ≡ Beginning.Session (start_with around mode) typed }
 {
+    let Surroundings {
+        home,
+        lines,
+        columns,
+    } = around;
     Beginning::Session {
         start: Start {
             mode,
-            lines: size.lines(),
-            columns: size.columns(),
+            home,
+            lines,
+            columns,
         },
         typed,
     }

@@ -1,4 +1,8 @@
-pub mod BoxSizes
+mod FindFollowing
+mod FindLemmas
+mod FindReadings
+mod FrameSizes
 mod NoWays
 mod Readings
+mod SeekLemmas
 pub mod UnknownKeys

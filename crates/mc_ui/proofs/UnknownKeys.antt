@@ -6,12 +6,15 @@ use Rattle.key_screen.specs.declared.keys.Base.TheVariants.{Unknown}
 use Rattle.tree_trait.specs.Change.{CallLog}
 use Rattle.job_reports.specs.declared.row.JobRow.{JobRow}
 use Rattle.session_history.specs.declared.refusal.Refusal.{Refusal}
-use Rattle.mc_ui.specs.Boxes.{Box, NoBox, DeleteBox, MaskBox, TargetBox, FolderBox, TroubleBox, PanelsBox}
+use Rattle.mc_ui.specs.Boxes.{Box, NoBox, DeleteBox, MaskBox, TargetBox, FolderBox, TroubleBox, PanelsBox, FindBox}
+use Rattle.find_mode.specs.declared.act.FindAct.{FindAct}
+use Rattle.find_mode.specs.FindScreens.{FindScreen}
+use Rattle.find_mode.proofs.UnknownKeys.{unknown_stays as find_stays}
 use Rattle.viewer_mode.specs.declared.act.ViewerAct.{ViewerAct}
 use Rattle.viewer_mode.specs.ViewerScreens.{ViewerScreen}
 use Rattle.viewer_mode.proofs.UnknownKeys.{unknown_stays as viewer_stays}
 use Rattle.mc_ui.specs.declared.viewing.ViewedFile.{ViewedFile}
-use Rattle.mc_ui.specs.Screens.{ByBox, ByViewing, KeyLeads, Screen, WorksKey, after_act, after_message, at_second, with_viewer}
+use Rattle.mc_ui.specs.Screens.{ByBox, ByViewing, FindFollows, FindLeads, KeyLeads, Screen, WorksKey, after_act, after_message, at_second, with_viewer, without_box}
 use Rattle.mc_ui.specs.PanelKeys.{plain_base}
 
 abbrev pub unknown_key : Bool → Key
@@ -21,6 +24,14 @@ module _ (contents : Option CallLog) (rows : List JobRow) (refusals : List Refus
   kept : (over : Box) → before.over ≡ over → (let same : Screen = record before { over = over } in same) ≡ before
   kept over is = ap (λ o. let same : Screen = record before { over = o } in same) (sym is)
 
+  by_find : (meta : Bool) (find : FindScreen) → before.over ≡ FindBox find → FindLeads find contents (unknown_key meta) refusals (without_box before) after
+      → after ≡ before
+  by_find meta find is h =
+      let stays = find_stays contents (unknown_key meta) h.act find h.sought refl h.leads in
+      let follows = subst (λ (act : FindAct). FindFollows act h.sought contents refusals (without_box before) after) stays.0 h.follows in
+      follows.1
+      ∙ (ap (λ (sought : FindScreen). let shown : Screen = record before { over = FindBox sought } in shown) stays.1 ∙ kept (FindBox find) is)
+
   by_box : (meta : Bool) (over : Box) → before.over ≡ over → ByBox over contents rows (unknown_key meta) refusals before after → after ≡ before
   by_box true NoBox is h = h.1
   by_box false NoBox is h = h.1
@@ -28,14 +39,16 @@ module _ (contents : Option CallLog) (rows : List JobRow) (refusals : List Refus
   by_box false (DeleteBox path) is h = h.1
   by_box true (MaskBox path typed) is h = h.1 ∙ kept (MaskBox path typed) is
   by_box false (MaskBox path typed) is h = h.1 ∙ kept (MaskBox path typed) is
-  by_box true (TargetBox path typed) is h = h.1 ∙ kept (TargetBox path typed) is
-  by_box false (TargetBox path typed) is h = h.1 ∙ kept (TargetBox path typed) is
+  by_box true (TargetBox path mask typed) is h = h.1 ∙ kept (TargetBox path mask typed) is
+  by_box false (TargetBox path mask typed) is h = h.1 ∙ kept (TargetBox path mask typed) is
   by_box true (FolderBox typed) is h = h.1 ∙ kept (FolderBox typed) is
   by_box false (FolderBox typed) is h = h.1 ∙ kept (FolderBox typed) is
   by_box true (TroubleBox trouble) is h = h.1
   by_box false (TroubleBox trouble) is h = h.1
   by_box true (PanelsBox asks) is h = h.1 ∙ kept (PanelsBox asks) is
   by_box false (PanelsBox asks) is h = h.1 ∙ kept (PanelsBox asks) is
+  by_box true (FindBox find) is h = by_find true find is h
+  by_box false (FindBox find) is h = by_find false find is h
 
   by_message : (meta shown : Bool)
       → MatchBool shown ((refusals ≡ []) × (after ≡ after_message (plain_base (unknown_key meta)) before)) (ByBox before.over contents rows (unknown_key meta) refusals before after) → after ≡ before

@@ -1,5 +1,5 @@
 -- What stands over the panels: a box, and a message over it.
-use Rattle.std.specs.Prelude.{List, [], ◌∷◌, Option, Some, None}
+use Rattle.std.specs.Prelude.{ℕ, List, [], ◌∷◌, Option, Some, None}
 use Rattle.mc_text.specs.Routes.{Route}
 use Rattle.job_reports.specs.declared.report.Trouble.{Trouble}
 use Rattle.session_history.specs.declared.refusal.Refusal.{Refusal}
@@ -7,32 +7,36 @@ use Rattle.mc_dialogs.specs.InputKeys.{InputState}
 use Rattle.box_words.specs.declared.message.Message.{Message}
 use Rattle.box_words.specs.declared.message.Message.TheVariants.{Refused}
 use Rattle.box_words.specs.BoxLines.{mask_line}
+use Rattle.find_mode.specs.FindScreens.{FindScreen}
 use Rattle.job_plans.specs.declared.choosing.Opens.{Opens}
 use Rattle.job_plans.specs.declared.choosing.Opens.TheVariants as opens
 use Rattle.panel_boxes.specs.declared.panel_box.PanelBox.{PanelBox}
 use Rattle.mc_ui.specs.declared.dialog.Dialog.{Dialog}
 use Rattle.mc_ui.specs.declared.dialog.Dialog.TheVariants as dialog
 
--- What stands over the panels: nothing, or a box that asks whether to delete a file, asks for the source mask or for the
--- destination of a copy, or for a new folder, tells of a job's trouble, or asks what the panels are to do.
+-- What stands over the panels: nothing, or a box that asks whether to delete a file, asks for the source mask of a copy or, with that
+-- mask, for its destination, or for a new folder, tells of a job's trouble, asks what the panels are to do, or seeks things and lists what
+-- was found.
 pub data Box : Type 0 where
   NoBox : Box
   DeleteBox : (path : Route) → Box
   MaskBox : (path : Route) → (typed : InputState) → Box
-  TargetBox : (path : Route) → (typed : InputState) → Box
+  TargetBox : (path : Route) → (mask : List ℕ) → (typed : InputState) → Box
   FolderBox : (typed : InputState) → Box
   TroubleBox : (trouble : Trouble) → Box
   PanelsBox : (asks : PanelBox) → Box
+  FindBox : (find : FindScreen) → Box
 
 -- a box as it is seen
 abbrev pub seen_box : Dialog → Box
 seen_box dialog.Nothing = NoBox
 seen_box (dialog.Delete chosen) = DeleteBox chosen.path
 seen_box (dialog.SourceMask chosen typed) = MaskBox chosen.path typed
-seen_box (dialog.CopyTo chosen typed) = TargetBox chosen.path typed
+seen_box (dialog.CopyTo chosen mask typed) = TargetBox chosen.path mask typed
 seen_box (dialog.MakeFolder typed) = FolderBox typed
 seen_box (dialog.Trouble trouble) = TroubleBox trouble
 seen_box (dialog.Panel asks) = PanelsBox asks
+seen_box (dialog.Find find) = FindBox find
 
 -- the box that such a key opens
 abbrev pub box_of : Opens → Route → Box

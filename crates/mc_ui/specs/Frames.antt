@@ -12,11 +12,12 @@ use Rattle.mc_dialogs.specs.InputField.{with_input}
 use Rattle.mc_dialogs.specs.QuestionKeys.{plain_lines}
 use Rattle.box_words.specs.declared.message.Message.{Message}
 use Rattle.box_words.specs.BoxLines.{delete_lines, message_lines, trouble_lines}
+use Rattle.find_mode.specs.FindFrames.{with_find}
 use Rattle.panel_boxes.specs.Paintings.{with_panel_box}
 use Rattle.panel_pair.specs.Frames.{panes_of}
 use Rattle.viewer_mode.specs.ViewerFrames.{frame_of as viewer_frame}
 use Rattle.mc_ui.specs.declared.viewing.ViewedFile.{ViewedFile}
-use Rattle.mc_ui.specs.Boxes.{Box, NoBox, DeleteBox, MaskBox, TargetBox, FolderBox, TroubleBox, PanelsBox}
+use Rattle.mc_ui.specs.Boxes.{Box, NoBox, DeleteBox, MaskBox, TargetBox, FolderBox, TroubleBox, PanelsBox, FindBox}
 use Rattle.mc_ui.specs.Screens.{Screen, frame_size}
 
 -- one job more in this state
@@ -36,10 +37,11 @@ abbrev pub with_over : Box → CellGrid → CellGrid
 with_over NoBox grid = grid
 with_over (DeleteBox path) grid = with_box grid (plain_lines delete_lines)
 with_over (MaskBox path typed) grid = with_input grid typed
-with_over (TargetBox path typed) grid = with_input grid typed
+with_over (TargetBox path mask typed) grid = with_input grid typed
 with_over (FolderBox typed) grid = with_input grid typed
 with_over (TroubleBox trouble) grid = with_box grid (plain_lines (trouble_lines trouble))
 with_over (PanelsBox asks) grid = with_panel_box asks grid
+with_over (FindBox find) grid = with_find find grid
 
 -- and the message over all
 abbrev pub with_message : Option Message → CellGrid → CellGrid

@@ -1,8 +1,10 @@
 pub mod Boxes
+pub mod Findings
 pub mod Frames
 pub mod Lines
 pub mod LiveJobs
 pub mod Looks
 pub mod PanelKeys
 pub mod Screens
+pub mod Seekings
 pub mod Viewings

@@ -1,8 +1,5 @@
 -- What typing in a line of a copy comes to besides what it makes of the screen.
-use Rattle.std.specs.Prelude.{◌≡◌, ◌⊎◌, ⊤, List, [], ◌∷◌}
-use Rattle.session_history.specs.declared.refusal.PlanError.TheVariants.{BadMask}
-use Rattle.session_history.specs.declared.refusal.Refusal.{Refusal}
-use Rattle.session_history.specs.declared.refusal.Refusal.TheVariants.{Plan}
+use Rattle.std.specs.Prelude.{◌≡◌, ⊤}
 use Rattle.mc_dialogs.specs.InputKeys.{InputState}
 use Rattle.box_words.specs.declared.replies.LineReply.{LineReply}
 use Rattle.box_words.specs.declared.replies.LineReply.TheVariants as line
@@ -12,7 +9,3 @@ abbrev pub StaysWhereTaken : LineReply → InputState → InputState → Type 0
 StaysWhereTaken line.Stays before after = ⊤
 StaysWhereTaken line.Shuts before after = ⊤
 StaysWhereTaken (line.Takes text) before after = after ≡ before
-
--- nothing was refused, or the mask
-abbrev pub MayRefuseMask : List Refusal → Type 0
-MayRefuseMask refusals = (refusals ≡ []) ⊎ (refusals ≡ Plan BadMask ∷ [])

@@ -3,6 +3,7 @@
 use Rattle.std.specs.Prelude.{◌≡◌, ◌≢◌, ℕ, Bool, true, false, is_some, MatchBool, ⊤, if◌then◌else◌, List, [], ◌∷◌, codes, Option, Some, None, Ok, Err}
 use Rattle.std.specs.Str.{bytes_eq}
 use Rattle.mc_text.specs.Routes.{Route}
+use Rattle.home_paths.specs.Homes.{with_home}
 use Rattle.tree_trait.specs.declared.calls.TreeError.{TreeError}
 use Rattle.tree_trait.specs.FileSystem.{View as TreeView}
 use Rattle.tree_trait.specs.Change.{CallLog}
@@ -16,7 +17,7 @@ use Rattle.job_reports.specs.declared.answer.Answer.{Answer}
 use Rattle.job_reports.specs.declared.job.Job.{Job}
 use Rattle.job_reports.specs.declared.row.JobRow.{JobRow}
 use Rattle.job_reports.specs.Jobs.{is_workable}
-use Rattle.session_history.specs.declared.refusal.PlanError.TheVariants.{NoSelection, BadMask}
+use Rattle.session_history.specs.declared.refusal.PlanError.TheVariants.{NoSelection}
 use Rattle.session_history.specs.declared.refusal.Refusal.{Refusal}
 use Rattle.session_history.specs.declared.refusal.Refusal.TheVariants.{Tree, Read, Resolve, Plan, Typed}
 use Rattle.mc_dialogs.specs.InputKeys.{InputState, input_after, input_shut}
@@ -28,13 +29,16 @@ use Rattle.box_words.specs.declared.message.Message.{Message}
 use Rattle.box_words.specs.declared.message.Message.TheVariants.{Refused, Help}
 use Rattle.job_plans.specs.declared.choosing.Opens.{Opens}
 use Rattle.mc_ui.specs.declared.panel_command.KeyCommand.{KeyCommand}
-use Rattle.mc_ui.specs.declared.panel_command.KeyCommand.TheVariants.{Work, ShowHelp, View, Open, AskFolder, OpenPanelBox, Quit, Nothing}
+use Rattle.mc_ui.specs.declared.panel_command.KeyCommand.TheVariants.{Work, ShowHelp, View, Open, AskFolder, OpenPanelBox, Find, Quit, Nothing}
 use Rattle.box_words.specs.declared.replies.DeleteReply.{DeleteReply}
 use Rattle.box_words.specs.declared.replies.DeleteReply.TheVariants as delete
 use Rattle.box_words.specs.declared.replies.LineReply.{LineReply}
 use Rattle.box_words.specs.declared.replies.LineReply.TheVariants as line
 use Rattle.box_words.specs.declared.replies.TroubleReply.{TroubleReply}
 use Rattle.box_words.specs.declared.replies.TroubleReply.TheVariants as trouble
+use Rattle.find_mode.specs.declared.act.FindAct.{FindAct}
+use Rattle.find_mode.specs.declared.act.FindAct.TheVariants as found
+use Rattle.find_mode.specs.FindScreens.{FindScreen, KeyLeads as FindKeyLeads, opened as opened_find}
 use Rattle.mc_panels.specs.Goings.{way_of}
 use Rattle.mc_panels.specs.Panels.{current_name}
 use Rattle.mc_panels.specs.Selections.{selection}
@@ -44,17 +48,19 @@ use Rattle.panel_boxes.specs.declared.panel_box.PanelReply.TheVariants as panel
 use Rattle.panel_boxes.specs.Openings.{opened}
 use Rattle.panel_boxes.specs.Replies.{box_after, reply_to}
 use Rattle.panel_pair.specs.declared.command.PanelCommand.{PanelCommand}
-use Rattle.panel_pair.specs.declared.command.PanelCommand.TheVariants.{Enter}
+use Rattle.panel_pair.specs.declared.command.PanelCommand.TheVariants.{Enter, GoTo}
 use Rattle.panel_pair.specs.declared.frame.FrameSize.{FrameSize}
 use Rattle.panel_pair.specs.Commands.{CommandDone, CommandReads}
 use Rattle.panel_pair.specs.Frames.{page_of as page_of_lines}
 use Rattle.panel_pair.specs.Pairs.{PairState, untagged_pair}
 use Rattle.box_words.specs.BoxKeys.{closes_message, delete_reply_to, line_reply, trouble_reply_to}
-use Rattle.box_words.specs.BoxLines.{folder_line, target_line, target_text}
+use Rattle.box_words.specs.BoxLines.{folder_line, target_line}
 use Rattle.job_plans.specs.Reading.{sight}
-use Rattle.job_plans.specs.Copies.{CopyRefused, IsVacant, MayAsk, copy_plan, delete_plan, target_in}
+use Rattle.job_plans.specs.Copies.{MayAsk, copy_plan, delete_plan}
+use Rattle.job_plans.specs.CopyPlans.{CopyRefused, IsNewCopy}
 use Rattle.job_plans.specs.Folders.{FolderRefused, IsNewFolder, folder_plan}
-use Rattle.mc_ui.specs.Boxes.{Box, NoBox, DeleteBox, MaskBox, TargetBox, FolderBox, TroubleBox, PanelsBox, box_of, first_refusal, with_news, with_refusal, with_trouble}
+use Rattle.mc_ui.specs.Boxes.{Box, NoBox, DeleteBox, MaskBox, TargetBox, FolderBox, TroubleBox, PanelsBox, FindBox, box_of, first_refusal, with_news, with_refusal, with_trouble}
+use Rattle.mc_ui.specs.Findings.{find_refusal}
 use Rattle.mc_ui.specs.LiveJobs.{can_answer, none_live, shown_trouble}
 use Rattle.mc_ui.specs.Looks.{LooksAgain}
 use Rattle.mc_ui.specs.PanelKeys.{panel_command_of, plain_base}
@@ -75,10 +81,11 @@ pub data Planned : Type 0 where
   Answers : (answer : Answer) → Planned
   Ends : Planned
 
--- the panels, the size of the screen, the second of the last key, the box and the message, the file that is viewed, and what is to be
--- carried out
+-- the panels, HOME, the size of the screen, the second of the last key, the box and the message, the file that is viewed, and what is to
+-- be carried out
 pub record Screen : Type 0 where
   pub panels : PairState
+  pub home : Option Route
   pub lines : ℕ
   pub columns : ℕ
   pub second : ℕ
@@ -88,9 +95,9 @@ pub record Screen : Type 0 where
   pub planned : Option Planned
 
 -- a screen of this size as it opens
-abbrev pub opened_screen : PairState → ℕ → ℕ → ℕ → Screen
-opened_screen panels lines columns second =
-    record { panels = panels; lines = lines; columns = columns; second = second; over = NoBox; message = None; viewing = None; planned = None }
+abbrev pub opened_screen : PairState → Option Route → ℕ → ℕ → ℕ → Screen
+opened_screen panels home lines columns second =
+    record { panels = panels; home = home; lines = lines; columns = columns; second = second; over = NoBox; message = None; viewing = None; planned = None }
 
 -- the screen with other panels, and at another second
 abbrev pub with_panels : PairState → Screen → Screen
@@ -154,6 +161,10 @@ Chooses box tree [] folder (name ∷ other ∷ more) refusals before after = (re
 abbrev pub after_ask_folder : List JobRow → Screen → Screen
 after_ask_folder rows before = if none_live rows then record before { over = FolderBox folder_line } else before
 
+-- things are sought from the current panel's folder on, hidden names as that panel has them, patterns as they are read
+abbrev pub find_asked : Screen → FindScreen
+find_asked s = opened_find s.lines s.panels.current.folder s.home s.panels.patterns s.panels.current.wish.hidden
+
 -- a file is viewed over all that stands there
 abbrev pub with_viewer : ViewerScreen → Leaving → Screen → Screen
 with_viewer page leaving before = record before { viewing = Some (record { mode = page; leaving = leaving }) }
@@ -192,6 +203,7 @@ CommandLeads (Open opens) contents rows refusals before after =
 CommandLeads AskFolder contents rows refusals before after = (refusals ≡ []) × (after ≡ after_ask_folder rows before)
 CommandLeads (OpenPanelBox opening) contents rows refusals before after =
     (refusals ≡ []) × (after ≡ record before { over = PanelsBox (opened before.lines opening) })
+CommandLeads Find contents rows refusals before after = (refusals ≡ []) × (after ≡ record before { over = FindBox (find_asked before) })
 CommandLeads Quit contents rows refusals before after = (refusals ≡ []) × (after ≡ record before { planned = Some Ends })
 CommandLeads Nothing contents rows refusals before after = (refusals ≡ []) × (after ≡ before)
 
@@ -210,28 +222,28 @@ after_delete delete.Stays rows path before = before
 after_delete delete.Shuts rows path before = without_box before
 after_delete delete.Deletes rows path before = if none_live rows then begun (delete_plan path) before else before
 
--- the source mask's answer: only `*` is read yet, and with it the destination is asked for
+-- the source mask's answer: with any mask that is typed the destination is asked for
 abbrev pub MaskLeads : LineReply → Route → InputState → List Refusal → Screen → Screen → Type 0
 MaskLeads line.Stays path typed refusals before after = (refusals ≡ []) × (after ≡ record before { over = MaskBox path typed })
 MaskLeads line.Shuts path typed refusals before after = (refusals ≡ []) × (after ≡ without_box before)
 MaskLeads (line.Takes text) path typed refusals before after =
-    MatchBool (bytes_eq text (codes "*"))
-    ((refusals ≡ []) × (after ≡ record before { over = TargetBox path (target_line before.panels.other.folder) }))
-    ((refusals ≡ Plan BadMask ∷ []) × (after ≡ told_refusal (Plan BadMask) before))
+    (refusals ≡ []) × (after ≡ record before { over = TargetBox path text (target_line before.panels.other.folder) })
 
--- the copy is planned where nothing stands at its target, or refused, and then the box stays
-abbrev pub PlansCopy : Option TreeView → Route → Route → List Refusal → Screen → Screen → Type 0
-PlansCopy tree path target [] before after = IsVacant tree target × (after ≡ begun (copy_plan path target) before)
-PlansCopy tree path target (refusal ∷ more) before after = CopyRefused tree target refusal × (more ≡ []) × (after ≡ told_refusal refusal before)
+-- the copy of a thing that matches the mask is planned where the text leads that was typed in the folder of the current panel, where nothing
+-- stands; or it is refused, and then the box stays
+abbrev pub PlansCopy : Option CallLog → Route → List ℕ → Route → List ℕ → List Refusal → Screen → Screen → Type 0
+PlansCopy contents path mask folder text [] before after =
+    (target : Route) × IsNewCopy contents path mask folder text target × (after ≡ begun (copy_plan path target) before)
+PlansCopy contents path mask folder text (refusal ∷ more) before after =
+    CopyRefused contents path mask folder text refusal × (more ≡ []) × (after ≡ told_refusal refusal before)
 
--- the destination's answer: only the other panel's folder is read yet, and then the copy is planned while no job is live
-abbrev pub TargetLeads : LineReply → Option TreeView → List JobRow → Route → InputState → List Refusal → Screen → Screen → Type 0
-TargetLeads line.Stays tree rows path typed refusals before after = (refusals ≡ []) × (after ≡ record before { over = TargetBox path typed })
-TargetLeads line.Shuts tree rows path typed refusals before after = (refusals ≡ []) × (after ≡ without_box before)
-TargetLeads (line.Takes text) tree rows path typed refusals before after =
-    MatchBool (bytes_eq text (target_text before.panels.other.folder))
-    (MatchBool (none_live rows) (PlansCopy tree path (target_in before.panels.other.folder path) refusals before after) ((refusals ≡ []) × (after ≡ before)))
-    ((refusals ≡ Plan BadMask ∷ []) × (after ≡ told_refusal (Plan BadMask) before))
+-- the destination's answer: the copy is planned while no job is live
+abbrev pub TargetLeads : LineReply → Option CallLog → List JobRow → Route → List ℕ → InputState → List Refusal → Screen → Screen → Type 0
+TargetLeads line.Stays contents rows path mask typed refusals before after =
+    (refusals ≡ []) × (after ≡ record before { over = TargetBox path mask typed })
+TargetLeads line.Shuts contents rows path mask typed refusals before after = (refusals ≡ []) × (after ≡ without_box before)
+TargetLeads (line.Takes text) contents rows path mask typed refusals before after =
+    MatchBool (none_live rows) (PlansCopy contents path mask before.panels.current.folder (with_home before.home text) refusals before after) ((refusals ≡ []) × (after ≡ before))
 
 -- a new folder is planned in the folder of the current panel, where nothing stands at the path that was typed; or it is refused, and
 -- then the box stays
@@ -245,7 +257,7 @@ abbrev pub MakeFolderLeads : LineReply → Option CallLog → List JobRow → In
 MakeFolderLeads line.Stays contents rows typed refusals before after = (refusals ≡ []) × (after ≡ record before { over = FolderBox typed })
 MakeFolderLeads line.Shuts contents rows typed refusals before after = (refusals ≡ []) × (after ≡ without_box before)
 MakeFolderLeads (line.Takes text) contents rows typed refusals before after =
-    MatchBool (none_live rows) (PlansFolder contents before.panels.current.folder text refusals before after) ((refusals ≡ []) × (after ≡ before))
+    MatchBool (none_live rows) (PlansFolder contents before.panels.current.folder (with_home before.home text) refusals before after) ((refusals ≡ []) × (after ≡ before))
 
 -- a trouble's answer, where the live job can be answered so; without one the job stays as it is
 abbrev pub after_trouble : TroubleReply → List JobRow → Screen → Screen
@@ -262,6 +274,28 @@ PanelLeads (panel.Opens next) asks contents refusals cleared after = (refusals �
 PanelLeads (panel.Does command) asks contents refusals cleared after = Works command contents refusals cleared after
 PanelLeads (panel.Refuses error) asks contents refusals cleared after =
     (refusals ≡ Typed error ∷ []) × (after ≡ told_refusal (Typed error) (record cleared { over = PanelsBox asks }))
+
+-- The current panel goes to a found path, and nothing is sought any more; or that is refused, and the list stays under a message.
+abbrev pub GoesToFound : Route → FindScreen → Option CallLog → List Refusal → Screen → Screen → Type 0
+GoesToFound path sought contents [] cleared after = IsDone (GoTo path) contents cleared after
+GoesToFound path sought contents (refusal ∷ more) cleared after =
+    IsRefused (GoTo path) contents (refusal ∷ more) (record cleared { over = FindBox sought }) after
+
+-- what a key came to while things are sought, over the screen without them: they are sought on, what was typed is refused under a
+-- message, a found path is gone to, or they are left
+abbrev pub FindFollows : FindAct → FindScreen → Option CallLog → List Refusal → Screen → Screen → Type 0
+FindFollows found.Stays sought contents refusals cleared after = (refusals ≡ []) × (after ≡ record cleared { over = FindBox sought })
+FindFollows (found.Refused why) sought contents refusals cleared after =
+    (refusals ≡ find_refusal why ∷ []) × (after ≡ told_refusal (find_refusal why) (record cleared { over = FindBox sought }))
+FindFollows (found.Goes path) sought contents refusals cleared after = GoesToFound path sought contents refusals cleared after
+FindFollows found.Leaves sought contents refusals cleared after = (refusals ≡ []) × (after ≡ cleared)
+
+-- a key while things are sought makes of them what their tables say
+pub record FindLeads (find : FindScreen) (contents : Option CallLog) (key : Key) (refusals : List Refusal) (cleared after : Screen) : Type 0 where
+  pub act : FindAct
+  pub sought : FindScreen
+  pub leads : FindKeyLeads contents key act find sought
+  pub follows : FindFollows act sought contents refusals cleared after
 
 -- a key without meta while a message is shown
 abbrev pub after_message : Base → Screen → Screen
@@ -296,14 +330,15 @@ ByBox NoBox contents rows key refusals before after = CommandLeads (panel_comman
 ByBox (DeleteBox path) contents rows key refusals before after = (refusals ≡ []) × (after ≡ after_delete (delete_reply_to key) rows path before)
 ByBox (MaskBox path typed) contents rows key refusals before after =
     MaskLeads (line_reply (input_shut typed key)) path (input_after typed key) refusals before after
-ByBox (TargetBox path typed) contents rows key refusals before after =
-    TargetLeads (line_reply (input_shut typed key)) (sight contents) rows path (input_after typed key) refusals before after
+ByBox (TargetBox path mask typed) contents rows key refusals before after =
+    TargetLeads (line_reply (input_shut typed key)) contents rows path mask (input_after typed key) refusals before after
 ByBox (FolderBox typed) contents rows key refusals before after =
     MakeFolderLeads (line_reply (input_shut typed key)) contents rows (input_after typed key) refusals before after
 ByBox (TroubleBox trouble) contents rows key refusals before after =
     (refusals ≡ []) × (after ≡ after_trouble (trouble_reply_to trouble.barrier key) rows before)
 ByBox (PanelsBox asks) contents rows key refusals before after =
     PanelLeads (reply_to before.panels asks key) (box_after asks key) contents refusals (without_box before) after
+ByBox (FindBox find) contents rows key refusals before after = FindLeads find contents key refusals (without_box before) after
 
 -- what a key makes of it while no file is viewed: a message takes it before the box below does
 abbrev pub WorksBelow : Option CallLog → List JobRow → Key → List Refusal → Screen → Screen → Type 0

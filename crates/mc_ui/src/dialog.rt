@@ -1,7 +1,9 @@
 //! The box that stands over the panels.
 use box_words::Chosen;
+use find_mode::FindMode;
 use job_reports::Trouble;
 use mc_dialogs::InputLine;
+use mc_text::Text;
 use panel_boxes::PanelBox;
 
 /// What stands over the panels.
@@ -12,12 +14,14 @@ pub enum Dialog {
     Delete(Chosen),
     /// Asks which names of the source are copied, of a copy of this file.
     SourceMask(Chosen, InputLine),
-    /// Asks where this file is to be copied to.
-    CopyTo(Chosen, InputLine),
+    /// Asks where this file is to be copied to, if it matches this mask.
+    CopyTo(Chosen, Text, InputLine),
     /// Asks where a new folder is to be made, and under which name.
     MakeFolder(InputLine),
     /// Tells of a job's trouble, and takes an answer.
     Trouble(Trouble),
     /// Asks what the panels are to do.
     Panel(PanelBox),
+    /// Asks what is to be sought, and lists what was found.
+    Find(FindMode),
 }

@@ -1,5 +1,6 @@
 //! The frame of the screen.
 ghost use Rattle.std.specs.Prelude.{◌≡◌, ◌<◌, ◌^◌, length, IfOk, OnOk};
+ghost use Rattle.find_mode.specs.FindFrames.{with_find};
 ghost use Rattle.mc_dialogs.specs.Boxes.{with_box};
 ghost use Rattle.mc_dialogs.specs.InputField.{with_input};
 ghost use Rattle.mc_frame.specs.Frames.{panels_frame};
@@ -16,6 +17,7 @@ use crate::dialog::Dialog;
 use crate::ui::Ui;
 use box_words::{Message, delete_lines, message_lines, trouble_lines};
 use counting::counts_of;
+use find_mode::FindMode;
 use job_reports::JobRows;
 use key_screen::Grid;
 use mc_dialogs::{InputLine, paint_box, plain_lines};
@@ -77,7 +79,7 @@ fn paint_dialog(grid: &mut Grid, alloc: Global, dialog: &Dialog) -> Result<(), N
             paint_line(grid, alloc, line)?;
             Ok(())
         }
-        Dialog::CopyTo(_, line) => {
+        Dialog::CopyTo(_, _, line) => {
             paint_line(grid, alloc, line)?;
             Ok(())
         }
@@ -92,6 +94,10 @@ fn paint_dialog(grid: &mut Grid, alloc: Global, dialog: &Dialog) -> Result<(), N
         }
         Dialog::Panel(asks) => {
             paint_panel_box(grid, alloc, asks)?;
+            Ok(())
+        }
+        Dialog::Find(find) => {
+            paint_find(grid, alloc, find)?;
             Ok(())
         }
     }
@@ -123,6 +129,15 @@ fn paint_panel_box(grid: &mut Grid, alloc: Global, asks: &PanelBox) -> Result<()
     ensures size { OnOk result ((grid.new.lines ≡ grid.old.lines) × (grid.new.columns ≡ grid.old.columns)) }
 {
     asks.paint(alloc, grid)?;
+    Ok(())
+}
+
+/// Paints what asks for things that are sought, or the list of what was found.
+fn paint_find(grid: &mut Grid, alloc: Global, find: &FindMode) -> Result<(), NoMemory>
+    ensures over { OnOk result (grid.new ≡ with_find find.now grid.old) }
+    ensures size { OnOk result ((grid.new.lines ≡ grid.old.lines) × (grid.new.columns ≡ grid.old.columns)) }
+{
+    find.paint(alloc, grid)?;
     Ok(())
 }
 

@@ -1,7 +1,7 @@
 //! The keys of the panels.
 ghost use Rattle.std.specs.Prelude.{◌≡◌};
 ghost use Rattle.panel_boxes.specs.Openings.{opening_of as opening_by};
-ghost use Rattle.mc_ui.specs.PanelKeys.{box_or_other, other_command as command_of_base, panel_command_of, plain_base as plain_base_of};
+ghost use Rattle.mc_ui.specs.PanelKeys.{box_or_other, meta_command as command_of_meta, other_command as command_of_base, panel_command_of, plain_base as plain_base_of};
 
 use job_plans::Opens;
 use key_screen::{Base, Key};
@@ -21,6 +21,8 @@ pub enum KeyCommand {
     AskFolder,
     /// It opens a box of the panels.
     OpenPanelBox(Opening),
+    /// It asks what is to be sought.
+    Find,
     Quit,
     Nothing,
 }
@@ -41,11 +43,22 @@ fn open_or_other(key: Key) -> KeyCommand
 {
     match opening_of(key) {
         Some(opening) => KeyCommand::OpenPanelBox(opening),
-        None => other_command(plain_base(key)),
+        None if key.meta => meta_command(key.base),
+        None => other_command(key.base),
     }
 }
 
-/// What a key does that works on no panel.
+/// What a key with meta does.
+fn meta_command(base: Base) -> KeyCommand
+    ensures { result ≡ command_of_meta base }
+{
+    match base {
+        Base::Char('?') => KeyCommand::Find,
+        _ => KeyCommand::Nothing,
+    }
+}
+
+/// What a key without meta does that works on no panel.
 fn other_command(base: Base) -> KeyCommand
     ensures { result ≡ command_of_base base }
 {

@@ -8,10 +8,12 @@ ghost use Rattle.mc_ui.specs.Screens.{HasSameSize, KeyLeads, WellAsked, WorksBel
 
 mod boxes;
 mod copy_boxes;
+mod find_box;
 mod folder_box;
 mod look;
 mod panel_keys;
 mod panel_questions;
+mod seeking;
 mod viewer_keys;
 
 use crate::asks::{Ask, KeyAct, Told};
@@ -21,7 +23,7 @@ use crate::viewing::{Leaving, ViewedFile};
 use box_words::{Message, closes_message};
 use job_reports::JobRows;
 use key_screen::Key;
-use mc_text::NoMemory;
+use mc_text::{NoMemory, Path};
 use panel_keys::asking_nothing;
 use panel_pair::{FrameSize, Panels, page_of};
 use std::alloc::Global;
@@ -34,6 +36,7 @@ use viewer_mode::ViewerMode;
 #[derive(Drop)]
 pub struct Ui {
     panels: Panels,
+    home: Option<Path>,
     lines: u16,
     columns: u16,
     second: u64,
@@ -49,16 +52,17 @@ impl Model for Ui {
 
     ghost Value = { Screen };
 
-    ghost view = { λ u. record { panels = u.panels; lines = u.lines; columns = u.columns; second = u.second; over = seen_box u.dialog; message = u.message; viewing = u.viewing; planned = None } };
+    ghost view = { λ u. record { panels = u.panels; home = u.home; lines = u.lines; columns = u.columns; second = u.second; over = seen_box u.dialog; message = u.message; viewing = u.viewing; planned = None } };
 }
 
 impl Ui {
-    /// Panels alone, on a screen of so many lines and columns, at this second of the clock.
-    pub fn new(panels: Panels, lines: u16, columns: u16, second: u64) -> Ui
-        ensures { result ≡ opened_screen panels lines columns second }
+    /// Panels alone, on a screen of so many lines and columns, at this second of the clock. A tilde that is typed stands for HOME.
+    pub fn new(panels: Panels, home: Option<Path>, lines: u16, columns: u16, second: u64) -> Ui
+        ensures { result ≡ opened_screen panels home lines columns second }
     {
         Ui {
             panels,
+            home,
             lines,
             columns,
             second,
@@ -218,12 +222,13 @@ impl Ui {
             Dialog::Nothing => self.key_in_panel(alloc, tree, rows, key),
             Dialog::Delete(chosen) => self.key_in_delete(alloc, chosen, rows, key),
             Dialog::SourceMask(chosen, line) => self.key_in_mask(alloc, chosen, line, key),
-            Dialog::CopyTo(chosen, line) => self.key_in_target(
-                alloc, tree, chosen, line, rows, key,
+            Dialog::CopyTo(chosen, mask, line) => self.key_in_target(
+                alloc, tree, chosen, mask, line, rows, key,
             ),
             Dialog::MakeFolder(line) => self.key_in_folder(alloc, tree, line, rows, key),
             Dialog::Trouble(trouble) => Ok(self.key_in_trouble(alloc, trouble, rows, key)),
             Dialog::Panel(asks) => self.key_in_panel_box(alloc, tree, asks, key),
+            Dialog::Find(find) => self.key_in_find(alloc, tree, find, key),
         }
     }
 

@@ -5,6 +5,7 @@ use crate::telling::{shown_of, told};
 use anyhow::{Result, bail};
 use mc_main::Env;
 use mc_text::{Bytes, Text};
+use mem_tree::MemTree;
 use std::alloc::Global;
 
 /// A run: its tree; whether its devices tell what they hold, as where its screen is `shown` too, or are silent, and then which of
@@ -23,9 +24,11 @@ pub fn told_of(alloc: Global, row: &str) -> Result<String> {
     let row = read_row(row)?;
     let words = words_of(alloc, row.words)?;
     let keys = keys_of(alloc, row.keys)?;
-    if row.devices == "shown" {
+    if let Some(numbers) = row.devices.strip_prefix("shown") {
         let env = started_small(alloc, row.folder)?;
-        return shown_lines(alloc, row.tree, words.as_slice(), &env, keys);
+        let fails = numbers_of(alloc, numbers)?;
+        let tree = planted(alloc, row.tree, fails.as_slice())?;
+        return shown_lines(alloc, tree, words.as_slice(), &env, keys);
     }
     let env = started_in(alloc, row.folder)?;
     if row.devices == "telling" {
@@ -90,6 +93,7 @@ fn bytes_of_key(key: &str) -> &str {
         "c-u" => "\x15",
         "c-x" => "\x18",
         "escape" => "\x1b",
+        "m-?" => "\x1b?",
         "f2" => "\x1bOQ",
         "f3" => "\x1bOR",
         "f4" => "\x1bOS",
@@ -125,12 +129,11 @@ fn telling_line(
 /// The same, and below it the screen at the end.
 fn shown_lines(
     alloc: Global,
-    tree: &str,
+    tree: MemTree,
     words: &[Text],
     env: &Env,
     keys: Bytes,
 ) -> Result<String> {
-    let tree = planted(alloc, tree, &[])?;
     let outcome = run_told(alloc, tree, words, env, keys);
     let mut tree = outcome.tree;
     let bytes = outcome.screen.bytes();

@@ -14,13 +14,17 @@ impl Gate for Open {
     fn pass(&self, _worker: u32, _turn: u64) {}
 }
 
-/// The surroundings of a run that was started in this folder.
+/// The surroundings of a run that was started in this folder. Behind it may stand `home` and the text of HOME.
 pub fn started_in(alloc: Global, folder: &str) -> Result<Env> {
+    let (folder, home) = match folder.split_once(" home ") {
+        Some((folder, home)) => (folder, Some(Text::from_str(alloc, home)?)),
+        None => (folder, None),
+    };
     Ok(Env {
         folder: Text::from_str(alloc, folder)?,
         lines: None,
         columns: None,
-        home: None,
+        home,
         workers: None,
     })
 }

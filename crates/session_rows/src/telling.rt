@@ -109,6 +109,7 @@ fn word_of(did: &Did) -> &'static str {
         Did::Placed(_) => " placed",
         Did::Removed(_) => " removed",
         Did::Made(_) => " made",
+        Did::Set(_) => " set",
         Did::Kept(_) => " kept",
         Did::Skipped(_, _) => " skipped",
         Did::Cleaned(_) => " cleaned",

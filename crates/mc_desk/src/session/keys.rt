@@ -1,9 +1,10 @@
-//! Keys and looks: what a session does for its user.
-ghost use Rattle.std.specs.Prelude.{◌≡◌, ◌+◌, ◌≤◌, ◌∷◌, ◌++◌, [], ℕ, List, true, false, IsTrue, IfErr, IfOk, OnOk, OnErr, Ok, Err, Some, None};
+//! Keys, looks and searches: what a session does for its user.
+ghost use Rattle.std.specs.Prelude.{◌≡◌, ◌+◌, ◌≤◌, ◌<◌, ◌∷◌, ◌++◌, [], ℕ, List, true, false, IsTrue, IfErr, IfOk, IsOk, OnOk, OnErr, Ok, Err, Some, None};
 ghost use Rattle.copy_move.specs.Told.{IsReady};
 ghost use Rattle.mc_desk.specs.Standings.{awaited_by, is_quit};
 ghost use Rattle.mc_desk.specs.Tallies.{can_step, keys_in};
-ghost use Rattle.mc_desk.specs.Desks.{BlamesScreen, CountsByte, FailsClosed, IsUncut, ShowsDesk, is_over, HasTaken, TakesByte, KeepsKeys};
+ghost use Rattle.mc_desk.specs.Desks.{BlamesScreen, CountsByte, FailsClosed, IsUncut, ShowsDesk, is_over, seeks, HasTaken, TakesByte, KeepsKeys};
+ghost use Rattle.mc_desk.specs.Searches.{steps_ahead};
 
 use super::Session;
 use crate::carrying::{Carried, carry_out};
@@ -11,6 +12,7 @@ use crate::granting::{Granted, work};
 use crate::log::plain;
 use crate::replies::{DeskError, DeskReply};
 use crate::rows::rows_of;
+use crate::seeking::{drawn_behind, seek_on};
 use crate::standing::{Due, can_step};
 use crate::tag::Tag;
 use key_screen::{Base, Fed, Key};
@@ -113,6 +115,52 @@ impl<N: Tag, T: Tree, S: Sink, P: Spawner> Session<N, T, S, P> {
         self.standing.look_taken();
         self.after_draw(drawn)?;
         Ok(())
+    }
+
+    /// Makes steps of the search that goes on, a hundred at most, and draws. Where none goes on all stays as it is. Where memory is wanting
+    /// for a step the session is closed, once what was found by then is drawn.
+    pub fn seek(&mut self, alloc: Global) -> Result<(), DeskError>
+        requires looked { self.old.tally.due ≡ None }
+        requires uncut { IsUncut self.old }
+        ensures shows { OnOk result (self.new.tally.closed ≡ false → ShowsDesk self.new) }
+        ensures uncut { IsUncut self.new }
+        ensures keys { KeepsKeys self.old self.new }
+        ensures dirty { self.new.dirty ≡ self.old.dirty }
+        ensures screen_failed { BlamesScreen result self.new.out.failed }
+        ensures looked { OnOk result (self.new.tally.due ≡ None) }
+        ensures nearer { OnOk result (seeks self.old ≡ true → steps_ahead self.new.screen < steps_ahead self.old.screen) }
+        ensures over { seeks self.old ≡ false → self.new ≡ self.old }
+        ensures fails { IfErr result (λ error. FailsClosed error self.old self.new) }
+        ensures unclosed { OnOk result (self.new.tally.closed ≡ self.old.tally.closed) }
+        ensures quit { self.new.quit ≡ self.old.quit }
+    {
+        if !self.is_seeking() {
+            self.still(DeskReply::Go)?;
+            return Ok(());
+        }
+        if self.log.reserve(3).is_err() {
+            return Err(DeskError::Memory);
+        }
+        let sought = seek_on(alloc, &mut self.ui, &mut self.tree);
+        let drawn = self
+            .terminal
+            .show(alloc, &self.ui, &self.standing.job, &self.log);
+        self.log.note(Entry {
+            seat: 0,
+            calls: self.standing.calls,
+            faults: self.tree.faults(),
+            shown: self.terminal.shown(),
+            what: Event::Sought,
+        });
+        self.after_draw(drawn_behind(sought, drawn))?;
+        Ok(())
+    }
+
+    /// Whether a search goes on, in a session that takes keys.
+    pub fn is_seeking(&self) -> bool
+        ensures { result ≡ seeks self.now }
+    {
+        !self.standing.closed && !self.standing.quit && self.ui.is_seeking()
     }
 
     /// What is to be looked at before the next byte: the job of this number, or 0 for the opening frame.
@@ -247,6 +295,7 @@ impl<N: Tag, T: Tree, S: Sink, P: Spawner> Session<N, T, S, P> {
         requires screen_failed { drawn ≡ Err SinkError.Fault → self.old.out.failed ≡ true }
         requires whole { OnOk drawn (self.old.out.put.is_cut ≡ false) }
         ensures whole { OnOk result (self.new.out.put.is_cut ≡ false) }
+        ensures drawn { OnOk result (IsOk drawn) }
         ensures uncut { IsUncut self.new }
         ensures screen { self.new.screen ≡ self.old.screen }
         ensures keys { KeepsKeys self.old self.new }

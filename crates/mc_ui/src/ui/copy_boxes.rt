@@ -1,13 +1,14 @@
 //! Keys while one of a copy's input lines is open. Its dialog was taken out, and is put back where the box stays.
 ghost use Rattle.std.specs.Prelude.{◌≡◌, [], true, OnErr, OnOk, IfOk};
-ghost use Rattle.std.specs.Str.{bytes_eq};
 ghost use Rattle.mc_dialogs.specs.InputKeys.{input_after, input_shut};
 ghost use Rattle.mc_ui.specs.declared.asks.KeyAct.{KeyAct as KeyActType};
 ghost use Rattle.box_words.specs.BoxKeys.{line_reply as line_reply_of};
-ghost use Rattle.job_plans.specs.Copies.{target_in};
-ghost use Rattle.job_plans.specs.Reading.{ReadsTree, sight};
+ghost use Rattle.home_paths.specs.Homes.{with_home as with_home_of};
+ghost use Rattle.job_plans.specs.Choices.{plan_refusals};
+ghost use Rattle.job_plans.specs.CopyPlans.{CopyLeads};
+ghost use Rattle.job_plans.specs.Reading.{ReadsTree};
 ghost use Rattle.mc_ui.specs.Boxes.{MaskBox, NoBox, TargetBox, seen_box};
-ghost use Rattle.mc_ui.specs.Lines.{MayRefuseMask, StaysWhereTaken};
+ghost use Rattle.mc_ui.specs.Lines.{StaysWhereTaken};
 ghost use Rattle.mc_ui.specs.Screens.{MaskLeads, PlansCopy, TargetLeads, WellAsked, is_request, with_ask};
 
 use super::Ui;
@@ -15,13 +16,13 @@ use super::boxes::{begin, none_live};
 use super::panel_keys::{asking, asking_nothing};
 use crate::asks::{Ask, KeyAct};
 use crate::dialog::Dialog;
-use box_words::{Chosen, LineReply, line_reply, target_line, target_text};
+use box_words::{Chosen, LineReply, line_reply, target_line};
+use home_paths::with_home;
 use job_plans::{JobPlan, plan_copy};
 use job_reports::JobRows;
 use key_screen::Key;
 use mc_dialogs::InputLine;
-use mc_text::{NoMemory, Text};
-use session_history::{PlanError, Refusal};
+use mc_text::{NoMemory, Path, Text};
 use std::alloc::Global;
 use std::convert::AsStr;
 use tree_trait::ReadTree;
@@ -39,7 +40,7 @@ impl Ui {
         ensures leads { IfOk result (λ act. MaskLeads (line_reply_of (input_shut line key)) chosen.path (input_after line key)
             act.refusals (record self.old { over = MaskBox chosen.path line }) self.new) }
         ensures asks { IfOk result (λ act. act.ask ≡ Ask.Nothing) }
-        ensures bad { IfOk result (λ act. MayRefuseMask act.refusals) }
+        ensures allowed { IfOk result (λ act. act.refusals ≡ []) }
         ensures rest { record self.new { over = NoBox; message = self.old.message } ≡ self.old }
         ensures lost { OnErr result (self.new ≡ record self.old { over = MaskBox chosen.path line }) }
     {
@@ -52,7 +53,7 @@ impl Ui {
                 Ok(asking_nothing(alloc))
             }
             Ok(LineReply::Shuts) => Ok(asking_nothing(alloc)),
-            Ok(LineReply::Takes(text)) => self.accept_mask(alloc, chosen, line, &text),
+            Ok(LineReply::Takes(text)) => self.accept_mask(alloc, chosen, line, text),
             Err(error) => {
                 self.dialog = Dialog::SourceMask(chosen, line);
                 Err(error)
@@ -60,31 +61,27 @@ impl Ui {
         }
     }
 
-    /// The source mask is accepted where it is `*`, and the destination is asked for; else it is refused, and its line stays.
+    /// The source mask is accepted, and the destination is asked for.
     fn accept_mask(
         &mut self,
         alloc: Global,
         chosen: Chosen,
         line: InputLine,
-        text: &Text,
+        text: Text,
     ) -> Result<KeyAct, NoMemory>
         requires clear { self.old.over ≡ NoBox }
-        ensures leads { IfOk result (λ act. MaskLeads (LineReply.Takes text.now) chosen.path line
+        ensures leads { IfOk result (λ act. MaskLeads (LineReply.Takes text) chosen.path line
             act.refusals (record self.old { over = MaskBox chosen.path line }) self.new) }
         ensures asks { IfOk result (λ act. act.ask ≡ Ask.Nothing) }
-        ensures bad { IfOk result (λ act. MayRefuseMask act.refusals) }
+        ensures allowed { IfOk result (λ act. act.refusals ≡ []) }
         ensures rest { record self.new { over = NoBox; message = self.old.message } ≡ self.old }
         ensures lost { OnErr result (self.new ≡ record self.old { over = MaskBox chosen.path line }) }
     {
         let _lines = &self.lines;
-        if !is_text(text, "*") {
-            self.dialog = Dialog::SourceMask(chosen, line);
-            return self.refuse(alloc, Refusal::Plan(PlanError::BadMask));
-        }
         let asked = target_line(alloc, self.panels.other().folder());
         match asked {
             Ok(asked) => {
-                self.dialog = Dialog::CopyTo(chosen, asked);
+                self.dialog = Dialog::CopyTo(chosen, text, asked);
                 Ok(asking_nothing(alloc))
             }
             Err(error) => {
@@ -100,18 +97,19 @@ impl Ui {
         alloc: Global,
         tree: &mut T,
         chosen: Chosen,
+        mask: Text,
         line: InputLine,
         rows: &JobRows,
         key: Key,
     ) -> Result<KeyAct, NoMemory>
         requires clear { self.old.over ≡ NoBox }
-        ensures leads { IfOk result (λ act. TargetLeads (line_reply_of (input_shut line key)) (sight (T.contents tree.old)) rows.now
-            chosen.path (input_after line key) act.refusals (record self.old { over = TargetBox chosen.path line }) (with_ask act.ask self.new)) }
+        ensures leads { IfOk result (λ act. TargetLeads (line_reply_of (input_shut line key)) (T.contents tree.old) rows.now
+            chosen.path mask (input_after line key) act.refusals (record self.old { over = TargetBox chosen.path mask line }) (with_ask act.ask self.new)) }
         ensures asked { IfOk result (λ act. WellAsked rows.now act.ask) }
-        ensures stays { IfOk result (λ act. is_request act.ask ≡ true → self.new ≡ record self.old { over = TargetBox chosen.path line }) }
+        ensures stays { IfOk result (λ act. is_request act.ask ≡ true → self.new ≡ record self.old { over = TargetBox chosen.path mask line }) }
         ensures alone { IfOk result (λ act. is_request act.ask ≡ true → act.refusals ≡ []) }
         ensures rest { record self.new { over = NoBox; message = self.old.message } ≡ self.old }
-        ensures lost { OnErr result (self.new ≡ record self.old { over = TargetBox chosen.path line }) }
+        ensures lost { OnErr result (self.new ≡ record self.old { over = TargetBox chosen.path mask line }) }
         ensures reads { ReadsTree (λ (act : KeyActType). act.refusals) result (T.contents tree.old) (T.contents tree.new)
             (T.fault_count tree.old) (T.fault_count tree.new) }
     {
@@ -120,88 +118,107 @@ impl Ui {
         let typed = type_in(alloc, &mut line, key);
         match typed {
             Ok(LineReply::Stays) => {
-                self.dialog = Dialog::CopyTo(chosen, line);
+                self.dialog = Dialog::CopyTo(chosen, mask, line);
                 Ok(asking_nothing(alloc))
             }
             Ok(LineReply::Shuts) => Ok(asking_nothing(alloc)),
             Ok(LineReply::Takes(text)) => {
-                self.accept_target(alloc, tree, chosen, line, rows, &text)
+                self.accept_target(alloc, tree, chosen, mask, line, rows, &text)
             }
             Err(error) => {
-                self.dialog = Dialog::CopyTo(chosen, line);
+                self.dialog = Dialog::CopyTo(chosen, mask, line);
                 Err(error)
             }
         }
     }
 
-    /// The destination is accepted where it is the other panel's folder; else it is refused. The line stays until the copy is
-    /// begun.
+    /// The destination is accepted: where no job is live the copy is planned, or refused. The line stays until the copy is begun.
     fn accept_target<T: ReadTree>(
         &mut self,
         alloc: Global,
         tree: &mut T,
         chosen: Chosen,
+        mask: Text,
         line: InputLine,
         rows: &JobRows,
         text: &Text,
     ) -> Result<KeyAct, NoMemory>
         requires clear { self.old.over ≡ NoBox }
-        ensures leads { IfOk result (λ act. TargetLeads (LineReply.Takes text.now) (sight (T.contents tree.old)) rows.now
-            chosen.path line act.refusals (record self.old { over = TargetBox chosen.path line }) (with_ask act.ask self.new)) }
+        ensures leads { IfOk result (λ act. TargetLeads (LineReply.Takes text.now) (T.contents tree.old) rows.now
+            chosen.path mask line act.refusals (record self.old { over = TargetBox chosen.path mask line }) (with_ask act.ask self.new)) }
         ensures asked { IfOk result (λ act. WellAsked rows.now act.ask) }
-        ensures stays { IfOk result (λ act. is_request act.ask ≡ true → self.new ≡ record self.old { over = TargetBox chosen.path line }) }
+        ensures stays { IfOk result (λ act. is_request act.ask ≡ true → self.new ≡ record self.old { over = TargetBox chosen.path mask line }) }
         ensures alone { IfOk result (λ act. is_request act.ask ≡ true → act.refusals ≡ []) }
         ensures rest { record self.new { over = NoBox; message = self.old.message } ≡ self.old }
-        ensures lost { OnErr result (self.new ≡ record self.old { over = TargetBox chosen.path line }) }
+        ensures lost { OnErr result (self.new ≡ record self.old { over = TargetBox chosen.path mask line }) }
         ensures reads { ReadsTree (λ (act : KeyActType). act.refusals) result (T.contents tree.old) (T.contents tree.new)
             (T.fault_count tree.old) (T.fault_count tree.new) }
     {
         let _lines = &self.lines;
-        let wanted = target_text(alloc, self.panels.other().folder());
-        match wanted {
-            Ok(wanted) if !is_text(text, wanted.as_str()) => {
-                self.dialog = Dialog::CopyTo(chosen, line);
-                self.refuse(alloc, Refusal::Plan(PlanError::BadMask))
-            }
-            Ok(_) if !none_live(rows) => {
-                self.dialog = Dialog::CopyTo(chosen, line);
-                Ok(asking_nothing(alloc))
-            }
-            Ok(_) => self.confirm_copy(alloc, tree, chosen, line),
-            Err(error) => {
-                self.dialog = Dialog::CopyTo(chosen, line);
-                Err(error)
-            }
+        if !none_live(rows) {
+            self.dialog = Dialog::CopyTo(chosen, mask, line);
+            return Ok(asking_nothing(alloc));
         }
+        self.confirm_copy(alloc, tree, chosen, mask, line, text)
     }
 
-    /// The copy is confirmed: it is planned, or it is refused.
+    /// The copy is confirmed: with HOME in place of a tilde it is planned, or it is refused.
     fn confirm_copy<T: ReadTree>(
         &mut self,
         alloc: Global,
         tree: &mut T,
         chosen: Chosen,
+        mask: Text,
         line: InputLine,
+        text: &Text,
     ) -> Result<KeyAct, NoMemory>
         requires clear { self.old.over ≡ NoBox }
-        ensures leads { IfOk result (λ act. PlansCopy (sight (T.contents tree.old)) chosen.path (target_in self.old.panels.other.folder chosen.path)
-            act.refusals (record self.old { over = TargetBox chosen.path line }) (with_ask act.ask self.new)) }
+        ensures leads { IfOk result (λ act. PlansCopy (T.contents tree.old) chosen.path mask self.old.panels.current.folder (with_home_of self.old.home text.now)
+            act.refusals (record self.old { over = TargetBox chosen.path mask line }) (with_ask act.ask self.new)) }
         ensures asked { IfOk result (λ act. WellAsked [] act.ask) }
-        ensures stays { IfOk result (λ act. is_request act.ask ≡ true → self.new ≡ record self.old { over = TargetBox chosen.path line }) }
+        ensures stays { IfOk result (λ act. is_request act.ask ≡ true → self.new ≡ record self.old { over = TargetBox chosen.path mask line }) }
         ensures alone { IfOk result (λ act. is_request act.ask ≡ true → act.refusals ≡ []) }
         ensures rest { record self.new { over = NoBox; message = self.old.message } ≡ self.old }
-        ensures lost { OnErr result (self.new ≡ record self.old { over = TargetBox chosen.path line }) }
+        ensures lost { OnErr result (self.new ≡ record self.old { over = TargetBox chosen.path mask line }) }
         ensures reads { ReadsTree (λ (act : KeyActType). act.refusals) result (T.contents tree.old) (T.contents tree.new)
             (T.fault_count tree.old) (T.fault_count tree.new) }
     {
         let _lines = &self.lines;
-        let planned = plan_copy(alloc, tree, &chosen, self.panels.other().folder());
-        self.dialog = Dialog::CopyTo(chosen, line);
+        let planned = plan_from(
+            alloc,
+            tree,
+            &chosen,
+            mask.as_str(),
+            self.panels.current().folder(),
+            &self.home,
+            text.as_str(),
+        );
+        self.dialog = Dialog::CopyTo(chosen, mask, line);
         match planned {
             Ok(JobPlan::Begins(plan)) => Ok(asking(alloc, begin(plan))),
             Ok(JobPlan::Refuses(refusal)) => self.refuse(alloc, refusal),
             Err(error) => Err(error),
         }
+    }
+}
+
+/// Plans the copy of a thing that a mask is to match to where a typed text leads from a folder, with HOME in place of its tilde.
+fn plan_from<T: ReadTree>(
+    alloc: Global,
+    tree: &mut T,
+    chosen: &Chosen,
+    mask: &str,
+    from: &Path,
+    home: &Option<Path>,
+    typed: &str,
+) -> Result<JobPlan, NoMemory>
+    ensures leads { IfOk result (CopyLeads (T.contents tree.old) chosen.now.path mask.now from.now (with_home_of home.now typed.now)) }
+    ensures reads { ReadsTree plan_refusals result (T.contents tree.old) (T.contents tree.new)
+        (T.fault_count tree.old) (T.fault_count tree.new) }
+{
+    match with_home(alloc, home, typed) {
+        Ok(text) => plan_copy(alloc, tree, chosen, mask, from, text.as_str()),
+        Err(error) => Err(error),
     }
 }
 
@@ -213,11 +230,4 @@ pub(super) fn type_in(alloc: Global, line: &mut InputLine, key: Key) -> Result<L
     ensures refused { OnErr result (line.new ≡ line.old) }
 {
     Ok(line_reply(line.key(alloc, key)?))
-}
-
-/// Whether a text is this one.
-fn is_text(text: &Text, wanted: &str) -> bool
-    ensures { result ≡ bytes_eq text.now wanted.now }
-{
-    text.as_str() == wanted
 }

@@ -2,6 +2,7 @@
 ghost use Rattle.std.specs.Prelude.{◌≡◌, [], true, None, OnErr, IfOk};
 ghost use Rattle.mc_dialogs.specs.InputKeys.{input_after, input_shut};
 ghost use Rattle.box_words.specs.BoxKeys.{line_reply as line_reply_of};
+ghost use Rattle.home_paths.specs.Homes.{with_home as with_home_of};
 ghost use Rattle.job_plans.specs.Reading.{ReadsTree};
 ghost use Rattle.mc_ui.specs.declared.asks.KeyAct.{KeyAct as KeyActType};
 ghost use Rattle.mc_ui.specs.Boxes.{FolderBox, NoBox, seen_box};
@@ -14,6 +15,7 @@ use super::panel_keys::{asking, asking_nothing};
 use crate::asks::{Ask, KeyAct};
 use crate::dialog::Dialog;
 use box_words::{LineReply, folder_line};
+use home_paths::with_home;
 use job_plans::{JobPlan, plan_folder};
 use job_reports::JobRows;
 use key_screen::Key;
@@ -105,14 +107,14 @@ impl Ui {
         self.confirm_folder(alloc, tree, text)
     }
 
-    /// The folder is confirmed: it is planned, or it is refused.
+    /// The folder is confirmed: with HOME in place of a tilde it is planned, or it is refused.
     fn confirm_folder<T: ReadTree>(
         &mut self,
         alloc: Global,
         tree: &mut T,
         text: &Text,
     ) -> Result<KeyAct, NoMemory>
-        ensures leads { IfOk result (λ act. PlansFolder (T.contents tree.old) self.old.panels.current.folder text.now
+        ensures leads { IfOk result (λ act. PlansFolder (T.contents tree.old) self.old.panels.current.folder (with_home_of self.old.home text.now)
             act.refusals self.old (with_ask act.ask self.new)) }
         ensures asked { IfOk result (λ act. WellAsked [] act.ask) }
         ensures stays { IfOk result (λ act. is_request act.ask ≡ true → self.new ≡ self.old) }
@@ -123,7 +125,8 @@ impl Ui {
             (T.fault_count tree.old) (T.fault_count tree.new) }
     {
         let _dialog = &self.dialog;
-        match plan_folder(alloc, tree, self.panels.current().folder(), text.as_str())? {
+        let typed = with_home(alloc, &self.home, text.as_str())?;
+        match plan_folder(alloc, tree, self.panels.current().folder(), typed.as_str())? {
             JobPlan::Begins(plan) => Ok(asking(alloc, begin(plan))),
             JobPlan::Refuses(refusal) => self.refuse(alloc, refusal),
         }

@@ -56,6 +56,10 @@ impl Ui {
                 self.open_panel_box(alloc, opening)?;
                 Ok(asking_nothing(alloc))
             }
+            KeyCommand::Find => {
+                self.ask_find(alloc)?;
+                Ok(asking_nothing(alloc))
+            }
             KeyCommand::Quit => Ok(asking(alloc, Ask::End)),
             KeyCommand::Nothing => Ok(asking_nothing(alloc)),
         }

@@ -9,7 +9,7 @@ use Rattle.mc_desk.proofs.opening.open_panels.Goals as goal
 
 pub returns-in-Ok-clause-opened : goal.returns-in-Ok-clause-opened
 returns-in-Ok-clause-opened g c =
-    opens (g.T.ReadTree.contents c.args.tree.now) c.args.left.now c.args.right.now c.args.lines c.args.columns c.in-Ok.panels c.args.now c.new.result c.in-Ok.ensures.opened c.new.ensures c.in-Ok.ensures.answer
+    opens (g.T.ReadTree.contents c.args.tree.now) c.args.left.now c.args.right.now c.args.home c.args.lines c.args.columns c.in-Ok.panels c.args.now c.new.result c.in-Ok.ensures.opened c.new.ensures c.in-Ok.ensures.answer
 
 pub returns-in-Ok-clause-cause : goal.returns-in-Ok-clause-cause
 returns-in-Ok-clause-cause g c log known = both_lead log c.args.left.now c.args.right.now c.in-Ok.panels (c.in-Ok.ensures.answer log known)

@@ -4,7 +4,7 @@ use Rattle.tree_trait.specs.Answers.{HasRisen}
 use Rattle.history_laws.specs.Traces.{IsTracedTo}
 use Rattle.mc_desk.specs.declared.starts.Start.{Start}
 use Rattle.mc_desk.specs.Tallies.{faults_in}
-use Rattle.mc_main.specs.Beginnings.{asked_in, session_start, size_in, status_with}
+use Rattle.mc_main.specs.Beginnings.{asked_in, session_start, surroundings_in, status_with}
 use Rattle.mc_main.specs.Headline.{IsStatusOr, TookAll}
 use Rattle.mc_main.proofs.Printing.{at_most_five, begins_none, below_four, completes_none, not_at, print_is, prints_it, prints_not, prints_start, put_printed, put_start, refuses_none, session_is, some_prints_not, starts_in, status_few, text_given, usage_asked}
 use Rattle.mc_main.proofs.Starting.{completes, completes_by_five, may_refuse, refuses_by, refuses_listed}
@@ -75,30 +75,30 @@ returns-clause-keys g c = reads_none (g.K.Source.left c.args.keys.now) (reverse 
 
 pub returns-clause-complete : goal.returns-clause-complete
 returns-clause-complete g c log known =
-    refused_start log (session_start (size_in c.args.env.now) (asked_in c.args.env.now.folder c.args.words.now)) c.refuse_start.result.status _ _ _ _ (λ two. may_refuse log (session_start (size_in c.args.env.now) (asked_in c.args.env.now.folder c.args.words.now)) c.in-Ok-Session.start c.in-Err-begin.refused.error (g.T.ReadTree.fault_count c.args.tree) (g.T.ReadTree.fault_count c.refuse_start.result.tree) (starts_in (size_in c.args.env.now) (asked_in c.args.env.now.folder c.args.words.now) c.in-Ok-Session.start c.in-Ok-Session.typed (session_is (size_in c.args.env.now) (asked_in c.args.env.now.folder c.args.words.now) c.in-Ok-Session.field-0 c.in-Ok-Session.start c.in-Ok-Session.typed c.in-Ok-Session.ensures c.in-Ok-Session.field-0-is))
+    refused_start log (session_start (surroundings_in c.args.env.now) (asked_in c.args.env.now.folder c.args.words.now)) c.refuse_start.result.status _ _ _ _ (λ two. may_refuse log (session_start (surroundings_in c.args.env.now) (asked_in c.args.env.now.folder c.args.words.now)) c.in-Ok-Session.start c.in-Err-begin.refused.error (g.T.ReadTree.fault_count c.args.tree) (g.T.ReadTree.fault_count c.refuse_start.result.tree) (starts_in (surroundings_in c.args.env.now) (asked_in c.args.env.now.folder c.args.words.now) c.in-Ok-Session.start c.in-Ok-Session.typed (session_is (surroundings_in c.args.env.now) (asked_in c.args.env.now.folder c.args.words.now) c.in-Ok-Session.field-0 c.in-Ok-Session.start c.in-Ok-Session.typed c.in-Ok-Session.ensures c.in-Ok-Session.field-0-is))
     (c.refuse_start.ensures.cause two) (c.in-Err-begin.ensures.cause log known)
     (λ fault. subst (λ t. HasRisen (g.T.ReadTree.fault_count c.args.tree) (g.T.ReadTree.fault_count t)) (sym c.refuse_start.ensures.tree) (c.in-Err-begin.ensures.fault fault))) c.refuse_start.ensures.status (λ four. search rules)
 
 pub begin-requires-clause-start : goal.begin-requires-clause-start
 begin-requires-clause-start g c known is =
-    let starts : session_start (size_in c.args.env.now) (asked_in c.args.env.now.folder c.args.words.now) ≡ Some c.in-Ok-Session.start = starts_in (size_in c.args.env.now) (asked_in c.args.env.now.folder c.args.words.now) c.in-Ok-Session.start c.in-Ok-Session.typed (session_is (size_in c.args.env.now) (asked_in c.args.env.now.folder c.args.words.now) c.in-Ok-Session.field-0 c.in-Ok-Session.start c.in-Ok-Session.typed c.in-Ok-Session.ensures c.in-Ok-Session.field-0-is) in
+    let starts : session_start (surroundings_in c.args.env.now) (asked_in c.args.env.now.folder c.args.words.now) ≡ Some c.in-Ok-Session.start = starts_in (surroundings_in c.args.env.now) (asked_in c.args.env.now.folder c.args.words.now) c.in-Ok-Session.start c.in-Ok-Session.typed (session_is (surroundings_in c.args.env.now) (asked_in c.args.env.now.folder c.args.words.now) c.in-Ok-Session.field-0 c.in-Ok-Session.start c.in-Ok-Session.typed c.in-Ok-Session.ensures c.in-Ok-Session.field-0-is) in
     let both : Some known ≡ Some c.in-Ok-Session.start = sym is ∙ (c.requires.start ∙ starts) in cc
 
 pub returns-in-Ok-clause-session : goal.returns-in-Ok-clause-session
 returns-in-Ok-clause-session g c =
-    let starts : session_start (size_in c.args.env.now) (asked_in c.args.env.now.folder c.args.words.now) ≡ Some c.in-Ok-Session.start = starts_in (size_in c.args.env.now) (asked_in c.args.env.now.folder c.args.words.now) c.in-Ok-Session.start c.in-Ok-Session.typed (session_is (size_in c.args.env.now) (asked_in c.args.env.now.folder c.args.words.now) c.in-Ok-Session.field-0 c.in-Ok-Session.start c.in-Ok-Session.typed c.in-Ok-Session.ensures c.in-Ok-Session.field-0-is) in
+    let starts : session_start (surroundings_in c.args.env.now) (asked_in c.args.env.now.folder c.args.words.now) ≡ Some c.in-Ok-Session.start = starts_in (surroundings_in c.args.env.now) (asked_in c.args.env.now.folder c.args.words.now) c.in-Ok-Session.start c.in-Ok-Session.typed (session_is (surroundings_in c.args.env.now) (asked_in c.args.env.now.folder c.args.words.now) c.in-Ok-Session.field-0 c.in-Ok-Session.start c.in-Ok-Session.typed c.in-Ok-Session.ensures c.in-Ok-Session.field-0-is) in
     inl (
       subst (λ (o : Option Start). IsSome o) (sym starts) refl,
-      run_in g.N.Tag.start (session_start (size_in c.args.env.now) (asked_in c.args.env.now.folder c.args.words.now)) g.N.Tag.opening (g.T.ReadTree.contents c.args.tree) g.N.Tag.tree_faults (g.T.ReadTree.fault_count c.args.tree) c.run_desk.result.status
+      run_in g.N.Tag.start (session_start (surroundings_in c.args.env.now) (asked_in c.args.env.now.folder c.args.words.now)) g.N.Tag.opening (g.T.ReadTree.contents c.args.tree) g.N.Tag.tree_faults (g.T.ReadTree.fault_count c.args.tree) c.run_desk.result.status
           (reverse c.run_desk.result.history.entries) (g.T.ReadTree.contents c.run_desk.result.tree) g.N.Tag.stream (g.K.Source.left c.args.keys.now) (g.K.Source.left c.run_desk.new.keys) g.N.Tag.given (g.S.Sink.given c.args.screen) (g.S.Sink.given c.run_desk.result.screen) c.requires.start c.requires.opening
           c.requires.faults c.requires.stream c.requires.given c.run_desk.ensures.session,
     )
 
 pub returns-in-Ok-clause-shown : goal.returns-in-Ok-clause-shown
 returns-in-Ok-clause-shown g c =
-    run_shows (session_start (size_in c.args.env.now) (asked_in c.args.env.now.folder c.args.words.now)) (g.T.ReadTree.contents c.args.tree) (g.T.ReadTree.fault_count c.args.tree) c.run_desk.result.status (reverse c.run_desk.result.history.entries) (g.T.ReadTree.contents c.run_desk.result.tree)
+    run_shows (session_start (surroundings_in c.args.env.now) (asked_in c.args.env.now.folder c.args.words.now)) (g.T.ReadTree.contents c.args.tree) (g.T.ReadTree.fault_count c.args.tree) c.run_desk.result.status (reverse c.run_desk.result.history.entries) (g.T.ReadTree.contents c.run_desk.result.tree)
     (TookAll (g.K.Source.left c.args.keys.now) (g.K.Source.left c.run_desk.new.keys)) (g.S.Sink.given c.args.screen) (g.S.Sink.given c.run_desk.result.screen)
-    (run_in g.N.Tag.start (session_start (size_in c.args.env.now) (asked_in c.args.env.now.folder c.args.words.now)) g.N.Tag.opening (g.T.ReadTree.contents c.args.tree) g.N.Tag.tree_faults (g.T.ReadTree.fault_count c.args.tree) c.run_desk.result.status
+    (run_in g.N.Tag.start (session_start (surroundings_in c.args.env.now) (asked_in c.args.env.now.folder c.args.words.now)) g.N.Tag.opening (g.T.ReadTree.contents c.args.tree) g.N.Tag.tree_faults (g.T.ReadTree.fault_count c.args.tree) c.run_desk.result.status
     (reverse c.run_desk.result.history.entries) (g.T.ReadTree.contents c.run_desk.result.tree) g.N.Tag.stream (g.K.Source.left c.args.keys.now) (g.K.Source.left c.run_desk.new.keys) g.N.Tag.given (g.S.Sink.given c.args.screen)
     (g.S.Sink.given c.run_desk.result.screen) c.requires.start c.requires.opening c.requires.faults c.requires.stream c.requires.given c.run_desk.ensures.session)
 
@@ -146,22 +146,22 @@ returns-clause-commands g c =
 
 pub returns-clause-start_line : goal.returns-clause-start_line
 returns-clause-start_line g c two before known =
-    prints_start (g.T.ReadTree.contents c.args.tree) (size_in c.args.env.now) (asked_in c.args.env.now.folder c.args.words.now) c.in-Ok-Session.start c.in-Ok-Session.typed c.in-Err-begin.refused.error (g.T.ReadTree.fault_count c.args.tree) (g.T.ReadTree.fault_count c.refuse_start.result.tree) before (g.S.Sink.given c.refuse_start.result.screen) (session_is (size_in c.args.env.now) (asked_in c.args.env.now.folder c.args.words.now) c.in-Ok-Session.field-0 c.in-Ok-Session.start c.in-Ok-Session.typed c.in-Ok-Session.ensures c.in-Ok-Session.field-0-is) (c.refuse_start.ensures.cause two)
+    prints_start (g.T.ReadTree.contents c.args.tree) (surroundings_in c.args.env.now) (asked_in c.args.env.now.folder c.args.words.now) c.in-Ok-Session.start c.in-Ok-Session.typed c.in-Err-begin.refused.error (g.T.ReadTree.fault_count c.args.tree) (g.T.ReadTree.fault_count c.refuse_start.result.tree) before (g.S.Sink.given c.refuse_start.result.screen) (session_is (surroundings_in c.args.env.now) (asked_in c.args.env.now.folder c.args.words.now) c.in-Ok-Session.field-0 c.in-Ok-Session.start c.in-Ok-Session.typed c.in-Ok-Session.ensures c.in-Ok-Session.field-0-is) (c.refuse_start.ensures.cause two)
     c.in-Err-begin.ensures.cause (λ faulty. subst (HasRisen (g.T.ReadTree.fault_count c.args.tree)) (sym (ap g.T.ReadTree.fault_count c.refuse_start.ensures.tree)) (c.in-Err-begin.ensures.fault faulty))
     (c.refuse_start.ensures.line two before (ap g.S.Sink.given c.in-Err-begin.ensures.same_screen ∙ known))
 
 pub returns-in-Ok-Print-clause-usage : goal.returns-in-Ok-Print-clause-usage
 returns-in-Ok-Print-clause-usage g c one =
-    usage_asked (asked_in c.args.env.now.folder c.args.words.now) c.in-Ok-Print.printed c.refuse.result.status (print_is (size_in c.args.env.now) (asked_in c.args.env.now.folder c.args.words.now) c.in-Ok-Print.field-0 c.in-Ok-Print.printed c.in-Ok-Print.ensures c.in-Ok-Print.field-0-is) (subst (λ n. IsStatusOr n c.refuse.result.status) c.status-status.ensures.value c.refuse.ensures.status) one
+    usage_asked (asked_in c.args.env.now.folder c.args.words.now) c.in-Ok-Print.printed c.refuse.result.status (print_is (surroundings_in c.args.env.now) (asked_in c.args.env.now.folder c.args.words.now) c.in-Ok-Print.field-0 c.in-Ok-Print.printed c.in-Ok-Print.ensures c.in-Ok-Print.field-0-is) (subst (λ n. IsStatusOr n c.refuse.result.status) c.status-status.ensures.value c.refuse.ensures.status) one
 
 pub returns-in-Ok-Print-clause-prints : goal.returns-in-Ok-Print-clause-prints
 returns-in-Ok-Print-clause-prints g c other known =
-    prints_it (asked_in c.args.env.now.folder c.args.words.now) c.in-Ok-Print.printed other c.refuse.result.status (print_is (size_in c.args.env.now) (asked_in c.args.env.now.folder c.args.words.now) c.in-Ok-Print.field-0 c.in-Ok-Print.printed c.in-Ok-Print.ensures c.in-Ok-Print.field-0-is) known (subst (λ n. IsStatusOr n c.refuse.result.status) c.status-status.ensures.value c.refuse.ensures.status)
+    prints_it (asked_in c.args.env.now.folder c.args.words.now) c.in-Ok-Print.printed other c.refuse.result.status (print_is (surroundings_in c.args.env.now) (asked_in c.args.env.now.folder c.args.words.now) c.in-Ok-Print.field-0 c.in-Ok-Print.printed c.in-Ok-Print.ensures c.in-Ok-Print.field-0-is) known (subst (λ n. IsStatusOr n c.refuse.result.status) c.status-status.ensures.value c.refuse.ensures.status)
 
 pub returns-in-Ok-Print-clause-printed_text : goal.returns-in-Ok-Print-clause-printed_text
 returns-in-Ok-Print-clause-printed_text g c other known own before given =
-    text_given (asked_in c.args.env.now.folder c.args.words.now) c.in-Ok-Print.printed other before c.text-text.result.now (g.S.Sink.given c.refuse.result.screen) (print_is (size_in c.args.env.now) (asked_in c.args.env.now.folder c.args.words.now) c.in-Ok-Print.field-0 c.in-Ok-Print.printed c.in-Ok-Print.ensures c.in-Ok-Print.field-0-is) known c.text-text.ensures
-    (c.refuse.ensures.line (below_four (asked_in c.args.env.now.folder c.args.words.now) c.in-Ok-Print.printed other c.refuse.result.status (print_is (size_in c.args.env.now) (asked_in c.args.env.now.folder c.args.words.now) c.in-Ok-Print.field-0 c.in-Ok-Print.printed c.in-Ok-Print.ensures c.in-Ok-Print.field-0-is) known (subst (λ n. n < 2) c.status-status.ensures.value c.status-status.ensures.few) own) before given)
+    text_given (asked_in c.args.env.now.folder c.args.words.now) c.in-Ok-Print.printed other before c.text-text.result.now (g.S.Sink.given c.refuse.result.screen) (print_is (surroundings_in c.args.env.now) (asked_in c.args.env.now.folder c.args.words.now) c.in-Ok-Print.field-0 c.in-Ok-Print.printed c.in-Ok-Print.ensures c.in-Ok-Print.field-0-is) known c.text-text.ensures
+    (c.refuse.ensures.line (below_four (asked_in c.args.env.now.folder c.args.words.now) c.in-Ok-Print.printed other c.refuse.result.status (print_is (surroundings_in c.args.env.now) (asked_in c.args.env.now.folder c.args.words.now) c.in-Ok-Print.field-0 c.in-Ok-Print.printed c.in-Ok-Print.ensures c.in-Ok-Print.field-0-is) known (subst (λ n. n < 2) c.status-status.ensures.value c.status-status.ensures.few) own) before given)
 
 pub returns-in-Ok-Print-clause-untouched : goal.returns-in-Ok-Print-clause-untouched
 returns-in-Ok-Print-clause-untouched g c some =
@@ -169,11 +169,11 @@ returns-in-Ok-Print-clause-untouched g c some =
 
 pub returns-in-Ok-Print-clause-session : goal.returns-in-Ok-Print-clause-session
 returns-in-Ok-Print-clause-session g c =
-    let is = print_is (size_in c.args.env.now) (asked_in c.args.env.now.folder c.args.words.now) c.in-Ok-Print.field-0 c.in-Ok-Print.printed c.in-Ok-Print.ensures c.in-Ok-Print.field-0-is in
+    let is = print_is (surroundings_in c.args.env.now) (asked_in c.args.env.now.folder c.args.words.now) c.in-Ok-Print.field-0 c.in-Ok-Print.printed c.in-Ok-Print.ensures c.in-Ok-Print.field-0-is in
     inr (
       ap reverse c.refuse.ensures.empty,
       begins_none (asked_in c.args.env.now.folder c.args.words.now) c.in-Ok-Print.printed c.refuse.result.status is (subst (λ n. IsStatusOr n c.refuse.result.status) c.status-status.ensures.value c.refuse.ensures.status),
-      λ before known. put_printed (g.T.ReadTree.contents c.args.tree) (size_in c.args.env.now) (asked_in c.args.env.now.folder c.args.words.now) c.in-Ok-Print.printed before c.text-text.result.now (g.S.Sink.given c.refuse.result.screen) is c.text-text.ensures (c.refuse.ensures.put before known),
+      λ before known. put_printed (g.T.ReadTree.contents c.args.tree) (surroundings_in c.args.env.now) (asked_in c.args.env.now.folder c.args.words.now) c.in-Ok-Print.printed before c.text-text.result.now (g.S.Sink.given c.refuse.result.screen) is c.text-text.ensures (c.refuse.ensures.put before known),
     )
 
 pub returns-in-Ok-Print-clause-start : goal.returns-in-Ok-Print-clause-start
@@ -194,11 +194,11 @@ returns-in-Ok-Print-clause-screen g c four =
 
 pub returns-in-Ok-Print-clause-refuses_start : goal.returns-in-Ok-Print-clause-refuses_start
 returns-in-Ok-Print-clause-refuses_start g c log known =
-    refuses_none log (size_in c.args.env.now) (asked_in c.args.env.now.folder c.args.words.now) c.in-Ok-Print.printed c.refuse.result.status (print_is (size_in c.args.env.now) (asked_in c.args.env.now.folder c.args.words.now) c.in-Ok-Print.field-0 c.in-Ok-Print.printed c.in-Ok-Print.ensures c.in-Ok-Print.field-0-is)
+    refuses_none log (surroundings_in c.args.env.now) (asked_in c.args.env.now.folder c.args.words.now) c.in-Ok-Print.printed c.refuse.result.status (print_is (surroundings_in c.args.env.now) (asked_in c.args.env.now.folder c.args.words.now) c.in-Ok-Print.field-0 c.in-Ok-Print.printed c.in-Ok-Print.ensures c.in-Ok-Print.field-0-is)
 
 pub returns-in-Ok-Print-clause-complete : goal.returns-in-Ok-Print-clause-complete
 returns-in-Ok-Print-clause-complete g c log known =
-    completes_none log (size_in c.args.env.now) (asked_in c.args.env.now.folder c.args.words.now) c.in-Ok-Print.printed c.refuse.result.status _ (print_is (size_in c.args.env.now) (asked_in c.args.env.now.folder c.args.words.now) c.in-Ok-Print.field-0 c.in-Ok-Print.printed c.in-Ok-Print.ensures c.in-Ok-Print.field-0-is)
+    completes_none log (surroundings_in c.args.env.now) (asked_in c.args.env.now.folder c.args.words.now) c.in-Ok-Print.printed c.refuse.result.status _ (print_is (surroundings_in c.args.env.now) (asked_in c.args.env.now.folder c.args.words.now) c.in-Ok-Print.field-0 c.in-Ok-Print.printed c.in-Ok-Print.ensures c.in-Ok-Print.field-0-is)
 
 pub returns-in-Ok-Print-clause-statuses : goal.returns-in-Ok-Print-clause-statuses
 returns-in-Ok-Print-clause-statuses g c =
@@ -222,60 +222,60 @@ returns-in-Err-clause-session g c =
 
 pub returns-in-Err-clause-refuses_start : goal.returns-in-Err-clause-refuses_start
 returns-in-Err-clause-refuses_start g c log known =
-    refuses_by log (session_start (size_in c.args.env.now) (asked_in c.args.env.now.folder c.args.words.now)) c.without_session.result.status (inr (inr c.without_session.ensures.status))
+    refuses_by log (session_start (surroundings_in c.args.env.now) (asked_in c.args.env.now.folder c.args.words.now)) c.without_session.result.status (inr (inr c.without_session.ensures.status))
 
 pub returns-in-Err-clause-complete : goal.returns-in-Err-clause-complete
 returns-in-Err-clause-complete g c log known =
-    completes_by_five log (session_start (size_in c.args.env.now) (asked_in c.args.env.now.folder c.args.words.now)) c.without_session.result.status _ c.without_session.ensures.status
+    completes_by_five log (session_start (surroundings_in c.args.env.now) (asked_in c.args.env.now.folder c.args.words.now)) c.without_session.result.status _ c.without_session.ensures.status
 
 pub returns-in-Ok-clause-prints : goal.returns-in-Ok-clause-prints
 returns-in-Ok-clause-prints g c other known =
-    prints_not (size_in c.args.env.now) (asked_in c.args.env.now.folder c.args.words.now) c.in-Ok-Session.start c.in-Ok-Session.typed other (session_is (size_in c.args.env.now) (asked_in c.args.env.now.folder c.args.words.now) c.in-Ok-Session.field-0 c.in-Ok-Session.start c.in-Ok-Session.typed c.in-Ok-Session.ensures c.in-Ok-Session.field-0-is) known
+    prints_not (surroundings_in c.args.env.now) (asked_in c.args.env.now.folder c.args.words.now) c.in-Ok-Session.start c.in-Ok-Session.typed other (session_is (surroundings_in c.args.env.now) (asked_in c.args.env.now.folder c.args.words.now) c.in-Ok-Session.field-0 c.in-Ok-Session.start c.in-Ok-Session.typed c.in-Ok-Session.ensures c.in-Ok-Session.field-0-is) known
 
 pub returns-in-Ok-clause-printed_text : goal.returns-in-Ok-clause-printed_text
 returns-in-Ok-clause-printed_text g c other known =
-    prints_not (size_in c.args.env.now) (asked_in c.args.env.now.folder c.args.words.now) c.in-Ok-Session.start c.in-Ok-Session.typed other (session_is (size_in c.args.env.now) (asked_in c.args.env.now.folder c.args.words.now) c.in-Ok-Session.field-0 c.in-Ok-Session.start c.in-Ok-Session.typed c.in-Ok-Session.ensures c.in-Ok-Session.field-0-is) known
+    prints_not (surroundings_in c.args.env.now) (asked_in c.args.env.now.folder c.args.words.now) c.in-Ok-Session.start c.in-Ok-Session.typed other (session_is (surroundings_in c.args.env.now) (asked_in c.args.env.now.folder c.args.words.now) c.in-Ok-Session.field-0 c.in-Ok-Session.start c.in-Ok-Session.typed c.in-Ok-Session.ensures c.in-Ok-Session.field-0-is) known
 
 pub returns-in-Ok-clause-untouched : goal.returns-in-Ok-clause-untouched
 returns-in-Ok-clause-untouched g c some =
-    some_prints_not (size_in c.args.env.now) (asked_in c.args.env.now.folder c.args.words.now) c.in-Ok-Session.start c.in-Ok-Session.typed (session_is (size_in c.args.env.now) (asked_in c.args.env.now.folder c.args.words.now) c.in-Ok-Session.field-0 c.in-Ok-Session.start c.in-Ok-Session.typed c.in-Ok-Session.ensures c.in-Ok-Session.field-0-is) some
+    some_prints_not (surroundings_in c.args.env.now) (asked_in c.args.env.now.folder c.args.words.now) c.in-Ok-Session.start c.in-Ok-Session.typed (session_is (surroundings_in c.args.env.now) (asked_in c.args.env.now.folder c.args.words.now) c.in-Ok-Session.field-0 c.in-Ok-Session.start c.in-Ok-Session.typed c.in-Ok-Session.ensures c.in-Ok-Session.field-0-is) some
 
 pub returns-in-Ok-clause-refuses_start : goal.returns-in-Ok-clause-refuses_start
 returns-in-Ok-clause-refuses_start g c log known =
-    refuses_listed log (session_start (size_in c.args.env.now) (asked_in c.args.env.now.folder c.args.words.now)) c.in-Ok-Session.start c.run_desk.result.status (starts_in (size_in c.args.env.now) (asked_in c.args.env.now.folder c.args.words.now) c.in-Ok-Session.start c.in-Ok-Session.typed (session_is (size_in c.args.env.now) (asked_in c.args.env.now.folder c.args.words.now) c.in-Ok-Session.field-0 c.in-Ok-Session.start c.in-Ok-Session.typed c.in-Ok-Session.ensures c.in-Ok-Session.field-0-is)) (c.in-Ok.ensures.permitted log known)
+    refuses_listed log (session_start (surroundings_in c.args.env.now) (asked_in c.args.env.now.folder c.args.words.now)) c.in-Ok-Session.start c.run_desk.result.status (starts_in (surroundings_in c.args.env.now) (asked_in c.args.env.now.folder c.args.words.now) c.in-Ok-Session.start c.in-Ok-Session.typed (session_is (surroundings_in c.args.env.now) (asked_in c.args.env.now.folder c.args.words.now) c.in-Ok-Session.field-0 c.in-Ok-Session.start c.in-Ok-Session.typed c.in-Ok-Session.ensures c.in-Ok-Session.field-0-is)) (c.in-Ok.ensures.permitted log known)
 
 pub returns-in-Ok-clause-complete : goal.returns-in-Ok-clause-complete
 returns-in-Ok-clause-complete g c log known =
-    completes log (session_start (size_in c.args.env.now) (asked_in c.args.env.now.folder c.args.words.now)) c.run_desk.result.status _ _ _ c.run_desk.ensures.statuses c.run_desk.ensures.not_usage c.run_desk.ensures.not_start (λ three. search rules) (λ four. search rules)
+    completes log (session_start (surroundings_in c.args.env.now) (asked_in c.args.env.now.folder c.args.words.now)) c.run_desk.result.status _ _ _ c.run_desk.ensures.statuses c.run_desk.ensures.not_usage c.run_desk.ensures.not_start (λ three. search rules) (λ four. search rules)
 
 pub returns-clause-prints : goal.returns-clause-prints
 returns-clause-prints g c other known =
-    prints_not (size_in c.args.env.now) (asked_in c.args.env.now.folder c.args.words.now) c.in-Ok-Session.start c.in-Ok-Session.typed other (session_is (size_in c.args.env.now) (asked_in c.args.env.now.folder c.args.words.now) c.in-Ok-Session.field-0 c.in-Ok-Session.start c.in-Ok-Session.typed c.in-Ok-Session.ensures c.in-Ok-Session.field-0-is) known
+    prints_not (surroundings_in c.args.env.now) (asked_in c.args.env.now.folder c.args.words.now) c.in-Ok-Session.start c.in-Ok-Session.typed other (session_is (surroundings_in c.args.env.now) (asked_in c.args.env.now.folder c.args.words.now) c.in-Ok-Session.field-0 c.in-Ok-Session.start c.in-Ok-Session.typed c.in-Ok-Session.ensures c.in-Ok-Session.field-0-is) known
 
 pub returns-clause-printed_text : goal.returns-clause-printed_text
 returns-clause-printed_text g c other known =
-    prints_not (size_in c.args.env.now) (asked_in c.args.env.now.folder c.args.words.now) c.in-Ok-Session.start c.in-Ok-Session.typed other (session_is (size_in c.args.env.now) (asked_in c.args.env.now.folder c.args.words.now) c.in-Ok-Session.field-0 c.in-Ok-Session.start c.in-Ok-Session.typed c.in-Ok-Session.ensures c.in-Ok-Session.field-0-is) known
+    prints_not (surroundings_in c.args.env.now) (asked_in c.args.env.now.folder c.args.words.now) c.in-Ok-Session.start c.in-Ok-Session.typed other (session_is (surroundings_in c.args.env.now) (asked_in c.args.env.now.folder c.args.words.now) c.in-Ok-Session.field-0 c.in-Ok-Session.start c.in-Ok-Session.typed c.in-Ok-Session.ensures c.in-Ok-Session.field-0-is) known
 
 pub returns-clause-untouched : goal.returns-clause-untouched
 returns-clause-untouched g c some =
-    some_prints_not (size_in c.args.env.now) (asked_in c.args.env.now.folder c.args.words.now) c.in-Ok-Session.start c.in-Ok-Session.typed (session_is (size_in c.args.env.now) (asked_in c.args.env.now.folder c.args.words.now) c.in-Ok-Session.field-0 c.in-Ok-Session.start c.in-Ok-Session.typed c.in-Ok-Session.ensures c.in-Ok-Session.field-0-is) some
+    some_prints_not (surroundings_in c.args.env.now) (asked_in c.args.env.now.folder c.args.words.now) c.in-Ok-Session.start c.in-Ok-Session.typed (session_is (surroundings_in c.args.env.now) (asked_in c.args.env.now.folder c.args.words.now) c.in-Ok-Session.field-0 c.in-Ok-Session.start c.in-Ok-Session.typed c.in-Ok-Session.ensures c.in-Ok-Session.field-0-is) some
 
 pub returns-clause-session : goal.returns-clause-session
 returns-clause-session g c =
     inr (
       ap reverse c.refuse_start.ensures.empty,
       inr (inr c.refuse_start.ensures.status),
-      λ before known. put_start (g.T.ReadTree.contents c.args.tree) (size_in c.args.env.now) (asked_in c.args.env.now.folder c.args.words.now) c.in-Ok-Session.start c.in-Ok-Session.typed c.in-Err-begin.refused.error before (g.S.Sink.given c.refuse_start.result.screen)
-          (session_is (size_in c.args.env.now) (asked_in c.args.env.now.folder c.args.words.now) c.in-Ok-Session.field-0 c.in-Ok-Session.start c.in-Ok-Session.typed c.in-Ok-Session.ensures c.in-Ok-Session.field-0-is) c.in-Err-begin.ensures.cause
+      λ before known. put_start (g.T.ReadTree.contents c.args.tree) (surroundings_in c.args.env.now) (asked_in c.args.env.now.folder c.args.words.now) c.in-Ok-Session.start c.in-Ok-Session.typed c.in-Err-begin.refused.error before (g.S.Sink.given c.refuse_start.result.screen)
+          (session_is (surroundings_in c.args.env.now) (asked_in c.args.env.now.folder c.args.words.now) c.in-Ok-Session.field-0 c.in-Ok-Session.start c.in-Ok-Session.typed c.in-Ok-Session.ensures c.in-Ok-Session.field-0-is) c.in-Err-begin.ensures.cause
           (c.refuse_start.ensures.put before (ap g.S.Sink.given c.in-Err-begin.ensures.same_screen ∙ known)),
     )
 
 pub returns-clause-start : goal.returns-clause-start
 returns-clause-start g c two log known =
-    may_refuse log (session_start (size_in c.args.env.now) (asked_in c.args.env.now.folder c.args.words.now)) c.in-Ok-Session.start c.in-Err-begin.refused.error (g.T.ReadTree.fault_count c.args.tree) (g.T.ReadTree.fault_count c.refuse_start.result.tree) (starts_in (size_in c.args.env.now) (asked_in c.args.env.now.folder c.args.words.now) c.in-Ok-Session.start c.in-Ok-Session.typed (session_is (size_in c.args.env.now) (asked_in c.args.env.now.folder c.args.words.now) c.in-Ok-Session.field-0 c.in-Ok-Session.start c.in-Ok-Session.typed c.in-Ok-Session.ensures c.in-Ok-Session.field-0-is))
+    may_refuse log (session_start (surroundings_in c.args.env.now) (asked_in c.args.env.now.folder c.args.words.now)) c.in-Ok-Session.start c.in-Err-begin.refused.error (g.T.ReadTree.fault_count c.args.tree) (g.T.ReadTree.fault_count c.refuse_start.result.tree) (starts_in (surroundings_in c.args.env.now) (asked_in c.args.env.now.folder c.args.words.now) c.in-Ok-Session.start c.in-Ok-Session.typed (session_is (surroundings_in c.args.env.now) (asked_in c.args.env.now.folder c.args.words.now) c.in-Ok-Session.field-0 c.in-Ok-Session.start c.in-Ok-Session.typed c.in-Ok-Session.ensures c.in-Ok-Session.field-0-is))
     (c.refuse_start.ensures.cause two) (c.in-Err-begin.ensures.cause log known)
     (λ fault. subst (λ t. HasRisen (g.T.ReadTree.fault_count c.args.tree) (g.T.ReadTree.fault_count t)) (sym c.refuse_start.ensures.tree) (c.in-Err-begin.ensures.fault fault))
 
 pub returns-clause-refuses_start : goal.returns-clause-refuses_start
 returns-clause-refuses_start g c log known =
-    refuses_by log (session_start (size_in c.args.env.now) (asked_in c.args.env.now.folder c.args.words.now)) c.refuse_start.result.status c.refuse_start.ensures.status
+    refuses_by log (session_start (surroundings_in c.args.env.now) (asked_in c.args.env.now.folder c.args.words.now)) c.refuse_start.result.status c.refuse_start.ensures.status

@@ -13,5 +13,5 @@ returns-in-Ok-None-clause-ended g c ended known is =
 
 pub byte-requires-clause-next : goal.byte-requires-clause-next
 byte-requires-clause-next g c known is =
-    next_byte g.N.Tag.stream (g.K.Source.left c.args.keys.now) c.work_due.new.desk.taken c.in-Ok-Some.byte (c.requires.left ∙ ap (left_of g.N.Tag.stream) (sym c.work_due.ensures.keys.taken))
+    next_byte g.N.Tag.stream (g.K.Source.left c.args.keys.now) c.seek_to_end.new.desk.taken c.in-Ok-Some.byte (c.requires.left ∙ ap (left_of g.N.Tag.stream) (sym (c.seek_to_end.ensures.keys.taken ∙ c.work_due.ensures.keys.taken)))
     (λ b k. sym c.in-Ok-Some.field-0-is ∙ c.in-Ok-Some.ensures.first b k) known is

@@ -31,3 +31,7 @@ returns-in_ok-paint_lines-in-Trouble-clause-over c =
 pub returns-in_ok-paint_panel_box-in-Panel-clause-over : goal.returns-in_ok-paint_panel_box-in-Panel-clause-over
 returns-in_ok-paint_panel_box-in-Panel-clause-over c =
     subst (λ d. c.paint_panel_box.new.grid ≡ with_over (seen_box d) c.args.grid.now) (sym c.in-Panel.is) c.in_ok-paint_panel_box-in-Panel.ensures.over
+
+pub returns-in_ok-paint_find-in-Find-clause-over : goal.returns-in_ok-paint_find-in-Find-clause-over
+returns-in_ok-paint_find-in-Find-clause-over c =
+    subst (λ d. c.paint_find.new.grid ≡ with_over (seen_box d) c.args.grid.now) (sym c.in-Find.is) c.in_ok-paint_find-in-Find.ensures.over

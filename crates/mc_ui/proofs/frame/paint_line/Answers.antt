@@ -1,7 +1,7 @@
 -- The line is a box, and a box leaves the size as it was.
 use Rattle.std.proofs.Common.{◌∙◌, ap}
 use Rattle.key_screen.specs.Grids.{CellGrid}
-use Rattle.mc_ui.proofs.BoxSizes.{input_columns_same, input_lines_same}
+use Rattle.viewer_mode.proofs.BoxSizes.{input_columns_same, input_lines_same}
 use Rattle.mc_ui.proofs.frame.paint_line.Goals as goal
 
 pub returns-clause-size : goal.returns-clause-size

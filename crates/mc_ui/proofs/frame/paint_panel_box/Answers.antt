@@ -1,7 +1,7 @@
 -- A box of the panels leaves the size as it was.
 use Rattle.std.proofs.Common.{◌∙◌, ap}
 use Rattle.key_screen.specs.Grids.{CellGrid}
-use Rattle.mc_ui.proofs.BoxSizes.{panel_columns_same, panel_lines_same}
+use Rattle.mc_ui.proofs.FrameSizes.{panel_columns_same, panel_lines_same}
 use Rattle.mc_ui.proofs.frame.paint_panel_box.Goals as goal
 
 pub returns-clause-size : goal.returns-clause-size

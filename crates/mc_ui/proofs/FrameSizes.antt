@@ -1,0 +1,37 @@
+-- A box that is painted over a screen leaves its size as it was.
+use Rattle.std.proofs.Common.{◌≡◌, ℕ, refl, Option, Some, None}
+use Rattle.key_screen.specs.Grids.{CellGrid}
+use Rattle.mc_dialogs.specs.ListKeys.{list_lines}
+use Rattle.viewer_mode.proofs.BoxSizes.{box_columns_same, box_lines_same, input_columns_same, input_lines_same}
+use Rattle.find_mode.specs.declared.asking.Asking.{Asking}
+use Rattle.find_mode.specs.Listings.{ListingState}
+use Rattle.find_mode.specs.FindScreens.{FindScreen, page_of}
+use Rattle.find_mode.specs.FindFrames.{found_lines, painted, with_find}
+use Rattle.panel_boxes.specs.declared.panel_box.PanelBox.{PanelBox}
+use Rattle.panel_boxes.specs.declared.panel_box.PanelBox.TheVariants.{Pending, Typed, Options}
+use Rattle.panel_boxes.specs.Paintings.{with_panel_box}
+
+pub panel_lines_same : (asks : PanelBox) (grid : CellGrid) → (with_panel_box asks grid).lines ≡ grid.lines
+panel_lines_same Pending grid = refl
+panel_lines_same (Typed asked typed) grid = input_lines_same grid typed
+panel_lines_same (Options list) grid = box_lines_same grid (list_lines list)
+
+pub panel_columns_same : (asks : PanelBox) (grid : CellGrid) → (with_panel_box asks grid).columns ≡ grid.columns
+panel_columns_same Pending grid = refl
+panel_columns_same (Typed asked typed) grid = input_columns_same grid typed
+panel_columns_same (Options list) grid = box_columns_same grid (list_lines list)
+
+-- the line that asks what is sought, or the list of what was found
+painted_lines_same : (asking : Option Asking) (page : ℕ) (listing : ListingState) (grid : CellGrid) → (painted asking page listing grid).lines ≡ grid.lines
+painted_lines_same None page listing grid = box_lines_same grid (found_lines page listing)
+painted_lines_same (Some asking) page listing grid = input_lines_same grid asking.line
+
+painted_columns_same : (asking : Option Asking) (page : ℕ) (listing : ListingState) (grid : CellGrid) → (painted asking page listing grid).columns ≡ grid.columns
+painted_columns_same None page listing grid = box_columns_same grid (found_lines page listing)
+painted_columns_same (Some asking) page listing grid = input_columns_same grid asking.line
+
+pub find_lines_same : (find : FindScreen) (grid : CellGrid) → (with_find find grid).lines ≡ grid.lines
+find_lines_same find grid = painted_lines_same find.asking (page_of find.lines) find.listing grid
+
+pub find_columns_same : (find : FindScreen) (grid : CellGrid) → (with_find find grid).columns ≡ grid.columns
+find_columns_same find grid = painted_columns_same find.asking (page_of find.lines) find.listing grid

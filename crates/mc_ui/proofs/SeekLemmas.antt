@@ -1,0 +1,29 @@
+-- Where no things are sought nothing is listed, and another list changes nothing.
+use Rattle.std.proofs.Common.{◌≡◌, refl}
+use Rattle.find_mode.specs.FindScreens.{FindScreen}
+use Rattle.find_mode.specs.Listings.{ListingState, no_listing}
+use Rattle.mc_ui.specs.declared.dialog.Dialog.{Dialog}
+use Rattle.mc_ui.specs.declared.dialog.Dialog.TheVariants as box
+use Rattle.mc_ui.specs.Boxes.{seen_box}
+use Rattle.mc_ui.specs.Seekings.{list_in, listing_in}
+
+pub none_listed : (dialog : Dialog) → ((find : FindScreen) → dialog ≡ box.Find find → ⊥) → list_in (seen_box dialog) ≡ no_listing
+none_listed box.Nothing other = refl
+none_listed (box.Delete chosen) other = refl
+none_listed (box.SourceMask chosen typed) other = refl
+none_listed (box.CopyTo chosen mask typed) other = refl
+none_listed (box.MakeFolder typed) other = refl
+none_listed (box.Trouble trouble) other = refl
+none_listed (box.Panel asks) other = refl
+none_listed (box.Find find) other = absurd (other find refl)
+
+pub stays_shut : (dialog : Dialog) (listing : ListingState) → ((find : FindScreen) → dialog ≡ box.Find find → ⊥)
+    → listing_in listing (seen_box dialog) ≡ seen_box dialog
+stays_shut box.Nothing listing other = refl
+stays_shut (box.Delete chosen) listing other = refl
+stays_shut (box.SourceMask chosen typed) listing other = refl
+stays_shut (box.CopyTo chosen mask typed) listing other = refl
+stays_shut (box.MakeFolder typed) listing other = refl
+stays_shut (box.Trouble trouble) listing other = refl
+stays_shut (box.Panel asks) listing other = refl
+stays_shut (box.Find find) listing other = absurd (other find refl)
