@@ -8,7 +8,8 @@ use Rattle.mc_viewer.specs.declared.layout.Shape.TheVariants.{Wrapped, Unwrapped
 use Rattle.shown_units.specs.Units.{unit_columns, columns_in_sight, piece_in_sight}
 use Rattle.mc_viewer.specs.Units.{unit_length, first_unit}
 use Rattle.mc_viewer.specs.Rows.{wrapped_length}
-use Rattle.mc_viewer.specs.Pages.{line_in_sight, row_text, hex_row, hex_column, hex_columns}
+use Rattle.hex_rows.specs.HexRows.{hex_row}
+use Rattle.mc_viewer.specs.Pages.{line_in_sight, row_text}
 use Rattle.mc_viewer.specs.Windows.{window_of}
 use Rattle.shown_units.proofs.UnitLemmas.{columns_some}
 use Rattle.mc_viewer.proofs.UnitLemmas.{unit_local, unit_some, unit_short}
@@ -124,13 +125,3 @@ row_text-window Wrapped columns left offset bytes wide =
 row_text-window Unwrapped columns left offset bytes wide = sight-local left (left + columns) 0 0 (4 * (left + columns) + 9) bytes (omega arith)
 row_text-window Hex columns left offset bytes wide =
     ap (hex_row columns offset) (take-take 16 16 bytes (omega arith))
-
--- one column of a row in hexadecimal, and those behind it
-pub hex-further : (offset : ℕ) (bytes : List ℕ) (column left more : ℕ) → more ≡ suc left
-    → hex_columns offset bytes column more ≡ hex_column offset bytes column ∷ hex_columns offset bytes (column + 1) left
-unfolding hex_columns
-hex-further offset bytes column left more one_more = ap (hex_columns offset bytes column) one_more
-
-pub hex-none : (offset : ℕ) (bytes : List ℕ) (column count : ℕ) → count ≡ 0 → hex_columns offset bytes column count ≡ []
-unfolding hex_columns
-hex-none offset bytes column count none = ap (hex_columns offset bytes column) none

@@ -3,7 +3,6 @@
 
 mod above;
 mod error;
-mod hex;
 mod layout;
 mod lines;
 mod moves;

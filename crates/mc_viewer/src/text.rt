@@ -3,10 +3,10 @@ ghost use Rattle.std.specs.Prelude.{◌≡◌, ◌+◌, ◌-◌, ◌*◌, ◌<�
 ghost use Rattle.mc_viewer.specs.Pages.{line_in_sight, row_text};
 ghost use Rattle.mc_viewer.specs.Windows.{window_of};
 
-use crate::hex::hex_row;
 use crate::layout::{Layout, Shape};
 use crate::rows::wrapped_length;
 use crate::units::{front, push_piece, rest_from, unit_columns, unit_length};
+use hex_rows::hex_row;
 use mc_text::{NoMemory, Text};
 use shown_units::Sight;
 use std::alloc::Global;

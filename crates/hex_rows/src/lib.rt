@@ -1,6 +1,8 @@
-//! A row in hexadecimal, column by column.
+//! Rows of bytes in hexadecimal: an offset, the digits of at most sixteen bytes, and the bytes as characters, column by column.
+#![tactic(auto)]
+
 ghost use Rattle.std.specs.Prelude.{◌≡◌, ◌+◌, ◌-◌, ◌*◌, ◌<◌, ◌≤◌, ◌/◌, ◌%◌, ◌^◌, ◌++◌, length, min, string_bytes, IfOk};
-ghost use Rattle.mc_viewer.specs.Pages.{hex_digit, offset_digits, digit_at, byte_column, digits_column, printed, behind_offset, hex_column, hex_columns, hex_row};
+ghost use Rattle.hex_rows.specs.HexRows.{hex_digit, offset_digits, digit_at, byte_column, digits_column, printed, behind_offset, hex_column, hex_columns, hex_row};
 
 use mc_text::{NoMemory, Text};
 use std::alloc::Global;
@@ -18,7 +20,7 @@ pub fn hex_row(alloc: Global, columns: usize, offset: u64, bytes: &[u8]) -> Resu
 }
 
 /// What stands in a column of a row.
-#[tactic(auto, unfolding(crate::specs::Pages::hex_column))]
+#[tactic(auto, unfolding(crate::specs::HexRows::hex_column))]
 fn hex_column(offset: u64, bytes: &[u8], column: usize) -> u8
     requires { column < offset_digits offset + 52 + length bytes.now }
     ensures value { result ≡ hex_column offset bytes.now column }

@@ -1,7 +1,7 @@
 -- The columns so far, and those that are left, are the row.
 use Rattle.std.proofs.Common.{◌≡◌, ◌+◌, ◌-◌, ◌++◌, min, length, string_bytes}
-use Rattle.mc_viewer.specs.Pages.{offset_digits, hex_columns}
-use Rattle.mc_viewer.proofs.hex.hex_row.Given as goal
+use Rattle.hex_rows.specs.HexRows.{offset_digits, hex_columns}
+use Rattle.hex_rows.proofs.hex_row.Given as goal
 
 abbrev pub invariant-loop-column : goal.invariant-loop-column
 invariant-loop-column l =

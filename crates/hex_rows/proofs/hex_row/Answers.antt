@@ -1,9 +1,9 @@
 -- Column by column.
 use Rattle.std.proofs.Common.{◌≡◌, ℕ, List, [], ◌∷◌, suc, ◌+◌, ◌-◌, ◌++◌, min, length, string_bytes, ap, sym, ◌∙◌, arith, append_assoc}
 use Rattle.std.proofs.lemmas.List.{append-nil}
-use Rattle.mc_viewer.specs.Pages.{offset_digits, hex_column, hex_columns}
-use Rattle.mc_viewer.proofs.SightLemmas.{hex-further, hex-none}
-use Rattle.mc_viewer.proofs.hex.hex_row.Goals as goal
+use Rattle.hex_rows.specs.HexRows.{offset_digits, hex_column, hex_columns}
+use Rattle.hex_rows.proofs.ColumnLemmas.{hex-further, hex-none}
+use Rattle.hex_rows.proofs.hex_row.Goals as goal
 
 pub loop-column-preserved : goal.loop-column-preserved
 loop-column-preserved c =
