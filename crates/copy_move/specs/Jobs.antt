@@ -18,6 +18,8 @@ use Rattle.file_copy.specs.LastSteps as last
 use Rattle.job_reports.specs.Stops.{out_of_memory_at}
 use Rattle.job_reports.specs.declared.job.Job.{Job}
 use Rattle.job_reports.specs.declared.job.Job.TheVariants as plan
+use Rattle.job_reports.specs.declared.row.JobKind.{JobKind}
+use Rattle.job_reports.specs.declared.row.JobKind.TheVariants as kind
 use Rattle.job_reports.specs.declared.answer.Answer.{Answer}
 use Rattle.job_reports.specs.declared.answer.Answer.TheVariants.{Retry, Skip, SkipAll, Abort}
 use Rattle.copy_move.specs.declared.making.MakingStage.TheVariants as making
@@ -61,6 +63,17 @@ first_work id (plan.Copy (pair ∷ [])) =
     if is_some (parent_of pair.source) && is_some (parent_of pair.target) then Some (copies id pair.source pair.target) else None
 first_work id (plan.Copy (pair ∷ more ∷ pairs)) = None
 first_work id (plan.MakeFolder path) = if is_some (parent_of path) then Some (makes path) else None
+
+-- what the work does, and to what
+abbrev pub kind_of : Work → JobKind
+kind_of (Copy c) = kind.Copy
+kind_of (Delete d) = kind.Delete
+kind_of (Make m) = kind.MakeFolder
+
+abbrev pub path_of : Work → Route
+path_of (Copy c) = c.source
+path_of (Delete d) = d.path
+path_of (Make m) = m.path
 
 -- the next call is at a barrier, where nothing can be skipped
 abbrev pub at_barrier : Work → Bool

@@ -104,6 +104,13 @@ impl FolderMaking {
         }
     }
 
+    /// The new folder.
+    pub fn path(&self) -> &Path
+        ensures { result.now ≡ self.now.path }
+    {
+        &self.path
+    }
+
     /// The folder that holds the new one.
     pub fn folder(&self) -> &Path
         ensures holds { parent_of self.now.path ≡ Some result.now }

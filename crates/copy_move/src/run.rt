@@ -2,7 +2,7 @@
 //! is to end early.
 ghost use Rattle.std.specs.Prelude.{◌≡◌, IfOk, Some, false, option_map, true};
 ghost use Rattle.job_reports.specs.Jobs.{is_workable};
-ghost use Rattle.copy_move.specs.Jobs.{first_work, part_of, waits_on};
+ghost use Rattle.copy_move.specs.Jobs.{first_work, kind_of, part_of, path_of, waits_on};
 ghost use Rattle.copy_move.specs.Steps.{RunStep};
 ghost use Rattle.copy_move.specs.Told.{running};
 
@@ -12,7 +12,7 @@ mod stepping;
 use crate::starting::{copy_of, deletion_of, making_of};
 use crate::work::Work;
 use file_copy::PartTest;
-use job_reports::{Cause, Ending, Job, StepResult};
+use job_reports::{Cause, Ending, Job, JobKind, StepResult};
 use mc_text::{NoMemory, Path};
 use std::alloc::Global;
 use std::marker::Model;
@@ -76,6 +76,20 @@ impl Run {
         ensures { result ≡ self.now.id }
     {
         self.id
+    }
+
+    /// What the job does.
+    pub fn kind(&self) -> JobKind
+        ensures { result ≡ kind_of self.now.work }
+    {
+        self.work.kind()
+    }
+
+    /// Its source; of a folder that is made, that folder.
+    pub fn path(&self) -> &Path
+        ensures { result.now ≡ path_of self.now.work }
+    {
+        self.work.path()
     }
 
     /// Whether the job is in trouble, and waits for an answer.

@@ -1,6 +1,6 @@
 //! What a job does: it copies a file, deletes a thing with all that lies in it, or makes a folder. One machine for each.
 ghost use Rattle.std.specs.Prelude.{◌≡◌, option_map, true};
-ghost use Rattle.copy_move.specs.Jobs.{IsGoing, at_barrier, is_fresh, part_of, taken_anew as anew, with_skips};
+ghost use Rattle.copy_move.specs.Jobs.{IsGoing, at_barrier, is_fresh, kind_of, part_of, path_of, taken_anew as anew, with_skips};
 ghost use Rattle.copy_move.specs.Settling.{changed_folder, is_within};
 ghost use Rattle.copy_move.specs.Steps.{WorkSkips, WorkSteps, WorkWindsUp};
 
@@ -9,7 +9,7 @@ use crate::deletion::TreeDeletion;
 use crate::making::FolderMaking;
 use crate::new_folder::{step_making, wind_up_making};
 use file_copy::{FileCopy, PartTest};
-use job_reports::{Cause, Did, Ending, LastStepResult, StepResult};
+use job_reports::{Cause, Did, Ending, JobKind, LastStepResult, StepResult};
 use mc_text::Path;
 use std::alloc::Global;
 use tree_deletion::Dirty;
@@ -98,6 +98,28 @@ impl Work {
             Work::Copy(copy) => wind_up_copy(copy, alloc, tree, ending, dirty),
             Work::Delete(deletion) => deletion.wind_up(alloc, tree, ending, dirty),
             Work::Make(making) => wind_up_making(making, alloc, tree, ending, dirty),
+        }
+    }
+
+    /// What is done.
+    pub(crate) fn kind(&self) -> JobKind
+        ensures { result ≡ kind_of self.now }
+    {
+        match self {
+            Work::Copy(_) => JobKind::Copy,
+            Work::Delete(_) => JobKind::Delete,
+            Work::Make(_) => JobKind::MakeFolder,
+        }
+    }
+
+    /// What is copied, deleted or made.
+    pub(crate) fn path(&self) -> &Path
+        ensures { result.now ≡ path_of self.now }
+    {
+        match self {
+            Work::Copy(copy) => copy.source(),
+            Work::Delete(deletion) => deletion.path(),
+            Work::Make(making) => making.path(),
         }
     }
 

@@ -75,6 +75,13 @@ impl FileCopy {
         part_in(stage)
     }
 
+    /// The file that is copied.
+    pub fn source(&self) -> &Path
+        ensures { result.now ≡ self.now.source }
+    {
+        self.item.source()
+    }
+
     /// The folder of the target.
     pub fn folder(&self) -> &Path
         ensures { result.now ≡ folder_of self.now.target }

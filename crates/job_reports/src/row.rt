@@ -1,5 +1,6 @@
 //! What is seen of a live job.
 use crate::report::Trouble;
+use mc_text::Path;
 use std::marker::Model;
 
 /// What a live job is at. `Asking` and `Stopped` come with questions and with the table of jobs; no job is in them yet.
@@ -15,11 +16,23 @@ pub enum JobState {
     Stopped,
 }
 
-/// A live job, as it is seen: its number, what it is at, and the trouble in which it waits.
+/// What a job does.
+#[derive(Clone, Copy, Debug, Drop, PartialEq, Eq)]
+pub enum JobKind {
+    Copy,
+    Delete,
+    MakeFolder,
+}
+
+/// A live job, as it is seen: its number, what it is at, what it does, and the trouble in which it waits. A list of the jobs will show
+/// kind and path.
 #[derive(Debug, Drop)]
 pub struct JobRow {
     pub job: u32,
     pub state: JobState,
+    pub kind: JobKind,
+    /// Its source; of a folder that is made, that folder.
+    pub path: Path,
     /// Whether it works in the background, which none does yet.
     pub background: bool,
     pub trouble: Option<Trouble>,

@@ -1,5 +1,5 @@
 -- A key that was worked, and what it asked for carried out, leave a whole desk.
-use Rattle.std.proofs.Common.{◌≡◌, ℕ, ◌≤◌, ◌∷◌, Bool, true, false, List, [], refl, sym, inl, inr, Result, ◌∙◌, ap, subst, Option, Some, None, arith}
+use Rattle.std.proofs.Common.{◌≡◌, ℕ, ◌≤◌, ◌∷◌, ◌++◌, Bool, true, false, List, [], refl, sym, inl, inr, Result, ◌∙◌, ap, subst, Option, Some, None, arith}
 use Rattle.std.specs.Prelude.{if◌then◌else◌, not}
 use Rattle.std.specs.Option.{option_map}
 use Rattle.std.proofs.lemmas.Bool.{false≢true, true≢false}
@@ -19,10 +19,12 @@ use Rattle.job_reports.specs.declared.job.Job.{Job as JobPlan}
 use Rattle.job_reports.specs.declared.report.Trouble.{Trouble}
 use Rattle.job_reports.specs.declared.row.JobState.TheVariants.{Ready, Troubled}
 use Rattle.job_reports.specs.Reports.{passes_over}
+use Rattle.job_reports.specs.declared.report.Cause.{Cause}
 use Rattle.copy_move.specs.declared.work.Work.{Work}
+use Rattle.copy_move.specs.declared.work.Work.TheVariants.{Copy, Delete, Make}
 use Rattle.copy_move.specs.declared.run.Course.{Course}
 use Rattle.copy_move.specs.declared.run.Course.TheVariants.{GoesOn, InTrouble, OwedSyncFailed, Skips, Ends}
-use Rattle.copy_move.specs.Jobs.{MayAnswer, Running, answered, answered_on, first_work, is_barred, waits_on}
+use Rattle.copy_move.specs.Jobs.{MayAnswer, Running, answered, answered_on, first_work, is_barred, kind_of, path_of, taken_anew, waits_on, with_skips}
 use Rattle.copy_move.specs.Told.{running, told}
 use Rattle.mc_ui.specs.LiveJobs.{can_answer, takes_answer}
 use Rattle.mc_ui.specs.Screens.{Answers, Begins, Screen}
@@ -35,7 +37,7 @@ use Rattle.mc_desk.specs.Granting.{CanBeDone, IsWorked, KeyWorks, with_deed}
 use Rattle.mc_desk.specs.LiveRows.{row_of, rows_of, rows_told, trouble_told}
 use Rattle.mc_desk.specs.Logs.{Logged}
 use Rattle.mc_desk.specs.Outputs.{FitsScreen, Output, ShowsFrame}
-use Rattle.mc_desk.specs.Shown.{DrawsBehind, DrawsFrame, Put, frame_at, frame_due, ready_row, rows_then, none_before}
+use Rattle.mc_desk.specs.Shown.{DrawsBehind, DrawsFrame, Put, begun_rows, frame_at, frame_due, ready_row, rows_then, none_before}
 use Rattle.mc_screen.specs.Drawings.{Display}
 use Rattle.mc_ui.specs.Frames.{frame_of}
 use Rattle.mc_desk.specs.Standings.{MayCarryOut, after_answer, after_deed, awaited, event_of, followed, order_of}
@@ -92,9 +94,40 @@ draws_written desk frame due r out_after shown unclosed s same =
     subst (λ f. DrawsFrame (none_before desk.newest) f out_after.shown desk.out.put out_after.put) same
     (draws_as (not desk.out.display.has_drawn) (none_before desk.newest) frame out_after.shown desk.out.put out_after.put (λ some. ap not (shown.drawn unclosed s.drawn.uncut some)) s.drawn)
 
--- a job that waits for nothing has the row of one that is ready
-ready_is : (job : Running) (t : Option Trouble) → waits_on job.course ≡ false → row_of job t ≡ ready_row job.id
-ready_is job t ready = ap (λ b. let r : JobRow = record { job = job.id; state = if b then Troubled else Ready; background = false; trouble = if b then t else None } in r) ready
+-- a job that waits for nothing has the row of one that is ready, whatever was told of it
+ready_is : (job : Running) (t told : Option Trouble) → waits_on job.course ≡ false → row_of job t ≡ ready_row (row_of job told)
+ready_is job t told ready =
+    ap (λ b. let r : JobRow = record { job = job.id; state = if b then Troubled else Ready; kind = kind_of job.work; path = path_of job.work; background = false; trouble = if b then t else None } in r) ready
+
+-- an answer changes nothing of what a job does
+still_does : (course : Course) (answer : Answer) (job : Running) (t : Option Trouble) → ready_row (row_of (answered_on course answer job) t) ≡ ready_row (row_of job t)
+still_does course answer job t = go course answer
+  where
+    row : Work → JobRow
+    row work = ready_row (row_of (record job { work = work }) t)
+
+    anew : (work : Work) → row (taken_anew work) ≡ row work
+    anew (Copy c) = refl
+    anew (Delete d) = refl
+    anew (Make m) = refl
+
+    skipping : (cause : Cause) (work : Work) → row (with_skips cause work) ≡ row work
+    skipping cause (Copy c) = refl
+    skipping cause (Delete d) = refl
+    skipping cause (Make m) = refl
+
+    go : (course : Course) (answer : Answer) → ready_row (row_of (answered_on course answer job) t) ≡ ready_row (row_of job t)
+    go (InTrouble cause) Retry = anew job.work
+    go (InTrouble cause) Skip = refl
+    go (InTrouble cause) SkipAll = skipping cause job.work
+    go (InTrouble cause) Abort = refl
+    go (OwedSyncFailed cause) Retry = anew job.work
+    go (OwedSyncFailed cause) Skip = refl
+    go (OwedSyncFailed cause) SkipAll = refl
+    go (OwedSyncFailed cause) Abort = refl
+    go GoesOn answer = refl
+    go (Skips cause) answer = refl
+    go (Ends ending) answer = refl
 
 -- a job that was begun, or answered, waits for nothing
 started_ready : (id : ℕ) (plan : JobPlan) (run : Running) → option_map (running id) (first_work id plan) ≡ Some run → waits_on run.course ≡ false
@@ -104,15 +137,15 @@ started_ready id plan run started = go (first_work id plan) started
     go None is = absurd cc
     go (Some work) is = let same : running id work ≡ run = cc in ap (λ (j : Running). waits_on j.course) (sym same)
 
-answered_ready : (course : Course) (answer : Answer) (job : Running) → waits_on course ≡ true → (passes_over answer ≡ true → is_barred course job.work ≡ false) → (answered_on course answer job).id ≡ job.id × (waits_on (answered_on course answer job).course ≡ false)
-answered_ready (InTrouble cause) Retry job waits fits = (refl, refl)
-answered_ready (InTrouble cause) Skip job waits fits = (refl, refl)
-answered_ready (InTrouble cause) SkipAll job waits fits = (refl, refl)
-answered_ready (InTrouble cause) Abort job waits fits = (refl, refl)
-answered_ready (OwedSyncFailed cause) Retry job waits fits = (refl, refl)
+answered_ready : (course : Course) (answer : Answer) (job : Running) → waits_on course ≡ true → (passes_over answer ≡ true → is_barred course job.work ≡ false) → waits_on (answered_on course answer job).course ≡ false
+answered_ready (InTrouble cause) Retry job waits fits = refl
+answered_ready (InTrouble cause) Skip job waits fits = refl
+answered_ready (InTrouble cause) SkipAll job waits fits = refl
+answered_ready (InTrouble cause) Abort job waits fits = refl
+answered_ready (OwedSyncFailed cause) Retry job waits fits = refl
 answered_ready (OwedSyncFailed cause) Skip job waits fits = absurd (true≢false (fits refl))
 answered_ready (OwedSyncFailed cause) SkipAll job waits fits = absurd (true≢false (fits refl))
-answered_ready (OwedSyncFailed cause) Abort job waits fits = (refl, refl)
+answered_ready (OwedSyncFailed cause) Abort job waits fits = refl
 answered_ready GoesOn answer job waits fits = absurd (false≢true waits)
 answered_ready (Skips cause) answer job waits fits = absurd (false≢true waits)
 answered_ready (Ends ending) answer job waits fits = absurd (false≢true waits)
@@ -166,10 +199,12 @@ module _ (start : Option Start) (opening contents contents_after : Option CallLo
   frame_as (deed.Begin confirmed) w =
       let run = confirmed.run in
       let none : rows_told log.newest ≡ [] = told_is ∙ (sym rows_is ∙ w.can.0) in
-      ap (λ row. frame_of screen_after (row ∷ [])) (ready_is run (trouble_told log.newest) (started_ready run.id confirmed.plan run confirmed.started))
-      ∙ (ap (λ s. frame_of s (ready_row run.id ∷ [])) (cleared screen_after w.settled)
-      ∙ (ap (λ rs. frame_at screen_after (ready_row run.id ∷ rs)) (sym none)
-      ∙ ap (λ n. frame_at screen_after (rows_then (Some (Begins confirmed.plan confirmed.background)) n (rows_told log.newest))) (sym w.can.2)))
+      let waits = started_ready run.id confirmed.plan run confirmed.started in
+      ap (λ row. frame_of screen_after (row ∷ [])) (ready_is run (trouble_told log.newest) None waits ∙ sym (ready_is run None None waits))
+      ∙ (ap (λ s. frame_of s (row_of run None ∷ [])) (cleared screen_after w.settled)
+      ∙ (ap (λ j. frame_at screen_after (rows_of j None ++ [])) (sym confirmed.started)
+      ∙ (ap (λ rs. frame_at screen_after (begun_rows run.id confirmed.plan ++ rs)) (sym none)
+      ∙ ap (λ n. frame_at screen_after (rows_then (Some (Begins confirmed.plan confirmed.background)) n (rows_told log.newest))) (sym w.can.2))))
   frame_as (deed.Answer answer) w =
       let here = live_of start opening contents faults old desk rows rows_is answer w.can in
       let live = here.0 in
@@ -178,8 +213,8 @@ module _ (start : Option Start) (opening contents contents_after : Option CallLo
       let ready = answered_ready live.course answer live may.waits may.fits in
       let told : rows_told log.newest ≡ row_of live (trouble_told log.newest) ∷ [] = told_is ∙ ap (λ j. rows_of j (trouble_told log.newest)) is in
       ap (λ j. frame_of screen_after (rows_of (after_answer answer j was).job (trouble_told log.newest))) is
-      ∙ (ap (λ row. frame_of screen_after (row ∷ [])) (ready_is (answered answer live) (trouble_told log.newest) ready.1 ∙ ap ready_row ready.0)
-      ∙ (ap (λ s. frame_of s (ready_row live.id ∷ [])) (cleared screen_after w.settled)
+      ∙ (ap (λ row. frame_of screen_after (row ∷ [])) (ready_is (answered answer live) (trouble_told log.newest) (trouble_told log.newest) ready ∙ still_does live.course answer live (trouble_told log.newest))
+      ∙ (ap (λ s. frame_of s (ready_row (row_of live (trouble_told log.newest)) ∷ [])) (cleared screen_after w.settled)
       ∙ ap (λ rs. frame_at screen_after (rows_then (Some (Answers answer)) (next_id was.last_id) rs)) (sym told)))
 
   -- what the terminal shows of it

@@ -9,7 +9,7 @@ use Rattle.job_reports.specs.declared.row.JobState.TheVariants.{Ready, Troubled}
 use Rattle.session_history.specs.declared.history.Event.{Event}
 use Rattle.session_history.specs.declared.history.Event.TheVariants.{Step}
 use Rattle.session_history.specs.declared.history.Entry.{Entry}
-use Rattle.copy_move.specs.Jobs.{Running, waits_on}
+use Rattle.copy_move.specs.Jobs.{Running, kind_of, path_of, waits_on}
 use Rattle.history_laws.specs.ToldJob.{live_job}
 
 -- the entry reports a step
@@ -36,6 +36,8 @@ abbrev pub row_of : Running → Option Trouble → JobRow
 row_of job told = record {
   job = job.id;
   state = state_of job;
+  kind = kind_of job.work;
+  path = path_of job.work;
   background = false;
   trouble = if waits_on job.course then told else None;
 }

@@ -2,11 +2,16 @@
 use Rattle.std.specs.Prelude.{◌≡◌, ◌⊎◌, ℕ, Bool, true, false, List, [], ◌∷◌, ◌++◌, length, map, take, drop, Option, Some, None}
 use Rattle.tree_trait.specs.Answers.{IfKnown}
 use Rattle.key_screen.specs.Grids.{CellGrid}
+use Rattle.std.specs.Option.{option_map}
+use Rattle.job_reports.specs.declared.job.Job.{Job}
 use Rattle.job_reports.specs.declared.row.JobRow.{JobRow}
 use Rattle.job_reports.specs.declared.row.JobState.TheVariants.{Ready}
 use Rattle.session_history.specs.declared.history.Entry.{Entry}
 use Rattle.session_history.specs.declared.history.Event.{Event}
 use Rattle.session_history.specs.declared.history.Event.TheVariants.{Key, Look, Sought, Began, Order, Step, Closed}
+use Rattle.copy_move.specs.Jobs.{first_work}
+use Rattle.copy_move.specs.Told.{running}
+use Rattle.mc_desk.specs.LiveRows.{rows_of}
 use Rattle.mc_ui.specs.Screens.{Screen, Planned, Begins, Answers, Ends}
 use Rattle.mc_screen.specs.Drawings.{HasSizeOf, Shows}
 use Rattle.mc_screen.specs.Sparse.{IsSparse}
@@ -77,9 +82,13 @@ EventDraws (Order id order) is_first frame shown before after = DrawsNothing sho
 EventDraws (Step id did) is_first frame shown before after = DrawsNothing shown before after
 EventDraws Closed is_first frame shown before after = DrawsNothing shown before after
 
--- a job that can be stepped
-abbrev pub ready_row : ℕ → JobRow
-ready_row job = record { job = job; state = Ready; background = false; trouble = None }
+-- the row of a job that was answered, and has a next step again
+abbrev pub ready_row : JobRow → JobRow
+ready_row row = record row { state = Ready; trouble = None }
+
+-- the row of a job that just begins
+abbrev pub begun_rows : ℕ → Job → List JobRow
+begun_rows id plan = rows_of (option_map (running id) (first_work id plan)) None
 
 -- the rows of the live jobs once what was asked for is carried out: a job that is begun has the next number, and is ready; one
 -- that is answered is ready again
@@ -87,8 +96,8 @@ abbrev pub rows_then : Option Planned → Option ℕ → List JobRow → List Jo
 rows_then None next rows = rows
 rows_then (Some Ends) next rows = rows
 rows_then (Some (Begins plan background)) None rows = rows
-rows_then (Some (Begins plan background)) (Some job) rows = ready_row job ∷ rows
-rows_then (Some (Answers answer)) next rows = map (λ (row : JobRow). ready_row row.job) rows
+rows_then (Some (Begins plan background)) (Some id) rows = begun_rows id plan ++ rows
+rows_then (Some (Answers answer)) next rows = map ready_row rows
 
 -- the frame of a screen on which nothing waits to be carried out, while these jobs are live
 abbrev pub frame_at : Screen → List JobRow → CellGrid

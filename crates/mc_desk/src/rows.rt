@@ -35,9 +35,12 @@ fn row_of(alloc: Global, run: &Run, log: &Log) -> Result<JobRow, NoMemory>
     ensures { IfOk result (λ row. row ≡ row_for run.now (trouble_told log.now.newest)) }
 {
     let trouble = trouble_of(alloc, run, log)?;
+    let path = run.path().copy(alloc)?;
     Ok(JobRow {
         job: run.id(),
         state: state_of(run),
+        kind: run.kind(),
+        path,
         background: false,
         trouble,
     })
