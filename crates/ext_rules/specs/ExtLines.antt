@@ -3,8 +3,8 @@ use Rattle.std.specs.Prelude.{ℕ, ◌==◌, if◌then◌else◌, List, [], ◌�
 use Rattle.std.specs.Option.{option_map_or}
 use Rattle.tagging.specs.Patterns.{PatternText}
 use Rattle.tagging.specs.declared.pattern.PatternKind.TheVariants.{Regex}
-use Rattle.tagging.specs.Regexes.{meaning_of}
 use Rattle.text_scan.specs.Words.{behind_word, behind_indent, unindented}
+use Rattle.typed_patterns.specs.TypedPatterns.{pattern_in}
 use Rattle.ext_rules.specs.declared.actions.Key.{Key}
 use Rattle.ext_rules.specs.declared.actions.Key.TheVariants.{Open, View, Edit, Include}
 use Rattle.ext_rules.specs.declared.condition.Case.{Case}
@@ -41,10 +41,6 @@ abbrev pub shell_line : List ℕ → LineRead
 shell_line text =
     option_map_or (λ behind. Rule (shell_condition Insensitive behind)) (behind_word (codes "i/") text) (Rule (shell_condition Sensitive text))
 
--- the pattern of a text, if it is a regular expression
-abbrev pub pattern_in : List ℕ → Option PatternText
-pattern_in text = if is_some (meaning_of text) then Some (record { kind = Regex; text = text }) else None
-
 abbrev pub pattern_rule : (PatternText → Condition) → Option PatternText → LineRead
 pattern_rule condition None = BadPattern
 pattern_rule condition (Some pattern) = Rule (condition pattern)
@@ -55,11 +51,11 @@ of_any_case text = codes "(?i)" ++ text
 
 abbrev pub regex_line : List ℕ → LineRead
 regex_line text =
-    option_map_or (λ behind. pattern_rule FoundInName (pattern_in (of_any_case behind))) (behind_word (codes "i/") text)
-    (pattern_rule FoundInName (pattern_in text))
+    option_map_or (λ behind. pattern_rule FoundInName (pattern_in Regex (of_any_case behind))) (behind_word (codes "i/") text)
+    (pattern_rule FoundInName (pattern_in Regex text))
 
 abbrev pub folder_line : List ℕ → LineRead
-folder_line text = pattern_rule FoundInFolder (pattern_in text)
+folder_line text = pattern_rule FoundInFolder (pattern_in Regex text)
 
 -- nothing stands behind the last word
 abbrev pub default_line : List ℕ → LineRead

@@ -7,7 +7,6 @@ mod condition;
 mod error;
 mod file;
 mod line;
-mod pattern;
 mod rule;
 
 pub use act::{Act, action};

@@ -1,14 +1,16 @@
 //! One line of an extension file.
 ghost use Rattle.std.specs.Prelude.{◌≡◌, IfOk};
+ghost use Rattle.typed_patterns.specs.TypedPatterns.{pattern_in};
 ghost use Rattle.ext_rules.specs.declared.condition.Condition.TheVariants.{FoundInName};
-ghost use Rattle.ext_rules.specs.ExtLines.{reading_of, action_line, rule_line, shell_line, shell_condition, regex_line, folder_line, pattern_in, pattern_rule};
+ghost use Rattle.ext_rules.specs.ExtLines.{reading_of, action_line, rule_line, shell_line, shell_condition, regex_line, folder_line, pattern_rule};
 
 use crate::actions::{Action, Key};
 use crate::condition::{Case, Condition};
-use crate::pattern::pattern_in;
 use mc_text::{NoMemory, Text};
 use std::alloc::Global;
+use tagging::PatternKind;
 use text_scan::{behind_indent, behind_word, unindented};
+use typed_patterns::pattern_in;
 
 /// What a line says: nothing, a rule, an action, an action that is ignored, no rule, or a rule whose text is no regular
 /// expression.
@@ -129,9 +131,9 @@ fn read_regex(alloc: Global, text: &str) -> Result<LineRead, NoMemory>
 
 /// A rule on names in which a pattern is found.
 fn read_pattern(alloc: Global, text: &str) -> Result<LineRead, NoMemory>
-    ensures { IfOk result (λ read. read ≡ pattern_rule FoundInName (pattern_in text.now)) }
+    ensures { IfOk result (λ read. read ≡ pattern_rule FoundInName (pattern_in PatternKind.Regex text.now)) }
 {
-    match pattern_in(alloc, text)? {
+    match pattern_in(alloc, PatternKind::Regex, text)? {
         Some(pattern) => Ok(LineRead::Rule(Condition::FoundInName(pattern))),
         None => Ok(LineRead::BadPattern),
     }
@@ -141,7 +143,7 @@ fn read_pattern(alloc: Global, text: &str) -> Result<LineRead, NoMemory>
 fn read_directory(alloc: Global, text: &str) -> Result<LineRead, NoMemory>
     ensures { IfOk result (λ read. read ≡ folder_line text.now) }
 {
-    match pattern_in(alloc, text)? {
+    match pattern_in(alloc, PatternKind::Regex, text)? {
         Some(pattern) => Ok(LineRead::Rule(Condition::FoundInFolder(pattern))),
         None => Ok(LineRead::BadPattern),
     }

@@ -15,6 +15,7 @@ use Rattle.resolving.specs.Resolution.{resolved}
 use Rattle.home_paths.specs.Homes.{with_home}
 use Rattle.tagging.specs.declared.pattern.PatternKind.{PatternKind}
 use Rattle.tagging.specs.Patterns.{PatternText}
+use Rattle.typed_patterns.specs.TypedPatterns.{pattern_in}
 use Rattle.find_mode.specs.declared.act.FindAct.{FindAct}
 use Rattle.find_mode.specs.declared.act.FindAct.TheVariants.{Stays, Refused, Goes, Leaves}
 use Rattle.find_mode.specs.declared.act.FindRefusal.TheVariants.{NoWay, NoPattern}
@@ -24,7 +25,7 @@ use Rattle.find_mode.specs.declared.asking.Asking.{Asking}
 use Rattle.find_mode.specs.declared.command.FindCommand.{FindCommand}
 use Rattle.find_mode.specs.declared.command.FindCommand.TheVariants.{Move, Choose, Stop, Leave, Nothing}
 use Rattle.find_mode.specs.FindKeys.{find_command}
-use Rattle.find_mode.specs.Questions.{asks, pattern_in}
+use Rattle.find_mode.specs.Questions.{asks}
 use Rattle.find_mode.specs.Listings.{IsBegun, ListingState, chosen, moved_by, no_listing, stopped}
 
 -- how many lines the screen has, the folder from which a typed start leads, HOME, how patterns are read, whether hidden names are met,

@@ -1,10 +1,8 @@
 -- What is asked for before a search, and the lines that ask it. Own.
-use Rattle.std.specs.Prelude.{◌≡◌, ⊤, ℕ, List, [], if◌then◌else◌, codes, Option, Some, None}
+use Rattle.std.specs.Prelude.{◌≡◌, ⊤, [], codes}
 use Rattle.mc_dialogs.specs.InputKeys.{InputState}
 use Rattle.box_words.specs.declared.replies.LineReply.{LineReply}
 use Rattle.box_words.specs.declared.replies.LineReply.TheVariants as line
-use Rattle.tagging.specs.declared.pattern.PatternKind.{PatternKind}
-use Rattle.tagging.specs.Patterns.{PatternText, is_pattern_of}
 use Rattle.find_mode.specs.declared.asking.Asked.{Asked}
 use Rattle.find_mode.specs.declared.asking.Asked.TheVariants.{Start, Names, Content}
 use Rattle.find_mode.specs.declared.asking.Asking.{Asking}
@@ -33,7 +31,3 @@ abbrev pub StaysWhereTaken : LineReply → InputState → InputState → Type 0
 StaysWhereTaken line.Stays before after = ⊤
 StaysWhereTaken line.Shuts before after = ⊤
 StaysWhereTaken (line.Takes text) before after = after ≡ before
-
--- the pattern of a text, if it is one of this kind
-abbrev pub pattern_in : PatternKind → List ℕ → Option PatternText
-pattern_in kind text = if is_pattern_of kind text then Some (record { kind = kind; text = text }) else None

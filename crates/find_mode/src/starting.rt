@@ -1,22 +1,21 @@
 //! What the answers to the lines lead to.
-ghost use Rattle.std.specs.Prelude.{◌≡◌, IfErr, IfOk};
+ghost use Rattle.std.specs.Prelude.{◌≡◌, IfErr};
 ghost use Rattle.tree_trait.specs.Answers.{HasCause, IfKnown};
 ghost use Rattle.tree_trait.specs.Change.{current};
 ghost use Rattle.resolving.specs.declared.walking.Wanted.TheVariants.{AnyThing};
 ghost use Rattle.resolving.specs.Errors.{Answers, CarriesCause, count_told};
 ghost use Rattle.resolving.specs.Resolution.{resolved};
 ghost use Rattle.home_paths.specs.Homes.{with_home as with_home_of};
-ghost use Rattle.find_mode.specs.Questions.{pattern_in as pattern_of_text};
 ghost use Rattle.find_mode.specs.Listings.{IsBegun};
 
 use crate::listing::Listing;
 use find_file::Finder;
 use home_paths::with_home;
-use mc_text::{Bytes, NoMemory, Path, Text};
+use mc_text::{Bytes, Path, Text};
 use resolving::{ResolveError, resolve_thing};
 use std::alloc::Global;
 use std::convert::AsStr;
-use tagging::{Pattern, PatternError, PatternKind};
+use tagging::Pattern;
 use tree_trait::ReadTree;
 
 /// The thing to which a typed start leads from a folder on, with HOME in place of its tilde.
@@ -37,38 +36,6 @@ pub fn start_at<T: ReadTree>(
     match with_home(alloc, home, typed) {
         Ok(text) => resolve_thing(alloc, tree, folder, text.as_str()),
         Err(_error) => Err(ResolveError::Memory),
-    }
-}
-
-/// The pattern of a text, or nothing where the text is no pattern of this kind.
-pub fn pattern_in(alloc: Global, kind: PatternKind, text: &str) -> Result<Option<Pattern>, NoMemory>
-    ensures { IfOk result (λ pattern. pattern ≡ pattern_of_text kind text.now) }
-{
-    match kind {
-        PatternKind::Shell => shell_in(alloc, text),
-        PatternKind::Regex => regex_in(alloc, text),
-    }
-}
-
-/// The shell pattern of a text, or nothing where the text is none.
-fn shell_in(alloc: Global, text: &str) -> Result<Option<Pattern>, NoMemory>
-    ensures { IfOk result (λ pattern. pattern ≡ pattern_of_text PatternKind.Shell text.now) }
-{
-    match Pattern::shell(alloc, text) {
-        Ok(pattern) => Ok(Some(pattern)),
-        Err(PatternError::Memory) => Err(NoMemory),
-        Err(_) => Ok(None),
-    }
-}
-
-/// The regular expression of a text, or nothing where the text is none.
-fn regex_in(alloc: Global, text: &str) -> Result<Option<Pattern>, NoMemory>
-    ensures { IfOk result (λ pattern. pattern ≡ pattern_of_text PatternKind.Regex text.now) }
-{
-    match Pattern::regex(alloc, text) {
-        Ok(pattern) => Ok(Some(pattern)),
-        Err(PatternError::Memory) => Err(NoMemory),
-        Err(_) => Ok(None),
     }
 }
 

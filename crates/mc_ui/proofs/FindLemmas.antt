@@ -24,7 +24,7 @@ use Rattle.find_mode.specs.declared.command.FindCommand.{FindCommand}
 use Rattle.find_mode.specs.declared.command.FindCommand.TheVariants as command
 use Rattle.find_mode.specs.FindKeys.{find_command}
 use Rattle.find_mode.specs.FindScreens.{AnswerLeads, ByAsking, CommandLeads, FindScreen, KeyLeads, LineLeads, NamesLead, StartLeads, choice}
-use Rattle.find_mode.specs.Questions.{pattern_in}
+use Rattle.typed_patterns.specs.TypedPatterns.{pattern_in}
 use Rattle.find_mode.specs.Listings.{chosen}
 use Rattle.mc_ui.specs.Findings.{find_refusal}
 use Rattle.mc_ui.proofs.NoWays.{leads_nowhere}

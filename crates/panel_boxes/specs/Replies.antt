@@ -9,7 +9,8 @@ use Rattle.mc_dialogs.specs.declared.shut.Reply.TheVariants.{Line, Chosen}
 use Rattle.mc_dialogs.specs.InputKeys.{InputState, input_after, input_shut}
 use Rattle.mc_dialogs.specs.ListKeys.{ListState, list_after, list_shut}
 use Rattle.tagging.specs.declared.pattern.PatternKind.{PatternKind}
-use Rattle.tagging.specs.Patterns.{PatternText, is_pattern_of}
+use Rattle.tagging.specs.Patterns.{PatternText}
+use Rattle.typed_patterns.specs.TypedPatterns.{pattern_in}
 use Rattle.panel_listing.specs.declared.error.FormatError.{FormatError}
 use Rattle.panel_listing.specs.declared.error.FormatError.TheVariants.{NoSize, UnknownField, BadWidth, Memory}
 use Rattle.panel_listing.specs.FormatTexts.{RowFormat, format_of}
@@ -32,10 +33,6 @@ use Rattle.panel_boxes.specs.Choices.{all_options}
 use Rattle.panel_boxes.specs.Openings.{filter_text, line_of}
 
 -- WHAT WAS TYPED
-
--- the pattern of a text, if it is one of this kind
-abbrev pub pattern_in : PatternKind → List ℕ → Option PatternText
-pattern_in kind text = if is_pattern_of kind text then Some (record { kind = kind; text = text }) else None
 
 -- a command by a pattern, or the text is refused that is none
 abbrev pub by_pattern : (PatternText → PanelCommand) → Option PatternText → PanelReply

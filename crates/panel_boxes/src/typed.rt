@@ -1,7 +1,8 @@
 //! What a text comes to that was typed in an input line.
 ghost use Rattle.std.specs.Prelude.{◌≡◌, ◌≢◌, IfOk};
+ghost use Rattle.typed_patterns.specs.TypedPatterns.{pattern_in};
 ghost use Rattle.panel_listing.specs.FormatTexts.{format_of};
-ghost use Rattle.panel_boxes.specs.Replies.{by_pattern, fault_reply, filter_command, filter_reply, format_reply, pattern_in, typed_reply};
+ghost use Rattle.panel_boxes.specs.Replies.{by_pattern, fault_reply, filter_command, filter_reply, format_reply, typed_reply};
 
 use crate::panel_box::{Asked, PanelReply};
 use mc_panels::{Arrangement, PanelFormat};
@@ -11,7 +12,8 @@ use panel_pair::PanelCommand;
 use session_history::TypedError;
 use std::alloc::Global;
 use std::convert::AsStr;
-use tagging::{Pattern, PatternError, PatternKind};
+use tagging::{Pattern, PatternKind};
+use typed_patterns::pattern_in;
 
 /// What a text comes to that a line asked for, while patterns are of this kind.
 pub fn typed_reply(
@@ -83,37 +85,5 @@ fn fault_reply(error: FormatError) -> Result<PanelReply, NoMemory>
         FormatError::UnknownField(at) => Ok(PanelReply::Refuses(TypedError::BadFormat(at))),
         FormatError::BadWidth(at) => Ok(PanelReply::Refuses(TypedError::BadFormat(at))),
         FormatError::Memory => Err(NoMemory),
-    }
-}
-
-/// The pattern of a text, or nothing where the text is no pattern of this kind.
-fn pattern_in(alloc: Global, kind: PatternKind, text: &str) -> Result<Option<Pattern>, NoMemory>
-    ensures { IfOk result (λ pattern. pattern ≡ pattern_in kind text.now) }
-{
-    match kind {
-        PatternKind::Shell => shell_in(alloc, text),
-        PatternKind::Regex => regex_in(alloc, text),
-    }
-}
-
-/// The shell pattern of a text, or nothing where the text is none.
-fn shell_in(alloc: Global, text: &str) -> Result<Option<Pattern>, NoMemory>
-    ensures { IfOk result (λ pattern. pattern ≡ pattern_in PatternKind.Shell text.now) }
-{
-    match Pattern::shell(alloc, text) {
-        Ok(pattern) => Ok(Some(pattern)),
-        Err(PatternError::Memory) => Err(NoMemory),
-        Err(_) => Ok(None),
-    }
-}
-
-/// The regular expression of a text, or nothing where the text is none.
-fn regex_in(alloc: Global, text: &str) -> Result<Option<Pattern>, NoMemory>
-    ensures { IfOk result (λ pattern. pattern ≡ pattern_in PatternKind.Regex text.now) }
-{
-    match Pattern::regex(alloc, text) {
-        Ok(pattern) => Ok(Some(pattern)),
-        Err(PatternError::Memory) => Err(NoMemory),
-        Err(_) => Ok(None),
     }
 }

@@ -3,9 +3,9 @@
 use Rattle.std.specs.Prelude.{ℕ, zero, suc, ◌==◌, ◌||◌, if◌then◌else◌, List, [], ◌∷◌, length, Option, Some, None, option_map, codes}
 use Rattle.std.specs.Option.{option_map_or}
 use Rattle.std.specs.Str.{bytes_eq}
-use Rattle.tagging.specs.Patterns.{PatternText, is_pattern_of}
 use Rattle.tagging.specs.declared.pattern.PatternKind.{PatternKind}
 use Rattle.text_scan.specs.Words.{behind_word, is_blank}
+use Rattle.typed_patterns.specs.TypedPatterns.{pattern_in}
 use Rattle.user_menu.specs.Words.{FirstWord, first_word}
 use Rattle.user_menu.specs.declared.condition.Panel.TheVariants.{Here, There}
 use Rattle.user_menu.specs.declared.condition.Sense.{Sense}
@@ -64,10 +64,6 @@ letter_among ((spelled, letter) ∷ others) text =
 
 abbrev pub letter_of : List ℕ → Option FirstLetter
 letter_of = letter_among letters
-
--- the pattern of a text, if it is one of this kind
-abbrev pub pattern_in : PatternKind → List ℕ → Option PatternText
-pattern_in kind text = if is_pattern_of kind text then Some (record { kind = kind; text = text }) else None
 
 -- what a letter asks with an argument
 abbrev pub test_of : PatternKind → Letter → List ℕ → Option Test

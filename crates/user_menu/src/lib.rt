@@ -9,7 +9,6 @@ mod file;
 mod holding;
 mod line;
 mod menu;
-mod pattern;
 mod program;
 mod reading;
 mod showing;

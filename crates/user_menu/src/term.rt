@@ -4,12 +4,12 @@ ghost use Rattle.user_menu.specs.Conditions.{turned, opposite, sense_of, behind_
 ghost use Rattle.user_menu.specs.TermViews.{letter_view, term_view};
 
 use crate::condition::{Panel, Sense, Term, Test};
-use crate::pattern::pattern_in;
 use crate::words::first_word;
 use mc_text::{NoMemory, Text};
 use std::alloc::Global;
 use tagging::PatternKind;
 use text_scan::{behind_indent, behind_word};
+use typed_patterns::pattern_in;
 
 /// What the letter of a term asks.
 #[derive(Clone, Copy, Drop)]

@@ -2,14 +2,15 @@
 ghost use Rattle.std.specs.Prelude.{◌≡◌, false, None, Some, IfOk, OnOk, OnErr};
 ghost use Rattle.box_words.specs.BoxKeys.{line_reply as line_reply_of};
 ghost use Rattle.mc_dialogs.specs.InputKeys.{input_after, input_shut};
-ghost use Rattle.find_mode.specs.Questions.{asks, pattern_in as pattern_of_text};
+ghost use Rattle.typed_patterns.specs.TypedPatterns.{pattern_in};
+ghost use Rattle.find_mode.specs.Questions.{asks};
 ghost use Rattle.find_mode.specs.FindScreens.{AnswerLeads, LineLeads, NamesLead, ReadsTree, StartLeads, begins, looks_by, with_line};
 ghost use Rattle.find_mode.specs.Listings.{IsBegun};
 
 use super::FindMode;
 use crate::act::{FindAct, FindRefusal};
 use crate::asking::{Asked, Asking, content_line, names_line, type_in};
-use crate::starting::{pattern_in, search_below, start_at};
+use crate::starting::{search_below, start_at};
 use box_words::LineReply;
 use key_screen::Key;
 use mc_dialogs::InputLine;
@@ -19,6 +20,7 @@ use std::alloc::Global;
 use std::convert::AsStr;
 use tagging::Pattern;
 use tree_trait::ReadTree;
+use typed_patterns::pattern_in;
 
 impl FindMode {
     /// A key while a line asks.
@@ -144,7 +146,7 @@ impl FindMode {
         text: Text,
     ) -> Result<FindAct, NoMemory>
         requires clear { self.old.asking ≡ None }
-        ensures leads { IfOk result (λ act. NamesLead start (pattern_of_text self.old.kind text) act
+        ensures leads { IfOk result (λ act. NamesLead start (pattern_in self.old.kind text) act
             (with_line (Some (record { asked = Asked.Names start; line = line })) self.old) self.new) }
         ensures lost { OnErr result (self.new ≡ with_line (Some (record { asked = Asked.Names start; line = line })) self.old) }
     {

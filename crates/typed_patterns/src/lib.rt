@@ -1,6 +1,8 @@
-//! Patterns, tried when they are read.
+//! Patterns as they are typed: a text is tried as a pattern of its kind.
+#![tactic(auto)]
+
 ghost use Rattle.std.specs.Prelude.{◌≡◌, IfOk};
-ghost use Rattle.user_menu.specs.Conditions.{pattern_in};
+ghost use Rattle.typed_patterns.specs.TypedPatterns.{pattern_in};
 
 use mc_text::NoMemory;
 use std::alloc::Global;
