@@ -1,7 +1,9 @@
-//! Reads menus, row by row, and writes what each holds, or which of its entries are shown.
+//! Reads menus, row by row, and writes what each holds, or which of its entries are shown; and lists of jobs with keys, and what these
+//! come to.
 #![tactic(auto)]
 
 mod facts;
+mod jobs;
 mod menus;
 mod showing;
 
@@ -40,6 +42,25 @@ fn tell_row<T: Tree>(page: &mut Page, tree: &mut T, row: &str) {
         "repeated" => menus::tell_repeated(page, field),
         "cuts" => menus::tell_cuts(page, field),
         "shown" => showing::tell_shown(page, tree, field),
+        _ => page.fail(),
+    }
+}
+
+/// Each row of a list of jobs with what comes of it.
+pub fn tell_job_rows(page: &mut Page, rows: &str) {
+    for row in rows.lines() {
+        page.put(row);
+        page.put(" =>");
+        tell_job_row(page, row);
+        page.put("\n");
+    }
+}
+
+fn tell_job_row(page: &mut Page, row: &str) {
+    let (call, stages) = two_fields(row, '|');
+    match call {
+        "keys" => jobs::tell_keys(page, stages),
+        "list" => jobs::tell_list(page, stages),
         _ => page.fail(),
     }
 }

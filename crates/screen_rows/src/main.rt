@@ -1,4 +1,4 @@
-//! Runs the rows of boxes, texts and menus.
+//! Runs the rows of boxes, texts, menus and lists of jobs.
 #![tactic(auto)]
 
 use row_page::{Fault, Page};
@@ -13,6 +13,7 @@ impl Sections for Libraries {
             "boxes" => box_rows::tell_rows(page, rows),
             "texts" => text_rows::tell_rows(page, rows),
             "menus" => menu_rows::tell_rows(page, rows),
+            "jobs" => menu_rows::tell_job_rows(page, rows),
             _ => page.fail(),
         }
     }
