@@ -4,14 +4,18 @@ use Rattle.mc_text.specs.Routes.{Route}
 use Rattle.mc_viewer.specs.declared.error.ViewError.TheVariants as error
 use Rattle.mc_viewer.specs.declared.subject.Subject.{Subject}
 use Rattle.mc_viewer.specs.declared.subject.Subject.TheVariants.{File, Output}
+use Rattle.key_screen.specs.declared.keys.Key.{Key}
 use Rattle.viewer_mode.specs.declared.act.ViewerAct.{ViewerAct}
 use Rattle.viewer_mode.specs.declared.act.ViewerAct.TheVariants.{Refused}
 use Rattle.viewer_mode.specs.declared.opening.Opening.{Opening}
 use Rattle.viewer_mode.specs.declared.opening.Opening.TheVariants.{Viewed, NoWay, Unread}
+use Rattle.viewer_mode.specs.Motions.{LooksAtNothing}
+use Rattle.viewer_mode.specs.ViewerScreens.{wanted}
 use Rattle.session_history.specs.declared.refusal.Refusal.{Refusal}
 use Rattle.session_history.specs.declared.refusal.Refusal.TheVariants.{Read, Resolve}
 use Rattle.mc_panels.specs.declared.going.Way.{Way}
 use Rattle.mc_panels.specs.declared.going.Way.TheVariants.{Nowhere, Up, Into}
+use Rattle.mc_ui.specs.declared.viewing.ViewedFile.{ViewedFile}
 
 -- Enter leads from a row to a folder
 abbrev pub goes_on : Way → Bool
@@ -34,3 +38,8 @@ viewed_path (Output bytes) = None
 abbrev pub told_by : ViewerAct → Option Route → List Refusal
 told_by (Refused (error.Tree e)) (Some path) = Read path e ∷ []
 told_by act path = []
+
+-- a file is viewed, and a key wants nothing of it, or what looks at nothing
+abbrev pub LeavesUnread : Option ViewedFile → Key → Type 0
+LeavesUnread None key = ⊥
+LeavesUnread (Some viewed) key = LooksAtNothing (wanted key viewed.mode) viewed.mode.viewer

@@ -4,7 +4,8 @@ ghost use Rattle.mc_ui.specs.declared.asks.KeyAct.{KeyAct as KeyActType};
 ghost use Rattle.mc_ui.specs.PanelKeys.{plain_base};
 ghost use Rattle.job_plans.specs.Reading.{ReadsTree};
 ghost use Rattle.mc_ui.specs.Boxes.{seen_box};
-ghost use Rattle.mc_ui.specs.Screens.{HasSameSize, KeyLeads, WellAsked, WorksBelow, WorksKey, after_message, at_second, frame_size, is_request, opened_screen, page_of, settled as screen_settled, with_ask, with_viewer};
+ghost use Rattle.mc_ui.specs.Viewings.{LeavesUnread};
+ghost use Rattle.mc_ui.specs.Screens.{HasSameSize, KeyLeads, WellAsked, WorksBelow, WorksKey, after_message, at_second, frame_size, is_request, opened_screen, page_of, settled as screen_settled, with_ask, with_viewer, without_box};
 
 mod boxes;
 mod copy_boxes;
@@ -87,6 +88,13 @@ impl Ui {
         &self.panels
     }
 
+    /// HOME, for which a tilde that is typed stands.
+    fn home(&self) -> &Option<Path>
+        ensures { result.now ≡ self.now.home }
+    {
+        &self.home
+    }
+
     /// How many lines the screen has.
     pub fn lines(&self) -> u16
         ensures { result ≡ self.now.lines }
@@ -156,6 +164,7 @@ impl Ui {
         ensures alone { IfOk result (λ act. is_request act.ask ≡ true → act.refusals ≡ []) }
         ensures size { HasSameSize self.old self.new }
         ensures settled { self.new.planned ≡ None }
+        ensures still { LeavesUnread self.old.viewing key → tree.new ≡ tree.old }
         ensures lost { OnErr result (self.new ≡ self.old) }
         ensures reads { ReadsTree (λ (act : KeyActType). act.refusals) result (T.contents tree.old) (T.contents tree.new)
             (T.fault_count tree.old) (T.fault_count tree.new) }
@@ -186,6 +195,7 @@ impl Ui {
         ensures alone { IfOk result (λ act. is_request act.ask ≡ true → act.refusals ≡ []) }
         ensures size { HasSameSize self.old self.new }
         ensures settled { self.new.planned ≡ None }
+        ensures still { LeavesUnread self.old.viewing key → tree.new ≡ tree.old }
         ensures lost { OnErr result (self.new ≡ self.old) }
         ensures reads { ReadsTree (λ (act : KeyActType). act.refusals) result (T.contents tree.old) (T.contents tree.new)
             (T.fault_count tree.old) (T.fault_count tree.new) }
@@ -218,7 +228,7 @@ impl Ui {
         if self.has_message() {
             return Ok(self.key_in_message(alloc, key));
         }
-        match mem::replace(&mut self.dialog, Dialog::Nothing) {
+        match self.take_box() {
             Dialog::Nothing => self.key_in_panel(alloc, tree, rows, key),
             Dialog::Delete(chosen) => self.key_in_delete(alloc, chosen, rows, key),
             Dialog::SourceMask(chosen, line) => self.key_in_mask(alloc, chosen, line, key),
@@ -241,7 +251,7 @@ impl Ui {
         match told {
             Told::Nothing => {}
             Told::Begun => self.take_tags(),
-            Told::Answered => self.dialog = Dialog::Nothing,
+            Told::Answered => self.show_box(Dialog::Nothing),
             Told::Refused(refusal) => self.message = Some(Message::Refused(refusal)),
             Told::Lost => {}
         }
@@ -251,8 +261,24 @@ impl Ui {
     fn take_tags(&mut self)
         ensures { self.new ≡ screen_settled Told.Begun self.old }
     {
-        self.dialog = Dialog::Nothing;
+        self.show_box(Dialog::Nothing);
         self.panels.untag();
+    }
+
+    /// Puts this box over the panels, in place of what stood there.
+    fn show_box(&mut self, dialog: Dialog)
+        ensures { self.new ≡ record self.old { over = seen_box dialog } }
+    {
+        self.dialog = dialog;
+    }
+
+    /// Takes away what stands over the panels.
+    fn take_box(&mut self) -> Dialog
+        ensures taken { seen_box result ≡ self.old.over }
+        ensures rest { self.new ≡ without_box self.old }
+        ensures settled { self.new.planned ≡ None }
+    {
+        mem::replace(&mut self.dialog, Dialog::Nothing)
     }
 
     /// Whether a message is shown.

@@ -35,10 +35,9 @@ impl Ui {
         ensures rest { record self.new { over = NoBox } ≡ self.old }
         ensures lost { OnErr result (self.new ≡ record self.old { over = DeleteBox chosen.path }) }
     {
-        let _lines = &self.lines;
         match delete_reply_to(key) {
             DeleteReply::Stays => {
-                self.dialog = Dialog::Delete(chosen);
+                self.show_box(Dialog::Delete(chosen));
                 Ok(asking_nothing(alloc))
             }
             DeleteReply::Shuts => Ok(asking_nothing(alloc)),
@@ -60,9 +59,8 @@ impl Ui {
         ensures asked { IfOk result (λ act. WellAsked rows.now act.ask) }
         ensures stays { self.new ≡ record self.old { over = DeleteBox chosen.path } }
     {
-        let _lines = &self.lines;
         let planned = deletion_of(alloc, &chosen);
-        self.dialog = Dialog::Delete(chosen);
+        self.show_box(Dialog::Delete(chosen));
         if !none_live(rows) {
             return Ok(asking_nothing(alloc));
         }
@@ -85,10 +83,9 @@ impl Ui {
         ensures stays { is_request result.ask ≡ true → self.new ≡ record self.old { over = TroubleBox trouble } }
         ensures rest { record self.new { over = NoBox } ≡ self.old }
     {
-        let _lines = &self.lines;
         match trouble_reply_to(trouble.barrier, key) {
             TroubleReply::Stays => {
-                self.dialog = Dialog::Trouble(trouble);
+                self.show_box(Dialog::Trouble(trouble));
                 asking_nothing(alloc)
             }
             TroubleReply::Shuts => asking_nothing(alloc),
@@ -111,8 +108,7 @@ impl Ui {
         ensures asked { WellAsked rows.now result.ask }
         ensures stays { self.new ≡ record self.old { over = TroubleBox trouble } }
     {
-        let _lines = &self.lines;
-        self.dialog = Dialog::Trouble(trouble);
+        self.show_box(Dialog::Trouble(trouble));
         if can_answer(rows, answer) {
             return asking(alloc, Ask::Answer(answer));
         }

@@ -44,18 +44,17 @@ impl Ui {
         ensures rest { record self.new { over = NoBox; message = self.old.message } ≡ self.old }
         ensures lost { OnErr result (self.new ≡ record self.old { over = MaskBox chosen.path line }) }
     {
-        let _lines = &self.lines;
         let mut line = line;
         let typed = type_in(alloc, &mut line, key);
         match typed {
             Ok(LineReply::Stays) => {
-                self.dialog = Dialog::SourceMask(chosen, line);
+                self.show_box(Dialog::SourceMask(chosen, line));
                 Ok(asking_nothing(alloc))
             }
             Ok(LineReply::Shuts) => Ok(asking_nothing(alloc)),
             Ok(LineReply::Takes(text)) => self.accept_mask(alloc, chosen, line, text),
             Err(error) => {
-                self.dialog = Dialog::SourceMask(chosen, line);
+                self.show_box(Dialog::SourceMask(chosen, line));
                 Err(error)
             }
         }
@@ -77,15 +76,14 @@ impl Ui {
         ensures rest { record self.new { over = NoBox; message = self.old.message } ≡ self.old }
         ensures lost { OnErr result (self.new ≡ record self.old { over = MaskBox chosen.path line }) }
     {
-        let _lines = &self.lines;
-        let asked = target_line(alloc, self.panels.other().folder());
+        let asked = target_line(alloc, self.panels().other().folder());
         match asked {
             Ok(asked) => {
-                self.dialog = Dialog::CopyTo(chosen, text, asked);
+                self.show_box(Dialog::CopyTo(chosen, text, asked));
                 Ok(asking_nothing(alloc))
             }
             Err(error) => {
-                self.dialog = Dialog::SourceMask(chosen, line);
+                self.show_box(Dialog::SourceMask(chosen, line));
                 Err(error)
             }
         }
@@ -113,12 +111,11 @@ impl Ui {
         ensures reads { ReadsTree (λ (act : KeyActType). act.refusals) result (T.contents tree.old) (T.contents tree.new)
             (T.fault_count tree.old) (T.fault_count tree.new) }
     {
-        let _lines = &self.lines;
         let mut line = line;
         let typed = type_in(alloc, &mut line, key);
         match typed {
             Ok(LineReply::Stays) => {
-                self.dialog = Dialog::CopyTo(chosen, mask, line);
+                self.show_box(Dialog::CopyTo(chosen, mask, line));
                 Ok(asking_nothing(alloc))
             }
             Ok(LineReply::Shuts) => Ok(asking_nothing(alloc)),
@@ -126,7 +123,7 @@ impl Ui {
                 self.accept_target(alloc, tree, chosen, mask, line, rows, &text)
             }
             Err(error) => {
-                self.dialog = Dialog::CopyTo(chosen, mask, line);
+                self.show_box(Dialog::CopyTo(chosen, mask, line));
                 Err(error)
             }
         }
@@ -154,9 +151,8 @@ impl Ui {
         ensures reads { ReadsTree (λ (act : KeyActType). act.refusals) result (T.contents tree.old) (T.contents tree.new)
             (T.fault_count tree.old) (T.fault_count tree.new) }
     {
-        let _lines = &self.lines;
         if !none_live(rows) {
-            self.dialog = Dialog::CopyTo(chosen, mask, line);
+            self.show_box(Dialog::CopyTo(chosen, mask, line));
             return Ok(asking_nothing(alloc));
         }
         self.confirm_copy(alloc, tree, chosen, mask, line, text)
@@ -183,17 +179,16 @@ impl Ui {
         ensures reads { ReadsTree (λ (act : KeyActType). act.refusals) result (T.contents tree.old) (T.contents tree.new)
             (T.fault_count tree.old) (T.fault_count tree.new) }
     {
-        let _lines = &self.lines;
         let planned = plan_from(
             alloc,
             tree,
             &chosen,
             mask.as_str(),
-            self.panels.current().folder(),
-            &self.home,
+            self.panels().current().folder(),
+            self.home(),
             text.as_str(),
         );
-        self.dialog = Dialog::CopyTo(chosen, mask, line);
+        self.show_box(Dialog::CopyTo(chosen, mask, line));
         match planned {
             Ok(JobPlan::Begins(plan)) => Ok(asking(alloc, begin(plan))),
             Ok(JobPlan::Refuses(refusal)) => self.refuse(alloc, refusal),

@@ -26,19 +26,18 @@ impl Ui {
         ensures opened { OnOk result (self.new ≡ record self.old { over = FindBox (find_asked self.old) }) }
         ensures lost { OnErr result (self.new ≡ self.old) }
     {
-        let _dialog = &self.dialog;
-        let panel = self.panels.current();
-        let patterns = self.panels.patterns();
+        let panel = self.panels().current();
+        let patterns = self.panels().patterns();
         let hidden = panel.wish().hidden;
         let find = FindMode::open(
             alloc,
-            self.lines,
+            self.lines(),
             panel.folder(),
-            &self.home,
+            self.home(),
             patterns,
             hidden,
         )?;
-        self.dialog = Dialog::Find(find);
+        self.show_box(Dialog::Find(find));
         Ok(())
     }
 
@@ -64,17 +63,17 @@ impl Ui {
         let act = find.key(alloc, tree, key);
         match act {
             Ok(FindAct::Stays) => {
-                self.dialog = Dialog::Find(find);
+                self.show_box(Dialog::Find(find));
                 Ok(asking_nothing(alloc))
             }
             Ok(FindAct::Refused(why)) => {
-                self.dialog = Dialog::Find(find);
+                self.show_box(Dialog::Find(find));
                 self.refuse(alloc, find_refusal(why))
             }
             Ok(FindAct::Goes(path)) => self.go_to_found(alloc, tree, find, path),
             Ok(FindAct::Leaves) => Ok(asking_nothing(alloc)),
             Err(error) => {
-                self.dialog = Dialog::Find(find);
+                self.show_box(Dialog::Find(find));
                 Err(error)
             }
         }
@@ -97,7 +96,6 @@ impl Ui {
         ensures reads { ReadsTree (λ (act : KeyActType). act.refusals) result (T.contents tree.old) (T.contents tree.new)
             (T.fault_count tree.old) (T.fault_count tree.new) }
     {
-        let _lines = &self.lines;
         let page = self.page();
         match self
             .panels
@@ -105,11 +103,11 @@ impl Ui {
         {
             Ok(()) => Ok(asking_nothing(alloc)),
             Err(ResolveError::Memory) => {
-                self.dialog = Dialog::Find(find);
+                self.show_box(Dialog::Find(find));
                 Err(NoMemory)
             }
             Err(error) => {
-                self.dialog = Dialog::Find(find);
+                self.show_box(Dialog::Find(find));
                 self.refuse(alloc, Refusal::Resolve(error))
             }
         }

@@ -34,11 +34,11 @@ impl Ui {
         ensures settled { self.new.planned ≡ None }
         ensures lost { OnErr result (self.new ≡ self.old) }
     {
-        let _dialog = &self.dialog;
+        let _lines = &self.lines;
         if !none_live(rows) {
             return Ok(asking_nothing(alloc));
         }
-        self.dialog = Dialog::MakeFolder(folder_line(alloc)?);
+        self.show_box(Dialog::MakeFolder(folder_line(alloc)?));
         Ok(asking_nothing(alloc))
     }
 
@@ -62,18 +62,17 @@ impl Ui {
         ensures reads { ReadsTree (λ (act : KeyActType). act.refusals) result (T.contents tree.old) (T.contents tree.new)
             (T.fault_count tree.old) (T.fault_count tree.new) }
     {
-        let _lines = &self.lines;
         let mut line = line;
         let typed = type_in(alloc, &mut line, key);
         match typed {
             Ok(LineReply::Stays) => {
-                self.dialog = Dialog::MakeFolder(line);
+                self.show_box(Dialog::MakeFolder(line));
                 Ok(asking_nothing(alloc))
             }
             Ok(LineReply::Shuts) => Ok(asking_nothing(alloc)),
             Ok(LineReply::Takes(text)) => self.accept_folder(alloc, tree, line, rows, &text),
             Err(error) => {
-                self.dialog = Dialog::MakeFolder(line);
+                self.show_box(Dialog::MakeFolder(line));
                 Err(error)
             }
         }
@@ -99,8 +98,7 @@ impl Ui {
         ensures reads { ReadsTree (λ (act : KeyActType). act.refusals) result (T.contents tree.old) (T.contents tree.new)
             (T.fault_count tree.old) (T.fault_count tree.new) }
     {
-        let _lines = &self.lines;
-        self.dialog = Dialog::MakeFolder(line);
+        self.show_box(Dialog::MakeFolder(line));
         if !none_live(rows) {
             return Ok(asking_nothing(alloc));
         }
@@ -124,9 +122,8 @@ impl Ui {
         ensures reads { ReadsTree (λ (act : KeyActType). act.refusals) result (T.contents tree.old) (T.contents tree.new)
             (T.fault_count tree.old) (T.fault_count tree.new) }
     {
-        let _dialog = &self.dialog;
-        let typed = with_home(alloc, &self.home, text.as_str())?;
-        match plan_folder(alloc, tree, self.panels.current().folder(), typed.as_str())? {
+        let typed = with_home(alloc, self.home(), text.as_str())?;
+        match plan_folder(alloc, tree, self.panels().current().folder(), typed.as_str())? {
             JobPlan::Begins(plan) => Ok(asking(alloc, begin(plan))),
             JobPlan::Refuses(refusal) => self.refuse(alloc, refusal),
         }

@@ -101,7 +101,7 @@ impl Ui {
         ensures { self.new ≡ record self.old { over = with_trouble trouble self.old.over } }
     {
         if let Some(trouble) = trouble {
-            self.dialog = Dialog::Trouble(trouble);
+            self.show_box(Dialog::Trouble(trouble));
         }
     }
 

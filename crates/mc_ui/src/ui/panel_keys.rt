@@ -42,7 +42,7 @@ impl Ui {
         ensures reads { ReadsTree (λ (act : KeyActType). act.refusals) result (T.contents tree.old) (T.contents tree.new)
             (T.fault_count tree.old) (T.fault_count tree.new) }
     {
-        let _dialog = &self.dialog;
+        let _lines = &self.lines;
         match panel_command(key) {
             KeyCommand::Work(command) => self.work(alloc, tree, command),
             KeyCommand::ShowHelp => {
@@ -115,15 +115,15 @@ impl Ui {
         ensures reads { ReadsTree (λ (act : KeyActType). act.refusals) result (T.contents tree.old) (T.contents tree.new)
             (T.fault_count tree.old) (T.fault_count tree.new) }
     {
-        let _dialog = &self.dialog;
+        let _lines = &self.lines;
         if !rows.0.is_empty() {
             return Ok(asking_nothing(alloc));
         }
-        match choose(alloc, tree, self.panels.current(), opens)? {
+        match choose(alloc, tree, self.panels().current(), opens)? {
             Choice::NoSelection => self.refuse(alloc, Refusal::Plan(PlanError::NoSelection)),
             Choice::Nothing => Ok(asking_nothing(alloc)),
             Choice::Thing(chosen) => {
-                self.dialog = opened(alloc, opens, chosen)?;
+                self.show_box(opened(alloc, opens, chosen)?);
                 Ok(asking_nothing(alloc))
             }
             Choice::Refused(path, error) => self.refuse(alloc, Refusal::Tree(path, error)),

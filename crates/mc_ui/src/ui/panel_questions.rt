@@ -25,9 +25,8 @@ impl Ui {
         ensures opened { OnOk result (self.new ≡ record self.old { over = PanelsBox (opened_box self.old.lines opening) }) }
         ensures lost { OnErr result (self.new ≡ self.old) }
     {
-        let _dialog = &self.dialog;
-        let opened = PanelBox::open(alloc, self.lines, opening)?;
-        self.dialog = Dialog::Panel(opened);
+        let opened = PanelBox::open(alloc, self.lines(), opening)?;
+        self.show_box(Dialog::Panel(opened));
         Ok(())
     }
 
@@ -51,15 +50,15 @@ impl Ui {
     {
         let _lines = &self.lines;
         let mut asks = asks;
-        let reply = asks.key(alloc, &self.panels, key);
+        let reply = asks.key(alloc, self.panels(), key);
         match reply {
             Ok(PanelReply::Stays) => {
-                self.dialog = Dialog::Panel(asks);
+                self.show_box(Dialog::Panel(asks));
                 Ok(asking_nothing(alloc))
             }
             Ok(PanelReply::Shuts) => Ok(asking_nothing(alloc)),
             Ok(PanelReply::Opens(next)) => {
-                self.dialog = Dialog::Panel(next);
+                self.show_box(Dialog::Panel(next));
                 Ok(asking_nothing(alloc))
             }
             Ok(PanelReply::Does(command)) => match self.work(alloc, tree, command) {
@@ -70,11 +69,11 @@ impl Ui {
                 }
             },
             Ok(PanelReply::Refuses(error)) => {
-                self.dialog = Dialog::Panel(asks);
+                self.show_box(Dialog::Panel(asks));
                 self.refuse(alloc, Refusal::Typed(error))
             }
             Err(error) => {
-                self.dialog = Dialog::Panel(asks);
+                self.show_box(Dialog::Panel(asks));
                 Err(error)
             }
         }
@@ -84,6 +83,6 @@ impl Ui {
     fn put_back(&mut self, asks: PanelBox)
         ensures { self.new ≡ record self.old { over = PanelsBox asks } }
     {
-        self.dialog = Dialog::Panel(asks);
+        self.show_box(Dialog::Panel(asks));
     }
 }

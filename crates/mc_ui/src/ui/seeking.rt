@@ -29,11 +29,10 @@ impl Ui {
         ensures same { T.contents tree.new ≡ T.contents tree.old }
         ensures later { T.fault_count tree.old ≤ T.fault_count tree.new }
     {
-        let _lines = &self.lines;
-        match mem::replace(&mut self.dialog, Dialog::Nothing) {
+        match self.take_box() {
             Dialog::Find(find) => self.step_find(alloc, tree, find),
             other => {
-                self.dialog = other;
+                self.show_box(other);
                 Ok(())
             }
         }
@@ -68,10 +67,9 @@ impl Ui {
         ensures same { T.contents tree.new ≡ T.contents tree.old }
         ensures later { T.fault_count tree.old ≤ T.fault_count tree.new }
     {
-        let _lines = &self.lines;
         let mut find = find;
         let stepped = find.step(alloc, tree);
-        self.dialog = Dialog::Find(find);
+        self.show_box(Dialog::Find(find));
         stepped
     }
 }

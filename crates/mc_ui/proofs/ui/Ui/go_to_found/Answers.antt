@@ -1,5 +1,5 @@
 -- Where going to a found path is refused, the list stays.
-use Rattle.std.proofs.Common.{◌≢◌, subst, Err, rules}
+use Rattle.std.proofs.Common.{◌≢◌, ◌∙◌, subst, Err, rules}
 use Rattle.tree_trait.specs.Answers.{IfKnown}
 use Rattle.resolving.specs.declared.error.ResolveError.TheVariants as resolve
 use Rattle.panel_pair.specs.declared.command.PanelCommand.TheVariants.{GoTo}
@@ -12,11 +12,12 @@ pub returns-in-Err-clause-leads : goal.returns-in-Err-clause-leads
 returns-in-Err-clause-leads g c =
     let other : c.in-Err.error ≢ resolve.Memory = search rules in
     refused_goes c.args.path c.args.find (g.T.ReadTree.contents c.args.tree.now) c.in-Err.error c.args.self.now _ c.refuse.new.self c.refuse.result
-    (listed_is c.work.new.self c.args.find _ c.args.self.now c.in-Err.ensures.refused c.self.view_is)
+    (c.show_box-in-Err.ensures ∙ listed_is c.work.new.self c.args.find _ c.args.self.now c.in-Err.ensures.refused c.self.view_is)
     (subst (λ (s : Screen). IfKnown (g.T.ReadTree.contents c.args.tree.now) (λ log. CommandReads (GoTo c.args.path) log s.panels.current (Err c.in-Err.error)))
     c.self.view_is c.in-Err.ensures.answer)
     other c.refuse.ensures.told c.refuse.ensures.act
 
 pub returns-in-Err-clause-lost : goal.returns-in-Err-clause-lost
 returns-in-Err-clause-lost g c =
-    lost_on c.refuse.result c.refuse.new.self _ _ (listed_is c.work.new.self c.args.find _ c.args.self.now c.in-Err.ensures.refused c.self.view_is) c.refuse.ensures.lost
+    lost_on c.refuse.result c.refuse.new.self _ _
+    (c.show_box-in-Err.ensures ∙ listed_is c.work.new.self c.args.find _ c.args.self.now c.in-Err.ensures.refused c.self.view_is) c.refuse.ensures.lost

@@ -13,7 +13,7 @@ pub returns-in-Ok-Stays-clause-leads : goal.returns-in-Ok-Stays-clause-leads
 returns-in-Ok-Stays-clause-leads g c =
     stays_leads c.args.find c.key-act.new.self (g.T.ReadTree.contents c.args.tree.now) c.args.key c.in-Ok-Stays.field-0 c.in-Ok-Stays.ensures.leads
     c.asking_nothing.result.refusals c.args.self.now _ c.in-Ok-Stays.field-0-is (ap (λ (act : KeyAct). act.refusals) c.asking_nothing.ensures)
-    (ap (λ before. shown c.key-act.new.self before) c.self.view_is)
+    c.show_box.ensures
 
 pub returns-in-Ok-Leaves-clause-leads : goal.returns-in-Ok-Leaves-clause-leads
 returns-in-Ok-Leaves-clause-leads g c =
@@ -25,13 +25,14 @@ pub returns-in-Ok-Refused-clause-leads : goal.returns-in-Ok-Refused-clause-leads
 returns-in-Ok-Refused-clause-leads g c =
     refused_leads c.args.find c.key-act.new.self (g.T.ReadTree.contents c.args.tree.now) c.args.key c.in-Ok-Refused.field-0 c.in-Ok-Refused.ensures.leads
     c.in-Ok-Refused.why c.find_refusal.result c.args.self.now _ c.refuse.new.self c.refuse.result c.in-Ok-Refused.field-0-is c.find_refusal.ensures
-    (ap (λ before. shown c.key-act.new.self before) c.self.view_is) c.refuse.ensures.told c.refuse.ensures.act
+    c.show_box-in-Ok-Refused.ensures c.refuse.ensures.told c.refuse.ensures.act
 
 pub returns-in-Ok-Refused-clause-lost : goal.returns-in-Ok-Refused-clause-lost
 returns-in-Ok-Refused-clause-lost g c =
     let kept = subst (λ (act : FindAct). Tells (g.T.ReadTree.contents c.args.tree.now) c.args.find c.key-act.new.self act) c.in-Ok-Refused.field-0-is
     (key_tells (g.T.ReadTree.contents c.args.tree.now) c.args.find c.key-act.new.self c.args.key c.in-Ok-Refused.field-0 c.in-Ok-Refused.ensures.leads) in
-    lost_on c.refuse.result c.refuse.new.self _ _ (ap (λ before. shown c.key-act.new.self before) c.self.view_is ∙ ap (λ find. shown find c.args.self.now) kept.0) c.refuse.ensures.lost
+    lost_on c.refuse.result c.refuse.new.self _ _
+    (c.show_box-in-Ok-Refused.ensures ∙ ap (λ find. shown find c.args.self.now) kept.0) c.refuse.ensures.lost
 
 pub returns-in-Ok-Refused-clause-reads : goal.returns-in-Ok-Refused-clause-reads
 returns-in-Ok-Refused-clause-reads g c =
