@@ -1,3 +1,4 @@
+mod Deleting
 mod FindFollowing
 mod FindLemmas
 mod FindReadings

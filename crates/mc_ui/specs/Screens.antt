@@ -1,7 +1,6 @@
 -- What a key or a look makes of the screen: the two panels, the box that stands over them, a message over these, and a file that is viewed
 -- over all.
-use Rattle.std.specs.Prelude.{◌≡◌, ◌≢◌, ℕ, Bool, true, false, is_some, MatchBool, ⊤, if◌then◌else◌, List, [], ◌∷◌, codes, Option, Some, None, Ok, Err}
-use Rattle.std.specs.Str.{bytes_eq}
+use Rattle.std.specs.Prelude.{◌≡◌, ◌≢◌, ℕ, Bool, true, false, is_some, MatchBool, ⊤, if◌then◌else◌, List, [], ◌∷◌, Option, Some, None, Ok, Err}
 use Rattle.mc_text.specs.Routes.{Route}
 use Rattle.home_paths.specs.Homes.{with_home}
 use Rattle.tree_trait.specs.declared.calls.TreeError.{TreeError}

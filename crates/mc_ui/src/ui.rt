@@ -292,6 +292,7 @@ impl Ui {
     fn key_in_message(&mut self, alloc: Global, key: Key) -> KeyAct
         ensures leads { self.new ≡ after_message (plain_base key) self.old }
         ensures nothing { result ≡ record { ask = Ask.Nothing; refusals = [] } }
+        ensures settled { self.new.planned ≡ None }
     {
         let _dialog = &self.dialog;
         if closes_message(plain_base(key)) {

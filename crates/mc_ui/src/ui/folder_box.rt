@@ -123,7 +123,12 @@ impl Ui {
             (T.fault_count tree.old) (T.fault_count tree.new) }
     {
         let typed = with_home(alloc, self.home(), text.as_str())?;
-        match plan_folder(alloc, tree, self.panels().current().folder(), typed.as_str())? {
+        match plan_folder(
+            alloc,
+            tree,
+            self.panels().current().folder(),
+            typed.as_str(),
+        )? {
             JobPlan::Begins(plan) => Ok(asking(alloc, begin(plan))),
             JobPlan::Refuses(refusal) => self.refuse(alloc, refusal),
         }

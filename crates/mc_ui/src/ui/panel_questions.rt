@@ -64,7 +64,7 @@ impl Ui {
             Ok(PanelReply::Does(command)) => match self.work(alloc, tree, command) {
                 Ok(act) => Ok(act),
                 Err(error) => {
-                    self.put_back(asks);
+                    self.show_box(Dialog::Panel(asks));
                     Err(error)
                 }
             },
@@ -77,12 +77,5 @@ impl Ui {
                 Err(error)
             }
         }
-    }
-
-    /// Puts a box of the panels back.
-    fn put_back(&mut self, asks: PanelBox)
-        ensures { self.new ≡ record self.old { over = PanelsBox asks } }
-    {
-        self.show_box(Dialog::Panel(asks));
     }
 }

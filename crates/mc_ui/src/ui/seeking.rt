@@ -11,7 +11,6 @@ use crate::dialog::Dialog;
 use find_mode::FindMode;
 use mc_text::NoMemory;
 use std::alloc::Global;
-use std::mem;
 use tree_trait::ReadTree;
 
 impl Ui {

@@ -1,7 +1,7 @@
 -- The step is that of what stood in the box.
-use Rattle.std.proofs.Common.{◌≡◌, ℕ, Bool, true, false, refl, sym, ◌∙◌, ap, subst}
+use Rattle.std.proofs.Common.{◌≡◌, true, false, refl, sym, ◌∙◌, ap, subst}
 use Rattle.std.specs.Prelude.{◌<◌, is_some, OnOk, OnErr}
-use Rattle.find_mode.specs.FindScreens.{FindScreen, with_listing}
+use Rattle.find_mode.specs.FindScreens.{with_listing}
 use Rattle.std.proofs.lemmas.Bool.{false≢true}
 use Rattle.tree_trait.specs.Change.{current}
 use Rattle.find_mode.specs.Listings.{IsKept, ListingState, StepLeads, comes_to, steps_to_end}
