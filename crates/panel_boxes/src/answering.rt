@@ -56,6 +56,7 @@ fn pending_reply(key: Key) -> PanelReply
     }
     match key.base {
         Base::Char('d') => PanelReply::Does(PanelCommand::Compare),
+        Base::Char('j') => PanelReply::ListsJobs,
         _ => PanelReply::Shuts,
     }
 }

@@ -36,6 +36,8 @@ pub enum PanelReply {
     Opens(PanelBox),
     /// It is shut, and this is to be done.
     Does(PanelCommand),
+    /// It is shut, and the live jobs are to be listed.
+    ListsJobs,
     /// What was typed can't be taken. The box stays.
     Refuses(TypedError),
 }
