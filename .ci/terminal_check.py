@@ -764,6 +764,27 @@ def check_part_left(program, base, check):
     check("a part that stays is told", status == 0 and same and os.path.exists(part) and is_told)
 
 
+def check_list_of_jobs(program, base, check):
+    """A trouble whose box was shut is reached by the list of the jobs, and answered."""
+    user, program = for_somebody(program, base)
+    source, target = (os.path.join(base, side) for side in ("listed", "shut"))
+    file = os.path.join(source, "x")
+    os.mkdir(source)
+    os.mkdir(target)
+    make_file(file, 5, 0o640)
+    if user is not None:
+        for path in (source, target, file):
+            os.chown(path, user, user)
+    os.chmod(target, 0o500)
+    empty, listed = [b"\x18", b"j"], [ESCAPE, b"\x18", b"j"]
+    status, told, same = run(program, [source, target], empty + [ENTER] + COPY + listed + [ENTER, b"b", b"\x18", b"j", F10, F10], user=user)
+    plain, asked, shut, jobs, again, aborted, none = (told.screens[at].rows() for at in (3, 7, 8, 10, 11, 12, 14))
+    check("where no job is live the list is empty", told.screens[2].rows() == with_box(plain, ["Jobs"]) and none == with_box(aborted, ["Jobs"]))
+    check("a live job is listed", jobs == with_box(shut, ["Jobs", f"1 trouble copy {file}"]))
+    check("Enter opens its trouble again", any("permission denied" in row for row in asked) and again == asked)
+    check("and that is answered", status == 0 and same and os.listdir(target) == [] and not any("in trouble" in row for row in aborted))
+
+
 def check_words(program, starter, base, check):
     """No words, relative folders, and the words that ask for no session."""
     folder = os.path.join(base, "words")
@@ -847,6 +868,7 @@ def main():
         check_long_path(program, base, check)
         check_dirty_folder(program, base, check)
         check_part_left(program, base, check)
+        check_list_of_jobs(program, base, check)
         check_set_id_bits(program, base, check)
         check_stty(program, base, check)
         check_words(program, starter, base, check)

@@ -1,7 +1,11 @@
 -- A box that is painted over a screen leaves its size as it was.
-use Rattle.std.proofs.Common.{◌≡◌, ℕ, refl, Option, Some, None}
+use Rattle.std.proofs.Common.{◌≡◌, ℕ, List, refl, Option, Some, None}
 use Rattle.key_screen.specs.Grids.{CellGrid}
+use Rattle.job_reports.specs.declared.row.JobRow.{JobRow}
 use Rattle.mc_dialogs.specs.ListKeys.{list_lines}
+use Rattle.mc_dialogs.specs.QuestionKeys.{plain_lines}
+use Rattle.box_words.specs.BoxLines.{delete_lines, trouble_lines}
+use Rattle.job_list.specs.JobLists.{jobs_lines}
 use Rattle.viewer_mode.proofs.BoxSizes.{box_columns_same, box_lines_same, input_columns_same, input_lines_same}
 use Rattle.find_mode.specs.declared.asking.Asking.{Asking}
 use Rattle.find_mode.specs.Listings.{ListingState}
@@ -10,13 +14,15 @@ use Rattle.find_mode.specs.FindFrames.{found_lines, painted, with_find}
 use Rattle.panel_boxes.specs.declared.panel_box.PanelBox.{PanelBox}
 use Rattle.panel_boxes.specs.declared.panel_box.PanelBox.TheVariants.{Pending, Typed, Options}
 use Rattle.panel_boxes.specs.Paintings.{with_panel_box}
+use Rattle.mc_ui.specs.Boxes.{Box, NoBox, DeleteBox, MaskBox, TargetBox, FolderBox, TroubleBox, PanelsBox, FindBox, JobsBox}
+use Rattle.mc_ui.specs.Frames.{with_over}
 
-pub panel_lines_same : (asks : PanelBox) (grid : CellGrid) → (with_panel_box asks grid).lines ≡ grid.lines
+panel_lines_same : (asks : PanelBox) (grid : CellGrid) → (with_panel_box asks grid).lines ≡ grid.lines
 panel_lines_same Pending grid = refl
 panel_lines_same (Typed asked typed) grid = input_lines_same grid typed
 panel_lines_same (Options list) grid = box_lines_same grid (list_lines list)
 
-pub panel_columns_same : (asks : PanelBox) (grid : CellGrid) → (with_panel_box asks grid).columns ≡ grid.columns
+panel_columns_same : (asks : PanelBox) (grid : CellGrid) → (with_panel_box asks grid).columns ≡ grid.columns
 panel_columns_same Pending grid = refl
 panel_columns_same (Typed asked typed) grid = input_columns_same grid typed
 panel_columns_same (Options list) grid = box_columns_same grid (list_lines list)
@@ -30,8 +36,31 @@ painted_columns_same : (asking : Option Asking) (page : ℕ) (listing : ListingS
 painted_columns_same None page listing grid = box_columns_same grid (found_lines page listing)
 painted_columns_same (Some asking) page listing grid = input_columns_same grid asking.line
 
-pub find_lines_same : (find : FindScreen) (grid : CellGrid) → (with_find find grid).lines ≡ grid.lines
+find_lines_same : (find : FindScreen) (grid : CellGrid) → (with_find find grid).lines ≡ grid.lines
 find_lines_same find grid = painted_lines_same find.asking (page_of find.lines) find.listing grid
 
-pub find_columns_same : (find : FindScreen) (grid : CellGrid) → (with_find find grid).columns ≡ grid.columns
+find_columns_same : (find : FindScreen) (grid : CellGrid) → (with_find find grid).columns ≡ grid.columns
 find_columns_same find grid = painted_columns_same find.asking (page_of find.lines) find.listing grid
+
+-- any box over the panels
+pub over_lines_same : (over : Box) (rows : List JobRow) (grid : CellGrid) → (with_over over rows grid).lines ≡ grid.lines
+over_lines_same NoBox rows grid = refl
+over_lines_same (DeleteBox path) rows grid = box_lines_same grid (plain_lines delete_lines)
+over_lines_same (MaskBox path typed) rows grid = input_lines_same grid typed
+over_lines_same (TargetBox path mask typed) rows grid = input_lines_same grid typed
+over_lines_same (FolderBox typed) rows grid = input_lines_same grid typed
+over_lines_same (TroubleBox trouble) rows grid = box_lines_same grid (plain_lines (trouble_lines trouble))
+over_lines_same (PanelsBox asks) rows grid = panel_lines_same asks grid
+over_lines_same (FindBox find) rows grid = find_lines_same find grid
+over_lines_same (JobsBox list) rows grid = box_lines_same grid (jobs_lines rows list)
+
+pub over_columns_same : (over : Box) (rows : List JobRow) (grid : CellGrid) → (with_over over rows grid).columns ≡ grid.columns
+over_columns_same NoBox rows grid = refl
+over_columns_same (DeleteBox path) rows grid = box_columns_same grid (plain_lines delete_lines)
+over_columns_same (MaskBox path typed) rows grid = input_columns_same grid typed
+over_columns_same (TargetBox path mask typed) rows grid = input_columns_same grid typed
+over_columns_same (FolderBox typed) rows grid = input_columns_same grid typed
+over_columns_same (TroubleBox trouble) rows grid = box_columns_same grid (plain_lines (trouble_lines trouble))
+over_columns_same (PanelsBox asks) rows grid = panel_columns_same asks grid
+over_columns_same (FindBox find) rows grid = find_columns_same find grid
+over_columns_same (JobsBox list) rows grid = box_columns_same grid (jobs_lines rows list)

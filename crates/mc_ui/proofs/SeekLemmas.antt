@@ -15,6 +15,7 @@ none_listed (box.CopyTo chosen mask typed) other = refl
 none_listed (box.MakeFolder typed) other = refl
 none_listed (box.Trouble trouble) other = refl
 none_listed (box.Panel asks) other = refl
+none_listed (box.Jobs list) other = refl
 none_listed (box.Find find) other = absurd (other find refl)
 
 pub stays_shut : (dialog : Dialog) (listing : ListingState) → ((find : FindScreen) → dialog ≡ box.Find find → ⊥)
@@ -26,4 +27,5 @@ stays_shut (box.CopyTo chosen mask typed) listing other = refl
 stays_shut (box.MakeFolder typed) listing other = refl
 stays_shut (box.Trouble trouble) listing other = refl
 stays_shut (box.Panel asks) listing other = refl
+stays_shut (box.Jobs list) listing other = refl
 stays_shut (box.Find find) listing other = absurd (other find refl)

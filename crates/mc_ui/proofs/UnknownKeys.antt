@@ -6,7 +6,7 @@ use Rattle.key_screen.specs.declared.keys.Base.TheVariants.{Unknown}
 use Rattle.tree_trait.specs.Change.{CallLog}
 use Rattle.job_reports.specs.declared.row.JobRow.{JobRow}
 use Rattle.session_history.specs.declared.refusal.Refusal.{Refusal}
-use Rattle.mc_ui.specs.Boxes.{Box, NoBox, DeleteBox, MaskBox, TargetBox, FolderBox, TroubleBox, PanelsBox, FindBox}
+use Rattle.mc_ui.specs.Boxes.{Box, NoBox, DeleteBox, MaskBox, TargetBox, FolderBox, TroubleBox, PanelsBox, FindBox, JobsBox}
 use Rattle.find_mode.specs.declared.act.FindAct.{FindAct}
 use Rattle.find_mode.specs.FindScreens.{FindScreen}
 use Rattle.find_mode.proofs.UnknownKeys.{unknown_stays as find_stays}
@@ -49,6 +49,8 @@ module _ (contents : Option CallLog) (rows : List JobRow) (refusals : List Refus
   by_box false (PanelsBox asks) is h = h.1 ∙ kept (PanelsBox asks) is
   by_box true (FindBox find) is h = by_find true find is h
   by_box false (FindBox find) is h = by_find false find is h
+  by_box true (JobsBox list) is h = h.1 ∙ kept (JobsBox list) is
+  by_box false (JobsBox list) is h = h.1 ∙ kept (JobsBox list) is
 
   by_message : (meta shown : Bool)
       → MatchBool shown ((refusals ≡ []) × (after ≡ after_message (plain_base (unknown_key meta)) before)) (ByBox before.over contents rows (unknown_key meta) refusals before after) → after ≡ before

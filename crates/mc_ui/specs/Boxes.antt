@@ -8,6 +8,7 @@ use Rattle.box_words.specs.declared.message.Message.{Message}
 use Rattle.box_words.specs.declared.message.Message.TheVariants.{Refused}
 use Rattle.box_words.specs.BoxLines.{mask_line}
 use Rattle.find_mode.specs.FindScreens.{FindScreen}
+use Rattle.job_list.specs.declared.list.JobList.{JobList}
 use Rattle.job_plans.specs.declared.choosing.Opens.{Opens}
 use Rattle.job_plans.specs.declared.choosing.Opens.TheVariants as opens
 use Rattle.panel_boxes.specs.declared.panel_box.PanelBox.{PanelBox}
@@ -15,8 +16,8 @@ use Rattle.mc_ui.specs.declared.dialog.Dialog.{Dialog}
 use Rattle.mc_ui.specs.declared.dialog.Dialog.TheVariants as dialog
 
 -- What stands over the panels: nothing, or a box that asks whether to delete a file, asks for the source mask of a copy or, with that
--- mask, for its destination, or for a new folder, tells of a job's trouble, asks what the panels are to do, or seeks things and lists what
--- was found.
+-- mask, for its destination, or for a new folder, tells of a job's trouble, asks what the panels are to do, seeks things and lists what
+-- was found, or lists the live jobs.
 pub data Box : Type 0 where
   NoBox : Box
   DeleteBox : (path : Route) → Box
@@ -26,6 +27,7 @@ pub data Box : Type 0 where
   TroubleBox : (trouble : Trouble) → Box
   PanelsBox : (asks : PanelBox) → Box
   FindBox : (find : FindScreen) → Box
+  JobsBox : (list : JobList) → Box
 
 -- a box as it is seen
 abbrev pub seen_box : Dialog → Box
@@ -37,6 +39,7 @@ seen_box (dialog.MakeFolder typed) = FolderBox typed
 seen_box (dialog.Trouble trouble) = TroubleBox trouble
 seen_box (dialog.Panel asks) = PanelsBox asks
 seen_box (dialog.Find find) = FindBox find
+seen_box (dialog.Jobs list) = JobsBox list
 
 -- the box that such a key opens
 abbrev pub box_of : Opens → Route → Box

@@ -13,11 +13,12 @@ use Rattle.mc_dialogs.specs.QuestionKeys.{plain_lines}
 use Rattle.box_words.specs.declared.message.Message.{Message}
 use Rattle.box_words.specs.BoxLines.{delete_lines, message_lines, trouble_lines}
 use Rattle.find_mode.specs.FindFrames.{with_find}
+use Rattle.job_list.specs.JobLists.{with_jobs}
 use Rattle.panel_boxes.specs.Paintings.{with_panel_box}
 use Rattle.panel_pair.specs.Frames.{panes_of}
 use Rattle.viewer_mode.specs.ViewerFrames.{frame_of as viewer_frame}
 use Rattle.mc_ui.specs.declared.viewing.ViewedFile.{ViewedFile}
-use Rattle.mc_ui.specs.Boxes.{Box, NoBox, DeleteBox, MaskBox, TargetBox, FolderBox, TroubleBox, PanelsBox, FindBox}
+use Rattle.mc_ui.specs.Boxes.{Box, NoBox, DeleteBox, MaskBox, TargetBox, FolderBox, TroubleBox, PanelsBox, FindBox, JobsBox}
 use Rattle.mc_ui.specs.Screens.{Screen, frame_size}
 
 -- one job more in this state
@@ -32,16 +33,17 @@ abbrev pub counts_of : List JobRow → JobCounts
 counts_of [] = record { ready = 0; asking = 0; troubled = 0; stopped = 0 }
 counts_of (row ∷ rows) = counted row.state (counts_of rows)
 
--- the box over what lies below
-abbrev pub with_over : Box → CellGrid → CellGrid
-with_over NoBox grid = grid
-with_over (DeleteBox path) grid = with_box grid (plain_lines delete_lines)
-with_over (MaskBox path typed) grid = with_input grid typed
-with_over (TargetBox path mask typed) grid = with_input grid typed
-with_over (FolderBox typed) grid = with_input grid typed
-with_over (TroubleBox trouble) grid = with_box grid (plain_lines (trouble_lines trouble))
-with_over (PanelsBox asks) grid = with_panel_box asks grid
-with_over (FindBox find) grid = with_find find grid
+-- the box over what lies below, while these jobs are live
+abbrev pub with_over : Box → List JobRow → CellGrid → CellGrid
+with_over NoBox rows grid = grid
+with_over (DeleteBox path) rows grid = with_box grid (plain_lines delete_lines)
+with_over (MaskBox path typed) rows grid = with_input grid typed
+with_over (TargetBox path mask typed) rows grid = with_input grid typed
+with_over (FolderBox typed) rows grid = with_input grid typed
+with_over (TroubleBox trouble) rows grid = with_box grid (plain_lines (trouble_lines trouble))
+with_over (PanelsBox asks) rows grid = with_panel_box asks grid
+with_over (FindBox find) rows grid = with_find find grid
+with_over (JobsBox list) rows grid = with_jobs rows list grid
 
 -- and the message over all
 abbrev pub with_message : Option Message → CellGrid → CellGrid
@@ -50,7 +52,7 @@ with_message (Some message) grid = with_box grid (plain_lines (message_lines mes
 
 -- the frame of the panels, and of what stands over them, while these jobs are live
 unfoldable pub frame_below : Screen → List JobRow → CellGrid
-frame_below s rows = with_message s.message (with_over s.over (panels_frame s.lines s.columns (panes_of (frame_size s) s.panels) (counts_of rows)))
+frame_below s rows = with_message s.message (with_over s.over rows (panels_frame s.lines s.columns (panes_of (frame_size s) s.panels) (counts_of rows)))
 
 -- a file that is viewed covers them
 abbrev pub frame_by : Option ViewedFile → Screen → List JobRow → CellGrid

@@ -38,6 +38,7 @@ use Rattle.box_words.specs.declared.replies.TroubleReply.TheVariants as trouble
 use Rattle.find_mode.specs.declared.act.FindAct.{FindAct}
 use Rattle.find_mode.specs.declared.act.FindAct.TheVariants as found
 use Rattle.find_mode.specs.FindScreens.{FindScreen, KeyLeads as FindKeyLeads, opened as opened_find}
+use Rattle.job_list.specs.JobLists.{opened_list}
 use Rattle.mc_panels.specs.Goings.{way_of}
 use Rattle.mc_panels.specs.Panels.{current_name}
 use Rattle.mc_panels.specs.Selections.{selection}
@@ -58,8 +59,9 @@ use Rattle.job_plans.specs.Reading.{sight}
 use Rattle.job_plans.specs.Copies.{MayAsk, copy_plan, delete_plan}
 use Rattle.job_plans.specs.CopyPlans.{CopyRefused, IsNewCopy}
 use Rattle.job_plans.specs.Folders.{FolderRefused, IsNewFolder, folder_plan}
-use Rattle.mc_ui.specs.Boxes.{Box, NoBox, DeleteBox, MaskBox, TargetBox, FolderBox, TroubleBox, PanelsBox, FindBox, box_of, first_refusal, with_news, with_refusal, with_trouble}
+use Rattle.mc_ui.specs.Boxes.{Box, NoBox, DeleteBox, MaskBox, TargetBox, FolderBox, TroubleBox, PanelsBox, FindBox, JobsBox, box_of, first_refusal, with_news, with_refusal, with_trouble}
 use Rattle.mc_ui.specs.Findings.{find_refusal}
+use Rattle.mc_ui.specs.JobBoxes.{left_by_jobs}
 use Rattle.mc_ui.specs.LiveJobs.{can_answer, none_live, shown_trouble}
 use Rattle.mc_ui.specs.Looks.{LooksAgain}
 use Rattle.mc_ui.specs.PanelKeys.{panel_command_of, plain_base}
@@ -265,12 +267,13 @@ after_trouble trouble.Shuts rows before = without_box before
 after_trouble (trouble.Gives answer) rows before = if can_answer rows answer then record before { over = NoBox; planned = Some (Answers answer) } else before
 
 -- The answer of a box of the panels, over the screen without it: it stays, is shut, or another one stands in its place; or it is shut, and
--- what it asked for is done to the panels; or what was typed is refused, and it stays under a message.
+-- what it asked for is done to the panels, or the live jobs are listed; or what was typed is refused, and it stays under a message.
 abbrev pub PanelLeads : PanelReply → PanelBox → Option CallLog → List Refusal → Screen → Screen → Type 0
 PanelLeads panel.Stays asks contents refusals cleared after = (refusals ≡ []) × (after ≡ record cleared { over = PanelsBox asks })
 PanelLeads panel.Shuts asks contents refusals cleared after = (refusals ≡ []) × (after ≡ cleared)
 PanelLeads (panel.Opens next) asks contents refusals cleared after = (refusals ≡ []) × (after ≡ record cleared { over = PanelsBox next })
 PanelLeads (panel.Does command) asks contents refusals cleared after = Works command contents refusals cleared after
+PanelLeads panel.ListsJobs asks contents refusals cleared after = (refusals ≡ []) × (after ≡ record cleared { over = JobsBox (opened_list cleared.lines) })
 PanelLeads (panel.Refuses error) asks contents refusals cleared after =
     (refusals ≡ Typed error ∷ []) × (after ≡ told_refusal (Typed error) (record cleared { over = PanelsBox asks }))
 
@@ -338,6 +341,7 @@ ByBox (TroubleBox trouble) contents rows key refusals before after =
 ByBox (PanelsBox asks) contents rows key refusals before after =
     PanelLeads (reply_to before.panels asks key) (box_after asks key) contents refusals (without_box before) after
 ByBox (FindBox find) contents rows key refusals before after = FindLeads find contents key refusals (without_box before) after
+ByBox (JobsBox list) contents rows key refusals before after = (refusals ≡ []) × (after ≡ record before { over = left_by_jobs rows list key })
 
 -- what a key makes of it while no file is viewed: a message takes it before the box below does
 abbrev pub WorksBelow : Option CallLog → List JobRow → Key → List Refusal → Screen → Screen → Type 0

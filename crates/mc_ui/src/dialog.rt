@@ -1,6 +1,7 @@
 //! The box that stands over the panels.
 use box_words::Chosen;
 use find_mode::FindMode;
+use job_list::JobList;
 use job_reports::Trouble;
 use mc_dialogs::InputLine;
 use mc_text::Text;
@@ -24,4 +25,6 @@ pub enum Dialog {
     Panel(PanelBox),
     /// Asks what is to be sought, and lists what was found.
     Find(FindMode),
+    /// Lists the live jobs.
+    Jobs(JobList),
 }

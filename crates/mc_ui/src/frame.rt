@@ -1,11 +1,8 @@
 //! The frame of the screen.
 ghost use Rattle.std.specs.Prelude.{◌≡◌, ◌<◌, ◌^◌, length, IfOk, OnOk};
-ghost use Rattle.find_mode.specs.FindFrames.{with_find};
 ghost use Rattle.mc_dialogs.specs.Boxes.{with_box};
-ghost use Rattle.mc_dialogs.specs.InputField.{with_input};
 ghost use Rattle.mc_frame.specs.Frames.{panels_frame};
 ghost use Rattle.mc_dialogs.specs.QuestionKeys.{plain_lines as plain_lines_of};
-ghost use Rattle.panel_boxes.specs.Paintings.{with_panel_box};
 ghost use Rattle.panel_pair.specs.Frames.{panes_of};
 ghost use Rattle.mc_ui.specs.Frames.{counts_of as counts_in, frame_below, frame_of, with_message, with_over};
 ghost use Rattle.mc_ui.specs.Boxes.{seen_box};
@@ -17,13 +14,11 @@ use crate::dialog::Dialog;
 use crate::ui::Ui;
 use box_words::{Message, delete_lines, message_lines, trouble_lines};
 use counting::counts_of;
-use find_mode::FindMode;
 use job_reports::JobRows;
 use key_screen::Grid;
-use mc_dialogs::{InputLine, paint_box, plain_lines};
+use mc_dialogs::{paint_box, plain_lines};
 use mc_frame::paint_panels;
 use mc_text::{NoMemory, Rows};
-use panel_boxes::PanelBox;
 use std::alloc::Global;
 
 impl Ui {
@@ -47,7 +42,7 @@ impl Ui {
         ensures size { IfOk result (λ grid. (grid.lines ≡ self.now.lines) × (grid.columns ≡ self.now.columns)) }
     {
         let mut grid = self.panel_frame(alloc, rows)?;
-        paint_dialog(&mut grid, alloc, self.dialog())?;
+        paint_dialog(&mut grid, alloc, self.dialog(), rows)?;
         paint_message(&mut grid, alloc, self.message())?;
         Ok(grid)
     }
@@ -63,10 +58,27 @@ impl Ui {
     }
 }
 
-/// Paints the box over the panels.
-fn paint_dialog(grid: &mut Grid, alloc: Global, dialog: &Dialog) -> Result<(), NoMemory>
-    ensures over { OnOk result (grid.new ≡ with_over (seen_box dialog.now) grid.old) }
+/// Paints the box over the panels, while these jobs are live.
+fn paint_dialog(
+    grid: &mut Grid,
+    alloc: Global,
+    dialog: &Dialog,
+    rows: &JobRows,
+) -> Result<(), NoMemory>
+    ensures over { OnOk result (grid.new ≡ with_over (seen_box dialog.now) rows.now grid.old) }
     ensures size { OnOk result ((grid.new.lines ≡ grid.old.lines) × (grid.new.columns ≡ grid.old.columns)) }
+{
+    paint_box_of(grid, alloc, dialog, rows)?;
+    Ok(())
+}
+
+fn paint_box_of(
+    grid: &mut Grid,
+    alloc: Global,
+    dialog: &Dialog,
+    rows: &JobRows,
+) -> Result<(), NoMemory>
+    ensures { OnOk result (grid.new ≡ with_over (seen_box dialog.now) rows.now grid.old) }
 {
     match dialog {
         Dialog::Nothing => Ok(()),
@@ -76,15 +88,15 @@ fn paint_dialog(grid: &mut Grid, alloc: Global, dialog: &Dialog) -> Result<(), N
             Ok(())
         }
         Dialog::SourceMask(_, line) => {
-            paint_line(grid, alloc, line)?;
+            line.paint(alloc, grid)?;
             Ok(())
         }
         Dialog::CopyTo(_, _, line) => {
-            paint_line(grid, alloc, line)?;
+            line.paint(alloc, grid)?;
             Ok(())
         }
         Dialog::MakeFolder(line) => {
-            paint_line(grid, alloc, line)?;
+            line.paint(alloc, grid)?;
             Ok(())
         }
         Dialog::Trouble(trouble) => {
@@ -93,11 +105,15 @@ fn paint_dialog(grid: &mut Grid, alloc: Global, dialog: &Dialog) -> Result<(), N
             Ok(())
         }
         Dialog::Panel(asks) => {
-            paint_panel_box(grid, alloc, asks)?;
+            asks.paint(alloc, grid)?;
             Ok(())
         }
         Dialog::Find(find) => {
-            paint_find(grid, alloc, find)?;
+            find.paint(alloc, grid)?;
+            Ok(())
+        }
+        Dialog::Jobs(list) => {
+            list.paint(alloc, rows, grid)?;
             Ok(())
         }
     }
@@ -112,33 +128,6 @@ fn paint_message(grid: &mut Grid, alloc: Global, message: &Option<Message>) -> R
         None => Ok(()),
         Some(message) => paint_lines(grid, alloc, message_lines(alloc, message)?),
     }
-}
-
-/// Paints an input line.
-fn paint_line(grid: &mut Grid, alloc: Global, line: &InputLine) -> Result<(), NoMemory>
-    ensures field { OnOk result (grid.new ≡ with_input grid.old line.now) }
-    ensures size { OnOk result ((grid.new.lines ≡ grid.old.lines) × (grid.new.columns ≡ grid.old.columns)) }
-{
-    line.paint(alloc, grid)?;
-    Ok(())
-}
-
-/// Paints a box of the panels.
-fn paint_panel_box(grid: &mut Grid, alloc: Global, asks: &PanelBox) -> Result<(), NoMemory>
-    ensures over { OnOk result (grid.new ≡ with_panel_box asks.now grid.old) }
-    ensures size { OnOk result ((grid.new.lines ≡ grid.old.lines) × (grid.new.columns ≡ grid.old.columns)) }
-{
-    asks.paint(alloc, grid)?;
-    Ok(())
-}
-
-/// Paints what asks for things that are sought, or the list of what was found.
-fn paint_find(grid: &mut Grid, alloc: Global, find: &FindMode) -> Result<(), NoMemory>
-    ensures over { OnOk result (grid.new ≡ with_find find.now grid.old) }
-    ensures size { OnOk result ((grid.new.lines ≡ grid.old.lines) × (grid.new.columns ≡ grid.old.columns)) }
-{
-    find.paint(alloc, grid)?;
-    Ok(())
 }
 
 /// Paints a box of plain lines.

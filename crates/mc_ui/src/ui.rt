@@ -11,6 +11,7 @@ mod boxes;
 mod copy_boxes;
 mod find_box;
 mod folder_box;
+mod jobs_box;
 mod look;
 mod panel_keys;
 mod panel_questions;
@@ -239,6 +240,7 @@ impl Ui {
             Dialog::Trouble(trouble) => Ok(self.key_in_trouble(alloc, trouble, rows, key)),
             Dialog::Panel(asks) => self.key_in_panel_box(alloc, tree, asks, key),
             Dialog::Find(find) => self.key_in_find(alloc, tree, find, key),
+            Dialog::Jobs(list) => self.key_in_jobs(alloc, list, rows, key),
         }
     }
 

@@ -12,6 +12,7 @@ use super::Ui;
 use super::panel_keys::asking_nothing;
 use crate::asks::KeyAct;
 use crate::dialog::Dialog;
+use job_list::JobList;
 use key_screen::Key;
 use mc_text::NoMemory;
 use panel_boxes::{Opening, PanelBox, PanelReply};
@@ -68,6 +69,11 @@ impl Ui {
                     Err(error)
                 }
             },
+            Ok(PanelReply::ListsJobs) => {
+                let list = JobList::new(self.lines());
+                self.show_box(Dialog::Jobs(list));
+                Ok(asking_nothing(alloc))
+            }
             Ok(PanelReply::Refuses(error)) => {
                 self.show_box(Dialog::Panel(asks));
                 self.refuse(alloc, Refusal::Typed(error))
