@@ -4,11 +4,11 @@ ghost use Rattle.file_copy.specs.LastSteps.{left_at};
 
 use crate::scene::{FOLDER, SOURCE, TARGET};
 use file_copy::{FileCopy, PartTest};
-use job_reports::{Cause, Did, Ending, Trouble};
+use job_reports::{Cause, Did, Ending};
 use mc_text::Path;
 use row_page::Page;
+use row_reports::{tell_report, tell_step};
 use std::alloc::Global;
-use std::convert::AsStr;
 use tree_trait::Tree;
 
 /// A copy that makes more steps is not ended.
@@ -116,7 +116,7 @@ fn answer_trouble(page: &mut Page, copy: &mut FileCopy, cause: Cause, answer: An
         Answer::Skip => {
             let did = copy.skip(page.alloc(), cause);
             page.put("  skip: ");
-            tell(page, &did);
+            tell_report(page, &did);
             page.put("\n");
             Then::Step
         }
@@ -144,59 +144,4 @@ fn has_wound_up<T: Tree>(page: &mut Page, tree: &mut T, copy: &mut FileCopy) -> 
     let stepped = copy.wind_up(page.alloc(), tree, Ending::Aborted);
     tell_step(page, &stepped.did, stepped.calls);
     matches!(&stepped.did, Did::Ended { .. })
-}
-
-/// What a step did, and how many changing calls it made.
-fn tell_step(page: &mut Page, did: &Did, calls: u64) {
-    page.put("  ");
-    tell(page, did);
-    page.tell(format_args!(", calls {calls}\n"));
-}
-
-/// What was done, in words.
-fn tell(page: &mut Page, did: &Did) {
-    match did {
-        Did::Began(part) => tell_path(page, "Began", part),
-        Did::Chunk(count) => page.tell(format_args!("Chunk {count}")),
-        Did::Placed(target) => tell_path(page, "Placed", target),
-        Did::Removed(path) => tell_path(page, "Removed", path),
-        Did::Made(path) => tell_path(page, "Made", path),
-        Did::Set(path) => tell_path(page, "Set", path),
-        Did::Kept(path) => tell_path(page, "Kept", path),
-        Did::Skipped(source, cause) => {
-            tell_path(page, "Skipped", source);
-            page.tell(format_args!(", {cause:?}"));
-        }
-        Did::Cleaned(part) => tell_path(page, "Cleaned", part),
-        Did::Barrier => page.put("Barrier"),
-        Did::Troubled(trouble) => tell_trouble(page, trouble),
-        Did::Ended { ending, part } => tell_end(page, *ending, part),
-    }
-}
-
-fn tell_trouble(page: &mut Page, trouble: &Trouble) {
-    page.put("Troubled");
-    if trouble.barrier {
-        page.put(" at a barrier");
-    }
-    page.tell(format_args!(" {:?}", trouble.cause));
-    if let Some(path) = &trouble.path {
-        tell_path(page, "", path);
-    }
-}
-
-fn tell_end(page: &mut Page, ending: Ending, part: &Option<Path>) {
-    page.tell(format_args!("Ended {ending:?}"));
-    if let Some(part) = part {
-        tell_path(page, " and left", part);
-    }
-}
-
-fn tell_path(page: &mut Page, word: &str, path: &Path) {
-    page.put(word);
-    page.put(" ");
-    match path.text(page.alloc()) {
-        Ok(text) => page.put(text.as_str()),
-        Err(_error) => page.fail(),
-    }
 }

@@ -1,6 +1,5 @@
 //! Why a file holds no rules.
 use mc_text::NoMemory;
-use std::alloc::{AllocError, AllocFailed};
 use thiserror::Error;
 
 /// Why a file holds no rules. `NotText` has the position of the first byte that is no UTF-8, the others a line, counted
@@ -26,28 +25,6 @@ impl From<NoMemory> for ExtError {
     ghost from_gives = { λ _ error. error ≡ Memory };
 
     fn from(_error: NoMemory) -> ExtError {
-        ExtError::Memory
-    }
-}
-
-impl From<AllocError> for ExtError {
-    ghost use Rattle.std.specs.Prelude.{◌≡◌};
-    ghost use Rattle.ext_rules.specs.declared.error.ExtError.TheVariants.{Memory};
-
-    ghost from_gives = { λ _ error. error ≡ Memory };
-
-    fn from(_error: AllocError) -> ExtError {
-        ExtError::Memory
-    }
-}
-
-impl<T: Drop> From<AllocFailed<T>> for ExtError {
-    ghost use Rattle.std.specs.Prelude.{◌≡◌};
-    ghost use Rattle.ext_rules.specs.declared.error.ExtError.TheVariants.{Memory};
-
-    ghost from_gives = { λ _ error. error ≡ Memory };
-
-    fn from(_error: AllocFailed<T>) -> ExtError {
         ExtError::Memory
     }
 }

@@ -1,11 +1,12 @@
 //! An extension file, read.
-ghost use Rattle.std.specs.Prelude.{◌≡◌, ◌≢◌, ◌+◌, ◌<◌, ◌∷◌, List, Some, None, false, vec_len, IfOk, IfErr, OnOk};
+ghost use Rattle.std.specs.Prelude.{◌≡◌, ◌≢◌, ◌+◌, ◌<◌, [], ◌∷◌, ◌++◌, List, Some, None, false, vec_len, IfOk, IfErr, OnOk};
 ghost use Rattle.ext_rules.specs.declared.line.LineRead.{LineRead};
 ghost use Rattle.ext_rules.specs.declared.actions.Action.{Action};
 ghost use Rattle.ext_rules.specs.ExtFiles.{IsExtFile, ext_fault, fault_from, readings, rules_said};
 ghost use Rattle.ext_rules.specs.Drafts.{has_rule, extended, continued};
 
 use crate::actions::Action;
+use crate::condition::Condition;
 use crate::error::ExtError;
 use crate::line::{LineRead, read_line};
 use crate::rule::Rule;
@@ -84,7 +85,7 @@ fn take_line(
     match read {
         LineRead::Passed => Ok(()),
         LineRead::Rule(condition) => {
-            rules.push(Rule::new(alloc, condition))?;
+            begin_rule(alloc, rules, condition)?;
             Ok(())
         }
         LineRead::Action(action) => {
@@ -103,6 +104,14 @@ fn take_line(
         LineRead::Unknown => Err(ExtError::UnknownRule(at)),
         LineRead::BadPattern => Err(ExtError::BadPattern(at)),
     }
+}
+
+/// Begins a rule, which has no action yet.
+fn begin_rule(alloc: Global, rules: &mut Vec<Rule>, condition: Condition) -> Result<(), NoMemory>
+    ensures { OnOk result (rules.new.items ≡ rules.old.items ++ record { condition = condition; actions = [] } ∷ []) }
+{
+    rules.push(Rule::new(alloc, condition))?;
+    Ok(())
 }
 
 /// Puts an action at the end of the last rule.

@@ -1,41 +1,23 @@
 //! A search, and its answers up to the end.
-use crate::things::path_spelled;
 use find_file::{Finder, Found};
 use mc_text::{Bytes, Path};
 use row_page::{Page, bytes_of, two_fields};
-use std::convert::AsStr;
+use row_trees::{move_thing, path_of, tell_path};
 use tagging::Pattern;
 use tree_trait::Tree;
 
 /// The most answers of a row.
 const ANSWERS: usize = 60;
 
-/// The longest path that is written whole.
-const SHORT_PATH: usize = 60;
-
 /// What comes of a row: a search, or behind `move` a renaming.
 pub fn tell_row<T: Tree>(page: &mut Page, tree: &mut T, row: &str) {
     match row.strip_prefix("move|") {
-        Some(paths) => tell_move(page, tree, paths),
+        Some(paths) => {
+            move_thing(page, tree, paths, '|');
+            page.put(" moved");
+        }
         None => tell_search(page, tree, row),
     }
-}
-
-fn tell_move<T: Tree>(page: &mut Page, tree: &mut T, paths: &str) {
-    let (from, to) = two_fields(paths, '|');
-    let Some(from) = path_of(page, from) else {
-        return page.fail();
-    };
-    let Some(to) = path_of(page, to) else {
-        return page.fail();
-    };
-    page.need(tree.rename(page.alloc(), &from, &to).is_ok());
-    page.put(" moved");
-}
-
-pub fn path_of(page: &mut Page, field: &str) -> Option<Path> {
-    let path = path_spelled(page, field);
-    Path::parse(page.alloc(), path.text()).ok()
 }
 
 /// Where it is sought, how, which names, and which content.
@@ -96,9 +78,9 @@ fn tell_answers<T: Tree>(page: &mut Page, tree: &mut T, finder: &mut Finder) {
 /// The next answer, and whether it is the end.
 fn tell_next<T: Tree>(page: &mut Page, tree: &mut T, finder: &mut Finder) -> bool {
     match finder.next(page.alloc(), tree) {
-        Ok(Found::Path(path)) => tell_path(page, &path),
+        Ok(Found::Path(path)) => tell_found(page, &path),
         Ok(Found::Skipped(path, error)) => {
-            tell_path(page, &path);
+            tell_found(page, &path);
             page.tell(format_args!(": {error}"));
         }
         Ok(Found::End) => {
@@ -110,20 +92,8 @@ fn tell_next<T: Tree>(page: &mut Page, tree: &mut T, finder: &mut Finder) -> boo
     false
 }
 
-/// A path, or, where it is long, how its last name begins and how many bytes the path has.
-pub fn tell_path(page: &mut Page, path: &Path) {
-    match path.text(page.alloc()) {
-        Ok(text) => tell_text(page, text.as_str()),
-        Err(_error) => page.fail(),
-    }
-}
-
-fn tell_text(page: &mut Page, text: &str) {
-    if text.len() <= SHORT_PATH {
-        page.tell(format_args!(" {text}"));
-        return;
-    }
-    let (_front, last) = text.rsplit_once('/').unwrap_or((text, text));
-    let first = last.chars().next().unwrap_or('/');
-    page.tell(format_args!(" {first}({})", text.len()));
+/// A path behind a blank.
+pub fn tell_found(page: &mut Page, path: &Path) {
+    page.put(" ");
+    tell_path(page, path);
 }

@@ -1,10 +1,11 @@
 //! Searches that are asked for by keys, and the screens that they lead to.
-use crate::asking::{path_of, tell_path};
+use crate::asking::tell_found;
 use box_rows::{keys_of, tell_screen};
 use find_mode::{FindAct, FindMode, FindRefusal};
 use key_screen::{Grid, Key};
 use mc_text::Path;
 use row_page::{Page, two_fields};
+use row_trees::path_of;
 use tagging::PatternKind;
 use tree_trait::Tree;
 
@@ -96,7 +97,7 @@ fn tell_key<T: Tree>(page: &mut Page, tree: &mut T, mode: &mut FindMode, key: Ke
         Ok(FindAct::Refused(FindRefusal::NoPattern)) => page.put(" no pattern"),
         Ok(FindAct::Goes(path)) => {
             page.put(" goes");
-            tell_path(page, &path);
+            tell_found(page, &path);
         }
         Ok(FindAct::Leaves) => page.put(" leaves"),
         Err(_error) => page.fail(),

@@ -9,10 +9,10 @@ mod things;
 
 use crate::asking::tell_row;
 use crate::keyed::tell_key_row;
-use crate::things::put_things;
+use crate::things::SoughtThings;
 use mem_tree::MemTree;
 use row_page::Page;
-use row_trees::fresh;
+use row_trees::{fresh, put_things};
 
 /// What stands on the disk, line by line; then, behind a line `sought`, each row with its answers.
 pub fn tell_rows(page: &mut Page, lines: &str) {
@@ -26,7 +26,7 @@ fn tell_in(page: &mut Page, tree: &mut MemTree, lines: &str)
     requires { tree.old.log.changes ≡ [] }
 {
     let (things, rows) = lines.split_once("sought\n").unwrap_or((lines, ""));
-    put_things(page, tree, things);
+    put_things::<SoughtThings>(page, tree, things);
     page.put(things);
     page.put("sought\n");
     for row in rows.lines() {

@@ -1,5 +1,5 @@
 //! A list, as far as its file is read.
-ghost use Rattle.std.specs.Prelude.{◌≡◌, ◌≢◌, [], ◌≤◌, OnOk, IfErr, Some, ℕ, List, Option, vec_len};
+ghost use Rattle.std.specs.Prelude.{◌≡◌, ◌≢◌, [], ◌∷◌, ◌++◌, ◌≤◌, OnOk, IfErr, Some, ℕ, List, Option, vec_len};
 ghost use Rattle.hotlist.specs.HotLines.{SaidLine, GroupLine, EndLine, Said};
 ghost use Rattle.hotlist.specs.HotFiles.{fault_at, said_before};
 ghost use Rattle.hotlist.specs.LineViews.{said_line, reading_view};
@@ -9,7 +9,7 @@ use crate::error::HotError;
 use crate::items::{HotItem, push_item};
 use crate::lines::{HotLine, LineRead};
 use crate::list::NESTING;
-use mc_text::Text;
+use mc_text::{NoMemory, Text};
 use std::alloc::Global;
 use std::mem;
 
@@ -82,11 +82,12 @@ impl Draft {
             return Err(HotError::TooDeep(at));
         }
         let items_before = mem::replace(&mut self.items, Vec::new(alloc));
-        self.groups.push(OpenGroup {
+        let group = OpenGroup {
             label,
             line: at,
             items_before,
-        })?;
+        };
+        push_group(&mut self.groups, group)?;
         Ok(())
     }
 
@@ -108,4 +109,12 @@ impl Draft {
         push_item(&mut self.items, HotItem::group(group.label, items))?;
         Ok(())
     }
+}
+
+/// Puts an open group within the others.
+fn push_group(groups: &mut Vec<OpenGroup>, group: OpenGroup) -> Result<(), NoMemory>
+    ensures { OnOk result (groups.new.items ≡ groups.old.items ++ group ∷ []) }
+{
+    groups.push(group)?;
+    Ok(())
 }

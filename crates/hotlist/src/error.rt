@@ -1,6 +1,5 @@
 //! Why a file is no hotlist, and why a list can't be changed so.
 use mc_text::NoMemory;
-use std::alloc::{AllocError, AllocFailed};
 use thiserror::Error;
 
 /// Why a file is no hotlist. `NotText` has the position of the first byte that is no UTF-8, the others a line, counted
@@ -17,6 +16,17 @@ pub enum HotError {
     UnclosedGroup(usize),
     #[error("out of memory")]
     Memory,
+}
+
+impl From<NoMemory> for HotError {
+    ghost use Rattle.std.specs.Prelude.{◌≡◌};
+    ghost use Rattle.hotlist.specs.declared.error.HotError.TheVariants.{Memory};
+
+    ghost from_gives = { λ _ error. error ≡ Memory };
+
+    fn from(_error: NoMemory) -> HotError {
+        HotError::Memory
+    }
 }
 
 /// Why an item isn't added: no group stands at the place, groups would nest to more than 32, or want of memory. The list
@@ -39,38 +49,5 @@ impl From<NoMemory> for HotEditError {
 
     fn from(_error: NoMemory) -> HotEditError {
         HotEditError::Memory
-    }
-}
-
-impl From<AllocError> for HotError {
-    ghost use Rattle.std.specs.Prelude.{◌≡◌};
-    ghost use Rattle.hotlist.specs.declared.error.HotError.TheVariants.{Memory};
-
-    ghost from_gives = { λ _ error. error ≡ Memory };
-
-    fn from(_error: AllocError) -> HotError {
-        HotError::Memory
-    }
-}
-
-impl<T: Drop> From<AllocFailed<T>> for HotError {
-    ghost use Rattle.std.specs.Prelude.{◌≡◌};
-    ghost use Rattle.hotlist.specs.declared.error.HotError.TheVariants.{Memory};
-
-    ghost from_gives = { λ _ error. error ≡ Memory };
-
-    fn from(_error: AllocFailed<T>) -> HotError {
-        HotError::Memory
-    }
-}
-
-impl From<NoMemory> for HotError {
-    ghost use Rattle.std.specs.Prelude.{◌≡◌};
-    ghost use Rattle.hotlist.specs.declared.error.HotError.TheVariants.{Memory};
-
-    ghost from_gives = { λ _ error. error ≡ Memory };
-
-    fn from(_error: NoMemory) -> HotError {
-        HotError::Memory
     }
 }

@@ -4,42 +4,27 @@ ghost use Rattle.std.specs.Prelude.{◌≡◌, ◌≤◌, []};
 use crate::home::put_home;
 use mem_tree::MemTree;
 use row_page::{Page, number, two_fields};
-use row_trees::{put_file, put_folder, put_link, put_other};
+use row_trees::{Things, mode_of, put_file};
 
 /// Puts what each line spells on the disk.
 pub fn put_things(page: &mut Page, tree: &mut MemTree, lines: &str)
     requires { tree.old.log.changes ≡ [] }
 {
-    for line in lines.lines() {
-        put_thing(page, tree, line);
-    }
+    row_trees::put_things::<ListedThings>(page, tree, lines);
 }
 
-/// A thing: its kind, its path, and what else is said of it.
-fn put_thing(page: &mut Page, tree: &mut MemTree, line: &str)
-    requires { tree.old.log.changes ≡ [] }
-    ensures { tree.new.log.changes ≡ [] }
-{
-    let (kind, rest) = two_fields(line, ' ');
-    let (path, facts) = two_fields(rest, ' ');
-    match kind {
-        "folder" => put_folder_of(page, tree, path, facts),
-        "file" => put_file_of(page, tree, path, facts),
-        "files" => put_files(page, tree, path, facts),
-        "link" => put_link(page, tree, path, facts),
-        "other" => put_other(page, tree, path),
-        "home" => put_home(page, tree, path, number(facts)),
-        _ => page.fail(),
-    }
-}
+/// The things that are listed.
+struct ListedThings;
 
-/// A folder: its mode, and how many things in it have names that aren't UTF-8.
-fn put_folder_of(page: &mut Page, tree: &mut MemTree, path: &str, facts: &str)
-    requires { tree.old.log.changes ≡ [] }
-    ensures { tree.new.log.changes ≡ [] }
-{
-    let (mode, unnamed) = two_fields(facts, ' ');
-    put_folder(page, tree, path, mode_of(mode), number(unnamed) as u64);
+impl Things for ListedThings {
+    fn put(page: &mut Page, tree: &mut MemTree, kind: &str, path: &str, facts: &str) {
+        match kind {
+            "file" => put_file_of(page, tree, path, facts),
+            "files" => put_files(page, tree, path, facts),
+            "home" => put_home(page, tree, path, number(facts)),
+            _ => page.fail(),
+        }
+    }
 }
 
 /// A file: its mode, its size, and its time.
@@ -96,13 +81,6 @@ fn put_sized(page: &mut Page, tree: &mut MemTree, path: &str, mode: u16, size: u
         Ok(bytes) => put_file(page, tree, path, mode, mtime, bytes.as_slice()),
         Err(_error) => page.fail(),
     }
-}
-
-/// The mode that a field spells. It has twelve bits.
-fn mode_of(field: &str) -> u16
-    ensures { result ≤ 0o7777 }
-{
-    u16::from_str_radix(field, 8).unwrap_or(0).min(0o7777)
 }
 
 fn seconds(field: &str) -> i64 {

@@ -1,6 +1,5 @@
 //! Why a command isn't expanded.
 use mc_text::NoMemory;
-use std::alloc::{AllocError, AllocFailed};
 use thiserror::Error;
 
 /// Why a command isn't expanded: the position of the percent of the first macro that is none, or whose `{` nothing
@@ -13,28 +12,6 @@ pub enum MacroError {
     OpenBrace(usize),
     #[error("out of memory")]
     Memory,
-}
-
-impl From<AllocError> for MacroError {
-    ghost use Rattle.std.specs.Prelude.{◌≡◌};
-    ghost use Rattle.percent_macros.specs.declared.error.MacroError.TheVariants.{Memory};
-
-    ghost from_gives = { λ _ error. error ≡ Memory };
-
-    fn from(_error: AllocError) -> MacroError {
-        MacroError::Memory
-    }
-}
-
-impl<T: Drop> From<AllocFailed<T>> for MacroError {
-    ghost use Rattle.std.specs.Prelude.{◌≡◌};
-    ghost use Rattle.percent_macros.specs.declared.error.MacroError.TheVariants.{Memory};
-
-    ghost from_gives = { λ _ error. error ≡ Memory };
-
-    fn from(_error: AllocFailed<T>) -> MacroError {
-        MacroError::Memory
-    }
 }
 
 impl From<NoMemory> for MacroError {

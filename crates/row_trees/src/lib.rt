@@ -2,9 +2,13 @@
 #![tactic(auto)]
 
 mod blocks;
+mod paths;
 mod planting;
 mod putting;
+mod things;
 
 pub use blocks::{Blocks, tell_blocks};
-pub use planting::{plant, plant_file, plant_folder, plant_link, set_mode};
+pub use paths::{path_of, path_spelled, tell_path};
+pub use planting::{move_thing, plant, plant_file, plant_folder, plant_link, set_mode};
 pub use putting::{fresh, put_file, put_folder, put_link, put_other};
+pub use things::{Things, mode_of, put_things};

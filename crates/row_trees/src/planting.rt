@@ -3,8 +3,9 @@ ghost use Rattle.std.specs.Prelude.{◌≤◌};
 ghost use Rattle.std.specs.Bool.{OnTrue};
 ghost use Rattle.tree_trait.specs.Answers.{IsLinkText};
 
+use crate::paths::path_of;
 use mc_text::Path;
-use row_page::Page;
+use row_page::{Page, two_fields};
 use std::alloc::Global;
 use tree_trait::Tree;
 
@@ -71,6 +72,18 @@ pub fn may_be_link_text(text: &str) -> bool
     ensures { OnTrue result (IsLinkText text.now) }
 {
     !text.is_empty() && text.len() <= 4095 && text.as_bytes().iter().all(|byte| *byte != 0)
+}
+
+/// Renames a thing; its path and the new one are spelled with a mark between them.
+pub fn move_thing<T: Tree>(page: &mut Page, tree: &mut T, paths: &str, mark: char) {
+    let (from, to) = two_fields(paths, mark);
+    let Some(from) = path_of(page, from) else {
+        return page.fail();
+    };
+    let Some(to) = path_of(page, to) else {
+        return page.fail();
+    };
+    page.need(tree.rename(page.alloc(), &from, &to).is_ok());
 }
 
 pub fn set_mode<T: Tree>(page: &mut Page, tree: &mut T, path: &str, mode: u16)

@@ -2,11 +2,11 @@
 ghost use Rattle.std.specs.Prelude.{◌≤◌};
 
 use crate::scene::THING;
-use job_reports::{Cause, Did, Ending, Trouble};
+use job_reports::{Cause, Did, Ending};
 use mc_text::Path;
 use mode_setting::ModeSetting;
 use row_page::Page;
-use std::convert::AsStr;
+use row_reports::{tell_report, tell_step};
 use tree_trait::Tree;
 
 /// A setting that makes more steps is not ended.
@@ -71,7 +71,7 @@ fn answer_trouble(
         Answer::Skip => {
             let did = setting.skip(page.alloc(), cause);
             page.put("  skip: ");
-            tell(page, &did);
+            tell_report(page, &did);
             page.put("\n");
             Then::Step
         }
@@ -98,46 +98,4 @@ fn has_wound_up<T: Tree>(page: &mut Page, tree: &mut T, setting: &mut ModeSettin
         page.tell(format_args!("  left: {error:?}\n"));
     }
     matches!(&last.did, Did::Ended { .. })
-}
-
-/// What a step did, and how many changing calls it made.
-fn tell_step(page: &mut Page, did: &Did, calls: u64) {
-    page.put("  ");
-    tell(page, did);
-    page.tell(format_args!(", calls {calls}\n"));
-}
-
-/// What was done, in words.
-fn tell(page: &mut Page, did: &Did) {
-    match did {
-        Did::Set(path) => tell_path(page, "Set", path),
-        Did::Skipped(path, cause) => {
-            tell_path(page, "Skipped", path);
-            page.tell(format_args!(", {cause:?}"));
-        }
-        Did::Barrier => page.put("Barrier"),
-        Did::Troubled(trouble) => tell_trouble(page, trouble),
-        Did::Ended { ending, .. } => page.tell(format_args!("Ended {ending:?}")),
-        _ => page.fail(),
-    }
-}
-
-fn tell_trouble(page: &mut Page, trouble: &Trouble) {
-    page.put("Troubled");
-    if trouble.barrier {
-        page.put(" at a barrier");
-    }
-    page.tell(format_args!(" {:?}", trouble.cause));
-    if let Some(path) = &trouble.path {
-        tell_path(page, "", path);
-    }
-}
-
-fn tell_path(page: &mut Page, word: &str, path: &Path) {
-    page.put(word);
-    page.put(" ");
-    match path.text(page.alloc()) {
-        Ok(text) => page.put(text.as_str()),
-        Err(_error) => page.fail(),
-    }
 }

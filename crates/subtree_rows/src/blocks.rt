@@ -4,10 +4,10 @@ ghost use Rattle.std.specs.Prelude.{◌≡◌, ◌<◌, [], length};
 use crate::copying::tell_copy;
 use crate::orders::{Orders, orders_of, prepare};
 use crate::showing::tell_tree;
-use crate::things::{put_mount, put_things};
+use crate::things::{CopiedThings, put_mount};
 use mem_tree::MemTree;
 use row_page::{Page, two_fields};
-use row_trees::fresh;
+use row_trees::{fresh, put_things};
 
 /// The title, the steps of the copy, and what stands at the end.
 pub fn tell_block(page: &mut Page, block: &str) {
@@ -27,7 +27,7 @@ fn tell_in(page: &mut Page, tree: &mut MemTree, block: &str)
     page.put(title);
     page.put("\n");
     put_mount(page, tree, orders.room);
-    put_things(page, tree, things);
+    put_things::<CopiedThings>(page, tree, things);
     tell_ordered(page, tree, &orders);
 }
 

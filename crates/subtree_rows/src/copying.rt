@@ -3,12 +3,13 @@ ghost use Rattle.std.specs.Prelude.{◌≡◌, IfSome};
 ghost use Rattle.tree_copy.specs.Ending.{IsWindable};
 ghost use Rattle.tree_copy.specs.Steps.{IsWorkable};
 
-use crate::orders::{Orders, path_of};
+use crate::orders::Orders;
 use crate::telling::{Told, tell_skip, tell_step};
 use file_copy::PartTest;
 use job_reports::{Cause, Did, Ending};
 use mc_text::{Name, Path};
 use row_page::{Page, number};
+use row_trees::path_of;
 use std::alloc::Global;
 use tree_copy::{CopyDid, Named, TreeCopy};
 use tree_trait::Tree;

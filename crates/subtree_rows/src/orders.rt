@@ -1,9 +1,7 @@
 //! What is copied, and what is done before and on the way.
-use crate::things::path_spelled;
-use mc_text::Path;
 use mem_tree::MemTree;
 use row_page::{Page, number, two_fields};
-use row_trees::plant_file;
+use row_trees::{move_thing, plant_file};
 use tree_trait::Tree;
 
 /// The orders of a block. A field that isn't spelled is empty.
@@ -55,29 +53,12 @@ fn field<'a>(lines: &'a str, word: &str) -> &'a str {
 /// What is done before the copy begins.
 pub fn prepare(page: &mut Page, tree: &mut MemTree, orders: &Orders) {
     if !orders.moved.is_empty() {
-        move_thing(page, tree, orders.moved);
+        move_thing(page, tree, orders.moved, ' ');
     }
     if !orders.taken.is_empty() {
         take_names(page, tree, orders.taken);
     }
     note_faults(page, tree, orders.faults);
-}
-
-fn move_thing<T: Tree>(page: &mut Page, tree: &mut T, paths: &str) {
-    let (from, to) = two_fields(paths, ' ');
-    let Some(from) = path_of(page, from) else {
-        return page.fail();
-    };
-    let Some(to) = path_of(page, to) else {
-        return page.fail();
-    };
-    page.need(tree.rename(page.alloc(), &from, &to).is_ok());
-}
-
-/// The path that a field spells.
-pub fn path_of(page: &mut Page, field: &str) -> Option<Path> {
-    let path = path_spelled(page, field);
-    Path::parse(page.alloc(), path.text()).ok()
 }
 
 /// Takes the first so many names that a part of job 1 may have in a folder.

@@ -1,7 +1,7 @@
 //! What a tree holds, a line for each thing.
-use crate::telling::tell_path;
 use mc_text::{Kind, Name, Path};
 use row_page::Page;
+use row_reports::tell_of;
 use std::convert::AsStr;
 use std::str;
 use tree_trait::{Meta, Tree};
@@ -41,7 +41,7 @@ fn open_name(page: &mut Page, folder: &Path, name: &Name, open: &mut Vec<Path>) 
     match folder.join(page.alloc(), name) {
         Ok(path) => page.need(open.push(path).is_ok()),
         Err(_error) => {
-            tell_path(page, "in", folder);
+            tell_of(page, "in", folder);
             page.put(": a thing whose path would be too long\n");
         }
     }
@@ -51,7 +51,7 @@ fn tell_thing<T: Tree>(page: &mut Page, tree: &mut T, path: &Path, open: &mut Ve
     match tree.stat(page.alloc(), path) {
         Ok(meta) => tell_meta(page, tree, path, meta, open),
         Err(error) => {
-            tell_path(page, "?", path);
+            tell_of(page, "?", path);
             page.tell(format_args!(" {error:?}\n"));
         }
     }
@@ -76,14 +76,14 @@ fn tell_meta<T: Tree>(
         }
         Kind::Link => tell_link(page, tree, path),
         Kind::Other => {
-            tell_path(page, "other", path);
+            tell_of(page, "other", path);
             page.put("\n");
         }
     }
 }
 
 fn tell_mode(page: &mut Page, word: &str, path: &Path, mode: u16) {
-    tell_path(page, word, path);
+    tell_of(page, word, path);
     page.tell(format_args!(" {mode:o}"));
 }
 
@@ -104,7 +104,7 @@ fn tell_front(page: &mut Page, bytes: &[u8]) {
 }
 
 fn tell_link<T: Tree>(page: &mut Page, tree: &mut T, path: &Path) {
-    tell_path(page, "link", path);
+    tell_of(page, "link", path);
     page.put(" -> ");
     match tree.read_link(page.alloc(), path) {
         Ok(text) => page.put(text.as_str()),

@@ -1,6 +1,5 @@
 //! Why a file holds no menu.
 use mc_text::NoMemory;
-use std::alloc::{AllocError, AllocFailed};
 use thiserror::Error;
 
 /// Why a file holds no menu. `NotText` has the position of the first byte that is no UTF-8, the others a line, counted
@@ -24,28 +23,6 @@ impl From<NoMemory> for MenuError {
     ghost from_gives = { λ _ error. error ≡ Memory };
 
     fn from(_error: NoMemory) -> MenuError {
-        MenuError::Memory
-    }
-}
-
-impl From<AllocError> for MenuError {
-    ghost use Rattle.std.specs.Prelude.{◌≡◌};
-    ghost use Rattle.user_menu.specs.declared.error.MenuError.TheVariants.{Memory};
-
-    ghost from_gives = { λ _ error. error ≡ Memory };
-
-    fn from(_error: AllocError) -> MenuError {
-        MenuError::Memory
-    }
-}
-
-impl<T: Drop> From<AllocFailed<T>> for MenuError {
-    ghost use Rattle.std.specs.Prelude.{◌≡◌};
-    ghost use Rattle.user_menu.specs.declared.error.MenuError.TheVariants.{Memory};
-
-    ghost from_gives = { λ _ error. error ≡ Memory };
-
-    fn from(_error: AllocFailed<T>) -> MenuError {
         MenuError::Memory
     }
 }

@@ -98,7 +98,7 @@ fn take_line(alloc: Global, draft: &mut Draft, read: LineRead, at: usize) -> Res
             Ok(())
         }
         LineRead::Asked(asked) => {
-            draft.waiting.push(asked)?;
+            push_asked(&mut draft.waiting, asked)?;
             Ok(())
         }
         LineRead::Patterns(_) => Ok(()),
@@ -108,6 +108,14 @@ fn take_line(alloc: Global, draft: &mut Draft, read: LineRead, at: usize) -> Res
         }
         LineRead::BadCondition => Err(MenuError::BadCondition(at)),
     }
+}
+
+/// Puts a condition behind those that wait.
+fn push_asked(waiting: &mut Vec<Asked>, asked: Asked) -> Result<(), NoMemory>
+    ensures { OnOk result (waiting.new.items ≡ waiting.old.items ++ asked ∷ []) }
+{
+    waiting.push(asked)?;
+    Ok(())
 }
 
 /// Begins an entry: the conditions that wait are its own.

@@ -1,6 +1,0 @@
--- The tree was not called yet.
-use Rattle.std.proofs.Common.{◌≡◌, []}
-use Rattle.listing_rows.proofs.folders.put_things.Given as goal
-
-abbrev pub invariant-loop-line : goal.invariant-loop-line
-invariant-loop-line l = l.tree.log.changes ≡ []
