@@ -16,8 +16,9 @@ const MOST_STEPS: u32 = 100;
 /// nothing that was found is lost.
 pub fn seek_on<T: ReadTree>(alloc: Global, ui: &mut Ui, tree: &mut T) -> Result<(), NoMemory>
     requires settled { ui.old.planned ≡ None }
+    requires seeking { is_seeking ui.old ≡ true }
     ensures sought { HasSought (T.contents tree.old) (T.fault_count tree.old) (T.fault_count tree.new) ui.old ui.new }
-    ensures falls { OnOk result (is_seeking ui.old ≡ true → steps_ahead ui.new < steps_ahead ui.old) }
+    ensures falls { OnOk result (steps_ahead ui.new < steps_ahead ui.old) }
     ensures size { HasSameSize ui.old ui.new }
     ensures settled { ui.new.planned ≡ None }
     ensures same { T.contents tree.new ≡ T.contents tree.old }

@@ -4,6 +4,7 @@ ghost use Rattle.copy_move.specs.Told.{IsReady};
 ghost use Rattle.mc_desk.specs.Standings.{awaited_by, is_quit};
 ghost use Rattle.mc_desk.specs.Tallies.{can_step, keys_in};
 ghost use Rattle.mc_desk.specs.Desks.{BlamesScreen, CountsByte, FailsClosed, IsUncut, ShowsDesk, is_over, seeks, HasTaken, TakesByte, KeepsKeys};
+ghost use Rattle.mc_ui.specs.Seekings.{is_seeking};
 ghost use Rattle.mc_desk.specs.Searches.{steps_ahead};
 
 use super::Session;
@@ -26,6 +27,7 @@ impl<N: Tag, T: Tree, S: Sink, P: Spawner> Session<N, T, S, P> {
     /// was asked, takes no byte and answers `Quit`.
     pub fn byte(&mut self, alloc: Global, byte: u8, now: u64) -> Result<DeskReply, DeskError>
         requires looked { self.old.tally.due ≡ None }
+        requires sought { seeks self.old ≡ false }
         requires uncut { IsUncut self.old }
         ensures shows { OnOk result (self.new.tally.closed ≡ false → ShowsDesk self.new) }
         ensures uncut { IsUncut self.new }
@@ -190,6 +192,7 @@ impl<N: Tag, T: Tree, S: Sink, P: Spawner> Session<N, T, S, P> {
         requires unclosed { self.old.tally.closed ≡ false }
         requires unasked { self.old.quit ≡ false }
         requires looked { self.old.tally.due ≡ None }
+        requires sought { is_seeking self.old.screen ≡ false }
         requires room { 4 ≤ self.old.spare }
         requires uncut { self.old.out.put.is_cut ≡ false }
         ensures shows { OnOk result (self.new.tally.closed ≡ false → ShowsDesk self.new) }
@@ -203,6 +206,7 @@ impl<N: Tag, T: Tree, S: Sink, P: Spawner> Session<N, T, S, P> {
         ensures shut { OnErr result (self.new.tally.closed ≡ true) }
         ensures looked { OnOk result (key.base ≡ Base.Unknown → self.new.tally.due ≡ None) }
         ensures unasked { OnOk result (key.base ≡ Base.Unknown → self.new.quit ≡ false) }
+        ensures sought { OnOk result (key.base ≡ Base.Unknown → is_seeking self.new.screen ≡ false) }
         ensures room { OnOk result (self.old.spare ≤ self.new.spare + 2) }
         ensures quit { IfOk result (λ reply. is_quit reply ≡ self.new.quit) }
         ensures awaits { IfOk result (λ reply. awaited_by reply ≡ self.new.tally.due) }
@@ -248,6 +252,7 @@ impl<N: Tag, T: Tree, S: Sink, P: Spawner> Session<N, T, S, P> {
         requires unclosed { self.old.tally.closed ≡ false }
         requires unasked { self.old.quit ≡ false }
         requires looked { self.old.tally.due ≡ None }
+        requires sought { is_seeking self.old.screen ≡ false }
         requires room { 3 ≤ self.old.spare }
         requires uncut { self.old.out.put.is_cut ≡ false }
         ensures screen { self.new.screen ≡ self.old.screen }

@@ -1,7 +1,7 @@
 -- Each step goes on from where the one before it left the screen.
-use Rattle.std.proofs.Common.{rules, ◌≡◌, ◌≤◌, ◌+◌, true, ◌∙◌, inl, inr, arith}
+use Rattle.std.proofs.Common.{rules, ◌≡◌, ◌≤◌, ◌<◌, ◌+◌, true, false, ◌∙◌, refl, inl, inr, arith}
 use Rattle.mc_ui.specs.Seekings.{is_seeking}
-use Rattle.mc_desk.proofs.SeekSteps.{left_fewer, not_none, one_step_more}
+use Rattle.mc_desk.proofs.SeekSteps.{left_fewer, may_have_lacked, not_none, one_step_more, some_made}
 use Rattle.mc_desk.proofs.seeking.seek_on.Goals as goal
 
 pub returns-in_err-seek-clause-sought : goal.returns-in_err-seek-clause-sought
@@ -11,9 +11,10 @@ returns-in_err-seek-clause-sought g c =
     let few : c.loop-steps.steps + 1 ≤ 100 = search rules in
     record {
       steps = c.loop-steps.steps + 1;
+      some = omega arith;
       most = few;
-      made = one_step_more c.loop-steps.steps (g.T.ReadTree.contents c.args.tree.now) (g.T.ReadTree.contents c.loop-steps.tree) was.same (g.T.ReadTree.fault_count c.args.tree.now) (g.T.ReadTree.fault_count c.loop-steps.tree)
-          (g.T.ReadTree.fault_count c.seek.new.tree) c.args.ui.now c.loop-steps.ui c.seek.new.self was.made seeking (inr c.in_err-seek.ensures.lost) c.seek.ensures.kept c.seek.ensures.rest c.seek.ensures.later;
+      made = one_step_more true c.loop-steps.steps (g.T.ReadTree.contents c.args.tree.now) (g.T.ReadTree.contents c.loop-steps.tree) was.same (g.T.ReadTree.fault_count c.args.tree.now) (g.T.ReadTree.fault_count c.loop-steps.tree)
+          (g.T.ReadTree.fault_count c.seek.new.tree) c.args.ui.now c.loop-steps.ui c.seek.new.self was.made seeking (inr (refl, c.in_err-seek.ensures.lost)) c.seek.ensures.kept c.seek.ensures.rest c.seek.ensures.later;
     }
 
 pub loop-steps-preserved : goal.loop-steps-preserved
@@ -22,7 +23,7 @@ loop-steps-preserved g c =
     let seeking : is_seeking c.loop-steps.ui ≡ true = search rules in
     let few : c.loop-steps.steps + 1 ≤ 100 = search rules in
     record {
-      made = one_step_more c.loop-steps.steps (g.T.ReadTree.contents c.args.tree.now) (g.T.ReadTree.contents c.loop-steps.tree) was.same (g.T.ReadTree.fault_count c.args.tree.now) (g.T.ReadTree.fault_count c.loop-steps.tree)
+      made = one_step_more false c.loop-steps.steps (g.T.ReadTree.contents c.args.tree.now) (g.T.ReadTree.contents c.loop-steps.tree) was.same (g.T.ReadTree.fault_count c.args.tree.now) (g.T.ReadTree.fault_count c.loop-steps.tree)
           (g.T.ReadTree.fault_count c.seek.new.tree) c.args.ui.now c.loop-steps.ui c.seek.new.self was.made seeking (inl c.in_ok-seek.ensures.leads) c.seek.ensures.kept c.seek.ensures.rest c.seek.ensures.later;
       most = few;
       settled = c.seek.ensures.settled;
@@ -31,4 +32,26 @@ loop-steps-preserved g c =
       later = let before = was.later in let after = c.seek.ensures.later in omega (arith, before, after);
       none = λ h. absurd (not_none c.loop-steps.steps h);
       nearer = λ some. left_fewer c.loop-steps.steps c.args.ui.now c.loop-steps.ui c.seek.new.self was.none was.nearer (c.in_ok-seek.ensures.falls seeking);
+    }
+
+pub returns-else-is_seeking-clause-sought : goal.returns-else-is_seeking-clause-sought
+returns-else-is_seeking-clause-sought g c =
+    let was = c.loop-steps.invariant in
+    let ended : is_seeking c.loop-steps.ui ≡ false = search rules in
+    record {
+      steps = c.loop-steps.steps;
+      some = some_made c.loop-steps.steps c.args.ui.now c.loop-steps.ui was.none c.requires.seeking ended;
+      most = was.most;
+      made = may_have_lacked c.loop-steps.steps _ _ _ c.args.ui.now c.loop-steps.ui was.made;
+    }
+
+pub returns-after-loop-steps-clause-sought : goal.returns-after-loop-steps-clause-sought
+returns-after-loop-steps-clause-sought g c =
+    let was = c.loop-steps.invariant in
+    let many : 1 ≤ c.loop-steps.steps = search rules in
+    record {
+      steps = c.loop-steps.steps;
+      some = many;
+      most = was.most;
+      made = may_have_lacked c.loop-steps.steps _ _ _ c.args.ui.now c.loop-steps.ui was.made;
     }

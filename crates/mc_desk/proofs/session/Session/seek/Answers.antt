@@ -41,4 +41,4 @@ returns-clause-nearer g c seeking =
     let goes = seeks_open (seen_of inside.log inside.ui inside.standing inside.dirty inside.terminal inside.taken inside.keys) (ap seeks c.self.view_is ∙ seeking) in
     let made = of_ok c.drawn_behind.result _ c.in_ok-after_draw.ensures.drawn c.drawn_behind.ensures.sought in
     subst (λ s. steps_ahead s < steps_ahead c.args.self.now.screen) (sym (ap (λ (d : Seen). d.screen) c.in_ok-after_draw.ensures.same))
-    (subst (λ (d : Seen). steps_ahead c.seek_on-sought.new.ui < steps_ahead d.screen) c.self.view_is (of_ok c.seek_on-sought.result _ made c.seek_on-sought.ensures.falls goes.2))
+    (subst (λ (d : Seen). steps_ahead c.seek_on-sought.new.ui < steps_ahead d.screen) c.self.view_is (of_ok c.seek_on-sought.result _ made c.seek_on-sought.ensures.falls))
