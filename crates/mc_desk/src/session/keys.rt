@@ -13,7 +13,7 @@ use crate::granting::{Granted, work};
 use crate::log::plain;
 use crate::replies::{DeskError, DeskReply};
 use crate::rows::rows_of;
-use crate::seeking::{drawn_behind, seek_on};
+use crate::seeking::{Shown, drawn_behind, seek_and_show, sought_entry};
 use crate::standing::{Due, can_step};
 use crate::tag::Tag;
 use key_screen::{Base, Fed, Key};
@@ -143,17 +143,17 @@ impl<N: Tag, T: Tree, S: Sink, P: Spawner> Session<N, T, S, P> {
         if self.log.reserve(3).is_err() {
             return Err(DeskError::Memory);
         }
-        let sought = seek_on(alloc, &mut self.ui, &mut self.tree);
-        let drawn = self
-            .terminal
-            .show(alloc, &self.ui, &self.standing.job, &self.log);
-        self.log.note(Entry {
-            seat: 0,
-            calls: self.standing.calls,
-            faults: self.tree.faults(),
-            shown: self.terminal.shown(),
-            what: Event::Sought,
-        });
+        let Shown { sought, drawn } = seek_and_show(
+            alloc,
+            &mut self.ui,
+            &mut self.tree,
+            &self.standing.job,
+            &self.log,
+            &mut self.terminal,
+        );
+        let faults = self.tree.faults();
+        let entry = sought_entry(self.standing.calls, faults, self.terminal.shown());
+        self.log.note(entry);
         self.after_draw(drawn_behind(sought, drawn))?;
         Ok(())
     }
