@@ -59,6 +59,9 @@ fn type_byte(alloc: Global, desk: &mut MuteDesk, byte: u8) -> Result<()> {
     if desk.due().is_some() {
         bail!("a job can't be settled");
     }
+    if desk.is_seeking() {
+        bail!("a search goes on");
+    }
     desk.byte(alloc, byte, 0)?;
     Ok(())
 }

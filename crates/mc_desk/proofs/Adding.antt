@@ -138,19 +138,19 @@ steps old new live did after log now is leads = record {
 module _ (contents contents_after : Option CallLog) (faults : ℕ) (old new : Seen) (seat count shown : ℕ) (main : seat ≡ 0) where
   -- a key that was worked
   pub adds_key : (key : KeyType) (now : ℕ) (refusals : List Refusal) → new.newest ≡ entry seat old.tally.calls count shown (Key key now refusals false) ∷ old.newest → new.tally ≡ old.tally → new.job ≡ old.job
-      → new.tally.job ≡ option_map told new.job → old.tally.closed ≡ false → old.tally.due ≡ None → old.tally.lost ≡ false → old.screen.planned ≡ None → contents_after ≡ contents
+      → new.tally.job ≡ option_map told new.job → old.tally.closed ≡ false → old.tally.due ≡ None → is_seeking old.screen ≡ false → old.tally.lost ≡ false → old.screen.planned ≡ None → contents_after ≡ contents
       → faults_in faults old.newest ≤ count → (has_fault refusals ≡ true → HasRisen (faults_in faults old.newest) count) → IfKnown contents (λ log. AreRefused log refusals)
       → KeyWorks contents (rows_told old.newest) (next_id old.tally.last) now key refusals (noted old) (noted new) → old.quit ≡ false → new.dirty ≡ old.dirty
       → DrawsFrame (none_before old.newest) (frame_due (noted new) (next_id old.tally.last) (rows_told old.newest)) shown old.out.put new.out.put
       → Adds contents contents_after faults old new (entry seat old.tally.calls count shown (Key key now refusals false))
-  adds_key key now refusals more tally job tells unclosed looked unlost settled same later fault refused leads unasked dirty draws = record {
+  adds_key key now refusals more tally job tells unclosed looked sought unlost settled same later fault refused leads unasked dirty draws = record {
     draws = draws;
     more = more;
     tally = tally ∙ open_tally old.tally unclosed;
     told = tells;
     timely = unplanned old unasked settled;
     counts = record { seat = main; later = later; fault = fault; calls = omega arith; most = omega arith };
-    leads = (record { unclosed = unclosed; looked = looked; unlost = unlost }, leads);
+    leads = (record { unclosed = unclosed; looked = looked; sought = ap is_seeking (unasked_screen old unasked) ∙ sought; unlost = unlost }, leads);
     sought = tt;
     caused = refused;
     traced = leads_still contents contents_after same old new (entry seat old.tally.calls count shown (Key key now refusals false)) refl dirty (λ log stays. record { after_is = stays; now_is = refl }) (job ∙ open_job old.tally.closed old.job unclosed);
@@ -160,17 +160,17 @@ module _ (contents contents_after : Option CallLog) (faults : ℕ) (old new : Se
   -- a key that was lost
   pub adds_lost : (key : KeyType) (now : ℕ) → new.newest ≡ entry seat old.tally.calls count shown (Key key now [] true) ∷ old.newest
       → new.tally ≡ record old.tally { lost = true } → new.job ≡ old.job → new.tally.job ≡ option_map told new.job
-      → old.tally.closed ≡ false → old.tally.due ≡ None → old.tally.lost ≡ false → old.screen.planned ≡ None → contents_after ≡ contents
+      → old.tally.closed ≡ false → old.tally.due ≡ None → is_seeking old.screen ≡ false → old.tally.lost ≡ false → old.screen.planned ≡ None → contents_after ≡ contents
       → faults_in faults old.newest ≤ count → new.screen ≡ old.screen → new.quit ≡ old.quit → old.quit ≡ false → new.dirty ≡ old.dirty → PutsNothing shown old.out.put new.out.put
       → Adds contents contents_after faults old new (entry seat old.tally.calls count shown (Key key now [] true))
-  adds_lost key now more tally job tells unclosed looked unlost settled same later screen quit unasked dirty put = record {
+  adds_lost key now more tally job tells unclosed looked sought unlost settled same later screen quit unasked dirty put = record {
     draws = put;
     more = more;
     tally = tally ∙ ap (λ b. let r : Tally = record old.tally { job = if_closed b old.tally.job; lost = true } in r) (sym unclosed);
     told = tells;
     timely = unplanned old unasked settled;
     counts = record { seat = main; later = later; fault = λ h. absurd cc; calls = omega arith; most = omega arith };
-    leads = (record { unclosed = unclosed; looked = looked; unlost = unlost }, same_noted old new screen quit);
+    leads = (record { unclosed = unclosed; looked = looked; sought = ap is_seeking (unasked_screen old unasked) ∙ sought; unlost = unlost }, same_noted old new screen quit);
     sought = tt;
     caused = λ log known. tt;
     traced = leads_still contents contents_after same old new (entry seat old.tally.calls count shown (Key key now [] true)) refl dirty (λ log stays. record { after_is = stays; now_is = refl }) (job ∙ open_job old.tally.closed old.job unclosed);

@@ -1,5 +1,6 @@
 -- What a history doesn't tell of a job has no part in its answers.
-use Rattle.std.proofs.Common.{◌≡◌, [], refl, Option, Some, None}
+use Rattle.std.proofs.Common.{◌≡◌, [], ◌∷◌, false, refl, ◌∙◌, ap, Option, Some, None}
+use Rattle.std.specs.Prelude.{if◌then◌else◌}
 use Rattle.std.specs.Option.{option_map}
 use Rattle.file_copy.specs.declared.stage.Stage.{Stage}
 use Rattle.file_copy.specs.declared.stage.Stage.TheVariants.{Begin, Fill, Clean, Left, Decided}
@@ -8,10 +9,13 @@ use Rattle.copy_move.specs.declared.work.Work.{Work}
 use Rattle.copy_move.specs.declared.work.Work.TheVariants.{Copy, Delete, Make}
 use Rattle.copy_move.specs.declared.run.Course.{Course}
 use Rattle.copy_move.specs.declared.run.Course.TheVariants.{GoesOn, InTrouble, OwedSyncFailed, Skips, Ends}
+use Rattle.mc_text.specs.Routes.{Route}
 use Rattle.job_reports.specs.declared.report.Trouble.{Trouble}
-use Rattle.copy_move.specs.Jobs.{Running, at_barrier, is_barred, part_of, waits_on}
+use Rattle.job_reports.specs.declared.row.JobKind.{JobKind}
+use Rattle.job_reports.specs.declared.row.JobRow.{JobRow}
+use Rattle.copy_move.specs.Jobs.{Running, at_barrier, is_barred, kind_of, part_of, path_of, waits_on}
 use Rattle.copy_move.specs.Told.{stage_told, told, work_told}
-use Rattle.mc_desk.specs.LiveRows.{rows_of}
+use Rattle.mc_desk.specs.LiveRows.{rows_of, state_of}
 use Rattle.mc_desk.specs.Tallies.{can_step}
 
 stage_barrier : (stage : Stage) → copying.at_barrier (stage_told stage) ≡ copying.at_barrier stage
@@ -55,10 +59,26 @@ pub steps_told : (job : Option Running) → can_step (option_map told job) ≡ c
 steps_told None = refl
 steps_told (Some job) = refl
 
+-- what it does, and to what
+kind_told : (work : Work) → kind_of (work_told work) ≡ kind_of work
+kind_told (Copy c) = refl
+kind_told (Delete d) = refl
+kind_told (Make m) = refl
+
+path_told : (work : Work) → path_of (work_told work) ≡ path_of work
+path_told (Copy c) = refl
+path_told (Delete d) = refl
+path_told (Make m) = refl
+
+abbrev row_with : Running → Option Trouble → JobKind → Route → JobRow
+row_with job t kind path =
+    record { job = job.id; state = state_of job; kind = kind; path = path; background = false; trouble = if waits_on job.course then t else None }
+
 -- the row of a job is that of the job as its history tells it
 pub rows_untold : (job : Option Running) (t : Option Trouble) → rows_of (option_map told job) t ≡ rows_of job t
 rows_untold None t = refl
-rows_untold (Some job) t = refl
+rows_untold (Some job) t =
+    ap (λ kind. row_with job t kind (path_of (work_told job.work)) ∷ []) (kind_told job.work) ∙ ap (λ path. row_with job t (kind_of job.work) path ∷ []) (path_told job.work)
 
 -- where there are no rows no job is live
 pub none_of : (job : Option Running) (t : Option Trouble) → rows_of job t ≡ [] → job ≡ None

@@ -1,11 +1,12 @@
--- A key that is none asks for nothing.
-use Rattle.std.proofs.Common.{◌≡◌, ℕ, false, List, ◌∙◌, ap, inl, inr, Option, None}
+-- A key that is none asks for nothing, and begins no search.
+use Rattle.std.proofs.Common.{◌≡◌, ℕ, false, List, sym, ◌∙◌, ap, inl, inr, refl, Option, None}
 use Rattle.key_screen.specs.declared.keys.Key.{Key as KeyType}
 use Rattle.key_screen.specs.declared.keys.Base.TheVariants.{Unknown}
 use Rattle.tree_trait.specs.Change.{CallLog}
 use Rattle.job_reports.specs.declared.row.JobRow.{JobRow}
 use Rattle.session_history.specs.declared.refusal.Refusal.{Refusal}
 use Rattle.mc_ui.specs.Screens.{Screen}
+use Rattle.mc_ui.specs.Seekings.{is_seeking}
 use Rattle.mc_ui.proofs.UnknownKeys.{unknown_stays}
 use Rattle.mc_desk.specs.declared.granting.Deed.{Deed}
 use Rattle.mc_desk.specs.declared.granting.Deed.TheVariants as deed
@@ -31,3 +32,19 @@ unknown_due contents rows next now key before after done refusals was unknown se
     go deed.End h = absurd cc
     go (deed.Begin confirmed) h = absurd cc
     go (deed.Answer answer) h = absurd cc
+
+-- what is noted of what a key asked says nothing of a search
+deed_sought : (done : Deed) (after : Screen) → is_seeking (with_deed done after) ≡ is_seeking after
+deed_sought deed.Nothing after = refl
+deed_sought deed.Refuse after = refl
+deed_sought deed.End after = refl
+deed_sought (deed.Begin confirmed) after = refl
+deed_sought (deed.Answer answer) after = refl
+
+pub unknown_sought : (contents : Option CallLog) (rows : List JobRow) (next : Option ℕ) (now : ℕ) (key : KeyType) (before after : Screen) (done : Deed) (refusals : List Refusal) → key.base ≡ Unknown → is_seeking before ≡ false
+    → IsWorked contents rows next now key before after done refusals → is_seeking after ≡ false
+unknown_sought contents rows next now key before after done refusals unknown sought w = sym (deed_sought done after) ∙ (go w.works ∙ sought)
+  where
+    go : KeyWorks contents rows next now key refusals before (with_deed done after) → is_seeking (with_deed done after) ≡ is_seeking before
+    go (inl leads) = ap is_seeking (unknown_stays contents rows now key refusals before (with_deed done after) unknown leads)
+    go (inr none) = ap is_seeking none.told

@@ -8,6 +8,7 @@ use Rattle.session_history.specs.declared.history.Entry.{Entry}
 use Rattle.session_history.specs.declared.history.Event.TheVariants.{Closed, Key}
 use Rattle.copy_move.proofs.Telling.{closed_told}
 use Rattle.mc_ui.specs.Screens.{Screen}
+use Rattle.mc_ui.specs.Seekings.{is_seeking}
 use Rattle.mc_desk.specs.declared.starts.Start.{Start}
 use Rattle.mc_desk.specs.declared.standing.Standing.{Standing}
 use Rattle.mc_desk.specs.Logs.{Logged}
@@ -32,10 +33,10 @@ module _ (start : Option Start) (opening contents : Option CallLog) (faults : �
       (ap (λ j. let t : Tally = record (closed_tally was.lost) { job = j } in t) (closed_told true was.job)) refl refl refl refl room refl refl)
 
   -- a key that was lost, and the end of keys
-  pub lost_whole : (key : KeyType) (now shown : ℕ) → was.quit ≡ false → awaited was.due ≡ None
+  pub lost_whole : (key : KeyType) (now shown : ℕ) → was.quit ≡ false → awaited was.due ≡ None → is_seeking screen ≡ false
       → log_after.newest ≡ plain_entry was.calls count Closed ∷ (entry 0 was.calls count shown (Key key now [] true) ∷ log.newest) → 1 ≤ log_after.spare → now_is ≡ closed_standing (record was { lost = true }) → PutsNothing shown out.put out.put
       → IsDesk start opening contents faults (seen_of log_after screen now_is dirty out taken pending)
-  lost_whole key now shown unasked looked more room closed puts =
+  lost_whole key now shown unasked looked sought more room closed puts =
       subst (λ s. IsDesk start opening contents faults (seen_of log_after screen s dirty out taken pending)) (sym closed)
-      (desk_lost start opening contents contents faults _ (seen_of log_after screen (closed_standing (record was { lost = true })) dirty out taken pending) count shown key now desk unclosed unasked looked refl later more
+      (desk_lost start opening contents contents faults _ (seen_of log_after screen (closed_standing (record was { lost = true })) dirty out taken pending) count shown key now desk unclosed unasked looked sought refl later more
       (ap (λ j. let t : Tally = record (closed_tally true) { job = j } in t) (closed_told true was.job)) refl refl refl refl room refl refl puts)

@@ -112,7 +112,7 @@ same_fits : (old new : Seen) → new.screen ≡ old.screen → new.out ≡ old.o
 same_fits old new screen out fits = subst (λ s. FitsScreen new.out.display.grid s) (sym screen) (subst (λ (o : Output). FitsScreen o.display.grid old.screen) (sym out) fits)
 
 module _ (start : Option Start) (opening contents contents_after : Option CallLog) (faults : ℕ) (old new : Seen) (count shown : ℕ) (key : KeyType) (now : ℕ) (desk : IsDesk start opening contents faults old)
-    (unclosed : old.tally.closed ≡ false) (unasked : old.quit ≡ false) (looked : old.tally.due ≡ None) (same : contents_after ≡ contents) (later : faults_in faults old.newest ≤ count) where
+    (unclosed : old.tally.closed ≡ false) (unasked : old.quit ≡ false) (looked : old.tally.due ≡ None) (sought : is_seeking old.screen ≡ false) (same : contents_after ≡ contents) (later : faults_in faults old.newest ≤ count) where
   -- a key that was lost, and the end of keys
   pub desk_lost : new.newest ≡ entry 0 old.tally.calls count 0 Closed ∷ (entry 0 old.tally.calls count shown (Key key now [] true) ∷ old.newest)
       → new.tally ≡ record old.tally { job = option_map closed_job old.tally.job; closed = true; due = None; lost = true } → new.job ≡ option_map closed_job old.job → new.tally.job ≡ option_map told new.job
@@ -122,7 +122,7 @@ module _ (start : Option Start) (opening contents contents_after : Option CallLo
     written =
         written_more faults mid new _ start opening contents_after contents_after
         (written_more faults old mid _ start opening contents contents_after desk.written
-        (adds_lost contents contents_after faults old mid 0 count shown refl key now refl refl refl desk.written.told unclosed looked (unlost start opening contents faults old desk unclosed) desk.settled same later refl refl unasked refl puts))
+        (adds_lost contents contents_after faults old mid 0 count shown refl key now refl refl refl desk.written.told unclosed looked sought (unlost start opening contents faults old desk unclosed) desk.settled same later refl refl unasked refl puts))
         (adds_closed contents_after contents_after faults mid new 0 count 0 refl more is job tells desk.settled refl (omega arith) screen quit dirty (ap (λ (o : Output). o.put) out));
     settled = ap (λ (s : Screen). s.planned) screen ∙ desk.settled;
     asked = λ h. ap (λ (t : Tally). t.due) is;
@@ -144,7 +144,7 @@ module _ (start : Option Start) (opening contents contents_after : Option CallLo
     desk_keyed more is job tells works dirty draws =
         desk_of start opening contents_after faults new
         (written_more faults old new _ start opening contents contents_after desk.written
-        (adds_key contents contents_after faults old new 0 count shown refl key now refusals more is job tells unclosed looked (unlost start opening contents faults old desk unclosed) desk.settled same later fault refused
+        (adds_key contents contents_after faults old new 0 count shown refl key now refusals more is job tells unclosed looked sought (unlost start opening contents faults old desk unclosed) desk.settled same later fault refused
         works unasked dirty draws))
         settled (λ h. ap (λ (t : Tally). t.closed) is ∙ desk.lost (sym (ap (λ (t : Tally). t.lost) is) ∙ h)) (λ h. ap (λ (t : Tally). t.due) is ∙ looked)
         (λ h. ap (λ (t : Tally). t.due) is ∙ desk.shut (sym (ap (λ (t : Tally). t.closed) is) ∙ h)) room shown_now
@@ -160,7 +160,7 @@ module _ (start : Option Start) (opening contents contents_after : Option CallLo
         → DrawsFrame (none_before old.newest) (frame_due screen (next_id old.tally.last) (rows_told old.newest)) shown old.out.put new.out.put → IsWritten start opening contents_after faults (keyed screen)
     keyed_written screen works draws =
         written_more faults old (keyed screen) _ start opening contents contents_after desk.written
-        (adds_key contents contents_after faults old (keyed screen) 0 count shown refl key now refusals refl refl refl desk.written.told unclosed looked (unlost start opening contents faults old desk unclosed) desk.settled same later fault
+        (adds_key contents contents_after faults old (keyed screen) 0 count shown refl key now refusals refl refl refl desk.written.told unclosed looked sought (unlost start opening contents faults old desk unclosed) desk.settled same later fault
         refused (subst (λ s. KeyWorks contents (rows_told old.newest) (next_id old.tally.last) now key refusals (noted old) s) (sym (unasked_screen (keyed screen) unasked)) works) unasked refl
         (subst (λ s. DrawsFrame (none_before old.newest) (frame_due s (next_id old.tally.last) (rows_told old.newest)) shown old.out.put new.out.put) (sym (unasked_screen (keyed screen) unasked)) draws))
 

@@ -28,6 +28,7 @@ use Rattle.copy_move.specs.Jobs.{MayAnswer, Running, answered, answered_on, firs
 use Rattle.copy_move.specs.Told.{running, told}
 use Rattle.mc_ui.specs.LiveJobs.{can_answer, takes_answer}
 use Rattle.mc_ui.specs.Screens.{Answers, Begins, Screen}
+use Rattle.mc_ui.specs.Seekings.{is_seeking}
 use Rattle.job_plans.specs.Refused.{has_fault}
 use Rattle.mc_desk.specs.declared.starts.Start.{Start}
 use Rattle.mc_desk.specs.declared.granting.Deed.{Deed}
@@ -155,7 +156,7 @@ cleared s h = ap (λ o. let c : Screen = record s { planned = o } in c) h
 
 module _ (start : Option Start) (opening contents contents_after : Option CallLog) (faults : ℕ) (log log_after : Logged) (screen screen_after : Screen) (was : Standing) (dirty : List Route) (out out_after : Output) (taken : ℕ)
     (pending : List ℕ) (count : ℕ) (key : KeyType) (now : ℕ) (desk : IsDesk start opening contents faults (seen_of log screen was dirty out taken pending)) (unclosed : was.closed ≡ false) (unasked : was.quit ≡ false)
-    (looked : awaited was.due ≡ None) (same : contents_after ≡ contents) (later : faults_in faults log.newest ≤ count) (refusals : List Refusal)
+    (looked : awaited was.due ≡ None) (sought : is_seeking screen ≡ false) (same : contents_after ≡ contents) (later : faults_in faults log.newest ≤ count) (refusals : List Refusal)
     (fault : has_fault refusals ≡ true → HasRisen (faults_in faults log.newest) count) (refused : IfKnown contents (λ l. AreRefused l refusals)) (room : 2 ≤ log_after.spare)
     (rows : List JobRow) (rows_is : rows ≡ rows_of was.job (trouble_told log.newest)) (r : Result (Unit {0}) SinkError) where
   abbrev pub old : Seen
@@ -241,16 +242,16 @@ module _ (start : Option Start) (opening contents contents_after : Option CallLo
   pub desk_worked : (done : Deed) → IsWorked contents rows (next_id was.last_id) now key screen screen_after done refusals → FitsScreen out_after.display.grid screen_after → Shown done
       → log_after.newest ≡ followed was.calls count (event_of done was.job) (entry 0 was.calls count shown (Key key now refusals false) ∷ log.newest) → IsDesk start opening contents_after faults (new (after_deed done was))
   desk_worked deed.Nothing w fits s more =
-      desk_keyed start opening contents contents_after faults old (new was) count shown key now desk unclosed unasked looked same later refusals fault refused w.settled room
+      desk_keyed start opening contents contents_after faults old (new was) count shown key now desk unclosed unasked looked sought same later refusals fault refused w.settled room
       (shows_new was fits s (ap trouble_told more) desk.shown.still) more refl refl refl (still_noted w.works) refl (drawn_noted (drawn_for deed.Nothing w s))
   desk_worked deed.Refuse w fits s more =
-      desk_keyed start opening contents contents_after faults old (new was) count shown key now desk unclosed unasked looked same later refusals fault refused w.settled room
+      desk_keyed start opening contents contents_after faults old (new was) count shown key now desk unclosed unasked looked sought same later refusals fault refused w.settled room
       (shows_new was fits s (ap trouble_told more) desk.shown.still) more refl refl refl (still_noted w.works) refl (drawn_noted (drawn_for deed.Refuse w s))
   desk_worked deed.End w fits s more =
-      desk_keyed start opening contents contents_after faults old (new (after_deed deed.End was)) count shown key now desk unclosed unasked looked same later refusals fault refused w.settled room
+      desk_keyed start opening contents contents_after faults old (new (after_deed deed.End was)) count shown key now desk unclosed unasked looked sought same later refusals fault refused w.settled room
       (shows_new (after_deed deed.End was) fits s (ap trouble_told more) desk.shown.still) more refl refl refl (noted_works (with_deed deed.End screen_after) w.works) refl (drawn_for deed.End w s)
   desk_worked (deed.Begin confirmed) w fits s more =
-      desk_began start opening contents contents_after faults old (new (after_deed (deed.Begin confirmed) was)) count shown key now desk unclosed unasked looked same later refusals fault refused w.settled room
+      desk_began start opening contents contents_after faults old (new (after_deed (deed.Begin confirmed) was)) count shown key now desk unclosed unasked looked sought same later refusals fault refused w.settled room
       (shows_new (after_deed (deed.Begin confirmed) was) fits s (ap trouble_told more) (λ unclosed none. absurd cc))
       confirmed.plan confirmed.background confirmed.run confirmed.run.id count refl w.can.2 (none_of was.job (trouble_told log.newest) (sym rows_is ∙ w.can.0)) w.can.1 confirmed.started more (omega arith) refl refl refl refl
       (noted_works (with_deed (deed.Begin confirmed) screen_after) w.works) (drawn_for (deed.Begin confirmed) w s)
@@ -260,7 +261,7 @@ module _ (start : Option Start) (opening contents contents_after : Option CallLo
       let followed_is : log_after.newest ≡ followed was.calls count (order_of answer (Some here.0)) (entry 0 was.calls count shown (Key key now refusals false) ∷ log.newest) =
       more ∙ ap (λ j. followed was.calls count (order_of answer j) (entry 0 was.calls count shown (Key key now refusals false) ∷ log.newest)) is in
       subst (λ s. IsDesk start opening contents_after faults (new s)) (sym (ap (λ j. after_answer answer j was) is))
-      (desk_ordered start opening contents contents_after faults old (new (after_answer answer (Some here.0) was)) count shown key now desk unclosed unasked looked same later refusals fault refused w.settled room
+      (desk_ordered start opening contents contents_after faults old (new (after_answer answer (Some here.0) was)) count shown key now desk unclosed unasked looked sought same later refusals fault refused w.settled room
       (shows_new (after_answer answer (Some here.0) was) fits
       (subst (λ j. ShowsFrame (frame_of screen_after (rows_of (after_answer answer j was).job (trouble_told log.newest))) r out out_after) is s) (ap trouble_told followed_is) (λ unclosed none. absurd cc))
       answer here.0 count is here.2 followed_is (omega arith) refl refl refl refl

@@ -39,10 +39,11 @@ use Rattle.mc_desk.specs.Searches.{EventSeeks}
 use Rattle.mc_desk.specs.Shown.{EventDraws, HasPutNothing, Put, frame_due, none_before}
 use Rattle.mc_desk.specs.Tallies.{Tally, tally, most_calls, faults_in, next_id, news_left}
 
--- no key is worked in a closed session, where something is to be looked at, or after one was lost
-pub record TakesKey (t : Tally) : Type 0 where
+-- no key is worked in a closed session, where something is to be looked at, while a search goes on, or after one was lost
+pub record TakesKey (t : Tally) (screen : Screen) : Type 0 where
   pub unclosed : t.closed ≡ false
   pub looked : t.due ≡ None
+  pub sought : is_seeking screen ≡ false
   pub unlost : t.lost ≡ false
 
 -- How a session stands before an entry: what the tree holds, where it tells that, what the history came to, the rows of its live jobs, what
@@ -77,8 +78,8 @@ pub record IsOrdered (was : Before) (id : ℕ) (answer : Answer) (after : Screen
 -- live job as its newest report told it. A search goes on only where nothing is due (what its steps make of the screen, `EventSeeks` says). A step is
 -- one that the live job may make.
 abbrev pub EventLeads : Before → Event → Screen → Type 0
-EventLeads was (Key key now refusals true) after = TakesKey was.tally × (after ≡ was.screen)
-EventLeads was (Key key now refusals false) after = TakesKey was.tally × KeyWorks was.contents was.rows (next_id was.tally.last) now key refusals was.screen after
+EventLeads was (Key key now refusals true) after = TakesKey was.tally was.screen × (after ≡ was.screen)
+EventLeads was (Key key now refusals false) after = TakesKey was.tally was.screen × KeyWorks was.contents was.rows (next_id was.tally.last) now key refusals was.screen after
 EventLeads was (Look refusals) after =
     (was.tally.closed ≡ false) × IsSome was.tally.due × LookLeads was.contents was.rows was.tally.has_unseen_end was.news refusals was.screen after
 EventLeads was Sought after = (was.tally.closed ≡ false) × (was.tally.due ≡ None) × (is_seeking was.screen ≡ true)

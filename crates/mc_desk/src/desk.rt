@@ -83,6 +83,7 @@ impl<N: Tag, T: Tree, S: Sink, P: Spawner> Desk<N, T, S, P> {
     /// job that is due then. One that is closed, or whose end was asked, takes no byte and answers `Quit`.
     pub fn byte(&mut self, alloc: Global, byte: u8, now: u64) -> Result<DeskReply, DeskError>
         requires looked { self.old.tally.due ≡ None }
+        requires sought { seeks self.old ≡ false }
         requires next { IfKnown N.stream (λ bytes. IsNext bytes self.old.taken byte) }
 
         // On an open desk a terminal shows of all that was put the frame of what the screen shows.

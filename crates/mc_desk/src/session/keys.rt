@@ -4,6 +4,7 @@ ghost use Rattle.copy_move.specs.Told.{IsReady};
 ghost use Rattle.mc_desk.specs.Standings.{awaited_by, is_quit};
 ghost use Rattle.mc_desk.specs.Tallies.{can_step, keys_in};
 ghost use Rattle.mc_desk.specs.Desks.{BlamesScreen, CountsByte, FailsClosed, IsUncut, ShowsDesk, is_over, seeks, HasTaken, TakesByte, KeepsKeys};
+ghost use Rattle.mc_ui.specs.Seekings.{is_seeking};
 ghost use Rattle.mc_desk.specs.Searches.{steps_ahead};
 
 use super::Session;
@@ -12,7 +13,7 @@ use crate::granting::{Granted, work};
 use crate::log::plain;
 use crate::replies::{DeskError, DeskReply};
 use crate::rows::rows_of;
-use crate::seeking::{drawn_behind, seek_on};
+use crate::seeking::{Shown, drawn_behind, seek_and_show, sought_entry};
 use crate::standing::{Due, can_step};
 use crate::tag::Tag;
 use key_screen::{Base, Fed, Key};
@@ -26,6 +27,7 @@ impl<N: Tag, T: Tree, S: Sink, P: Spawner> Session<N, T, S, P> {
     /// was asked, takes no byte and answers `Quit`.
     pub fn byte(&mut self, alloc: Global, byte: u8, now: u64) -> Result<DeskReply, DeskError>
         requires looked { self.old.tally.due ≡ None }
+        requires sought { seeks self.old ≡ false }
         requires uncut { IsUncut self.old }
         ensures shows { OnOk result (self.new.tally.closed ≡ false → ShowsDesk self.new) }
         ensures uncut { IsUncut self.new }
@@ -141,17 +143,17 @@ impl<N: Tag, T: Tree, S: Sink, P: Spawner> Session<N, T, S, P> {
         if self.log.reserve(3).is_err() {
             return Err(DeskError::Memory);
         }
-        let sought = seek_on(alloc, &mut self.ui, &mut self.tree);
-        let drawn = self
-            .terminal
-            .show(alloc, &self.ui, &self.standing.job, &self.log);
-        self.log.note(Entry {
-            seat: 0,
-            calls: self.standing.calls,
-            faults: self.tree.faults(),
-            shown: self.terminal.shown(),
-            what: Event::Sought,
-        });
+        let Shown { sought, drawn } = seek_and_show(
+            alloc,
+            &mut self.ui,
+            &mut self.tree,
+            &self.standing.job,
+            &self.log,
+            &mut self.terminal,
+        );
+        let faults = self.tree.faults();
+        let entry = sought_entry(self.standing.calls, faults, self.terminal.shown());
+        self.log.note(entry);
         self.after_draw(drawn_behind(sought, drawn))?;
         Ok(())
     }
@@ -190,6 +192,7 @@ impl<N: Tag, T: Tree, S: Sink, P: Spawner> Session<N, T, S, P> {
         requires unclosed { self.old.tally.closed ≡ false }
         requires unasked { self.old.quit ≡ false }
         requires looked { self.old.tally.due ≡ None }
+        requires sought { is_seeking self.old.screen ≡ false }
         requires room { 4 ≤ self.old.spare }
         requires uncut { self.old.out.put.is_cut ≡ false }
         ensures shows { OnOk result (self.new.tally.closed ≡ false → ShowsDesk self.new) }
@@ -203,6 +206,7 @@ impl<N: Tag, T: Tree, S: Sink, P: Spawner> Session<N, T, S, P> {
         ensures shut { OnErr result (self.new.tally.closed ≡ true) }
         ensures looked { OnOk result (key.base ≡ Base.Unknown → self.new.tally.due ≡ None) }
         ensures unasked { OnOk result (key.base ≡ Base.Unknown → self.new.quit ≡ false) }
+        ensures sought { OnOk result (key.base ≡ Base.Unknown → is_seeking self.new.screen ≡ false) }
         ensures room { OnOk result (self.old.spare ≤ self.new.spare + 2) }
         ensures quit { IfOk result (λ reply. is_quit reply ≡ self.new.quit) }
         ensures awaits { IfOk result (λ reply. awaited_by reply ≡ self.new.tally.due) }
@@ -248,6 +252,7 @@ impl<N: Tag, T: Tree, S: Sink, P: Spawner> Session<N, T, S, P> {
         requires unclosed { self.old.tally.closed ≡ false }
         requires unasked { self.old.quit ≡ false }
         requires looked { self.old.tally.due ≡ None }
+        requires sought { is_seeking self.old.screen ≡ false }
         requires room { 3 ≤ self.old.spare }
         requires uncut { self.old.out.put.is_cut ≡ false }
         ensures screen { self.new.screen ≡ self.old.screen }

@@ -1,12 +1,12 @@
 -- So many steps were made, each from where the one before it left the screen.
-use Rattle.std.proofs.Common.{◌≡◌, ◌≤◌, ◌<◌, ◌-◌, None}
+use Rattle.std.proofs.Common.{◌≡◌, ◌≤◌, ◌<◌, ◌-◌, false, None}
 use Rattle.mc_ui.specs.Screens.{HasSameSize}
 use Rattle.mc_desk.specs.Searches.{SeeksOn, steps_ahead}
 use Rattle.mc_desk.proofs.seeking.seek_on.Given as goal
 
-abbrev pub invariant-loop-steps : goal.invariant-loop-steps
-invariant-loop-steps g l = record {
-  made : SeeksOn l.steps (g.T.ReadTree.contents l.fn.tree) (g.T.ReadTree.fault_count l.fn.tree) (g.T.ReadTree.fault_count l.tree) l.fn.ui l.ui;
+abbrev pub invariant-loop-ui : goal.invariant-loop-ui
+invariant-loop-ui g l = record {
+  made : SeeksOn false l.steps (g.T.ReadTree.contents l.fn.tree) (g.T.ReadTree.fault_count l.fn.tree) (g.T.ReadTree.fault_count l.tree) l.fn.ui l.ui;
   most : l.steps ≤ 100;
   settled : l.ui.planned ≡ None;
   size : HasSameSize l.fn.ui l.ui;
@@ -16,5 +16,5 @@ invariant-loop-steps g l = record {
   nearer : 1 ≤ l.steps → steps_ahead l.ui < steps_ahead l.fn.ui;
 }
 
-abbrev pub decreases-loop-steps : goal.decreases-loop-steps
-decreases-loop-steps g l = 100 - l.steps
+abbrev pub decreases-loop-ui : goal.decreases-loop-ui
+decreases-loop-ui g l = 100 - l.steps

@@ -1,6 +1,7 @@
 -- A key is written down as it was worked, and what it asked for directly after it; its frame is on the terminal then.
 use Rattle.std.proofs.Common.{rules, ◌≡◌, ◌≤◌, ◌∷◌, false, None, ap, sym, subst, ◌∙◌, arith}
 use Rattle.session_history.specs.declared.history.Event.TheVariants.{Key}
+use Rattle.mc_ui.specs.Seekings.{is_seeking}
 use Rattle.mc_desk.specs.Desks.{IsDesk, Seen, ShowsDesk, seen_of}
 use Rattle.mc_desk.specs.Granting.{IsWorked}
 use Rattle.mc_desk.specs.LiveRows.{rows_of, trouble_told}
@@ -10,7 +11,7 @@ use Rattle.mc_desk.specs.declared.standing.Standing.{Standing}
 use Rattle.mc_desk.specs.Standings.{after_deed, awaited, event_of, followed}
 use Rattle.mc_desk.specs.Tallies.{next_id}
 use Rattle.mc_desk.proofs.Adding.{entry}
-use Rattle.mc_desk.proofs.Carried.{unknown_due}
+use Rattle.mc_desk.proofs.Carried.{unknown_due, unknown_sought}
 use Rattle.mc_desk.proofs.Showing.{ended_uncut, fits_after, shows_drawn, trouble_followed}
 use Rattle.mc_desk.proofs.Worked.{desk_worked, may_carry_out}
 use Rattle.mc_desk.proofs.session.Session.work_key.Goals as goal
@@ -22,6 +23,7 @@ invariant_of-self-2 g c =
     let unclosed : inside.standing.closed ≡ false = ap (λ (d : Seen). d.tally.closed) c.self.view_is ∙ c.requires.unclosed in
     let unasked : inside.standing.quit ≡ false = ap (λ (d : Seen). d.quit) c.self.view_is ∙ c.requires.unasked in
     let looked : awaited inside.standing.due ≡ None = ap (λ (d : Seen). d.tally.due) c.self.view_is ∙ c.requires.looked in
+    let sought : is_seeking inside.ui ≡ false = ap (λ (d : Seen). is_seeking d.screen) c.self.view_is ∙ c.requires.sought in
     let count = c.faults-faults.result in
     let counted = c.faults-faults.ensures in
     let had = c.self.invariant.counted in
@@ -35,7 +37,7 @@ invariant_of-self-2 g c =
       desk = subst (λ s. IsDesk g.N.Tag.start g.N.Tag.opening (g.T.ReadTree.contents c.work.new.tree) g.N.Tag.tree_faults (seen_of c.note_after.new.self c.work.new.ui s inside.dirty c.carry_out-follows.new.terminal inside.taken inside.keys))
           (sym c.carry_out-follows.ensures.done)
           (desk_worked g.N.Tag.start g.N.Tag.opening (g.T.ReadTree.contents inside.tree) (g.T.ReadTree.contents c.work.new.tree) g.N.Tag.tree_faults inside.log c.note_after.new.self inside.ui c.work.new.ui inside.standing inside.dirty inside.terminal
-          c.carry_out-follows.new.terminal inside.taken inside.keys count c.args.key c.args.now c.self.invariant.desk unclosed unasked looked c.work.ensures.reads.same (omega (arith, counted, had, later)) done.refusals
+          c.carry_out-follows.new.terminal inside.taken inside.keys count c.args.key c.args.now c.self.invariant.desk unclosed unasked looked sought c.work.ensures.reads.same (omega (arith, counted, had, later)) done.refusals
           (λ h. let risen = c.in-Ok-work.ensures.reads.fault h in omega (arith, counted, had, risen)) c.in-Ok-work.ensures.reads.called room c.in-Ok.rows c.in-Ok.ensures c.carry_out-follows.result.drawn done.deed worked
           (fits_after inside.terminal.display.grid c.carry_out-follows.new.terminal.display.grid inside.ui c.work.new.ui c.self.invariant.desk.shown.size c.carry_out-follows.ensures.shows.sized worked.size) shows
           (c.note_after.ensures.added ∙ (ap (λ f. followed inside.standing.calls count f c.note.new.self.newest) c.carry_out-follows.ensures.told
@@ -83,3 +85,9 @@ returns-clause-unasked g c unknown =
     ap (λ (d : Seen). d.quit) c.in_ok-after_draw.ensures.same
     ∙ (ap (λ (s : Standing). s.quit) c.carry_out-follows.ensures.done
     ∙ (unknown_due _ c.in-Ok.rows c.next_id-next.result c.args.now c.args.key inside.ui c.work.new.ui c.in-Ok-work.granted.deed c.in-Ok-work.granted.refusals inside.standing unknown c.self.invariant.desk.settled c.in-Ok-work.ensures.worked looked unasked).1)
+
+pub returns-clause-sought : goal.returns-clause-sought
+returns-clause-sought g c unknown =
+    let sought : is_seeking c.self.inside.ui ≡ false = ap (λ (d : Seen). is_seeking d.screen) c.self.view_is ∙ c.requires.sought in
+    ap (λ (d : Seen). is_seeking d.screen) c.in_ok-after_draw.ensures.same
+    ∙ unknown_sought _ c.in-Ok.rows c.next_id-next.result c.args.now c.args.key c.self.inside.ui c.work.new.ui c.in-Ok-work.granted.deed c.in-Ok-work.granted.refusals unknown sought c.in-Ok-work.ensures.worked
