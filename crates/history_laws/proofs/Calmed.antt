@@ -2,7 +2,6 @@
 use Rattle.std.proofs.Common.{◌≡◌, ◌⊎◌, Bool, true, false, not, List, [], ◌∷◌, refl, sym, ◌∙◌, ap, subst, inl, inr, Option, Some, None, arith, append-nil}
 use Rattle.std.proofs.lemmas.Bool.{both_ways, false≢true}
 use Rattle.mc_text.specs.Routes.{Route}
-use Rattle.tree_trait.specs.declared.file_system.FileSystem.{FileSystem}
 use Rattle.tree_trait.specs.Shape.{IsTree}
 use Rattle.tree_trait.specs.Change.{CallLog, current}
 use Rattle.tree_trait.specs.CrashImages.{all_settled}
@@ -54,13 +53,13 @@ fresh_stage Going going none = absurd (false≢true (sym none))
 fresh_stage Sync going none = absurd (false≢true (sym going))
 
 -- work that begins a change, and has begun none, has changed nothing yet, and no part of it stands
-module _ (told : Said) (dirty : List Route) (marks : Marks) (s : FileSystem) (course : Course) where
+module _ (told : Said) (dirty : List Route) (marks : Marks) (log : CallLog) (course : Course) where
   abbrev IsStart : Work → Type 0
   IsStart work = (is_fresh work ≡ true) × (told.part ≡ None)
 
-  fresh_then : (old new : Work) (did : Did) → WorkTells old did new → begins_change did ≡ true → has_begun old ≡ false → WorkKnows told dirty marks s course old → IsStart old
+  fresh_then : (old new : Work) (did : Did) → WorkTells old did new → begins_change did ≡ true → has_begun old ≡ false → WorkKnows told dirty marks log course old → IsStart old
   fresh_then (Copy c) (Copy new) (Began part) t h clean (name, listed, stage) =
-      (ap (λ x. copying.is_fresh x c.folder) t.0 ∙ ap not clean, let k = subst (λ x. StageKnows told marks s course c x) t.0 stage in k.0)
+      (ap (λ x. copying.is_fresh x c.folder) t.0 ∙ ap not clean, let k = subst (λ x. StageKnows told marks (current log) course c x) t.0 stage in k.0)
   fresh_then (Copy c) (Copy new) (Removed path) t h clean k = absurd t
   fresh_then (Copy c) (Copy new) (Chunk count) t h clean k = absurd (false≢true h)
   fresh_then (Copy c) (Copy new) (Set path) t h clean k = absurd t
@@ -124,8 +123,8 @@ module _ (opening : CallLog) (tree : IsTree (current opening)) (settled : all_se
       goes = goes_then job new h.did job.course refl works.tells h.begins
 
       start : (is_fresh job.work ≡ true) × (r.part ≡ None)
-      start = fresh_then (told_of opening f.before older r.part) f.was.dirty r.marks (current f.before) job.course job.work goes.1.0 h.did goes.1.1 h.begins (tidy.clean (ap (λ n. has_changed n older) id_is ∙ h.unchanged))
-          (subst (λ js. JobsKnow (told_of opening f.before older r.part) f.was.dirty r.marks (current f.before) js) jobs_is r.knows)
+      start = fresh_then (told_of opening f.before older r.part) f.was.dirty r.marks f.before job.course job.work goes.1.0 h.did goes.1.1 h.begins (tidy.clean (ap (λ n. has_changed n older) id_is ∙ h.unchanged))
+          (subst (λ js. JobsKnow (told_of opening f.before older r.part) f.was.dirty r.marks f.before js) jobs_is r.knows)
 
       folder_is : folder ≡ changed_folder job.work
       folder_is =
@@ -151,7 +150,7 @@ module _ (opening : CallLog) (tree : IsTree (current opening)) (settled : all_se
       one_of : (job : Running) → Rattle.history_laws.specs.Traces.IsJob h.id f.was.jobs job → (f.was.jobs ≡ job ∷ []) × (job.id ≡ h.id)
       one_of job its =
           let r = traced_reached opening tree settled older f.was f.before f.traced in
-          only_job h.id f.was.jobs job (told_of opening f.before older r.part) f.was.dirty r.marks (current f.before) its r.knows
+          only_job h.id f.was.jobs job (told_of opening f.before older r.part) f.was.dirty r.marks f.before its r.knows
 
       of_step : (job : Running) (after : Option Running) → Rattle.history_laws.specs.Traces.IsJob h.id f.was.jobs job → StepLeads job h.did after f.was.dirty f.after.dirty f.before f.now → Calm
       of_step job after its (inl (new, inl works, after_is)) = let one = one_of job its in of_works job new one.0 one.1 works

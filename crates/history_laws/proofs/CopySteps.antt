@@ -106,7 +106,7 @@ module _ (told : Said) (dirty dirty_after : List Route) (marks : Marks) (log now
   up = folder_of c.target
 
   abbrev In : Course → Type 0
-  In course = Comes told told dirty log now (λ m. WorkKnows told dirty m (current now) course (Copy c))
+  In course = Comes told told dirty log now (λ m. WorkKnows told dirty m now course (Copy c))
 
   quiet_how : (l : CallLog) → ending.IsQuiet log (Some l) → (l ≡ log) ⊎ (l ≡ with_change log Nothing)
   quiet_how l q = elim q.how [ inl same ↦ inl (some_log l q.after q.tells ∙ same) | inr more ↦ inr (some_log l q.after q.tells ∙ more) ]
@@ -143,16 +143,16 @@ module _ (told : Said) (dirty dirty_after : List Route) (marks : Marks) (log now
   in_trouble why e = absurd (let f : ⊥ = cc in f)
 
   -- a step stops
-  stops : (why : Cause) (path : Option Route) (course : Course) → (course ≡ GoesOn → ⊥) → WorkKnows told dirty marks (current log) GoesOn (Copy c) → (stage : Stage) → c.stage ≡ stage
+  stops : (why : Cause) (path : Option Route) (course : Course) → (course ≡ GoesOn → ⊥) → WorkKnows told dirty marks log GoesOn (Copy c) → (stage : Stage) → c.stage ≡ stage
       → CopyStops IsUnclaimed (places_of c) stage why path log (Some now) → In course
-  stops why path course off knows Begin is stop = comes_refused told dirty marks log now course (Copy c) kept (work_course told dirty marks (current log) GoesOn course (Copy c) (λ e. absurd (off e)) knows) (how stop)
+  stops why path course off knows Begin is stop = comes_refused told dirty marks log now course (Copy c) kept (work_course told dirty marks log GoesOn course (Copy c) (λ e. absurd (off e)) knows) (how stop)
     where
       how : CopyStops IsUnclaimed (places_of c) Begin why path log (Some now) → (now ≡ log) ⊎ (now ≡ with_change log Nothing)
       how (inl look) = inl (some_log now log look.1)
       how (inr (inl name)) = inl (some_log now log name.2)
       how (inr (inr (k, ready, free, run))) = quiet_how now (calm_stops (making (current log) (places_of c) k) why path log now (λ s left. refl) run)
   stops why path course off (name, listed, knows) (Fill part said done) is stop =
-      comes_map told told dirty log now (λ m. HasPart told m (current now) c.target part i) (λ m. WorkKnows told dirty m (current now) course (Copy c))
+      comes_map told told dirty log now (λ m. HasPart told m (current now) c.target part i) (λ m. WorkKnows told dirty m now course (Copy c))
       (λ m k has. (name, listed, subst (λ x. StageKnows told m (current now) course c x) (sym is) (at_fill.0, (i, has, λ e. absurd (off e)))))
       (how stop)
     where
@@ -167,16 +167,16 @@ module _ (told : Said) (dirty dirty_after : List Route) (marks : Marks) (log now
       how (inl (less, inr write)) = write_stops part i done (next_bytes (current log) c.source said done) why path at_fill.1.1 write
       how (inr (full, run)) = placing_stops told dirty c.target part i marks log now said.mode why path kept at_fill.1.1 run
   stops why path course off knows (Clean part follows) is stop =
-      comes_refused told dirty marks log now course (Copy c) kept (work_course told dirty marks (current log) GoesOn course (Copy c) (λ e. absurd (off e)) knows)
+      comes_refused told dirty marks log now course (Copy c) kept (work_course told dirty marks log GoesOn course (Copy c) (λ e. absurd (off e)) knows)
       (quiet_how now (calm_stops (RemoveFile part) why path log now (λ s left. refl) stop))
   stops why path course off knows (Left part) is stop = absurd stop
   stops why path course off knows Decided is stop =
-      comes_refused told dirty marks log now course (Copy c) kept (work_course told dirty marks (current log) GoesOn course (Copy c) (λ e. absurd (off e)) knows)
+      comes_refused told dirty marks log now course (Copy c) kept (work_course told dirty marks log GoesOn course (Copy c) (λ e. absurd (off e)) knows)
       (quiet_how now (calm_stops (SyncFolder up) why path log now (λ s left. refl) stop))
 
-  with_routes : (did : Did) (course : Course) (new : Work) → dirty_after ≡ dirty → Comes told (said_after now did (Copy c) told) dirty log now (KnowsAfter did (said_after now did (Copy c) told) dirty (current now) course new)
+  with_routes : (did : Did) (course : Course) (new : Work) → dirty_after ≡ dirty → Comes told (said_after now did (Copy c) told) dirty log now (KnowsAfter did (said_after now did (Copy c) told) dirty now course new)
       → Steps told dirty dirty_after marks log now kept did course (Copy c) new
-  with_routes did course new same come = subst (λ routes. Comes told (said_after now did (Copy c) told) routes log now (KnowsAfter did (said_after now did (Copy c) told) routes (current now) course new)) (sym same) come
+  with_routes did course new same come = subst (λ routes. Comes told (said_after now did (Copy c) told) routes log now (KnowsAfter did (said_after now did (Copy c) told) routes now course new)) (sym same) come
 
   abbrev Leaves : Copying → Type 0
   Leaves new = dirty_after ≡ moves_dirty (is_dirty c.folder) (is_dirty new.folder) up dirty
@@ -190,7 +190,7 @@ module _ (told : Said) (dirty dirty_after : List Route) (marks : Marks) (log now
   cleaned_knows next.Begin after m s none untouched = (none, λ e. untouched)
   cleaned_knows next.Decided after m s none untouched = none
 
-  pub copy_tells : (new : Copying) (did : Did) → WorkKnows told dirty marks (current log) GoesOn (Copy c) → Tells c did new → CopyCalls IsUnclaimed c did new log (Some now)
+  pub copy_tells : (new : Copying) (did : Did) → WorkKnows told dirty marks log GoesOn (Copy c) → Tells c did new → CopyCalls IsUnclaimed c did new log (Some now)
       → (is_fresh c.stage c.folder ≡ true → NoneOn (current log) up dirty) → Leaves new → Steps told dirty dirty_after marks log now kept did (course_after did) (Copy c) (Copy new)
   copy_tells new (Began part) (name, listed, knows) (stage, (said, new_is)) (ready, began_of, (k, part_is, free, rows)) settled leaves =
       let at_begin = subst (λ x. StageKnows told marks (current log) GoesOn c x) stage knows in
@@ -214,7 +214,7 @@ module _ (told : Said) (dirty dirty_after : List Route) (marks : Marks) (log now
       let at_fill = subst (λ x. StageKnows told marks (current log) GoesOn c x) stage knows in
       let has = at_fill.1.1 in
       with_routes (Chunk count) GoesOn (Copy new) (leaves_same new (ap (λ (x : Copying). x.folder) new_is) leaves)
-      (subst (λ (x : Copying). Comes told told dirty log now (λ m. WorkKnows told dirty m (current now) GoesOn (Copy x))) (sym (new_is ∙ ap (λ n. (let x : Copying = record c { stage = Fill part said (done + n) } in x)) count_here))
+      (subst (λ (x : Copying). Comes told told dirty log now (λ m. WorkKnows told dirty m now GoesOn (Copy x))) (sym (new_is ∙ ap (λ n. (let x : Copying = record c { stage = Fill part said (done + n) } in x)) count_here))
       (filled_more told dirty dirty_after marks log now kept c part said done listed name at_fill.1.0 has (at_fill.1.2 refl)
       (subst (λ n. done + n ≤ said.size) count_here fits) (one_done log (writing (current log) (places_of c) part said done) now row) at_fill.0))
   copy_tells new (Placed path) (name, listed, knows) (part, said, stage, path_is, new_is) (other_part, other_said, other_stage, rows) settled leaves =
@@ -224,30 +224,30 @@ module _ (told : Said) (dirty dirty_after : List Route) (marks : Marks) (log now
       let row = subst (λ (x : SourceFacts). AllDone log (placing x.mode part c.target) (Some now)) s_is (subst (λ x. AllDone log (placing other_said.mode x c.target) (Some now)) p_is rows) in
       let at_fill = subst (λ x. StageKnows told marks (current log) GoesOn c x) stage knows in
       with_routes (Placed path) GoesOn (Copy new) (leaves_same new (ap (λ (x : Copying). x.folder) new_is) leaves)
-      (subst (λ (x : Copying). Comes told (said_after now (Placed path) (Copy c) told) dirty log now (KnowsAfter (Placed path) (said_after now (Placed path) (Copy c) told) dirty (current now) GoesOn (Copy x))) (sym new_is)
-      (subst (λ q. Comes told (said_after now (Placed q) (Copy c) told) dirty log now (KnowsAfter (Placed q) (said_after now (Placed q) (Copy c) told) dirty (current now) GoesOn (Copy (record c { stage = Decided })))) (sym path_is)
+      (subst (λ (x : Copying). Comes told (said_after now (Placed path) (Copy c) told) dirty log now (KnowsAfter (Placed path) (said_after now (Placed path) (Copy c) told) dirty now GoesOn (Copy x))) (sym new_is)
+      (subst (λ q. Comes told (said_after now (Placed q) (Copy c) told) dirty log now (KnowsAfter (Placed q) (said_after now (Placed q) (Copy c) told) dirty now GoesOn (Copy (record c { stage = Decided })))) (sym path_is)
       (comes_map told (said_after now (Placed c.target) (Copy c) told) dirty log now (λ m. (said_after now (Placed c.target) (Copy c) told).part ≡ None)
-      (λ m. WorkKnows (said_after now (Placed c.target) (Copy c) told) dirty m (current now) GoesOn (Copy (record c { stage = Decided }))) (λ m k none. (name, listed, none))
+      (λ m. WorkKnows (said_after now (Placed c.target) (Copy c) told) dirty m now GoesOn (Copy (record c { stage = Decided }))) (λ m k none. (name, listed, none))
       (part_placed told dirty c name.name name.is part at_fill.1.0 (listed at_fill.0).0 marks log now said kept at_fill.1.1 (at_fill.1.2 refl) row))))
   copy_tells new (Cleaned part) (name, listed, knows) (follows, stage, new_is) rows settled leaves =
       let at_clean = subst (λ x. StageKnows told marks (current log) GoesOn c x) stage knows in
       with_routes (Cleaned part) GoesOn (Copy new) (leaves_same new (ap (λ (x : Copying). x.folder) new_is) leaves)
-      (subst (λ (x : Copying). Comes told (said_after now (Cleaned part) (Copy c) told) dirty log now (KnowsAfter (Cleaned part) (said_after now (Cleaned part) (Copy c) told) dirty (current now) GoesOn (Copy x))) (sym new_is)
+      (subst (λ (x : Copying). Comes told (said_after now (Cleaned part) (Copy c) told) dirty log now (KnowsAfter (Cleaned part) (said_after now (Cleaned part) (Copy c) told) dirty now GoesOn (Copy x))) (sym new_is)
       (comes_map told (said_after now (Cleaned part) (Copy c) told) dirty log now (λ m. IsUntouched m (current now) c.target)
-      (λ m. WorkKnows (said_after now (Cleaned part) (Copy c) told) dirty m (current now) GoesOn (Copy (record c { stage = after_clean follows })))
+      (λ m. WorkKnows (said_after now (Cleaned part) (Copy c) told) dirty m now GoesOn (Copy (record c { stage = after_clean follows })))
       (λ m k untouched. (name, listed, cleaned_knows follows (said_after now (Cleaned part) (Copy c) told) m (current now) refl untouched))
       (part_cleaned told dirty marks log now (Copy c) c.target part at_clean.1.0 kept at_clean.1.1 (listed at_clean.0).0
       (subst (λ (l : CallLog). Performs {A = Unit {0}} log (RemoveFile part) (Ok tt) (Some l)) (sym (some_log now rows.0 rows.2)) rows.1))))
   copy_tells new Barrier (name, listed, knows) (stage, dirty_is, new_is) rows settled leaves =
       let none = subst (λ x. StageKnows told marks (current log) GoesOn c x) stage knows in
-      subst (λ (x : Copying). Comes told told dirty_after log now (λ m. WorkKnows told dirty_after m (current now) GoesOn (Copy x))) (sym new_is)
+      subst (λ (x : Copying). Comes told told dirty_after log now (λ m. WorkKnows told dirty_after m now GoesOn (Copy x))) (sym new_is)
       (tried told dirty dirty_after marks log now kept up None GoesOn (Copy (record c { folder = Synced }))
       (λ routes. (name, (λ e. absurd (let f : ⊥ = cc in f)), subst (λ x. StageKnows told marks (current log) GoesOn (record c { folder = Synced }) x) (sym stage) none))
       (subst (λ (l : CallLog). Performs {A = Unit {0}} log (SyncFolder up) (Ok tt) (Some l)) (sym (some_log now rows.0 rows.2)) rows.1)
       (leaves ∙ (ap (λ f. moves_dirty (is_dirty f) (is_dirty new.folder) up dirty) dirty_is ∙ ap (λ (x : Copying). moves_dirty true (is_dirty x.folder) up dirty) new_is)))
   copy_tells new (Troubled trouble) knows (barrier, new_is) stop settled leaves =
       with_routes (Troubled trouble) (InTrouble trouble.cause) (Copy new) (leaves_same new (ap (λ (x : Copying). x.folder) new_is) leaves)
-      (subst (λ (x : Copying). Comes told told dirty log now (λ m. WorkKnows told dirty m (current now) (InTrouble trouble.cause) (Copy x))) (sym new_is)
+      (subst (λ (x : Copying). Comes told told dirty log now (λ m. WorkKnows told dirty m now (InTrouble trouble.cause) (Copy x))) (sym new_is)
       (stops trouble.cause trouble.path (InTrouble trouble.cause) (in_trouble trouble.cause) knows c.stage refl stop))
   copy_tells new (Ended Finished part) (name, listed, knows) (stage, synced, part_is, new_is) done settled leaves =
       let none = subst (λ x. StageKnows told marks (current log) GoesOn c x) stage knows in

@@ -25,7 +25,7 @@ use Rattle.history_laws.proofs.Calming.{nothing_known}
 use Rattle.history_laws.proofs.Changing.{IsHollow, hollow_file, removed_known}
 use Rattle.history_laws.proofs.Emptied.{IsEmptied, emptied}
 use Rattle.history_laws.proofs.Knowing.{Said, IsKnown, IsKept, held, settled_marks}
-use Rattle.history_laws.proofs.JobKnows.{WorkKnows, work_settled}
+use Rattle.history_laws.proofs.JobKnows.{WorkKnows, work_settled, work_still}
 use Rattle.history_laws.proofs.Resting.{IsSureFolder}
 use Rattle.history_laws.proofs.Sources.{item_in}
 use Rattle.history_laws.proofs.Stepped.{Comes, comes_none, comes_one, folders_by, said_after}
@@ -41,14 +41,14 @@ pub put_at : (v : View) (path : Route) (new : Option Value) → put v path new p
 put_at v path new = ap (λ b. cond b (record (v path) { value = new }) (v path)) (same_path-self path)
 
 -- a call that changed nothing: what is known holds on
-pub comes_refused : (told : Said) (dirty : List Route) (marks : Marks) (log now : CallLog) (course : Course) (work : Work) → IsKept told dirty marks log → WorkKnows told dirty marks (current log) course work
-    → (now ≡ log) ⊎ (now ≡ with_change log Nothing) → Comes told told dirty log now (λ m. WorkKnows told dirty m (current now) course work)
+pub comes_refused : (told : Said) (dirty : List Route) (marks : Marks) (log now : CallLog) (course : Course) (work : Work) → IsKept told dirty marks log → WorkKnows told dirty marks log course work
+    → (now ≡ log) ⊎ (now ≡ with_change log Nothing) → Comes told told dirty log now (λ m. WorkKnows told dirty m now course work)
 comes_refused told dirty marks log now course work kept knows (inl same) =
-    comes_none told told dirty log now (λ m. WorkKnows told dirty m (current now) course work) marks same kept (subst (λ (l : CallLog). WorkKnows told dirty marks (current l) course work) (sym same) knows)
+    comes_none told told dirty log now (λ m. WorkKnows told dirty m now course work) marks same kept (subst (λ (l : CallLog). WorkKnows told dirty marks l course work) (sym same) knows)
 comes_refused told dirty marks log now course work kept knows (inr more) =
-    comes_one told told dirty dirty marks marks log now Nothing (λ m. WorkKnows told dirty m (current now) course work) kept more
+    comes_one told told dirty dirty marks marks log now Nothing (λ m. WorkKnows told dirty m now course work) kept more
     (subst (λ (l : CallLog). IsKnown told dirty marks l) (sym more) (nothing_known told dirty marks log kept.known))
-    (work_settled now marks told dirty course work (subst (λ (s : FileSystem). WorkKnows told dirty marks s course work) (sym (ap current more ∙ current_more log Nothing)) knows))
+    (work_settled now marks told dirty course work (work_still told dirty marks log now course work (ap current more ∙ current_more log Nothing) knows))
 
 pub either : (a b : Bool) → (a || b) ≡ true → (a ≡ true) ⊎ (b ≡ true)
 either true b h = inl refl

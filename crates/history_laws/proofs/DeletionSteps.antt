@@ -4,7 +4,6 @@ use Rattle.std.specs.Prelude.{if◌then◌else◌}
 use Rattle.std.proofs.lemmas.Bool.{and_from, false≢true, or_cases, or_left}
 use Rattle.mc_text.specs.Routes.{Route, is_prefix, same_path}
 use Rattle.mc_text.proofs.Prefixes.{same_path-lengths}
-use Rattle.tree_trait.specs.declared.file_system.FileSystem.{FileSystem}
 use Rattle.tree_trait.specs.declared.calls.TreeError.{TreeError}
 use Rattle.tree_trait.specs.Calls.{RemoveFile, RemoveFolder, SyncFolder}
 use Rattle.tree_trait.specs.Change.{Syncs, CallLog, current, with_change}
@@ -34,7 +33,7 @@ use Rattle.copy_move.specs.Jobs.{course_after}
 use Rattle.copy_move.specs.Settling.{NoneOwed, with_change as moves_dirty}
 use Rattle.history_laws.proofs.Calming.{folder_synced, refused_is, still_listed}
 use Rattle.history_laws.proofs.Knowing.{Said, IsKept, settled_marks}
-use Rattle.history_laws.proofs.JobKnows.{HasName, IsIntact, KnowsAfter, WorkKnows, work_settled}
+use Rattle.history_laws.proofs.JobKnows.{HasName, IsIntact, KnowsAfter, WorkKnows, work_settled, work_still}
 use Rattle.history_laws.proofs.Stepped.{Comes, comes_none, comes_one, folders_by, said_after}
 use Rattle.history_laws.proofs.Deleted.{IsRemoval, comes_refused, folder_removed, removal_done, removal_leads, removes_thing}
 use Rattle.history_laws.proofs.Intact.{folder_apart, folder_firm, intact_after, intact_begins, intact_was, removed_in}
@@ -70,12 +69,12 @@ joined_more up q dirty among = by (is_one_of up dirty)
 
 -- the sync of a folder that was done, after which the job stands so
 pub comes_synced : (told : Said) (dirty : List Route) (marks : Marks) (log now : CallLog) (up : Route) (course : Course) (work : Work) → IsKept told dirty marks log
-    → WorkKnows told (without up dirty) marks (current log) course work → Performs {A = Unit {0}} log (SyncFolder up) (Ok tt) (Some now)
-    → Comes told told (without up dirty) log now (λ m. WorkKnows told (without up dirty) m (current now) course work)
+    → WorkKnows told (without up dirty) marks log course work → Performs {A = Unit {0}} log (SyncFolder up) (Ok tt) (Some now)
+    → Comes told told (without up dirty) log now (λ m. WorkKnows told (without up dirty) m now course work)
 comes_synced told dirty marks log now up course work kept knows done =
     let s = folder_synced told dirty marks log kept.known up now done in
-    comes_one told told dirty (without up dirty) marks marks log now (Syncs s.0) (λ m. WorkKnows told (without up dirty) m (current now) course work) kept s.1 s.2
-    (work_settled now marks told (without up dirty) course work (subst (λ (x : FileSystem). WorkKnows told (without up dirty) marks x course work) (sym (ap current s.1 ∙ current_more log (Syncs s.0))) knows))
+    comes_one told told dirty (without up dirty) marks marks log now (Syncs s.0) (λ m. WorkKnows told (without up dirty) m now course work) kept s.1 s.2
+    (work_settled now marks told (without up dirty) course work (work_still told (without up dirty) marks log now course work (ap current s.1 ∙ current_more log (Syncs s.0)) knows))
 
 pub same_dirty : (b : Bool) (up : Route) (dirty : List Route) → moves_dirty b b up dirty ≡ dirty
 same_dirty true up dirty = refl
@@ -83,24 +82,24 @@ same_dirty false up dirty = refl
 
 module _ (told : Said) (dirty dirty_after : List Route) (marks : Marks) (log now : CallLog) (kept : IsKept told dirty marks log) where
   abbrev pub Steps : Did → Course → Work → Work → Type 0
-  Steps did course work new = Comes told (said_after now did work told) dirty_after log now (KnowsAfter did (said_after now did work told) dirty_after (current now) course new)
+  Steps did course work new = Comes told (said_after now did work told) dirty_after log now (KnowsAfter did (said_after now did work told) dirty_after now course new)
 
   -- a folder whose sync was tried
-  pub tried : (up : Route) (left : Option TreeError) (course : Course) (work : Work) → ((routes : List Route) → WorkKnows told routes marks (current log) course work)
+  pub tried : (up : Route) (left : Option TreeError) (course : Course) (work : Work) → ((routes : List Route) → WorkKnows told routes marks log course work)
       → Performs {A = Unit {0}} log (SyncFolder up) (sync_answer left) (Some now) → dirty_after ≡ after_try Barrier left up dirty
-      → Comes told told dirty_after log now (λ m. WorkKnows told dirty_after m (current now) course work)
+      → Comes told told dirty_after log now (λ m. WorkKnows told dirty_after m now course work)
   tried up None course work knows answer is =
-      subst (λ routes. Comes told told routes log now (λ m. WorkKnows told routes m (current now) course work)) (sym is) (comes_synced told dirty marks log now up course work kept (knows (without up dirty)) answer)
+      subst (λ routes. Comes told told routes log now (λ m. WorkKnows told routes m now course work)) (sym is) (comes_synced told dirty marks log now up course work kept (knows (without up dirty)) answer)
   tried up (Some e) course work knows answer is =
-      subst (λ routes. Comes told told routes log now (λ m. WorkKnows told routes m (current now) course work)) (sym is)
+      subst (λ routes. Comes told told routes log now (λ m. WorkKnows told routes m now course work)) (sym is)
       (comes_refused told dirty marks log now course work kept (knows dirty) (refused_is log now (SyncFolder up) e (λ s left. refl) answer))
 
   -- nothing was called
-  pub stands : (course : Course) (work : Work) → WorkKnows told dirty marks (current log) course work → dirty_after ≡ dirty → now ≡ log
-      → Comes told told dirty_after log now (λ m. WorkKnows told dirty_after m (current now) course work)
+  pub stands : (course : Course) (work : Work) → WorkKnows told dirty marks log course work → dirty_after ≡ dirty → now ≡ log
+      → Comes told told dirty_after log now (λ m. WorkKnows told dirty_after m now course work)
   stands course work knows same is =
-      subst (λ routes. Comes told told routes log now (λ m. WorkKnows told routes m (current now) course work)) (sym same)
-      (comes_none told told dirty log now (λ m. WorkKnows told dirty m (current now) course work) marks is kept (subst (λ (l : CallLog). WorkKnows told dirty marks (current l) course work) (sym is) knows))
+      subst (λ routes. Comes told told routes log now (λ m. WorkKnows told routes m now course work)) (sym same)
+      (comes_none told told dirty log now (λ m. WorkKnows told dirty m now course work) marks is kept (subst (λ (l : CallLog). WorkKnows told dirty marks l course work) (sym is) knows))
 
   -- a job without a part ends
   pub ends : (work : Work) → told.part ≡ None → dirty_after ≡ dirty → now ≡ log → Comes told (record told { part = None }) dirty_after log now (λ m. (let o : Option Route = None in o) ≡ None)
@@ -114,8 +113,8 @@ module _ (told : Said) (dirty dirty_after : List Route) (marks : Marks) (log now
   moved d new path_is (intact, stands) = (subst (IsIntact marks (current log)) (sym path_is) intact, subst (λ q. told.folders (folder_of q) ≡ true) (sym path_is) stands)
 
   -- a deletion that stands at this stage, wherever its walk is
-  pub stays : (course other : Course) (d new : Deleting) (stage : Stage) → WorkKnows told dirty marks (current log) course (Delete d) → IsAtStage d stage new → (stage ≡ Going → d.stage ≡ Going) → (routes : List Route)
-      → WorkKnows told routes marks (current log) other (Delete new)
+  pub stays : (course other : Course) (d new : Deleting) (stage : Stage) → WorkKnows told dirty marks log course (Delete d) → IsAtStage d stage new → (stage ≡ Going → d.stage ≡ Going) → (routes : List Route)
+      → WorkKnows told routes marks log other (Delete new)
   stays course other d new stage (name, none, known) at goes routes = (
     subst HasName (sym at.path_is) name,
     none,
@@ -130,7 +129,7 @@ module _ (told : Said) (dirty dirty_after : List Route) (marks : Marks) (log now
       by false e = e
 
   -- what is known where a thing is removed
-  intact_now : (d : Deleting) → WorkKnows told dirty marks (current log) GoesOn (Delete d) → at_barrier d.stage ≡ false → (is_fresh d.stage ≡ true → NoneOwed (current log) (Delete d) dirty) → IsIntact marks (current log) d.path
+  intact_now : (d : Deleting) → WorkKnows told dirty marks log GoesOn (Delete d) → at_barrier d.stage ≡ false → (is_fresh d.stage ≡ true → NoneOwed (current log) (Delete d) dirty) → IsIntact marks (current log) d.path
   intact_now d (name, none, known) going settled = by d.stage refl
     where
       by : (stage : Stage) → d.stage ≡ stage → IsIntact marks (current log) d.path
@@ -139,7 +138,7 @@ module _ (told : Said) (dirty dirty_after : List Route) (marks : Marks) (log now
       by Sync is = absurd (false≢true (sym going ∙ ap at_barrier is))
 
   -- the folder that holds the thing is on the disk then
-  firm_now : (d : Deleting) (path : Route) → WorkKnows told dirty marks (current log) GoesOn (Delete d) → at_barrier d.stage ≡ false → (is_fresh d.stage ≡ true → NoneOwed (current log) (Delete d) dirty)
+  firm_now : (d : Deleting) (path : Route) → WorkKnows told dirty marks log GoesOn (Delete d) → at_barrier d.stage ≡ false → (is_fresh d.stage ≡ true → NoneOwed (current log) (Delete d) dirty)
       → is_prefix d.path path ≡ true → IsRemoval log now path → IsSureFolder log (folder_of d.path)
   firm_now d path (name, none, known) going settled within it = by d.stage refl
     where
@@ -151,10 +150,10 @@ module _ (told : Said) (dirty dirty_after : List Route) (marks : Marks) (log now
   above_it : (path : Route) → IsRemoval log now path → same_path (folder_of path) path ≡ false
   above_it path it = subst (λ q. same_path (folder_of q) q ≡ false) (sym it.r.path_is) (same_path-lengths it.r.up (it.r.name ∷ it.r.up) (λ e. let n : ⊥ = absurd (omega (arith, e)) in n))
 
-  removes : (d new : Deleting) (path : Route) (stage : Stage) → WorkKnows told dirty marks (current log) GoesOn (Delete d) → IsIntact marks (current log) d.path → IsSureFolder log (folder_of d.path) → is_prefix d.path path ≡ true
+  removes : (d new : Deleting) (path : Route) (stage : Stage) → WorkKnows told dirty marks log GoesOn (Delete d) → IsIntact marks (current log) d.path → IsSureFolder log (folder_of d.path) → is_prefix d.path path ≡ true
       → IsAtStage d stage new → Among dirty_after (folder_of path) → ((q : Route) → Among dirty q → same_path q path ≡ false → Among dirty_after q) → IsRemoval log now path → Steps (Removed path) GoesOn (Delete d) (Delete new)
   removes d new path stage (name, none, known) intact firm within at listed more it =
-      removes_thing told dirty dirty_after marks log now path (Delete d) (KnowsAfter (Removed path) (said_after now (Removed path) (Delete d) told) dirty_after (current now) GoesOn (Delete new)) kept none
+      removes_thing told dirty dirty_after marks log now path (Delete d) (KnowsAfter (Removed path) (said_after now (Removed path) (Delete d) told) dirty_after now GoesOn (Delete new)) kept none
       (λ out. intact_was marks (current log) d.path path it.r.i intact within (removal_leads log now path it) out) firm listed more it (
         subst HasName (sym at.path_is) name,
         none,
@@ -173,7 +172,7 @@ module _ (told : Said) (dirty dirty_after : List Route) (marks : Marks) (log now
   refused_by e (RefusedFolder path h) = refused_is log now (RemoveFolder path) e (λ s left. refl) h
   refused_by e (RefusedSync folder h) = refused_is log now (SyncFolder folder) e (λ s left. refl) h
 
-  pub deletion_tells : (d new : Deleting) (did : Did) → WorkKnows told dirty marks (current log) GoesOn (Delete d) → Tells d did new → DeletionCalls did log (Some now)
+  pub deletion_tells : (d new : Deleting) (did : Did) → WorkKnows told dirty marks log GoesOn (Delete d) → Tells d did new → DeletionCalls did log (Some now)
       → (is_fresh d.stage ≡ true → NoneOwed (current log) (Delete d) dirty) → DeletionLeaves d did dirty dirty_after (Some log) (Some now) → Steps did (course_after did) (Delete d) (Delete new)
   deletion_tells d new (Removed path) knows (going, within, at) done settled (inl (leaves, called)) =
       let it = removal_done log now path kept.known.guarded.tree (called log refl) in
@@ -187,7 +186,7 @@ module _ (told : Said) (dirty dirty_after : List Route) (marks : Marks) (log now
   deletion_tells d new (Kept path) knows (going, at) done settled leaves = stands GoesOn (Delete new) (stays GoesOn GoesOn d new _ knows at (still_going path d) dirty) leaves (some_log now log done)
   deletion_tells d new Barrier knows (stage, at) done settled (folder, own, left, called) = tried folder None GoesOn (Delete new) (stays GoesOn GoesOn d new d.stage knows at (λ is. is)) (called log refl) left
   deletion_tells d new (Troubled trouble) knows (barrier, at) done settled leaves =
-      subst (λ routes. Comes told told routes log now (λ m. WorkKnows told routes m (current now) (course_after (Troubled trouble)) (Delete new))) (sym leaves)
+      subst (λ routes. Comes told told routes log now (λ m. WorkKnows told routes m now (course_after (Troubled trouble)) (Delete new))) (sym leaves)
       (comes_refused told dirty marks log now (course_after (Troubled trouble)) (Delete new) kept (stays GoesOn (course_after (Troubled trouble)) d new d.stage knows at (λ is. is) dirty) (by done))
     where
       by : DeletionCalls (Troubled trouble) log (Some now) → (now ≡ log) ⊎ (now ≡ with_change log Rattle.tree_trait.specs.Change.Nothing)
@@ -204,7 +203,7 @@ module _ (told : Said) (dirty dirty_after : List Route) (marks : Marks) (log now
   deletion_tells d new (Placed path) knows tells done settled leaves = absurd tells
   deletion_tells d new (Made made) knows tells done settled leaves = absurd tells
   deletion_tells d new (Skipped path cause) knows (going, passes, at) done settled leaves =
-      subst (λ routes. Comes told told routes log now (λ m. WorkKnows told routes m (current now) GoesOn (Delete new))) (sym leaves)
+      subst (λ routes. Comes told told routes log now (λ m. WorkKnows told routes m now GoesOn (Delete new))) (sym leaves)
       (comes_refused told dirty marks log now GoesOn (Delete new) kept (stays GoesOn GoesOn d new _ knows at (still_going path d) dirty) (by done))
     where
       by : DeletionCalls (Skipped path cause) log (Some now) → (now ≡ log) ⊎ (now ≡ with_change log Rattle.tree_trait.specs.Change.Nothing)
@@ -212,7 +211,7 @@ module _ (told : Said) (dirty dirty_after : List Route) (marks : Marks) (log now
       by (inr (e, is, refused)) = refused_by e refused
   deletion_tells d new (Cleaned part) knows tells done settled leaves = absurd tells
 
-  pub deletion_winds : (d new : Deleting) (ending : Ending) (did : Did) (left : Option TreeError) (folder : Route) → WorkKnows told dirty marks (current log) (Ends ending) (Delete d) → Winds ending d did new
+  pub deletion_winds : (d new : Deleting) (ending : Ending) (did : Did) (left : Option TreeError) (folder : Route) → WorkKnows told dirty marks log (Ends ending) (Delete d) → Winds ending d did new
       → TellsTried did left folder log (Some now) → LastCalls did log (Some now) → dirty_after ≡ after_try did left folder dirty
       → Steps did (Ends ending) (Delete d) (Delete new)
   deletion_winds d new ending Barrier left folder (name, none, known) (path_is, stage_is, skips_is) answer calls leaves =

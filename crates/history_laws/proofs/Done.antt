@@ -135,7 +135,7 @@ module _ (opening : CallLog) (tree : IsTree (current opening)) (settled : all_se
       of_job : (job new : Running) → WorkLeads job (Ended Finished h.part) new f.was.dirty f.after.dirty f.before f.now → Rattle.history_laws.specs.Traces.IsJob h.id f.was.jobs job → IsEnder f.was f.after f.before f.now h.part h.id folder
       of_job job new works its =
           let r = traced_reached opening tree settled older f.was f.before f.traced in
-          let one = only_job h.id f.was.jobs job (told_of opening f.before older r.part) f.was.dirty r.marks (current f.before) its r.knows in
+          let one = only_job h.id f.was.jobs job (told_of opening f.before older r.part) f.was.dirty r.marks f.before its r.knows in
           record {
             job = job;
             new = new;

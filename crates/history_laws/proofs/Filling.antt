@@ -54,7 +54,7 @@ module _ (told : Said) (dirty dirty_after : List Route) (marks : Marks) (log now
   abbrev Begun : Route → SourceFacts → Type 0
   Begun part said =
       Comes told (said_after now (Began part) (Copy c) told) dirty_after log now
-      (λ m. WorkKnows (said_after now (Began part) (Copy c) told) dirty_after m (current now) GoesOn (Copy (record c { stage = Fill part said 0; folder = Dirty })))
+      (λ m. WorkKnows (said_after now (Began part) (Copy c) told) dirty_after m now GoesOn (Copy (record c { stage = Fill part said 0; folder = Dirty })))
 
   -- its folder isn't in doubt
   pub folder_firm : folder_at (current log) up ≡ true → (c.folder ≡ Dirty → told.folders up ≡ true) → (not (is_dirty c.folder) ≡ true → NoneOn (current log) up dirty) → (f : FolderState) → c.folder ≡ f
@@ -168,10 +168,10 @@ module _ (told : Said) (dirty dirty_after : List Route) (marks : Marks) (log now
 
     pub begun : Begun part said
     begun = comes_one told (with_part told part) dirty dirty_after marks (marks_new marks part n) log now (Makes f name made)
-        (λ m. WorkKnows (with_part told part) dirty_after m (current now) GoesOn (Copy (record c { stage = Fill part said 0; folder = Dirty }))) kept d.is
+        (λ m. WorkKnows (with_part told part) dirty_after m now GoesOn (Copy (record c { stage = Fill part said 0; folder = Dirty }))) kept d.is
         (subst (λ (l : CallLog). IsKnown (with_part told part) dirty_after (marks_new marks part n) l) (sym d.is)
         (made_known told dirty dirty_after marks log kept.known name up f made makes refl firm listed more))
-        (subst (λ (l : CallLog). WorkKnows (with_part told part) dirty_after (settled_marks l (marks_new marks part n)) (current l) GoesOn (Copy (record c { stage = Fill part said 0; folder = Dirty }))) (sym d.is)
+        (subst (λ (l : CallLog). WorkKnows (with_part told part) dirty_after (settled_marks l (marks_new marks part n)) l GoesOn (Copy (record c { stage = Fill part said 0; folder = Dirty }))) (sym d.is)
         (target_name, (λ e. (listed, or_left _ _ (same_path-self up))), (refl, (n, part_settled after (marks_new marks part n) (with_part told part) c.target part n has, λ e. filled))))
 
   -- bytes are written behind the first
@@ -243,8 +243,8 @@ module _ (told : Said) (dirty dirty_after : List Route) (marks : Marks) (log now
     abbrev later : Copying
     later = record c { stage = Fill part said (done + length bytes) }
 
-    pub filled_more : Comes told told dirty log now (λ m. WorkKnows told dirty m (current now) GoesOn (Copy later))
-    filled_more = comes_one told told dirty dirty marks marks log now writes (λ m. WorkKnows told dirty m (current now) GoesOn (Copy later)) kept now_is
+    pub filled_more : Comes told told dirty log now (λ m. WorkKnows told dirty m now GoesOn (Copy later))
+    filled_more = comes_one told told dirty dirty marks marks log now writes (λ m. WorkKnows told dirty m now GoesOn (Copy later)) kept now_is
         (subst (λ (l : CallLog). IsKnown told dirty marks l) (sym now_is) (written_known told dirty marks log kept.known part i has.part_is has.leads has.loose whole d.time))
-        (subst (λ (l : CallLog). WorkKnows told dirty (settled_marks l marks) (current l) GoesOn (Copy later)) (sym now_is)
+        (subst (λ (l : CallLog). WorkKnows told dirty (settled_marks l marks) l GoesOn (Copy later)) (sym now_is)
         (target_name, listed, (dirty_is, (i, part_settled (with_change log writes) marks told c.target part i has_on, λ e. filled_on))))

@@ -390,7 +390,7 @@ module _ (opening : CallLog) (tree : IsTree (current opening)) (settled : all_se
     where
       by : (what : Event) → e.what ≡ what → EventLeads was what f.after before now → AreTidy opening older was.dirty was.jobs → IsReached opening older was before → AreTidy opening (e ∷ older) (let a : Stand = f.after in a.dirty) (let a : Stand = f.after in a.jobs)
       by (Step id did) is s t r =
-          let one = only_job id was.jobs s.job (told_of opening before older (let x : IsReached opening older was before = r in x.part)) was.dirty r.marks (current before) s.its r.knows in
+          let one = only_job id was.jobs s.job (told_of opening before older (let x : IsReached opening older was before = r in x.part)) was.dirty r.marks before s.its r.knows in
           let tidy : IsTidyJob opening older was.dirty s.job = subst (λ js. AreTidy opening older was.dirty js) one.0 t in
           let live : HasLive (live_jobs older) (s.job ∷ []) r.part = subst (λ js. HasLive (live_jobs older) js r.part) one.0 r.live in
           let item_is : live_item id (live_jobs older) ≡ Some (item_in (let j : Running = s.job in j.work)) =

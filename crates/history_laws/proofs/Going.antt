@@ -49,29 +49,29 @@ anew_stage told m s course c (at.Clean part follows) k = k
 anew_stage told m s course c (at.Left part) k = k
 anew_stage told m s course c at.Decided k = k
 
-anew_knows : (told : Said) (dirty : List Route) (m : Marks) (s : FileSystem) (course : Course) (work : Work) → WorkKnows told dirty m s course work → WorkKnows told dirty m s GoesOn (taken_anew work)
-anew_knows told dirty m s course (Copy c) (name, listed, stage) = (name, listed, anew_stage told m s course c c.stage stage)
-anew_knows told dirty m s course (Delete d) k = k
-anew_knows told dirty m s course (Make w) k = k
+anew_knows : (told : Said) (dirty : List Route) (m : Marks) (log : CallLog) (course : Course) (work : Work) → WorkKnows told dirty m log course work → WorkKnows told dirty m log GoesOn (taken_anew work)
+anew_knows told dirty m log course (Copy c) (name, listed, stage) = (name, listed, anew_stage told m (current log) course c c.stage stage)
+anew_knows told dirty m log course (Delete d) k = k
+anew_knows told dirty m log course (Make w) k = k
 
-skips_knows : (told : Said) (dirty : List Route) (m : Marks) (s : FileSystem) (course : Course) (why : Cause) (work : Work) → WorkKnows told dirty m s course work → WorkKnows told dirty m s course (with_skips why work)
-skips_knows told dirty m s course why (Copy c) k = k
-skips_knows told dirty m s course why (Delete d) k = k
-skips_knows told dirty m s course why (Make w) k = k
+skips_knows : (told : Said) (dirty : List Route) (m : Marks) (log : CallLog) (course : Course) (why : Cause) (work : Work) → WorkKnows told dirty m log course work → WorkKnows told dirty m log course (with_skips why work)
+skips_knows told dirty m log course why (Copy c) k = k
+skips_knows told dirty m log course why (Delete d) k = k
+skips_knows told dirty m log course why (Make w) k = k
 
-module _ (told : Said) (dirty : List Route) (marks : Marks) (s : FileSystem) where
+module _ (told : Said) (dirty : List Route) (marks : Marks) (log : CallLog) where
   abbrev Knows : Running → Type 0
-  Knows job = WorkKnows told dirty marks s job.course job.work
+  Knows job = WorkKnows told dirty marks log job.course job.work
 
-  on_course : (course other : Course) (work : Work) → (other ≡ GoesOn → ⊥) → WorkKnows told dirty marks s course work → WorkKnows told dirty marks s other work
-  on_course course other work off k = work_course told dirty marks s course other work (λ e. absurd (off e)) k
+  on_course : (course other : Course) (work : Work) → (other ≡ GoesOn → ⊥) → WorkKnows told dirty marks log course work → WorkKnows told dirty marks log other work
+  on_course course other work off k = work_course told dirty marks log course other work (λ e. absurd (off e)) k
 
   answer_knows : (course : Course) (answer : Answer) (job : Running) → job.course ≡ course → Knows job → Knows (answered_on course answer job)
-  answer_knows (InTrouble why) Retry job is k = anew_knows told dirty marks s job.course job.work k
+  answer_knows (InTrouble why) Retry job is k = anew_knows told dirty marks log job.course job.work k
   answer_knows (InTrouble why) Skip job is k = on_course job.course (Skips why) job.work (λ e. let f : ⊥ = cc in f) k
-  answer_knows (InTrouble why) SkipAll job is k = on_course job.course (Skips why) (with_skips why job.work) (λ e. let f : ⊥ = cc in f) (skips_knows told dirty marks s job.course why job.work k)
+  answer_knows (InTrouble why) SkipAll job is k = on_course job.course (Skips why) (with_skips why job.work) (λ e. let f : ⊥ = cc in f) (skips_knows told dirty marks log job.course why job.work k)
   answer_knows (InTrouble why) Abort job is k = on_course job.course (Ends Rattle.job_reports.specs.declared.report.Ending.TheVariants.Aborted) job.work (λ e. let f : ⊥ = cc in f) k
-  answer_knows (OwedSyncFailed why) Retry job is k = anew_knows told dirty marks s job.course job.work k
+  answer_knows (OwedSyncFailed why) Retry job is k = anew_knows told dirty marks log job.course job.work k
   answer_knows (OwedSyncFailed why) Skip job is k = k
   answer_knows (OwedSyncFailed why) SkipAll job is k = k
   answer_knows (OwedSyncFailed why) Abort job is k = on_course job.course (Ends Rattle.job_reports.specs.declared.report.Ending.TheVariants.Aborted) job.work (λ e. let f : ⊥ = cc in f) k
@@ -86,7 +86,7 @@ module _ (told : Said) (dirty : List Route) (marks : Marks) (s : FileSystem) whe
   order_knows : (id : ℕ) (order : JobOrder) (job : Running) → Knows job → Knows (ordered id order job)
   order_knows id (Answered answer) job k = order_by (job.id == id) answer job k
 
-  orders_know : (id : ℕ) (order : JobOrder) (jobs : List Running) → JobsKnow told dirty marks s jobs → JobsKnow told dirty marks s (map (ordered id order) jobs)
+  orders_know : (id : ℕ) (order : JobOrder) (jobs : List Running) → JobsKnow told dirty marks log jobs → JobsKnow told dirty marks log (map (ordered id order) jobs)
   orders_know id order [] k = k
   orders_know id order (job ∷ []) k = order_knows id order job k
   orders_know id order (job ∷ other ∷ jobs) k = absurd k
@@ -98,9 +98,9 @@ module _ (told : Said) (dirty : List Route) (marks : Marks) (s : FileSystem) whe
   closed_by (Skips why) e = absurd (let f : ⊥ = cc in f)
   closed_by (Ends ending) e = absurd (let f : ⊥ = cc in f)
 
-  pub closed_know : (jobs : List Running) → JobsKnow told dirty marks s jobs → JobsKnow told dirty marks s (map closed_job jobs)
+  pub closed_know : (jobs : List Running) → JobsKnow told dirty marks log jobs → JobsKnow told dirty marks log (map closed_job jobs)
   closed_know [] k = k
-  closed_know (job ∷ []) k = work_course told dirty marks s job.course (closed_course job.course) job.work (closed_by job.course) k
+  closed_know (job ∷ []) k = work_course told dirty marks log job.course (closed_course job.course) job.work (closed_by job.course) k
   closed_know (job ∷ other ∷ jobs) k = absurd k
 
 order_same : (id : ℕ) (order : JobOrder) (job : Running) → IsSame job (ordered id order job)
@@ -126,13 +126,13 @@ closed_live live part (job ∷ []) h = h
 closed_live live part (job ∷ other ∷ jobs) h = absurd h
 
 -- the one job that is live
-pub only_job : (id : ℕ) (jobs : List Running) (job : Running) (told : Said) (dirty : List Route) (marks : Marks) (s : FileSystem) → IsJob id jobs job → JobsKnow told dirty marks s jobs → (jobs ≡ job ∷ []) × (job.id ≡ id)
-only_job id [] job told dirty marks s is k = absurd is
-only_job id (first ∷ []) job told dirty marks s (inl here) k = (ap (λ j. j ∷ []) (sym here.1), ap (λ (j : Running). j.id) here.1 ∙ here.0)
-only_job id (first ∷ []) job told dirty marks s (inr none) k = absurd none
-only_job id (first ∷ other ∷ jobs) job told dirty marks s is k = absurd k
+pub only_job : (id : ℕ) (jobs : List Running) (job : Running) (told : Said) (dirty : List Route) (marks : Marks) (log : CallLog) → IsJob id jobs job → JobsKnow told dirty marks log jobs → (jobs ≡ job ∷ []) × (job.id ≡ id)
+only_job id [] job told dirty marks log is k = absurd is
+only_job id (first ∷ []) job told dirty marks log (inl here) k = (ap (λ j. j ∷ []) (sym here.1), ap (λ (j : Running). j.id) here.1 ∙ here.0)
+only_job id (first ∷ []) job told dirty marks log (inr none) k = absurd none
+only_job id (first ∷ other ∷ jobs) job told dirty marks log is k = absurd k
 
-module _ (said : Said) (listed : List LiveJob) (was : Stand) (before : CallLog) (marks : Marks) (kept : IsKept said was.dirty marks before) (knows : JobsKnow said was.dirty marks (current before) was.jobs)
+module _ (said : Said) (listed : List LiveJob) (was : Stand) (before : CallLog) (marks : Marks) (kept : IsKept said was.dirty marks before) (knows : JobsKnow said was.dirty marks before was.jobs)
     (is_live : HasLive listed was.jobs said.part) where
   -- a step says what its report says of the item of the one live job; other events say nothing
   abbrev pub SaidThen : Event → CallLog → Said → Type 0
@@ -153,11 +153,11 @@ module _ (said : Said) (listed : List LiveJob) (was : Stand) (before : CallLog) 
     pub then_is : SaidThen what now said_then
     pub marks_then : Marks
     pub kept_then : IsKept said_then after.dirty marks_then now
-    pub knows_then : JobsKnow said_then after.dirty marks_then (current now) after.jobs
+    pub knows_then : JobsKnow said_then after.dirty marks_then now after.jobs
     pub live_then : HasLive (after_event what listed) after.jobs said_then.part
 
   -- no call was made
-  quiet : (what : Event) (after : Stand) → SaidThen what before said → after_event what listed ≡ listed → after.dirty ≡ was.dirty → JobsKnow said was.dirty marks (current before) after.jobs → HasLive listed after.jobs said.part
+  quiet : (what : Event) (after : Stand) → SaidThen what before said → after_event what listed ≡ listed → after.dirty ≡ was.dirty → JobsKnow said was.dirty marks before after.jobs → HasLive listed after.jobs said.part
       → Goes what after before
   quiet what after same live_same dirty_same knows_then live_then = record {
     made = [];
@@ -167,7 +167,7 @@ module _ (said : Said) (listed : List LiveJob) (was : Stand) (before : CallLog) 
     then_is = same;
     marks_then = marks;
     kept_then = subst (λ d. IsKept said d marks before) (sym dirty_same) kept;
-    knows_then = subst (λ d. JobsKnow said d marks (current before) after.jobs) (sym dirty_same) knows_then;
+    knows_then = subst (λ d. JobsKnow said d marks before after.jobs) (sym dirty_same) knows_then;
     live_then = subst (λ l. HasLive l after.jobs said.part) (sym live_same) live_then;
   }
 
@@ -176,11 +176,11 @@ module _ (said : Said) (listed : List LiveJob) (was : Stand) (before : CallLog) 
     job_live : HasLive listed (job ∷ []) said.part
     job_live = subst (λ js. HasLive listed js said.part) jobs_is is_live
 
-    job_knows : WorkKnows said was.dirty marks (current before) job.course job.work
-    job_knows = subst (λ js. JobsKnow said was.dirty marks (current before) js) jobs_is knows
+    job_knows : WorkKnows said was.dirty marks before job.course job.work
+    job_knows = subst (λ js. JobsKnow said was.dirty marks before js) jobs_is knows
 
     entered : (dirty_after : List Route) (jobs : List Running) (known : Marks → Type 0) → Comes said (said_after now did job.work said) dirty_after before now known
-        → ((m : Marks) → known m → JobsKnow (said_after now did job.work said) dirty_after m (current now) jobs) → HasLive (after_report id did listed) jobs (part_after did said.part)
+        → ((m : Marks) → known m → JobsKnow (said_after now did job.work said) dirty_after m now jobs) → HasLive (after_report id did listed) jobs (part_after did said.part)
         → Goes (Step id did) (let st : Stand = record { jobs = jobs; dirty = dirty_after } in st) now
     entered dirty_after jobs known come known_of live_is = record {
       made = come.made;
@@ -209,11 +209,11 @@ module _ (said : Said) (listed : List LiveJob) (was : Stand) (before : CallLog) 
     stepped dirty_after jobs after (inl (new, inl works, after_is)) is =
         subst (λ js. Goes (Step id did) (let st : Stand = record { jobs = js; dirty = dirty_after } in st) now) (sym (jobs_then after jobs is ∙ ap (λ o. Rattle.history_laws.specs.Traces.before_others o []) after_is))
         (entered dirty_after _ _ (work_leads said was.dirty dirty_after marks before now kept job new did job_knows works)
-        (λ m k. knows_after (said_after now did job.work said) dirty_after m (current now) new did k) (still_live new (tells_same job new did works.tells)))
+        (λ m k. knows_after (said_after now did job.work said) dirty_after m now new did k) (still_live new (tells_same job new did works.tells)))
     stepped dirty_after jobs after (inl (new, inr syncs, after_is)) is =
         subst (λ js. Goes (Step id did) (let st : Stand = record { jobs = js; dirty = dirty_after } in st) now) (sym (jobs_then after jobs is ∙ ap (λ o. Rattle.history_laws.specs.Traces.before_others o []) after_is))
         (entered dirty_after _ _ (sync_leads said was.dirty dirty_after marks before now kept job new did job_knows syncs)
-        (λ m k. knows_after (said_after now did job.work said) dirty_after m (current now) new did k) (still_live new (settled_same syncs.synced)))
+        (λ m k. knows_after (said_after now did job.work said) dirty_after m now new did k) (still_live new (settled_same syncs.synced)))
       where
         settled_same : Rattle.copy_move.specs.Steps.SyncsFolder job syncs.folder did new was.dirty dirty_after (Some before) (Some now) → IsSame job new
         settled_same (inl s) = (ap (λ (x : Running). x.id) s.new_is, ap (λ (x : Running). item_in x.work) s.new_is)
@@ -238,20 +238,20 @@ module _ (said : Said) (listed : List LiveJob) (was : Stand) (before : CallLog) 
     then_is = refl;
     marks_then = marks;
     kept_then = kept;
-    knows_then = subst (λ x. JobsKnow said was.dirty marks (current before) (option_map_or (λ w. running id w ∷ []) x [])) (sym is) (knows_of o is);
+    knows_then = subst (λ x. JobsKnow said was.dirty marks before (option_map_or (λ w. running id w ∷ []) x [])) (sym is) (knows_of o is);
     live_then = subst (λ x. HasLive (option_map_or (λ i. live id i ∷ listed) x listed) (begun id plan) said.part) (sym (first_item id plan))
         (subst (λ x. HasLive (option_map_or (λ i. live id i ∷ listed) (option_map item_in x) listed) (option_map_or (λ w. running id w ∷ []) x []) said.part) (sym is) (live_of o));
   }
     where
       no_part : said.part ≡ None
-      no_part = subst (λ js. JobsKnow said was.dirty marks (current before) js) none knows
+      no_part = subst (λ js. JobsKnow said was.dirty marks before js) none knows
 
       no_live : listed ≡ []
       no_live = subst (λ js. HasLive listed js said.part) none is_live
 
-      knows_of : (o : Option Work) → first_work id plan ≡ o → JobsKnow said was.dirty marks (current before) (option_map_or (λ w. running id w ∷ []) o [])
+      knows_of : (o : Option Work) → first_work id plan ≡ o → JobsKnow said was.dirty marks before (option_map_or (λ w. running id w ∷ []) o [])
       knows_of None is = no_part
-      knows_of (Some w) is = first_knows said was.dirty marks (current before) no_part id plan w is
+      knows_of (Some w) is = first_knows said was.dirty marks before no_part id plan w is
 
       live_of : (o : Option Work) → HasLive (option_map_or (λ i. live id i ∷ listed) (option_map item_in o) listed) (option_map_or (λ w. running id w ∷ []) o []) said.part
       live_of None = no_live
@@ -259,7 +259,7 @@ module _ (said : Said) (listed : List LiveJob) (was : Stand) (before : CallLog) 
 
   pub event_goes : (what : Event) (after : Stand) (now : CallLog) → EventLeads was what after before now → Goes what after now
   event_goes (Step id did) after now s =
-      let one = only_job id was.jobs s.job said was.dirty marks (current before) s.its knows in
+      let one = only_job id was.jobs s.job said was.dirty marks before s.its knows in
       stepped now id did s.job one.0 one.1 after.dirty after.jobs s.new s.leads s.jobs_is
   event_goes (Began id plan background) after now s =
       subst (λ (l : CallLog). Goes (Began id plan background) after l) (sym s.now_is)
@@ -267,7 +267,7 @@ module _ (said : Said) (listed : List LiveJob) (was : Stand) (before : CallLog) 
   event_goes (Order id order) after now s =
       subst (λ (l : CallLog). Goes (Order id order) after l) (sym s.now_is)
       (subst (λ (x : Stand). Goes (Order id order) x before) (sym s.after_is)
-      (quiet (Order id order) (record was { jobs = map (ordered id order) was.jobs }) refl refl refl (orders_know said was.dirty marks (current before) id order was.jobs knows)
+      (quiet (Order id order) (record was { jobs = map (ordered id order) was.jobs }) refl refl refl (orders_know said was.dirty marks before id order was.jobs knows)
       (orders_live listed said.part id order was.jobs is_live)))
   event_goes (Key key time refusals lost) after now s =
       subst (λ (l : CallLog). Goes (Key key time refusals lost) after l) (sym s.now_is)

@@ -39,7 +39,7 @@ pub record IsReached (opening : CallLog) (g : List Entry) (stand : Stand) (now :
   pub part : Option Route
   pub marks : Marks
   pub kept : IsKept (told_of opening now g part) stand.dirty marks now
-  pub knows : JobsKnow (told_of opening now g part) stand.dirty marks (current now) stand.jobs
+  pub knows : JobsKnow (told_of opening now g part) stand.dirty marks now stand.jobs
   pub live : HasLive (live_jobs g) stand.jobs part
   pub within : AreWithin opening g now
 
@@ -66,7 +66,7 @@ pub record IsEntered (opening : CallLog) (older : List Entry) (calls : ℕ) (wha
   pub part : Option Route
   pub marks : Marks
   pub kept : IsKept (told_with opening now older calls what part) after.dirty marks now
-  pub knows : JobsKnow (told_with opening now older calls what part) after.dirty marks (current now) after.jobs
+  pub knows : JobsKnow (told_with opening now older calls what part) after.dirty marks now after.jobs
   pub live : HasLive (after_event what (live_jobs older)) after.jobs part
 
 module _ (opening : CallLog) (older : List Entry) (calls : ℕ) (was : Stand) (before : CallLog) (r : IsReached opening older was before) where
@@ -89,7 +89,7 @@ module _ (opening : CallLog) (older : List Entry) (calls : ℕ) (was : Stand) (b
     part = part;
     marks = n.marks_then;
     kept = subst (λ t. IsKept t after.dirty n.marks_then now) (sym same) n.kept_then;
-    knows = subst (λ t. JobsKnow t after.dirty n.marks_then (current now) after.jobs) (sym same) n.knows_then;
+    knows = subst (λ t. JobsKnow t after.dirty n.marks_then now after.jobs) (sym same) n.knows_then;
     live = subst (λ p. HasLive (after_event what (live_jobs older)) after.jobs p) (sym part_is) n.live_then;
   }
 
@@ -148,7 +148,7 @@ close_reached opening g true after now r = record {
   part = r.part;
   marks = r.marks;
   kept = r.kept;
-  knows = closed_know (told_of opening now g r.part) after.dirty r.marks (current now) after.jobs r.knows;
+  knows = closed_know (told_of opening now g r.part) after.dirty r.marks now after.jobs r.knows;
   live = closed_live (live_jobs g) r.part after.jobs r.live;
   within = r.within;
 }

@@ -57,7 +57,7 @@ pub record IsHeld (listed : List LiveJob) (stand : Stand) (now : CallLog) (path 
   pub said : Said
   pub marks : Marks
   pub kept : IsKept said stand.dirty marks now
-  pub knows : JobsKnow said stand.dirty marks (current now) stand.jobs
+  pub knows : JobsKnow said stand.dirty marks now stand.jobs
   pub live : HasLive listed stand.jobs said.part
   pub keeps : Keeps path v said
 
@@ -90,15 +90,15 @@ module _ (path : Route) (v : Option Value) (told : Said) where
   stage_holding marks s course c (Left part) (i, has) = (i, part_holding marks s c.target part i has)
   stage_holding marks s course c Decided k = k
 
-  work_holding : (dirty : List Route) (marks : Marks) (s : FileSystem) (course : Course) (work : Work) → WorkKnows told dirty marks s course work → WorkKnows (holding path v told) dirty marks s course work
-  work_holding dirty marks s course (Copy c) (name, listed, stage) = (name, listed, stage_holding marks s course c c.stage stage)
-  work_holding dirty marks s course (Delete d) k = k
-  work_holding dirty marks s course (Make w) k = k
+  work_holding : (dirty : List Route) (marks : Marks) (log : CallLog) (course : Course) (work : Work) → WorkKnows told dirty marks log course work → WorkKnows (holding path v told) dirty marks log course work
+  work_holding dirty marks log course (Copy c) (name, listed, stage) = (name, listed, stage_holding marks (current log) course c c.stage stage)
+  work_holding dirty marks log course (Delete d) k = k
+  work_holding dirty marks log course (Make w) k = k
 
-  jobs_holding : (dirty : List Route) (marks : Marks) (s : FileSystem) (jobs : List Running) → JobsKnow told dirty marks s jobs → JobsKnow (holding path v told) dirty marks s jobs
-  jobs_holding dirty marks s [] k = k
-  jobs_holding dirty marks s (job ∷ []) k = work_holding dirty marks s job.course job.work k
-  jobs_holding dirty marks s (job ∷ other ∷ jobs) k = absurd k
+  jobs_holding : (dirty : List Route) (marks : Marks) (log : CallLog) (jobs : List Running) → JobsKnow told dirty marks log jobs → JobsKnow (holding path v told) dirty marks log jobs
+  jobs_holding dirty marks log [] k = k
+  jobs_holding dirty marks log (job ∷ []) k = work_holding dirty marks log job.course job.work k
+  jobs_holding dirty marks log (job ∷ other ∷ jobs) k = absurd k
 
   -- where it isn't in doubt it held before what it holds
   kept_holding : (dirty : List Route) (marks : Marks) (log : CallLog) → IsKept told dirty marks log → is_unsettled log path ≡ false → marks.aside path ≡ false → IsKept (holding path v told) dirty marks log
@@ -136,7 +136,7 @@ held_here opening g stand now path r sure bare = record {
   said = holding path v told;
   marks = r.marks;
   kept = kept_holding path v told stand.dirty r.marks now r.kept sure (out (r.marks.aside path) refl bare);
-  knows = jobs_holding path v told stand.dirty r.marks (current now) stand.jobs r.knows;
+  knows = jobs_holding path v told stand.dirty r.marks now stand.jobs r.knows;
   live = r.live;
   keeps = (refl, ap (λ (s : Spot). s.value) (put_at told.earlier path v), not_listed path told.named);
 }
@@ -206,7 +206,7 @@ close_held listed true after now path v h = record {
   said = h.said;
   marks = h.marks;
   kept = h.kept;
-  knows = closed_know h.said after.dirty h.marks (current now) after.jobs h.knows;
+  knows = closed_know h.said after.dirty h.marks now after.jobs h.knows;
   live = closed_live listed h.said.part after.jobs h.live;
   keeps = h.keeps;
 }

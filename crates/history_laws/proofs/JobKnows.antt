@@ -83,12 +83,12 @@ StageKnows told marks s course c (Clean part follows) = (c.folder ≡ Dirty) × 
 StageKnows told marks s course c (Left part) = (i : ℕ) × HasPart told marks s c.target part i
 StageKnows told marks s course c Decided = told.part ≡ None
 
-abbrev pub WorkKnows : Said → List Route → Marks → FileSystem → Course → Work → Type 0
-WorkKnows told dirty marks s course (Copy c) =
-    HasName c.target × (c.folder ≡ Dirty → Among dirty (folder_of c.target) × (told.folders (folder_of c.target) ≡ true)) × StageKnows told marks s course c c.stage
-WorkKnows told dirty marks s course (Delete d) =
-    HasName d.path × (told.part ≡ None) × (d.stage ≡ Going → IsIntact marks s d.path × (told.folders (folder_of d.path) ≡ true))
-WorkKnows told dirty marks s course (Make m) = HasName m.path × (told.part ≡ None)
+abbrev pub WorkKnows : Said → List Route → Marks → CallLog → Course → Work → Type 0
+WorkKnows told dirty marks log course (Copy c) =
+    HasName c.target × (c.folder ≡ Dirty → Among dirty (folder_of c.target) × (told.folders (folder_of c.target) ≡ true)) × StageKnows told marks (current log) course c c.stage
+WorkKnows told dirty marks log course (Delete d) =
+    HasName d.path × (told.part ≡ None) × (d.stage ≡ Going → IsIntact marks (current log) d.path × (told.folders (folder_of d.path) ≡ true))
+WorkKnows told dirty marks log course (Make m) = HasName m.path × (told.part ≡ None)
 
 -- a path at which nothing stands, and of whose name nothing waits
 pub untouched_free : (told : Said) (dirty : List Route) (marks : Marks) (log : CallLog) (p : Route) → IsKept told dirty marks log → is_unsettled log p ≡ false → find (current log) p ≡ None → IsUntouched marks (current log) p
@@ -197,7 +197,7 @@ module _ (log : CallLog) (marks : Marks) where
   stage_settled told course c (Left part) (i, has) = (i, part_settled told c.target part i has)
   stage_settled told course c Decided none = none
 
-  pub work_settled : (told : Said) (dirty : List Route) (course : Course) (work : Work) → WorkKnows told dirty marks (current log) course work → WorkKnows told dirty (settled_marks log marks) (current log) course work
+  pub work_settled : (told : Said) (dirty : List Route) (course : Course) (work : Work) → WorkKnows told dirty marks log course work → WorkKnows told dirty (settled_marks log marks) log course work
   work_settled told dirty course (Copy c) (name, listed, stage) = (name, listed, stage_settled told course c c.stage stage)
   work_settled told dirty course (Delete d) (name, none, intact) = (name, none, λ is. let k = intact is in (intact_settled d.path k.0, k.1))
   work_settled told dirty course (Make w) k = k
@@ -210,12 +210,18 @@ stage_course told marks s course other c (Clean part follows) on k = k
 stage_course told marks s course other c (Left part) on k = k
 stage_course told marks s course other c Decided on k = k
 
-pub work_course : (told : Said) (dirty : List Route) (marks : Marks) (s : FileSystem) (course other : Course) (work : Work) → (other ≡ GoesOn → course ≡ GoesOn) → WorkKnows told dirty marks s course work → WorkKnows told dirty marks s other work
-work_course told dirty marks s course other (Copy c) on (name, listed, stage) = (name, listed, stage_course told marks s course other c c.stage on stage)
-work_course told dirty marks s course other (Delete d) on k = k
-work_course told dirty marks s course other (Make w) on k = k
+pub work_course : (told : Said) (dirty : List Route) (marks : Marks) (log : CallLog) (course other : Course) (work : Work) → (other ≡ GoesOn → course ≡ GoesOn) → WorkKnows told dirty marks log course work → WorkKnows told dirty marks log other work
+work_course told dirty marks log course other (Copy c) on (name, listed, stage) = (name, listed, stage_course told marks (current log) course other c c.stage on stage)
+work_course told dirty marks log course other (Delete d) on k = k
+work_course told dirty marks log course other (Make w) on k = k
+
+-- what is known holds on after a call that leaves the tree as it was
+pub work_still : (told : Said) (dirty : List Route) (marks : Marks) (log now : CallLog) (course : Course) (work : Work) → current now ≡ current log → WorkKnows told dirty marks log course work → WorkKnows told dirty marks now course work
+work_still told dirty marks log now course (Copy c) same (name, listed, stage) = (name, listed, subst (λ (s : FileSystem). StageKnows told marks s course c c.stage) (sym same) stage)
+work_still told dirty marks log now course (Delete d) same (name, none, known) = (name, none, λ is. let k = known is in (subst (λ (s : FileSystem). IsIntact marks s d.path) (sym same) k.0, k.1))
+work_still told dirty marks log now course (Make m) same k = k
 
 -- what is known after a report: of a job that has ended no part stands
-abbrev pub KnowsAfter : Did → Said → List Route → FileSystem → Course → Work → Marks → Type 0
-KnowsAfter (Ended ending part) told dirty s course work marks = told.part ≡ None
-KnowsAfter did told dirty s course work marks = WorkKnows told dirty marks s course work
+abbrev pub KnowsAfter : Did → Said → List Route → CallLog → Course → Work → Marks → Type 0
+KnowsAfter (Ended ending part) told dirty log course work marks = told.part ≡ None
+KnowsAfter did told dirty log course work marks = WorkKnows told dirty marks log course work

@@ -46,19 +46,19 @@ skip_stage told m s course c (Left part) k = k
 skip_stage told m s course c Decided k = k
 
 module _ (told : Said) (dirty dirty_after : List Route) (marks : Marks) (log now : CallLog) (kept : IsKept told dirty marks log) where
-  skip_knows : (course : Course) (work new : Work) (path : Route) → PassesOver work path new → WorkKnows told dirty marks (current log) course work → WorkKnows told dirty marks (current log) GoesOn new
+  skip_knows : (course : Course) (work new : Work) (path : Route) → PassesOver work path new → WorkKnows told dirty marks log course work → WorkKnows told dirty marks log GoesOn new
   skip_knows course (Copy c) (Copy new) path (path_is, new_is) (name, listed, stage) =
-      subst (λ (n : Copying). WorkKnows told dirty marks (current log) GoesOn (Copy n)) (sym new_is) (name, listed, skip_stage told marks (current log) course c c.stage stage)
+      subst (λ (n : Copying). WorkKnows told dirty marks log GoesOn (Copy n)) (sym new_is) (name, listed, skip_stage told marks (current log) course c c.stage stage)
   skip_knows course (Copy c) (Delete new) path h k = absurd h
   skip_knows course (Copy c) (Make new) path h k = absurd h
   skip_knows course (Delete d) (Copy new) path h k = absurd h
   skip_knows course (Delete d) (Make new) path h k = absurd h
   skip_knows course (Make m) (Copy new) path h k = absurd h
   skip_knows course (Make m) (Delete new) path h k = absurd h
-  skip_knows course (Make m) (Make new) path (path_is, new_is) k = subst (λ (n : Making). WorkKnows told dirty marks (current log) GoesOn (Make n)) (sym new_is) k
+  skip_knows course (Make m) (Make new) path (path_is, new_is) k = subst (λ (n : Making). WorkKnows told dirty marks log GoesOn (Make n)) (sym new_is) k
   skip_knows course (Delete d) (Delete new) path at k = stays told dirty dirty_after marks log now kept course GoesOn d new _ k at (still_going told dirty dirty_after marks log now kept path d) dirty
 
-  work_tells : (old new : Work) (did : Did) → WorkKnows told dirty marks (current log) GoesOn old → WorkTells old did new → WorkCalls IsUnclaimed old did new log (Some now)
+  work_tells : (old new : Work) (did : Did) → WorkKnows told dirty marks log GoesOn old → WorkTells old did new → WorkCalls IsUnclaimed old did new log (Some now)
       → (is_fresh old ≡ true → NoneOwed (current log) old dirty) → WorkLeaves old did new dirty dirty_after (Some log) (Some now)
       → Steps told dirty dirty_after marks log now kept did (course_after did) old new
   work_tells (Copy c) (Copy new) did knows tells calls settled leaves = copy_tells told dirty dirty_after marks log now kept c new did knows tells calls (λ fresh. none_on (current log) (Copy c) dirty (settled fresh)) leaves
@@ -71,7 +71,7 @@ module _ (told : Said) (dirty dirty_after : List Route) (marks : Marks) (log now
   work_tells (Make w) (Copy new) did knows tells calls settled leaves = absurd tells
   work_tells (Make w) (Delete new) did knows tells calls settled leaves = absurd tells
 
-  work_winds : (ending : Ending) (old new : Work) (did : Did) → WorkKnows told dirty marks (current log) (Ends ending) old → WorkWinds ending old did new → WorkLastCalls old did log (Some now)
+  work_winds : (ending : Ending) (old new : Work) (did : Did) → WorkKnows told dirty marks log (Ends ending) old → WorkWinds ending old did new → WorkLastCalls old did log (Some now)
       → LeavesDirty (Ends ending) old did new dirty dirty_after (Some log) (Some now) → Steps told dirty dirty_after marks log now kept did (Ends ending) old new
   work_winds ending (Copy c) (Copy new) did knows winds calls leaves =
       copy_winds told dirty dirty_after marks log now kept c new ending did leaves.refusal knows winds (leaves.tried log refl) calls
@@ -89,9 +89,9 @@ module _ (told : Said) (dirty dirty_after : List Route) (marks : Marks) (log now
   work_winds ending (Make m) (Delete new) did knows winds calls leaves = absurd winds
 
   abbrev pub Leads : Running → Did → Running → Type 0
-  Leads job did new = Comes told (said_after now did job.work told) dirty_after log now (KnowsAfter did (said_after now did job.work told) dirty_after (current now) new.course new.work)
+  Leads job did new = Comes told (said_after now did job.work told) dirty_after log now (KnowsAfter did (said_after now did job.work told) dirty_after now new.course new.work)
 
-  by_course : (job new : Running) (did : Did) (course : Course) → job.course ≡ course → WorkKnows told dirty marks (current log) course job.work → TellsOn course job did new
+  by_course : (job new : Running) (did : Did) (course : Course) → job.course ≡ course → WorkKnows told dirty marks log course job.work → TellsOn course job did new
       → CallsOn IsUnclaimed course job did new log (Some now) → (course ≡ GoesOn → is_fresh job.work ≡ true → NoneOwed (current log) job.work dirty)
       → LeavesDirty course job.work did new.work dirty dirty_after (Some log) (Some now) → Leads job did new
   by_course job new did GoesOn is knows (work, tells, new_is) calls settled leaves =
@@ -106,26 +106,26 @@ module _ (told : Said) (dirty dirty_after : List Route) (marks : Marks) (log now
   by_course job new did (Skips why) is knows (inr (did_is, new_is)) calls settled leaves =
       subst (λ x. Leads job x new) (sym did_is) (subst (λ (x : Running). Leads job (Troubled (Rattle.job_reports.specs.Stops.out_of_memory_at (Rattle.copy_move.specs.Jobs.at_barrier job.work))) x) (sym new_is)
       (stands told dirty dirty_after marks log now kept (InTrouble Memory) job.work
-      (work_course told dirty marks (current log) (Skips why) (InTrouble Memory) job.work (λ e. absurd (let f : ⊥ = cc in f)) knows) leaves (some_log now log calls)))
+      (work_course told dirty marks log (Skips why) (InTrouble Memory) job.work (λ e. absurd (let f : ⊥ = cc in f)) knows) leaves (some_log now log calls)))
   by_course job new did (Ends ending) is knows (work, winds, new_is) calls settled leaves =
       subst (λ (x : Running). Leads job did x) (sym (new_is ∙ ap (λ c. (let x : Running = record job { work = work; course = c } in x)) is))
       (work_winds ending job.work work did knows winds calls (subst (λ (x : Running). LeavesDirty (Ends ending) job.work did x.work dirty dirty_after (Some log) (Some now)) new_is leaves))
 
-  pub work_leads : (job new : Running) (did : Did) → WorkKnows told dirty marks (current log) job.course job.work → WorkLeads job did new dirty dirty_after log now → Leads job did new
+  pub work_leads : (job new : Running) (did : Did) → WorkKnows told dirty marks log job.course job.work → WorkLeads job did new dirty dirty_after log now → Leads job did new
   work_leads job new did knows w = by_course job new did job.course refl knows w.tells w.called w.settled w.leaves
 
-  pub sync_leads : (job new : Running) (did : Did) → WorkKnows told dirty marks (current log) job.course job.work → SyncLeads job did new dirty dirty_after log now → Leads job did new
+  pub sync_leads : (job new : Running) (did : Did) → WorkKnows told dirty marks log job.course job.work → SyncLeads job did new dirty dirty_after log now → Leads job did new
   sync_leads job new did knows s = by s.synced
     where
       by : Rattle.copy_move.specs.Steps.SyncsFolder job s.folder did new dirty dirty_after (Some log) (Some now) → Leads job did new
       by (inl f) =
           subst (λ x. Leads job x new) (sym f.did_is) (subst (λ (x : Running). Leads job Barrier x) (sym f.new_is)
-          (subst (λ xs. Comes told told xs log now (λ m. WorkKnows told xs m (current now) job.course job.work)) (sym f.dirty_is)
+          (subst (λ xs. Comes told told xs log now (λ m. WorkKnows told xs m now job.course job.work)) (sym f.dirty_is)
           (comes_synced told dirty marks log now s.folder job.course job.work kept
-          (fresh_knows told dirty (Rattle.job_reports.specs.Paths.without s.folder dirty) marks (current log) job.course job.work s.fresh knows) (f.called log refl))))
+          (fresh_knows told dirty (Rattle.job_reports.specs.Paths.without s.folder dirty) marks log job.course job.work s.fresh knows) (f.called log refl))))
       by (inr f) =
           subst (λ x. Leads job x new) (sym f.did_is) (subst (λ (x : Running). Leads job (Troubled (trouble_at f.error s.folder true)) x) (sym f.new_is)
-          (subst (λ xs. Comes told told xs log now (λ m. WorkKnows told xs m (current now) (OwedSyncFailed (cause_of f.error)) job.work)) (sym f.dirty_is)
+          (subst (λ xs. Comes told told xs log now (λ m. WorkKnows told xs m now (OwedSyncFailed (cause_of f.error)) job.work)) (sym f.dirty_is)
           (comes_refused told dirty marks log now (OwedSyncFailed (cause_of f.error)) job.work kept
-          (work_course told dirty marks (current log) job.course (OwedSyncFailed (cause_of f.error)) job.work (λ x. absurd (let f : ⊥ = cc in f)) knows)
+          (work_course told dirty marks log job.course (OwedSyncFailed (cause_of f.error)) job.work (λ x. absurd (let f : ⊥ = cc in f)) knows)
           (refused_is log now (SyncFolder s.folder) f.error (λ x bytes. refl) (f.called log refl)))))

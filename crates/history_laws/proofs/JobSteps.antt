@@ -53,10 +53,10 @@ fresh_synced (Clean part follows) folder fresh dirty = false≢true fresh
 fresh_synced (Left part) folder fresh dirty = false≢true fresh
 fresh_synced Decided folder fresh dirty = false≢true fresh
 
-pub fresh_knows : (told : Said) (dirty other : List Route) (marks : Marks) (s : FileSystem) (course : Course) (work : Work) → jobs.is_fresh work ≡ true → WorkKnows told dirty marks s course work → WorkKnows told other marks s course work
-fresh_knows told dirty other marks s course (Copy c) fresh (name, listed, stage) = (name, (λ e. absurd (fresh_synced c.stage c.folder fresh e)), stage)
-fresh_knows told dirty other marks s course (Delete d) fresh k = k
-fresh_knows told dirty other marks s course (Make w) fresh k = k
+pub fresh_knows : (told : Said) (dirty other : List Route) (marks : Marks) (log : CallLog) (course : Course) (work : Work) → jobs.is_fresh work ≡ true → WorkKnows told dirty marks log course work → WorkKnows told other marks log course work
+fresh_knows told dirty other marks log course (Copy c) fresh (name, listed, stage) = (name, (λ e. absurd (fresh_synced c.stage c.folder fresh e)), stage)
+fresh_knows told dirty other marks log course (Delete d) fresh k = k
+fresh_knows told dirty other marks log course (Make w) fresh k = k
 
 module _ (told : Said) (dirty dirty_after : List Route) (marks : Marks) (log now : CallLog) (kept : IsKept told dirty marks log) where
   -- an end names the part that stays
@@ -99,7 +99,7 @@ module _ (told : Said) (dirty dirty_after : List Route) (marks : Marks) (log now
           ∙ sym (put_off told.tree part (value_at (current log) part) p off)
 
   -- the end of a copy, with the part that its stage has
-  ends_copy : (ending : Ending) (c : Copying) (course : Course) (part : Option Route) → WorkKnows told dirty marks (current log) course (Copy c) → part ≡ part_at c.stage → dirty_after ≡ dirty → now ≡ log
+  ends_copy : (ending : Ending) (c : Copying) (course : Course) (part : Option Route) → WorkKnows told dirty marks log course (Copy c) → part ≡ part_at c.stage → dirty_after ≡ dirty → now ≡ log
       → Comes told (said_after now (Ended ending part) (Copy c) told) dirty_after log now (λ m. (let o : Option Route = None in o) ≡ None)
   ends_copy ending c course part (name, listed, knows) part_is same is = subst (λ o. Comes told (said_after now (Ended ending o) (Copy c) told) dirty_after log now (λ m. (let o : Option Route = None in o) ≡ None)) (sym part_is) (by c.stage knows)
     where
@@ -112,7 +112,7 @@ module _ (told : Said) (dirty dirty_after : List Route) (marks : Marks) (log now
       by Decided k = ends told dirty dirty_after marks log now kept (Copy c) k same is
 
   -- a job gives up
-  pub gives_up : (work : Work) (course : Course) (did : Did) → WorkKnows told dirty marks (current log) course work → did ≡ Ended NoMemory (part_of work) → dirty_after ≡ dirty → now ≡ log
+  pub gives_up : (work : Work) (course : Course) (did : Did) → WorkKnows told dirty marks log course work → did ≡ Ended NoMemory (part_of work) → dirty_after ≡ dirty → now ≡ log
       → Comes told (said_after now did work told) dirty_after log now (λ m. (said_after now did work told).part ≡ None)
   gives_up (Copy c) course did knows did_is same is =
       subst (λ x. Comes told (said_after now x (Copy c) told) dirty_after log now (λ m. (said_after now x (Copy c) told).part ≡ None)) (sym did_is) (ends_copy NoMemory c course (part_at c.stage) knows refl same is)
@@ -146,31 +146,31 @@ left_is_part (Left part) h = refl
 left_is_part Decided h = refl
 
 module _ (told : Said) (dirty dirty_after : List Route) (marks : Marks) (log now : CallLog) (kept : IsKept told dirty marks log) where
-  given : (c : Copying) (ending : Ending) → WorkKnows told dirty marks (current log) (Ends ending) (Copy c) → (m : Marks) (s : FileSystem) → WorkKnows told dirty m s (Ends ending) (Copy c) → (routes : List Route)
-      → WorkKnows told routes m s (Ends ending) (Copy (record c { stage = given_up c.stage; folder = Synced }))
-  given c ending knows m s (name, listed, stage) routes = (name, (λ e. absurd (let f : ⊥ = cc in f)), given_up_knows told m s (Ends ending) c c.stage stage)
+  given : (c : Copying) (ending : Ending) → WorkKnows told dirty marks log (Ends ending) (Copy c) → (m : Marks) (l : CallLog) → WorkKnows told dirty m l (Ends ending) (Copy c) → (routes : List Route)
+      → WorkKnows told routes m l (Ends ending) (Copy (record c { stage = given_up c.stage; folder = Synced }))
+  given c ending knows m l (name, listed, stage) routes = (name, (λ e. absurd (let f : ⊥ = cc in f)), given_up_knows told m (current l) (Ends ending) c c.stage stage)
 
-  pub copy_winds : (c new : Copying) (ending : Ending) (did : Did) (left : Option TreeError) → WorkKnows told dirty marks (current log) (Ends ending) (Copy c) → Winds ending c did new
+  pub copy_winds : (c new : Copying) (ending : Ending) (did : Did) (left : Option TreeError) → WorkKnows told dirty marks log (Ends ending) (Copy c) → Winds ending c did new
       → last.TellsFolder c did left log (Some now) → WindCalls c did log (Some now) → dirty_after ≡ after_try did left (folder_of c.target) dirty
       → Steps told dirty dirty_after marks log now kept did (Ends ending) (Copy c) (Copy new)
   copy_winds c new ending (Cleaned part) left (name, listed, stage) (removable_is, new_is) tells rows leaves =
       let r = removed_part told dirty dirty_after marks log now kept c ending part c.stage stage removable_is in
-      subst (λ routes. Comes told (said_after now (Cleaned part) (Copy c) told) routes log now (KnowsAfter (Cleaned part) (said_after now (Cleaned part) (Copy c) told) routes (current now) (Ends ending) (Copy new))) (sym leaves)
-      (subst (λ (x : Copying). Comes told (said_after now (Cleaned part) (Copy c) told) dirty log now (KnowsAfter (Cleaned part) (said_after now (Cleaned part) (Copy c) told) dirty (current now) (Ends ending) (Copy x))) (sym new_is)
+      subst (λ routes. Comes told (said_after now (Cleaned part) (Copy c) told) routes log now (KnowsAfter (Cleaned part) (said_after now (Cleaned part) (Copy c) told) routes now (Ends ending) (Copy new))) (sym leaves)
+      (subst (λ (x : Copying). Comes told (said_after now (Cleaned part) (Copy c) told) dirty log now (KnowsAfter (Cleaned part) (said_after now (Cleaned part) (Copy c) told) dirty now (Ends ending) (Copy x))) (sym new_is)
       (comes_map told (said_after now (Cleaned part) (Copy c) told) dirty log now _
-      (λ m. WorkKnows (said_after now (Cleaned part) (Copy c) told) dirty m (current now) (Ends ending) (Copy (record c { stage = Decided })))
+      (λ m. WorkKnows (said_after now (Cleaned part) (Copy c) told) dirty m now (Ends ending) (Copy (record c { stage = Decided })))
       (λ m k untouched. (name, listed, refl))
       (part_cleaned told dirty marks log now (Copy c) c.target part r.1.0 kept r.1.1 (listed r.0).0
       (subst (λ (l : CallLog). Performs {A = Unit {0}} log (RemoveFile part) (Ok tt) (Some l)) (sym (some_log now rows.0 rows.2)) rows.1))))
   copy_winds c new ending Barrier left knows (dirty_is, new_is) answers rows leaves =
-      subst (λ (x : Copying). Comes told told dirty_after log now (λ m. WorkKnows told dirty_after m (current now) (Ends ending) (Copy x))) (sym new_is) (by (removable c.stage) answers)
+      subst (λ (x : Copying). Comes told told dirty_after log now (λ m. WorkKnows told dirty_after m now (Ends ending) (Copy x))) (sym new_is) (by (removable c.stage) answers)
     where
       by : (o : Option Route) → SyncAnswers c o left log (Some now)
-          → Comes told told dirty_after log now (λ m. WorkKnows told dirty_after m (current now) (Ends ending) (Copy (record c { stage = given_up c.stage; folder = Synced })))
-      by None answer = tried told dirty dirty_after marks log now kept (folder_of c.target) left (Ends ending) (Copy (record c { stage = given_up c.stage; folder = Synced })) (given c ending knows marks (current log) knows) answer leaves
+          → Comes told told dirty_after log now (λ m. WorkKnows told dirty_after m now (Ends ending) (Copy (record c { stage = given_up c.stage; folder = Synced })))
+      by None answer = tried told dirty dirty_after marks log now kept (folder_of c.target) left (Ends ending) (Copy (record c { stage = given_up c.stage; folder = Synced })) (given c ending knows marks log knows) answer leaves
       by (Some part) (e, mid, refused, answer) =
           comes_then told told dirty dirty_after log mid now _ _ (comes_refused told dirty marks log mid (Ends ending) (Copy c) kept knows (refused_is log mid (RemoveFile part) e (λ s bytes. refl) refused))
-          (λ m k still. tried told dirty dirty_after m mid now k (folder_of c.target) left (Ends ending) (Copy (record c { stage = given_up c.stage; folder = Synced })) (given c ending knows m (current mid) still) answer leaves)
+          (λ m k still. tried told dirty dirty_after m mid now k (folder_of c.target) left (Ends ending) (Copy (record c { stage = given_up c.stage; folder = Synced })) (given c ending knows m mid still) answer leaves)
   copy_winds c new ending (Ended how part) left knows (none, synced, how_is, part_is, new_is) tells done leaves =
       ends_copy told dirty dirty_after marks log now kept how c (Ends ending) part knows (part_is ∙ left_is_part c.stage none) leaves (some_log now log done)
   copy_winds c new ending (Began part) left knows winds tells rows leaves = absurd winds

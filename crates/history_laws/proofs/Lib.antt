@@ -7,6 +7,8 @@ pub mod Deleted
 pub mod DeletionSteps
 pub mod Done
 pub mod Emptied
+pub mod FilledCalls
+pub mod FilledFolders
 pub mod Example
 pub mod ExampleParts
 pub mod Filling

@@ -125,14 +125,14 @@ module _ (told : Said) (dirty dirty_after : List Route) (marks : Marks) (log now
       → Performs {A = Unit {0}} log (MakeFolder w.path new_folder_mode) (Ok tt) (Some now) → In (Made w.path) GoesOn (Make w) (Make new)
   made_at w new name none new_is owed routes done =
       let up = folder_of w.path in
-      subst (λ q. Comes told (said_after now (Made q) (Make w) told) dirty_after log now (KnowsAfter (Made q) (said_after now (Made q) (Make w) told) dirty_after (current now) GoesOn (Make new))) (sym name.is)
+      subst (λ q. Comes told (said_after now (Made q) (Make w) told) dirty_after log now (KnowsAfter (Made q) (said_after now (Made q) (Make w) told) dirty_after now GoesOn (Make new))) (sym name.is)
       (folder_made told dirty dirty_after marks log now name.name up (Make w) kept none owed refl
       (subst (λ xs. Among xs up) (sym routes) (joined_holds up dirty)) (λ q among. subst (λ xs. Among xs q) (sym routes) (joined_more up q dirty among))
       (subst (λ q. Performs {A = Unit {0}} log (MakeFolder q new_folder_mode) (Ok tt) (Some now)) name.is done)
-      (KnowsAfter (Made (name.name ∷ up)) (said_after now (Made (name.name ∷ up)) (Make w) told) dirty_after (current now) GoesOn (Make new))
+      (KnowsAfter (Made (name.name ∷ up)) (said_after now (Made (name.name ∷ up)) (Make w) told) dirty_after now GoesOn (Make new))
       (λ m. (subst (λ (x : Making). HasName x.path) (sym new_is) name, none)))
 
-  pub making_tells : (w new : Making) (did : Did) → WorkKnows told dirty marks (current log) GoesOn (Make w) → Tells w did new → MakingCalls w did log (Some now)
+  pub making_tells : (w new : Making) (did : Did) → WorkKnows told dirty marks log GoesOn (Make w) → Tells w did new → MakingCalls w did log (Some now)
       → (is_fresh w.stage ≡ true → NoneOn (current log) (folder_of w.path) dirty) → dirty_after ≡ moves_dirty (makings.is_dirty w.stage) (makings.is_dirty new.stage) (folder_of w.path) dirty
       → In did (course_after did) (Make w) (Make new)
   making_tells w new (Made path) (name, none) (stage, path_is, new_is) done settled leaves =
@@ -145,8 +145,8 @@ module _ (told : Said) (dirty dirty_after : List Route) (marks : Marks) (log now
       tried told dirty dirty_after marks log now kept (folder_of w.path) None GoesOn (Make new) (λ routes. (subst (λ (x : Making). HasName x.path) (sym new_is) name, none))
       (subst (λ q. Answers log (call_of making.Sync q) (Ok tt) (Some now)) name.is done) routes
   making_tells w new (Troubled trouble) (name, none) (at, new_is) (e, cause, answer) settled leaves =
-      subst (λ (x : Making). Comes told told dirty_after log now (λ m. WorkKnows told dirty_after m (current now) (course_after (Troubled trouble)) (Make x))) (sym new_is)
-      (subst (λ routes. Comes told told routes log now (λ m. WorkKnows told routes m (current now) (course_after (Troubled trouble)) (Make w))) (sym routes)
+      subst (λ (x : Making). Comes told told dirty_after log now (λ m. WorkKnows told dirty_after m now (course_after (Troubled trouble)) (Make x))) (sym new_is)
+      (subst (λ routes. Comes told told routes log now (λ m. WorkKnows told routes m now (course_after (Troubled trouble)) (Make w))) (sym routes)
       (comes_refused told dirty marks log now (course_after (Troubled trouble)) (Make w) kept (name, none) (by w.stage refl (subst (λ q. Answers log (call_of w.stage q) (Err e) (Some now)) name.is answer))))
     where
       routes : dirty_after ≡ dirty
@@ -173,7 +173,7 @@ module _ (told : Said) (dirty dirty_after : List Route) (marks : Marks) (log now
   making_tells w new (Skipped path cause) knows tells done settled leaves = absurd tells
   making_tells w new (Cleaned part) knows tells done settled leaves = absurd tells
 
-  pub making_winds : (w new : Making) (ending : Ending) (did : Did) (left : Option TreeError) → WorkKnows told dirty marks (current log) (Ends ending) (Make w) → Winds ending w did new
+  pub making_winds : (w new : Making) (ending : Ending) (did : Did) (left : Option TreeError) → WorkKnows told dirty marks log (Ends ending) (Make w) → Winds ending w did new
       → MakingLeaves w did left log (Some now) → LastMakingCalls w did log (Some now) → dirty_after ≡ after_try did left (folder_of w.path) dirty
       → In did (Ends ending) (Make w) (Make new)
   making_winds w new ending Barrier left (name, none) (stage, new_is) answer calls leaves =

@@ -37,10 +37,10 @@ safe_told opening end g part dirty marks log image kept left path apart =
     safe_path (told_of opening end g part) dirty marks log kept image left path (λ named stays. apart (record { named = named; stays = stays }))
 
 -- the part that is known is that of a live job
-pub live_part : (jobs : List Running) (told : Said) (dirty : List Route) (marks : Marks) (s : FileSystem) (live : List LiveJob) (path : Route) → JobsKnow told dirty marks s jobs → HasLive live jobs told.part → told.part ≡ Some path → IsLivePart live path
-live_part [] told dirty marks s live path knows is part = absurd (let e : (let o : Option Route = None in o) ≡ Some path = sym knows ∙ part in cc)
-live_part (job ∷ []) told dirty marks s live path knows is part = subst (λ l. IsLivePart l path) (sym is) ((let l : LiveJob = record { id = job.id; item = item_in job.work; part = told.part } in l), inl refl, part)
-live_part (job ∷ other ∷ jobs) told dirty marks s live path knows is part = absurd knows
+pub live_part : (jobs : List Running) (told : Said) (dirty : List Route) (marks : Marks) (log : CallLog) (live : List LiveJob) (path : Route) → JobsKnow told dirty marks log jobs → HasLive live jobs told.part → told.part ≡ Some path → IsLivePart live path
+live_part [] told dirty marks log live path knows is part = absurd (let e : (let o : Option Route = None in o) ≡ Some path = sym knows ∙ part in cc)
+live_part (job ∷ []) told dirty marks log live path knows is part = subst (λ l. IsLivePart l path) (sym is) ((let l : LiveJob = record { id = job.id; item = item_in job.work; part = told.part } in l), inl refl, part)
+live_part (job ∷ other ∷ jobs) told dirty marks log live path knows is part = absurd knows
 
 -- so many calls were made
 pub traced_count : (opening now : CallLog) (newest : List Entry) (stand : Stand) → IsTraced opening newest stand now → length now.changes ≡ length opening.changes + calls_in newest
@@ -72,7 +72,7 @@ module _ (opening : CallLog) (tree : IsTree (current opening)) (settled : all_se
   log = log_prefix opening calls end
 
   part_of : (g : List Entry) (stand : Stand) (now : CallLog) (r : IsReached opening g stand now) → (q : Route) → r.part ≡ Some q → IsLivePart (live_jobs g) q
-  part_of g stand now r q is = live_part stand.jobs (told_of opening now g r.part) stand.dirty r.marks (current now) (live_jobs g) q r.knows r.live is
+  part_of g stand now r q is = live_part stand.jobs (told_of opening now g r.part) stand.dirty r.marks now (live_jobs g) q r.knows r.live is
 
   -- after these entries, whose calls were made
   known_here : (g : List Entry) (stand : Stand) (now : CallLog) (rest : List Change) → IsReached opening g stand now → end ≡ more now rest → log ≡ now → Is g
@@ -175,5 +175,5 @@ replay_law opening now newest stand tree settled traced =
     record {
       base = same_base opening tree settled newest stand now traced;
       tree = r.kept.known.guarded.tree;
-      shows = λ path other. r.kept.known.shows path (λ part. other (live_part stand.jobs (told_of opening now newest r.part) stand.dirty r.marks (current now) (live_jobs newest) path r.knows r.live part));
+      shows = λ path other. r.kept.known.shows path (λ part. other (live_part stand.jobs (told_of opening now newest r.part) stand.dirty r.marks now (live_jobs newest) path r.knows r.live part));
     }

@@ -3,7 +3,7 @@ use Rattle.std.proofs.Common.{◌≡◌, ℕ, Bool, true, false, List, [], ◌�
 use Rattle.std.specs.Prelude.{◌==◌, if◌then◌else◌, is_some, ◌&&◌}
 use Rattle.std.proofs.lemmas.Bool.{false≢true, and_parts, eq-eqb}
 use Rattle.mc_text.specs.Routes.{Route, parent_of}
-use Rattle.tree_trait.specs.declared.file_system.FileSystem.{FileSystem}
+use Rattle.tree_trait.specs.Change.{CallLog}
 use Rattle.crash_law.specs.Guarded.{Marks}
 use Rattle.job_reports.specs.declared.report.Did.{Did}
 use Rattle.job_reports.specs.declared.report.Did.TheVariants.{Began, Chunk, Placed, Removed, Made, Set, Kept, Skipped, Cleaned, Barrier, Troubled, Ended}
@@ -21,10 +21,10 @@ use Rattle.history_laws.proofs.Sources.{item_in}
 use Rattle.history_laws.proofs.Stepped.{part_after}
 
 -- what is known of the live jobs: of none no part stands
-abbrev pub JobsKnow : Said → List Route → Marks → FileSystem → List Running → Type 0
-JobsKnow told dirty marks s [] = told.part ≡ None
-JobsKnow told dirty marks s (job ∷ []) = WorkKnows told dirty marks s job.course job.work
-JobsKnow told dirty marks s (job ∷ other ∷ jobs) = ⊥
+abbrev pub JobsKnow : Said → List Route → Marks → CallLog → List Running → Type 0
+JobsKnow told dirty marks log [] = told.part ≡ None
+JobsKnow told dirty marks log (job ∷ []) = WorkKnows told dirty marks log job.course job.work
+JobsKnow told dirty marks log (job ∷ other ∷ jobs) = ⊥
 
 -- the history tells of these live jobs
 abbrev pub HasLive : List LiveJob → List Running → Option Route → Type 0
@@ -38,9 +38,9 @@ same_id id = eq-eqb id id refl
 pub with_one : (job : Running) (new : Option Running) → with_job job.id new (job ∷ []) ≡ before_others new []
 with_one job new = ap (λ b. if◌then◌else◌ b (before_others new []) (job ∷ [])) (same_id job.id)
 
-module _ (told : Said) (dirty : List Route) (marks : Marks) (s : FileSystem) (new : Running) where
+module _ (told : Said) (dirty : List Route) (marks : Marks) (log : CallLog) (new : Running) where
   -- the jobs after a report
-  pub knows_after : (did : Did) → KnowsAfter did told dirty s new.course new.work marks → JobsKnow told dirty marks s (before_others (unless_ended did new) [])
+  pub knows_after : (did : Did) → KnowsAfter did told dirty log new.course new.work marks → JobsKnow told dirty marks log (before_others (unless_ended did new) [])
   knows_after (Ended ending part) k = k
   knows_after (Began part) k = k
   knows_after (Chunk count) k = k
@@ -86,23 +86,23 @@ has_name [] h = absurd (false≢true h)
 has_name (name ∷ folder) h = record { name = name; is = refl }
 
 -- the work of a plan knows its target
-module _ (told : Said) (dirty : List Route) (marks : Marks) (s : FileSystem) (none : told.part ≡ None) where
-  deletes : (path : Route) (w : Work) (b : Bool) → is_some (parent_of path) ≡ b → (let o : Option Work = if◌then◌else◌ b (Some (Rattle.copy_move.specs.Jobs.deletes path)) None in o) ≡ Some w → WorkKnows told dirty marks s GoesOn w
-  deletes path w true has is = subst (λ x. WorkKnows told dirty marks s GoesOn x) (let e : Rattle.copy_move.specs.Jobs.deletes path ≡ w = cc in e) (has_name path has, none, λ e. absurd (let f : ⊥ = cc in f))
+module _ (told : Said) (dirty : List Route) (marks : Marks) (log : CallLog) (none : told.part ≡ None) where
+  deletes : (path : Route) (w : Work) (b : Bool) → is_some (parent_of path) ≡ b → (let o : Option Work = if◌then◌else◌ b (Some (Rattle.copy_move.specs.Jobs.deletes path)) None in o) ≡ Some w → WorkKnows told dirty marks log GoesOn w
+  deletes path w true has is = subst (λ x. WorkKnows told dirty marks log GoesOn x) (let e : Rattle.copy_move.specs.Jobs.deletes path ≡ w = cc in e) (has_name path has, none, λ e. absurd (let f : ⊥ = cc in f))
   deletes path w false has is = absurd (let f : ⊥ = cc in f)
 
-  makes : (path : Route) (w : Work) (b : Bool) → is_some (parent_of path) ≡ b → (let o : Option Work = if◌then◌else◌ b (Some (Rattle.copy_move.specs.Jobs.makes path)) None in o) ≡ Some w → WorkKnows told dirty marks s GoesOn w
-  makes path w true has is = subst (λ x. WorkKnows told dirty marks s GoesOn x) (let e : Rattle.copy_move.specs.Jobs.makes path ≡ w = cc in e) (has_name path has, none)
+  makes : (path : Route) (w : Work) (b : Bool) → is_some (parent_of path) ≡ b → (let o : Option Work = if◌then◌else◌ b (Some (Rattle.copy_move.specs.Jobs.makes path)) None in o) ≡ Some w → WorkKnows told dirty marks log GoesOn w
+  makes path w true has is = subst (λ x. WorkKnows told dirty marks log GoesOn x) (let e : Rattle.copy_move.specs.Jobs.makes path ≡ w = cc in e) (has_name path has, none)
   makes path w false has is = absurd (let f : ⊥ = cc in f)
 
   copies : (id : ℕ) (source target : Route) (w : Work) (b : Bool) → (is_some (parent_of source) && is_some (parent_of target)) ≡ b
-      → (let o : Option Work = if◌then◌else◌ b (Some (Rattle.copy_move.specs.Jobs.copies id source target)) None in o) ≡ Some w → WorkKnows told dirty marks s GoesOn w
+      → (let o : Option Work = if◌then◌else◌ b (Some (Rattle.copy_move.specs.Jobs.copies id source target)) None in o) ≡ Some w → WorkKnows told dirty marks log GoesOn w
   copies id source target w true has is =
-      subst (λ x. WorkKnows told dirty marks s GoesOn x) (let e : Rattle.copy_move.specs.Jobs.copies id source target ≡ w = cc in e)
+      subst (λ x. WorkKnows told dirty marks log GoesOn x) (let e : Rattle.copy_move.specs.Jobs.copies id source target ≡ w = cc in e)
       (has_name target (and_parts _ _ has).1, (λ e. absurd (let f : ⊥ = cc in f)), (none, λ e. absurd (let f : ⊥ = cc in f)))
   copies id source target w false has is = absurd (let f : ⊥ = cc in f)
 
-  pub first_knows : (id : ℕ) (job : Job) (w : Work) → first_work id job ≡ Some w → WorkKnows told dirty marks s GoesOn w
+  pub first_knows : (id : ℕ) (job : Job) (w : Work) → first_work id job ≡ Some w → WorkKnows told dirty marks log GoesOn w
   first_knows id (plan.Delete []) w is = absurd (let f : ⊥ = cc in f)
   first_knows id (plan.Delete (path ∷ [])) w is = deletes path w (is_some (parent_of path)) refl is
   first_knows id (plan.Delete (path ∷ more ∷ paths)) w is = absurd (let f : ⊥ = cc in f)

@@ -68,10 +68,10 @@ module _ (told : Said) (log : CallLog) where
   stage_doubting marks s course c (Left part) (i, has) = (i, part_doubting marks s c.target part i has)
   stage_doubting marks s course c Decided k = k
 
-  work_doubting : (dirty : List Route) (marks : Marks) (s : FileSystem) (course : Course) (work : Work) → WorkKnows told dirty marks s course work → WorkKnows (doubting told log) dirty marks s course work
-  work_doubting dirty marks s course (Copy c) (name, listed, stage) = (name, listed, stage_doubting marks s course c c.stage stage)
-  work_doubting dirty marks s course (Delete d) k = k
-  work_doubting dirty marks s course (Make w) k = k
+  work_doubting : (dirty : List Route) (marks : Marks) (now : CallLog) (course : Course) (work : Work) → WorkKnows told dirty marks now course work → WorkKnows (doubting told log) dirty marks now course work
+  work_doubting dirty marks now course (Copy c) (name, listed, stage) = (name, listed, stage_doubting marks (current now) course c c.stage stage)
+  work_doubting dirty marks now course (Delete d) k = k
+  work_doubting dirty marks now course (Make w) k = k
 
   kept_doubting : (dirty : List Route) (marks : Marks) → IsKept told dirty marks log → IsKept (doubting told log) dirty marks log
   kept_doubting dirty marks kept = record {
@@ -151,8 +151,8 @@ module _ (opening : CallLog) (older : List Entry) (was : Stand) (before : CallLo
       kept : IsKept (doubting told before) was.dirty r.marks before
       kept = kept_doubting told before was.dirty r.marks r.kept
 
-      knows : WorkKnows (doubting told before) was.dirty r.marks (current before) job.course job.work
-      knows = work_doubting told before was.dirty r.marks (current before) job.course job.work (subst (λ js. JobsKnow told was.dirty r.marks (current before) js) jobs_is r.knows)
+      knows : WorkKnows (doubting told before) was.dirty r.marks before job.course job.work
+      knows = work_doubting told before was.dirty r.marks before job.course job.work (subst (λ js. JobsKnow told was.dirty r.marks before js) jobs_is r.knows)
 
       by : StepLeads job did after was.dirty dirty_after before now → IsStill path before now
       by (inl (new, inl works, after_is)) =
@@ -174,7 +174,7 @@ module _ (opening : CallLog) (older : List Entry) (was : Stand) (before : CallLo
   }
 
   pub event_still : (what : Event) (after : Stand) (now : CallLog) → EventLeads was what after before now → names_path what path ≡ false → IsStill path before now
-  event_still (Step id did) after now s unnamed = step_still after.dirty now did s.job s.new (only_job id was.jobs s.job told was.dirty r.marks (current before) s.its r.knows).0 unnamed s.leads
+  event_still (Step id did) after now s unnamed = step_still after.dirty now did s.job s.new (only_job id was.jobs s.job told was.dirty r.marks before s.its r.knows).0 unnamed s.leads
   event_still (event.Began id plan background) after now s unnamed = none_still now s.now_is
   event_still (Order id order) after now s unnamed = none_still now s.now_is
   event_still (Key key time refusals lost) after now s unnamed = none_still now s.now_is
@@ -268,7 +268,7 @@ module _ (opening : CallLog) (tree : IsTree (current opening)) (settled : all_se
       → IsSure g before → IsStill path before now
   still_then e g was before after now traced leads unnamed s =
       let r = traced_reached opening tree settled g was before traced in
-      event_still opening g was before r path s.0 (λ is. s.1 (live_part was.jobs (told_of opening before g r.part) was.dirty r.marks (current before) (live_jobs g) path r.knows r.live is)) e.what after now leads unnamed
+      event_still opening g was before r path s.0 (λ is. s.1 (live_part was.jobs (told_of opening before g r.part) was.dirty r.marks before (live_jobs g) path r.knows r.live is)) e.what after now leads unnamed
 
   sure_after : (g : List Entry) (stand : Stand) (now : CallLog) (rest : List Change) → IsTraced opening g stand now → end ≡ more now rest → IsUnnamedSince older path g → IsSure g now
   sure_after [] stand now rest traced end_is same = at_older [] stand now rest same traced end_is
