@@ -170,7 +170,7 @@ module _ (contents contents_after : Option CallLog) (faults : ℕ) (old new : Se
     told = tells;
     timely = unplanned old unasked settled;
     counts = record { seat = main; later = later; fault = λ h. absurd cc; calls = omega arith; most = omega arith };
-    leads = (record { unclosed = unclosed; looked = looked; sought = ap is_seeking (unasked_screen old unasked) ∙ sought; unlost = unlost }, same_noted old new screen quit);
+    leads = (record { unclosed = unclosed; looked = looked; sought = ap is_seeking (unasked_screen old unasked) ∙ sought; unlost = unlost }, refl, same_noted old new screen quit);
     sought = tt;
     caused = λ log known. tt;
     traced = leads_still contents contents_after same old new (entry seat old.tally.calls count shown (Key key now [] true)) refl dirty (λ log stays. record { after_is = stays; now_is = refl }) (job ∙ open_job old.tally.closed old.job unclosed);

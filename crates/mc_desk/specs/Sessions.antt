@@ -73,12 +73,12 @@ pub record IsOrdered (was : Before) (id : ℕ) (answer : Answer) (after : Screen
   pub fits : takes_answer row answer ≡ true
   pub carried_out : after ≡ record was.screen { planned = None }
 
--- What an event makes of the screen. A look comes only where one is due: the first, which draws the opening frame, and after it
+-- What an event makes of the screen. A key that was lost is told without a refusal, and makes nothing. A look comes only where one is due: the first, which draws the opening frame, and after it
 -- one of the job that was begun or answered. It takes up a job's end, and tells what there is to tell of it, and shows the trouble of the
 -- live job as its newest report told it. A search goes on only where nothing is due (what its steps make of the screen, `EventSeeks` says). A step is
 -- one that the live job may make.
 abbrev pub EventLeads : Before → Event → Screen → Type 0
-EventLeads was (Key key now refusals true) after = TakesKey was.tally was.screen × (after ≡ was.screen)
+EventLeads was (Key key now refusals true) after = TakesKey was.tally was.screen × (refusals ≡ []) × (after ≡ was.screen)
 EventLeads was (Key key now refusals false) after = TakesKey was.tally was.screen × KeyWorks was.contents was.rows (next_id was.tally.last) now key refusals was.screen after
 EventLeads was (Look refusals) after =
     (was.tally.closed ≡ false) × IsSome was.tally.due × LookLeads was.contents was.rows was.tally.has_unseen_end was.news refusals was.screen after
