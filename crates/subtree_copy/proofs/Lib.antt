@@ -1,0 +1,10 @@
+mod Barred
+mod Begun
+mod Fewer
+mod Held
+mod LastOnes
+mod Left
+mod Listed
+mod Ranked
+mod Targets
+mod Worked
