@@ -16,7 +16,6 @@ use Rattle.job_answers.specs.declared.skips.Skips.{Skips}
 use Rattle.file_copy.specs.Copying as file
 use Rattle.file_copy.specs.Copying.{Copying}
 use Rattle.file_copy.specs.CopySteps as file_steps
-use Rattle.file_copy.specs.declared.stage.Stage.{Stage as FileStage}
 use Rattle.file_copy.specs.declared.stage.Stage.TheVariants as file_stage
 use Rattle.folder_copy.specs.FolderCopying as folder
 use Rattle.folder_copy.specs.FolderCopying.{FolderCopying, is_dirty}
@@ -30,7 +29,6 @@ use Rattle.folder_copy.specs.declared.stage.Stage.TheVariants.{Make, Fill, Close
 use Rattle.link_copy.specs.LinkCopying as link
 use Rattle.link_copy.specs.LinkCopying.{LinkCopying}
 use Rattle.link_copy.specs.LinkSteps as link_steps
-use Rattle.link_copy.specs.declared.stage.Stage.{Stage as LinkStage}
 use Rattle.link_copy.specs.declared.stage.Stage.TheVariants as link_stage
 use Rattle.subtree_walk.specs.Places.{opened}
 use Rattle.copy_levels.specs.declared.level.Level.{Level}
@@ -38,19 +36,18 @@ use Rattle.copy_levels.specs.Levels.{Levels, is_around_dirty, made_levels, owed_
 use Rattle.tree_copy.specs.declared.due.Due.TheVariants.{End, Thing}
 use Rattle.tree_copy.specs.declared.item.Item.{Item}
 use Rattle.tree_copy.specs.declared.item.Item.TheVariants.{Next, File, Link, Stays}
-use Rattle.tree_copy.specs.declared.progress.Progress.{Progress}
-use Rattle.tree_copy.specs.declared.progress.Progress.TheVariants.{UnderWay, Decided, Anew}
+use Rattle.tree_copy.specs.declared.progress.Progress.TheVariants.{UnderWay}
 use Rattle.tree_copy.specs.declared.report.CopyDid.{CopyDid}
 use Rattle.tree_copy.specs.declared.report.CopyDid.TheVariants.{Common}
 use Rattle.tree_copy.specs.Falling.{AllMade, IsSteady, is_made}
 use Rattle.tree_copy.specs.Progress.{link_progress, progress}
 use Rattle.tree_copy.specs.Reports.{IsToldAs}
 use Rattle.tree_copy.specs.Skipping as machine
-use Rattle.tree_copy.specs.Standing.{Seen, due, due_at, pair_of}
-use Rattle.tree_copy.specs.Steps.{FileWorks, FolderEnds, FolderMakes, GoesOn, IsWorkable, LeavesAll, LinkWorks, Stops, SyncsAround, TakesNext, WhyStopped, WorksOn, at_end, has_debt, idle, link_begun, noted, settled}
+use Rattle.tree_copy.specs.Standing.{Seen, due, due_at}
+use Rattle.tree_copy.specs.Steps.{FileWorks, FolderEnds, FolderMakes, GoesOn, IsWorkable, LeavesAll, LinkWorks, SyncsAround, TakesNext, WhyStopped, WorksOn, at_end, has_debt, idle, link_begun, noted, settled}
 use Rattle.tree_copy.proofs.Fallings.{all_leave}
 use Rattle.subtree_copy.specs.Barriers.{BarrierLaw}
-use Rattle.subtree_copy.specs.Leaving.{LeavesSettled, may_leave}
+use Rattle.subtree_copy.specs.Leaving.{may_leave}
 use Rattle.subtree_copy.specs.Passing.{OrPassedOver, passed_cause}
 use Rattle.subtree_copy.specs.Standing.{at_barrier, barrier_at, barrier_at_end, barrier_at_name}
 use Rattle.subtree_copy.specs.SubtreeSteps.{ListSteps, common, step_result}
@@ -61,10 +58,10 @@ abbrev pub Says : CopyDid → Trouble → Type 0
 Says did t = did ≡ Common (Troubled t)
 
 -- a name is next
-abbrev HasNext : Seen → Type 0
+abbrev pub HasNext : Seen → Type 0
 HasNext c = (name : List ℕ) × (rest : List (List ℕ)) × (c.levels.inner.names.names ≡ name ∷ rest)
 
-next_at : (names : List (List ℕ)) (c : Seen) (pair : Pair) → due_at names c ≡ Thing pair → (name : List ℕ) × (rest : List (List ℕ)) × (names ≡ name ∷ rest)
+pub next_at : (names : List (List ℕ)) (c : Seen) (pair : Pair) → due_at names c ≡ Thing pair → (name : List ℕ) × (rest : List (List ℕ)) × (names ≡ name ∷ rest)
 next_at [] c pair is = absurd (let f : ⊥ = cc in f)
 next_at (name ∷ names) c pair is = (name, names, refl)
 
@@ -74,7 +71,7 @@ unbarred c free clean h =
     ap (λ (i : Item). barrier_at i c.levels) free
     ∙ (ap (λ b. b || barrier_at_name c.levels.inner.names.names c.levels.inner.copy.stage) clean ∙ ap (λ names. barrier_at_name names c.levels.inner.copy.stage) h.2)
 
-why_next : (unclaimed : Route → Type 0) (c : Seen) (t : Trouble) (before : Option CallLog) → WhyStopped unclaimed c t before → HasNext c
+pub why_next : (unclaimed : Route → Type 0) (c : Seen) (t : Trouble) (before : Option CallLog) → WhyStopped unclaimed c t before → HasNext c
 why_next unclaimed c t before (inl d) = (d.0, d.1, d.2)
 why_next unclaimed c t before (inr (inl d)) = next_at c.levels.inner.names.names c d.0 d.1
 why_next unclaimed c t before (inr (inr (inl d))) = next_at c.levels.inner.names.names c d.0 d.1

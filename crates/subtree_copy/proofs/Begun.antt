@@ -1,5 +1,5 @@
 -- A copy that begins is in its place.
-use Rattle.std.proofs.Common.{◌≡◌, ℕ, refl, sym, ◌∙◌, ap, subst, List, [], ◌∷◌, drop, Bool, true, Option, Some, None}
+use Rattle.std.proofs.Common.{◌≡◌, ℕ, refl, sym, ◌∙◌, ap, subst, List, [], ◌∷◌, drop, true, Some}
 use Rattle.std.specs.Prelude.{is_some}
 use Rattle.mc_text.specs.Routes.{Route, parent_of}
 use Rattle.job_answers.specs.Skipping.{no_skips}

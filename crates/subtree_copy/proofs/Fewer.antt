@@ -1,11 +1,10 @@
 -- Each step leaves fewer steps.
-use Rattle.std.proofs.Common.{◌≡◌, ℕ, ◌+◌, ◌-◌, ◌*◌, ◌^◌, ◌<◌, ◌≤◌, zero, suc, refl, sym, ◌∙◌, ap, subst, inl, inr, Bool, true, false, List, [], ◌∷◌, length, arith, Option, Some, None}
+use Rattle.std.proofs.Common.{◌≡◌, ℕ, ◌+◌, ◌-◌, ◌*◌, ◌^◌, ◌<◌, ◌≤◌, suc, refl, sym, ◌∙◌, ap, subst, inl, inr, Bool, true, false, List, [], ◌∷◌, length, arith, Option, Some, None}
 use Rattle.std.proofs.Math.Nat.{mul-le-mul_right, suc-mul}
-use Rattle.std.proofs.lemmas.Bool.{false≢true, true≢false}
+use Rattle.std.proofs.lemmas.Bool.{false≢true}
 use Rattle.mc_text.specs.Routes.{Route}
 use Rattle.tree_trait.specs.Change.{CallLog}
 use Rattle.job_reports.specs.declared.job.Pair.{Pair}
-use Rattle.job_reports.specs.declared.report.Cause.{Cause}
 use Rattle.job_reports.specs.declared.report.Did.{Did}
 use Rattle.job_reports.specs.declared.report.Did.TheVariants.{Began, Chunk, Placed, Removed, Made, Set, Kept, Skipped, Cleaned, Barrier, Troubled, Ended}
 use Rattle.file_copy.specs.Copying as file
@@ -31,19 +30,16 @@ use Rattle.link_copy.specs.declared.stage.Stage.{Stage as LinkStage}
 use Rattle.link_copy.specs.declared.stage.Stage.TheVariants as link_stage
 use Rattle.subtree_walk.specs.Places.{OpenFolder, opened}
 use Rattle.subtree_walk.proofs.Falling.{pass_falls}
-use Rattle.copy_levels.specs.declared.level.Level.{Level}
 use Rattle.copy_levels.specs.Levels.{Levels, dirtied, is_around_dirty, made_levels, walked}
 use Rattle.tree_copy.specs.declared.due.Due.TheVariants.{Thing}
 use Rattle.tree_copy.specs.declared.item.Item.{Item}
 use Rattle.tree_copy.specs.declared.item.Item.TheVariants.{Next, File, Link, Stays}
 use Rattle.tree_copy.specs.declared.report.CopyDid.{CopyDid}
-use Rattle.tree_copy.specs.declared.report.CopyDid.TheVariants.{Common}
-use Rattle.tree_copy.specs.Falling.{IsSteady, HasName, decides, things_left}
+use Rattle.tree_copy.specs.Falling.{HasName, decides, things_left}
 use Rattle.tree_copy.specs.Progress.{link_progress, progress}
 use Rattle.tree_copy.specs.Reports.{IsToldAs}
 use Rattle.tree_copy.specs.Standing.{Seen, due_at}
-use Rattle.tree_copy.specs.Steps.{FileWorks, FolderEnds, FolderMakes, GoesOn, LeavesAll, LinkWorks, SyncsAround, TakesNext, WorksOn, at_end, idle, link_begun, noted, settled}
-use Rattle.tree_copy.proofs.Fallings.{all_leave}
+use Rattle.tree_copy.specs.Steps.{FileWorks, FolderEnds, FolderMakes, GoesOn, LinkWorks, SyncsAround, TakesNext, WorksOn, at_end, idle, link_begun, noted, settled}
 use Rattle.subtree_copy.specs.Ranks.{anew, around_rank, dirt, file_rank, goes_on, item_rank, level_rank, levels_rank, link_rank, rank_by, stage_rank}
 use Rattle.subtree_copy.specs.SubtreeSteps.{common}
 

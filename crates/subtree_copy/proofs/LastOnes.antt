@@ -1,26 +1,24 @@
 -- Each last step but the end leaves fewer.
 use Rattle.std.specs.Prelude.{◌⊎◌}
-use Rattle.std.proofs.Common.{◌≡◌, ℕ, ◌+◌, ◌<◌, ◌≤◌, zero, suc, refl, sym, ◌∙◌, ap, subst, inl, inr, Bool, true, false, List, arith, Option, Some, None}
-use Rattle.std.proofs.lemmas.Bool.{false≢true, true≢false}
+use Rattle.std.proofs.Common.{◌≡◌, ℕ, ◌+◌, ◌<◌, ◌≤◌, zero, suc, refl, sym, ◌∙◌, ap, inl, inr, Bool, true, false, arith, Option, Some, None}
+use Rattle.std.proofs.lemmas.Bool.{true≢false}
 use Rattle.mc_text.specs.Routes.{Route}
 use Rattle.tree_trait.specs.Change.{CallLog}
 use Rattle.job_reports.specs.declared.report.Ending.{Ending}
 use Rattle.job_reports.specs.declared.report.LastStepResult.{LastStepResult}
 use Rattle.job_reports.specs.Reports.{ends}
 use Rattle.file_copy.specs.Copying as file
-use Rattle.file_copy.specs.Copying.{Copying, part_at}
+use Rattle.file_copy.specs.Copying.{part_at}
 use Rattle.folder_copy.specs.FolderCopying.{FolderCopying}
 use Rattle.folder_copy.specs.declared.stage.NamesState.TheVariants.{Synced}
-use Rattle.link_copy.specs.LinkCopying.{LinkCopying}
-use Rattle.copy_levels.specs.declared.level.Level.{Level}
 use Rattle.copy_levels.specs.Levels.{LeftAll, Levels, dirtied, with_copy}
 use Rattle.tree_copy.specs.declared.item.Item.{Item}
 use Rattle.tree_copy.specs.declared.item.Item.TheVariants.{Next, File, Link, Stays}
-use Rattle.tree_copy.specs.Ending.{EndsAll, FileWinds, FoldersWind, LinkWinds, TriesFolder, WindsAt, stays_if}
+use Rattle.tree_copy.specs.Ending.{EndsAll, FoldersWind, TriesFolder, WindsAt, stays_if}
 use Rattle.tree_copy.specs.Standing.{Seen}
 use Rattle.tree_copy.specs.Steps.{idle}
 use Rattle.subtree_copy.specs.Ranks.{LastRankLaw, dirt, last_of, last_rank, marks, marks_around}
-use Rattle.subtree_copy.proofs.Fewer.{dirt_few, dirty_counts}
+use Rattle.subtree_copy.proofs.Fewer.{dirty_counts}
 
 -- folders that are left leave no more marks
 left_marks : (n : ℕ) (old mid : Levels) → LeftAll n old mid → marks mid ≤ marks old

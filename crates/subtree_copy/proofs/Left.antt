@@ -28,7 +28,7 @@ none_next (name ∷ names) c is = absurd (let f : ⊥ = cc in f)
 some_around : (was around : List Level) (outer : Level) → was ≡ outer ∷ around → is_empty was ≡ false
 some_around was around outer is = ap (λ (xs : List Level). is_empty xs) is
 
-may_so : (none dirty last owes : Bool) → none ≡ true → dirty ≡ false → last ≡ false → owes ≡ false → (if not none || (dirty || last) then false else not owes) ≡ true
+may_so : (none dirty last owes : Bool) → none ≡ true → dirty ≡ false → last ≡ false → owes ≡ false → (if dirty || last then false else (if none then not owes else false)) ≡ true
 may_so true false false false a b c d = refl
 may_so true false false true a b c d = absurd (true≢false d)
 may_so true false true owes a b c d = absurd (true≢false c)

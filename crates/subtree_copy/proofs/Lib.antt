@@ -1,5 +1,7 @@
 mod Barred
 mod Begun
+mod Counts
+mod Done
 mod Fewer
 mod Held
 mod LastOnes

@@ -16,6 +16,11 @@ pub leaves_list : (now : Bool) (there folder : Route) (dirty : List Route) → (
 leaves_list true there folder dirty same = refl
 leaves_list false there folder dirty same = ap (λ f. without f dirty) (same refl)
 
+-- one that stays as it is leaves the list so
+pub unchanged : (was : Bool) (folder : Route) (dirty : List Route) → dirty ≡ with_change was was folder dirty
+unchanged true folder dirty = refl
+unchanged false folder dirty = refl
+
 -- a clean one joins it, and stays there where it was changed
 pub joins_list : (now new dropped : Bool) (folder : Route) (dirty more dirty_after : List Route) → more ≡ joined folder dirty → (if new then take (length more - 1) more else more) ≡ dirty → dropped ≡ (new && not now)
     → dirty_after ≡ (if dropped then take (length more - 1) more else more) → dirty_after ≡ with_change false now folder dirty

@@ -1,5 +1,4 @@
 -- Each step after which the copy goes on leaves fewer: one that passes over a trouble, too.
-use Rattle.std.specs.Prelude.{◌⊎◌}
 use Rattle.std.proofs.Common.{◌≡◌, ℕ, ◌+◌, ◌*◌, ◌^◌, ◌<◌, ◌≤◌, zero, suc, refl, sym, ◌∙◌, ap, subst, inl, inr, Bool, true, false, List, [], ◌∷◌, length, arith, Option, Some, None}
 use Rattle.std.proofs.Math.Nat.{mul-le-mul_right, suc-mul}
 use Rattle.std.proofs.lemmas.Bool.{false≢true, true≢false}
@@ -14,7 +13,6 @@ use Rattle.job_reports.specs.declared.report.Trouble.{Trouble}
 use Rattle.file_copy.specs.Copying as file
 use Rattle.file_copy.specs.Copying.{Copying}
 use Rattle.file_copy.specs.CopySteps as file_steps
-use Rattle.file_copy.specs.declared.stage.Next.{Next as FileNext}
 use Rattle.file_copy.specs.declared.stage.Stage.{Stage as FileStage}
 use Rattle.file_copy.specs.declared.stage.Stage.TheVariants as file_stage
 use Rattle.folder_copy.specs.FolderCopying as folder
@@ -32,24 +30,23 @@ use Rattle.link_copy.specs.declared.stage.Stage.TheVariants as link_stage
 use Rattle.subtree_walk.specs.Places.{opened}
 use Rattle.subtree_walk.specs.Ranks.{rank_around, weight}
 use Rattle.subtree_walk.proofs.Falling.{pass_falls}
-use Rattle.copy_levels.specs.declared.level.Level.{Level}
 use Rattle.copy_levels.specs.Levels.{Levels, emptied, made_levels, passed, walked}
 use Rattle.tree_copy.specs.declared.item.Item.{Item}
 use Rattle.tree_copy.specs.declared.item.Item.TheVariants.{Next, File, Link, Stays}
 use Rattle.tree_copy.specs.declared.report.CopyDid.{CopyDid}
-use Rattle.tree_copy.specs.Falling.{HasName, IsSteady, decides, things_left}
+use Rattle.tree_copy.specs.Falling.{HasName, IsSteady, things_left}
 use Rattle.tree_copy.specs.Progress.{link_progress, progress}
 use Rattle.tree_copy.specs.Skipping as machine
 use Rattle.tree_copy.specs.Standing.{Seen, after_report}
-use Rattle.tree_copy.specs.Steps.{FileWorks, FolderEnds, FolderMakes, GoesOn, IsWorkable, LeavesAll, LinkWorks, TakesNext, WorksOn, at_end, idle, link_begun, noted, settled}
+use Rattle.tree_copy.specs.Steps.{FileWorks, FolderEnds, FolderMakes, GoesOn, IsWorkable, LeavesAll, LinkWorks, TakesNext, WorksOn, at_end, idle, link_begun, settled}
 use Rattle.tree_copy.proofs.Fallings.{all_leave, falling_law}
 use Rattle.subtree_copy.specs.Leaving.{may_leave}
 use Rattle.subtree_copy.specs.Passing.{OrPassedOver}
-use Rattle.subtree_copy.specs.Ranks.{RankLaw, anew, around_rank, file_rank, goes_on, item_rank, level_rank, levels_rank, link_rank, rank, rank_by, stage_rank}
+use Rattle.subtree_copy.specs.Ranks.{RankLaw, anew, around_rank, file_rank, goes_on, item_rank, level_rank, levels_rank, link_rank, rank_by, stage_rank}
 use Rattle.subtree_copy.specs.Standing.{SubtreeCopying, at_barrier, barrier_at, barrier_at_end, barrier_at_name}
-use Rattle.subtree_copy.specs.SubtreeSteps.{ListSteps, SubtreeSteps, common, step_result}
+use Rattle.subtree_copy.specs.SubtreeSteps.{ListSteps, SubtreeSteps, step_result}
 use Rattle.subtree_copy.proofs.Barred.{IsOpenAt, Says, file_same, folder_same, left_workable, link_same, list_barred, opens_at, passed_trouble, said_so, troubled}
-use Rattle.subtree_copy.proofs.Fewer.{Before, FitsFile, FitsLink, closing_rank, copy_rank, fewer_falls, file_settles, link_settles, same_falls, same_things, some_name, works_falls}
+use Rattle.subtree_copy.proofs.Fewer.{Before, FitsFile, FitsLink, closing_rank, copy_rank, fewer_falls, file_settles, link_settles, same_things, some_name, works_falls}
 use Rattle.subtree_copy.proofs.Targets.{works_at_once}
 
 -- folders that are left leave no more

@@ -1,5 +1,5 @@
 -- The folder that a step works is the one that was to be worked before it.
-use Rattle.std.proofs.Common.{◌≡◌, ℕ, refl, sym, ◌∙◌, ap, subst, inl, inr, Bool, true, false, List, ◌∷◌, Option}
+use Rattle.std.proofs.Common.{◌≡◌, ℕ, refl, sym, ◌∙◌, ap, subst, inl, inr, Bool, true, false, List, Option}
 use Rattle.std.proofs.lemmas.Bool.{false≢true, true≢false}
 use Rattle.mc_text.specs.Routes.{Route}
 use Rattle.tree_trait.specs.Change.{CallLog}
@@ -13,9 +13,9 @@ use Rattle.folder_copy.specs.declared.stage.FolderDid.{FolderDid}
 use Rattle.folder_copy.specs.declared.stage.FolderDid.TheVariants as folder_did
 use Rattle.folder_copy.specs.declared.stage.NamesState.TheVariants.{Synced}
 use Rattle.folder_copy.specs.declared.stage.Stage.{Stage}
-use Rattle.folder_copy.specs.declared.stage.Stage.TheVariants.{Make, Fill, Close, Done}
+use Rattle.folder_copy.specs.declared.stage.Stage.TheVariants.{Make}
 use Rattle.job_reports.specs.declared.job.Pair.{Pair}
-use Rattle.subtree_walk.specs.Places.{OpenFolder, is_empty, opened}
+use Rattle.subtree_walk.specs.Places.{is_empty, opened}
 use Rattle.tree_copy.specs.declared.item.Item.{Item}
 use Rattle.tree_copy.specs.declared.item.Item.TheVariants.{Next, File, Link, Stays}
 use Rattle.copy_levels.specs.declared.level.Level.{Level}

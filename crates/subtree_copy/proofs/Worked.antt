@@ -17,7 +17,7 @@ use Rattle.subtree_copy.specs.Leaving.{may_leave}
 use Rattle.subtree_copy.specs.Marks.{brings_made, folder_worked, is_dirty_after, is_left_dirty, was_dirty, with_change}
 use Rattle.subtree_copy.specs.Standing.{at_barrier}
 use Rattle.subtree_copy.specs.SubtreeSteps.{ListSteps, common, step_result}
-use Rattle.subtree_copy.proofs.Listed.{joins_list, leaves_list, of_around, of_inner}
+use Rattle.subtree_copy.proofs.Listed.{joins_list, leaves_list, of_around, of_inner, unchanged}
 use Rattle.subtree_copy.proofs.Targets.{stays_around, stays_inner}
 
 -- there was no memory to keep the folder
@@ -45,6 +45,13 @@ module _ (unclaimed : Route → Type 0) (old new : Seen) (did : CopyDid) (calls 
       ∙ (ap (λ b. if b then without there dirty else dirty) off
       ∙ (leaves_list now there (target_around old.levels.around) dirty (λ _. at ∙ stays.1)
       ∙ (ap (λ b. with_change true b (target_around old.levels.around) dirty) is ∙ of_around old new did dirty brings))))
+
+  -- nothing was left to be done
+  pub worked_at_end : brings_made old ≡ false → is_left_dirty did new ≡ is_dirty old.levels.inner.copy.names → dirty_after ≡ dirty → ListSteps unclaimed old new result dirty dirty_after before after f0 f1
+  worked_at_end brings same list =
+      listed (list
+      ∙ (unchanged (is_dirty old.levels.inner.copy.names) old.levels.inner.copy.target dirty
+      ∙ (ap (λ b. with_change (is_dirty old.levels.inner.copy.names) b old.levels.inner.copy.target dirty) (sym same) ∙ of_inner old new did dirty brings)))
 
   -- the innermost was dirty
   pub worked_in_dirty : brings_made old ≡ false → is_dirty old.levels.inner.copy.names ≡ true → (now synced : Bool) (there : Route) → now ≡ is_left_dirty did new → synced ≡ not now → there ≡ new.levels.inner.copy.target

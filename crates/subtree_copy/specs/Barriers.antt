@@ -3,7 +3,6 @@ use Rattle.std.specs.Prelude.{◌≡◌, ℕ, Bool, true, List, Option}
 use Rattle.mc_text.specs.Routes.{Route}
 use Rattle.tree_trait.specs.Change.{CallLog}
 use Rattle.job_reports.specs.declared.report.Did.TheVariants.{Troubled}
-use Rattle.job_reports.specs.declared.report.Did.{Did}
 use Rattle.job_reports.specs.declared.report.Trouble.{Trouble}
 use Rattle.tree_copy.specs.Falling.{IsSteady}
 use Rattle.subtree_copy.specs.Standing.{IsGoing, SubtreeCopying, at_barrier}

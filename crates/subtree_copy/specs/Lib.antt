@@ -1,4 +1,5 @@
 pub mod Barriers
+pub mod Counted
 pub mod Leaving
 pub mod Marks
 pub mod Passing

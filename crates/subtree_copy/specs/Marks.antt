@@ -1,5 +1,5 @@
 -- The marks of the open folders, and the list of dirty folders, which mirrors them.
-use Rattle.std.specs.Prelude.{◌≡◌, ◌||◌, Bool, true, false, List, if◌then◌else◌, Option, Some, None}
+use Rattle.std.specs.Prelude.{Bool, true, false, List, if◌then◌else◌, Option, Some, None}
 use Rattle.mc_text.specs.Routes.{Route}
 use Rattle.tree_trait.specs.declared.calls.TreeError.{TreeError}
 use Rattle.job_reports.specs.declared.report.Did.{Did}

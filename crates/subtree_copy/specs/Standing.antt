@@ -1,6 +1,6 @@
 -- Where the copy of a thing with all that lies in it stands, as a job works it.
-use Rattle.std.specs.Prelude.{◌≡◌, ℕ, ◌||◌, ◌&&◌, Bool, true, false, List, [], ◌∷◌, if◌then◌else◌, Option, Some, None}
-use Rattle.mc_text.specs.Routes.{Route, is_prefix}
+use Rattle.std.specs.Prelude.{◌≡◌, ℕ, ◌||◌, Bool, true, false, List, [], ◌∷◌, if◌then◌else◌, Option, Some, None}
+use Rattle.mc_text.specs.Routes.{Route}
 use Rattle.job_answers.specs.Skipping.{no_skips}
 use Rattle.job_answers.specs.declared.skips.Skips.{Skips}
 use Rattle.job_reports.specs.declared.job.Pair.{Pair}

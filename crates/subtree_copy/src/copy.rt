@@ -141,6 +141,13 @@ impl SubtreeCopy {
         into_part(machine)
     }
 
+    /// What is copied.
+    pub fn source(&self) -> &Path
+        ensures { result.now ≡ self.now.top.source }
+    {
+        &self.top.source
+    }
+
     /// The folder that holds the target.
     pub fn folder(&self) -> &Path
         ensures { result.now ≡ folder_of self.now.top.target }

@@ -1,9 +1,8 @@
 //! Folders that owe nothing are left before a step, so that the folder that is worked then is the one that the step changes.
-ghost use Rattle.std.specs.Prelude.{◌≡◌, false, not, true};
-ghost use Rattle.subtree_walk.specs.Places.{is_empty};
+ghost use Rattle.std.specs.Prelude.{◌≡◌, false, true};
 ghost use Rattle.tree_copy.specs.Standing.{seen};
 ghost use Rattle.tree_copy.specs.Steps.{IsWorkable, Leaves};
-ghost use Rattle.subtree_copy.specs.Leaving.{LeavesSettled, may_leave as is_done_with, may_leave_at as is_done_at, owes_at_end as owes_then};
+ghost use Rattle.subtree_copy.specs.Leaving.{LeavesSettled, is_done as has_ended, is_done_at as has_ended_at, may_leave as leaves_next, may_leave_at as leaves_next_at, owes_at_end as owes_then};
 
 use copy_levels::Stack;
 use folder_copy::Stage;
@@ -13,7 +12,7 @@ use tree_copy::{Item, TreeCopy};
 pub(crate) fn leave_settled(machine: &mut TreeCopy)
     requires workable { IsWorkable machine.old.item }
     ensures leaves { LeavesSettled (seen machine.old) (seen machine.new) }
-    ensures settled { is_done_with (seen machine.new) ≡ false }
+    ensures settled { leaves_next (seen machine.new) ≡ false }
     ensures workable { IsWorkable machine.new.item }
 {
     while may_leave(machine) {
@@ -23,7 +22,7 @@ pub(crate) fn leave_settled(machine: &mut TreeCopy)
 
 /// Whether the folder that is worked is done with, and isn't the outermost.
 fn may_leave(machine: &TreeCopy) -> bool
-    ensures { result ≡ is_done_with (seen machine.now) }
+    ensures { result ≡ leaves_next (seen machine.now) }
 {
     match &machine.item {
         Item::Next => may_leave_at(&machine.stack),
@@ -34,21 +33,32 @@ fn may_leave(machine: &TreeCopy) -> bool
 }
 
 fn may_leave_at(stack: &Stack) -> bool
-    ensures { result ≡ is_done_at stack.now.levels }
+    ensures { result ≡ leaves_next_at stack.now.levels }
 {
-    if has_name(stack) || stack.is_around_dirty() || stack.is_outermost() {
+    if stack.is_around_dirty() || stack.is_outermost() {
         return false;
     }
-    !owes_at_end(stack.stage(), stack.is_dirty())
+    is_done_at(stack)
 }
 
-/// Whether a name is yet to be met in the folder that is worked.
-fn has_name(stack: &Stack) -> bool
-    ensures { result ≡ not (is_empty stack.now.levels.inner.names.names) }
+/// Whether no name is left in the folder that is worked, and it owes nothing.
+pub(crate) fn is_done(machine: &TreeCopy) -> bool
+    ensures { result ≡ has_ended (seen machine.now) }
+{
+    match &machine.item {
+        Item::Next => is_done_at(&machine.stack),
+        Item::File(_) => false,
+        Item::Link(_) => false,
+        Item::Stays(_) => false,
+    }
+}
+
+fn is_done_at(stack: &Stack) -> bool
+    ensures { result ≡ has_ended_at stack.now.levels }
 {
     match stack.next_name() {
-        Some(_) => true,
-        None => false,
+        Some(_) => false,
+        None => !owes_at_end(stack.stage(), stack.is_dirty()),
     }
 }
 
@@ -68,7 +78,7 @@ fn owes_at_end(stage: Stage, dirty: bool) -> bool
 
 /// The folder around is worked again.
 fn leave(machine: &mut TreeCopy)
-    requires may { is_done_with (seen machine.old) ≡ true }
+    requires may { leaves_next (seen machine.old) ≡ true }
     ensures leaves { Leaves (seen machine.old) (seen machine.new) }
     ensures free { machine.new.item ≡ machine.old.item }
 {

@@ -12,5 +12,6 @@ mod working;
 
 pub use copy::SubtreeCopy;
 pub use laws::{
-    a_trouble_stands_where_the_copy_does, each_last_step_leaves_fewer, each_step_leaves_fewer,
+    a_step_counts_its_calls, a_trouble_stands_where_the_copy_does, each_last_step_leaves_fewer,
+    each_step_leaves_fewer,
 };

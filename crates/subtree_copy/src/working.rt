@@ -1,15 +1,17 @@
 //! A step with the list of dirty folders: the folder that is worked joins it before its first change, when there may still be no
 //! memory, and leaves it with its sync.
-ghost use Rattle.std.specs.Prelude.{◌≡◌, false, true};
+ghost use Rattle.std.specs.Prelude.{◌≡◌, List, false, true};
+ghost use Rattle.mc_text.specs.Routes.{Route};
 ghost use Rattle.folder_copy.specs.FolderCopying.{is_dirty};
 ghost use Rattle.tree_copy.specs.Standing.{seen};
 ghost use Rattle.tree_copy.specs.Steps.{IsWorkable};
 ghost use Rattle.job_reports.specs.Stops.{out_of_memory_at};
-ghost use Rattle.subtree_copy.specs.Leaving.{may_leave};
+ghost use Rattle.subtree_copy.specs.Leaving.{is_done as has_ended, may_leave};
 ghost use Rattle.subtree_copy.specs.Marks.{brings_made as brings};
 ghost use Rattle.subtree_copy.specs.SubtreeSteps.{ListSteps, common};
 
 use crate::dirt::{brings_made, but_not, is_left_dirty};
+use crate::leaving::is_done;
 use crate::standing::is_at_barrier;
 use file_copy::PartTest;
 use job_reports::{Did, StepResult, out_of_memory};
@@ -34,6 +36,8 @@ pub(crate) fn work<T: Tree, P: PartTest>(
 {
     if brings_made(machine) {
         bring_made(machine, alloc, tree, parts, dirty)
+    } else if is_done(machine) {
+        finish(machine, alloc, tree, parts)
     } else if machine.is_dirty() {
         work_in_dirty(machine, alloc, tree, parts, dirty)
     } else {
@@ -60,6 +64,24 @@ fn bring_made<T: Tree, P: PartTest>(
     let synced = !machine.stack.is_around_dirty();
     dirty.remove_if(synced, machine.stack.target_around());
     told(stepped)
+}
+
+/// Nothing is left, and nothing is owed, so no folder joins the list.
+fn finish<T: Tree, P: PartTest>(
+    machine: &mut TreeCopy,
+    alloc: Global,
+    tree: &mut T,
+    parts: &P,
+) -> StepResult
+    requires workable { IsWorkable machine.old.item }
+    requires settled { may_leave (seen machine.old) ≡ false }
+    requires inner { brings (seen machine.old) ≡ false }
+    requires ended { has_ended (seen machine.old) ≡ true }
+    ensures works { (dirty : List Route) → ListSteps (λ path. P.is_free parts.now path ≡ true) (seen machine.old) (seen machine.new) result dirty dirty
+        (T.contents tree.old) (T.contents tree.new) (T.fault_count tree.old) (T.fault_count tree.new) }
+    ensures workable { IsWorkable machine.new.item }
+{
+    told(machine.step(alloc, tree, parts))
 }
 
 /// The folder that is worked, which is dirty, leaves the list with its sync.

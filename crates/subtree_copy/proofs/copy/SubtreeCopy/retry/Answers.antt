@@ -1,5 +1,5 @@
 -- The machine takes it anew.
-use Rattle.std.proofs.Common.{◌≡◌, ap, ◌∙◌}
+use Rattle.std.proofs.Common.{ap, ◌∙◌}
 use Rattle.tree_copy.specs.Standing.{Seen, seen}
 use Rattle.subtree_copy.specs.Standing.{SubtreeCopying, retries}
 use Rattle.subtree_copy.proofs.Held.{retried_held}

@@ -1,5 +1,5 @@
 -- Folders are left, the machine makes its step, and what it is in trouble with may be passed over.
-use Rattle.std.proofs.Common.{◌≡◌, true, refl, sym, subst}
+use Rattle.std.proofs.Common.{◌≡◌, true, refl, subst}
 use Rattle.tree_copy.specs.Standing.{seen}
 use Rattle.subtree_copy.specs.Standing.{SubtreeCopying}
 use Rattle.subtree_copy.specs.SubtreeSteps.{SubtreeSteps}
