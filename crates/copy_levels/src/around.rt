@@ -1,11 +1,11 @@
 //! The folders around the one that is worked.
-ghost use Rattle.std.specs.Prelude.{◌≡◌, ◌≤◌, ◌<◌, ◌∷◌, [], drop, true, IfSome, IfNone, OnOk};
+ghost use Rattle.std.specs.Prelude.{◌≡◌, ◌≤◌, ◌<◌, ◌∷◌, [], drop, false, true, IfSome, IfNone, OnOk};
 ghost use Rattle.subtree_walk.specs.Places.{is_empty};
-ghost use Rattle.tree_copy.specs.Levels.{NearestSyncs, is_around_dirty};
+ghost use Rattle.copy_levels.specs.Levels.{NearestSyncs, is_around_dirty, target_around as target_of_nearest};
 
 use crate::level::Level;
 use folder_copy::FolderStep;
-use mc_text::NoMemory;
+use mc_text::{NoMemory, Path};
 use std::alloc::Global;
 use std::marker::Model;
 use tree_trait::Tree;
@@ -19,7 +19,7 @@ pub struct Around {
 impl Model for Around {
     ghost use Rattle.std.specs.Prelude.{◌-◌, reverse, vec_len};
     ghost use Rattle.std.specs.Vec.{vec_capacity};
-    ghost use Rattle.tree_copy.specs.Levels.{FoldersAround};
+    ghost use Rattle.copy_levels.specs.Levels.{FoldersAround};
 
     ghost Value = { FoldersAround };
 
@@ -54,6 +54,17 @@ impl Around {
             Some(outer) => outer.copy.is_dirty(),
             None => false,
         }
+    }
+
+    /// The target of the nearest.
+    pub fn target(&self) -> &Path
+        requires outer { is_empty self.now.nearest ≡ false }
+        ensures { result.now ≡ target_of_nearest self.now.nearest }
+    {
+        let Some(outer) = self.nearest() else {
+            unreachable!();
+        };
+        outer.copy.target()
     }
 
     /// The nearest.

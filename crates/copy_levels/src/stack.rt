@@ -3,7 +3,7 @@ ghost use Rattle.std.specs.Prelude.{◌≡◌, ◌+◌, ◌<◌, ◌≤◌, ◌=
 ghost use Rattle.folder_copy.specs.FolderCopying.{is_dirty, is_ready};
 ghost use Rattle.folder_copy.specs.FolderSteps.{Skips, StepsOn, SyncTried};
 ghost use Rattle.subtree_walk.specs.Places.{is_empty};
-ghost use Rattle.tree_copy.specs.Levels.{IsLeft, LeavesClean, NearestSyncs, closed, dirtied, emptied, entered, is_around_dirty, is_sync_next, made_levels, outermost, owed_at, owes, passed, with_copy};
+ghost use Rattle.copy_levels.specs.Levels.{IsLeft, LeavesClean, NearestSyncs, closed, dirtied, emptied, entered, is_around_dirty, is_sync_next, made_levels, outermost, owed_at, owes, passed, target_around as target_of_nearest, with_copy};
 
 use crate::around::Around;
 use crate::level::Level;
@@ -29,7 +29,7 @@ pub struct Stack {
 
 impl Model for Stack {
     ghost use Rattle.std.specs.Prelude.{◌+◌, ◌≤◌, length};
-    ghost use Rattle.tree_copy.specs.Levels.{Stacked};
+    ghost use Rattle.copy_levels.specs.Levels.{Stacked};
 
     ghost Value = { Stacked };
 
@@ -105,6 +105,14 @@ impl Stack {
         ensures { result ≡ is_around_dirty self.now.levels.around }
     {
         self.around.is_dirty()
+    }
+
+    /// The path of the target of the folder around.
+    pub fn target_around(&self) -> &Path
+        requires outer { is_empty self.now.levels.around ≡ false }
+        ensures { result.now ≡ target_of_nearest self.now.levels.around }
+    {
+        self.around.target()
     }
 
     /// Whether a sync is next, which can't be skipped.

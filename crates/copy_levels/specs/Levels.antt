@@ -1,5 +1,6 @@
 -- The folders that are open while a tree is copied: of each the names in it that are yet to be met, and the copy of the folder itself.
 use Rattle.std.specs.Prelude.{◌≡◌, ℕ, suc, zero, ◌+◌, ◌-◌, Bool, true, false, ◌||◌, List, [], ◌∷◌, map, if◌then◌else◌, Option, Some, None}
+use Rattle.mc_text.specs.Routes.{Route}
 use Rattle.tree_trait.specs.Change.{CallLog}
 use Rattle.folder_copy.specs.declared.stage.FolderDid.{FolderDid}
 use Rattle.folder_copy.specs.declared.stage.Stage.{Stage}
@@ -9,7 +10,7 @@ use Rattle.folder_copy.specs.declared.stage.NamesState.TheVariants.{Dirty}
 use Rattle.folder_copy.specs.FolderCopying.{FolderCopying, at_barrier, closing, is_dirty}
 use Rattle.folder_copy.specs.FolderSteps.{StepsOn, at_sync}
 use Rattle.subtree_walk.specs.Places.{OpenFolder, Place, noted, without_next}
-use Rattle.tree_copy.specs.declared.level.Level.{Level}
+use Rattle.copy_levels.specs.declared.level.Level.{Level}
 
 -- the folder that is worked, those around it, the nearest first, and how many levels the copy may go down. The outermost is the folder
 -- that holds what is copied.
@@ -87,6 +88,11 @@ owes stage names = owed_at stage (is_dirty names)
 abbrev pub is_around_dirty : List Level → Bool
 is_around_dirty [] = false
 is_around_dirty (outer ∷ around) = is_dirty outer.copy.names
+
+-- the target of that folder
+abbrev pub target_around : List Level → Route
+target_around [] = []
+target_around (outer ∷ around) = outer.copy.target
 
 -- the next call at the open folders is a sync: of the one around, or of the one that is worked, at its end
 abbrev pub is_sync_next : Levels → Bool

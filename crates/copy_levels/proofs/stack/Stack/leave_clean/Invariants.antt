@@ -1,7 +1,7 @@
 -- Folders that are not dirty were left; fewer are open with each.
 use Rattle.std.proofs.Common.{ℕ, length}
-use Rattle.tree_copy.specs.Levels.{LeftAll}
-use Rattle.tree_copy.proofs.stack.Stack.leave_clean.Given as goal
+use Rattle.copy_levels.specs.Levels.{LeftAll}
+use Rattle.copy_levels.proofs.stack.Stack.leave_clean.Given as goal
 
 abbrev pub invariant-loop-self : goal.invariant-loop-self
 invariant-loop-self l = record {

@@ -1,6 +1,6 @@
 -- A folder more was left.
 use Rattle.std.proofs.Common.{suc, rules}
-use Rattle.tree_copy.proofs.stack.Stack.leave_clean.Goals as goal
+use Rattle.copy_levels.proofs.stack.Stack.leave_clean.Goals as goal
 
 pub loop-self-preserved : goal.loop-self-preserved
 loop-self-preserved c =
