@@ -181,6 +181,11 @@ def check_copies(program, base, check):
     status, _, _ = run(program, [source, target], [DOWN, F5, EMPTY + b"?*", ENTER, EMPTY + b"\\0.\\1", ENTER, F10])
     check("a copy comes beside its file under the name that masks make", status == 0 and facts(beside) == facts(os.path.join(source, "x")))
     os.remove(beside)
+    for mask, words in [(b"*.c", "nothing selected"), (b"[", "bad mask")]:
+        status, told, _ = run(program, [source, target], [DOWN, F5, EMPTY + mask, ENTER, ENTER, ENTER, F10, F10])
+        asked, refused, again, left = [screen.rows() for screen in told.screens[4:8]]
+        check(f"the source mask {mask.decode()} is refused", status == 0 and refused == with_box(asked, [words]))
+        check("and the destination is asked for again", again == asked and left == told.screens[1].rows())
 
     os.remove(os.path.join(target, "x"))
     make_file(os.path.join(source, "x"), 100000, 0o640)
@@ -382,6 +387,16 @@ def check_find(program, base, check):
     status, told, _ = run(program, [folder, deep], [FIND, EMPTY + b"../numbered", ENTER, ENTER, ENTER, F10, F10], size)
     opened, *_, found, left = [screen.rows() for screen in told.screens]
     check("a page of many paths is shown", status == 0 and found == with_box(opened, ["Found 250"] + [os.path.join(many, name) for name in numbered[:18]]) and left == opened)
+
+    status, told, _ = run(program, [folder, base], [FIND, EMPTY + b"a.c", ENTER, ENTER, ENTER, ENTER, F10], size)
+    opened, *_, found, left = [screen.rows() for screen in told.screens]
+    check("a start that is no folder is skipped", status == 0 and found == with_box(opened, ["Found 0, skipped 1"]) and left == opened)
+
+    gone = lambda _: shutil.rmtree(deep)
+    status, told, _ = run(program, [folder, base], [FIND, ENTER, EMPTY + b"needle", ENTER, ENTER, gone, ENTER, ENTER, F10, F10], size)
+    opened, *_, found, _, refused, again, left = [screen.rows() for screen in told.screens]
+    check("a folder that went since is told", found == with_box(opened, ["Found 1", below[4]]) and refused == with_box(found, ["no such file or folder", deep]))
+    check("and the list stands as before", status == 0 and again == found and left == opened)
 
 
 def left_panel(screen):
@@ -776,10 +791,12 @@ def check_list_of_jobs(program, base, check):
         for path in (source, target, file):
             os.chown(path, user, user)
     os.chmod(target, 0o500)
-    empty, listed = [b"\x18", b"j"], [ESCAPE, b"\x18", b"j"]
-    status, told, same = run(program, [source, target], empty + [ENTER] + COPY + listed + [ENTER, b"b", b"\x18", b"j", F10, F10], user=user)
-    plain, asked, shut, jobs, again, aborted, none = (told.screens[at].rows() for at in (3, 7, 8, 10, 11, 12, 14))
-    check("where no job is live the list is empty", told.screens[2].rows() == with_box(plain, ["Jobs"]) and none == with_box(aborted, ["Jobs"]))
+    listed = [b"\x18", b"j"]
+    keys = listed + [ENTER] + COPY + [ESCAPE, F5, F7, F8] + listed + [ENTER, b"b"] + listed + [F10, F10]
+    status, told, same = run(program, [source, target], keys, user=user)
+    empty, plain, asked, shut, jobs, again, aborted, none = (told.screens[at].rows() for at in (2, 3, 7, 8, 13, 14, 15, 17))
+    check("where no job is live the list is empty", empty == with_box(plain, ["Jobs"]) and none == with_box(aborted, ["Jobs"]))
+    check("while one is live no other is asked for", all(screen.rows() == shut for screen in told.screens[9:12]))
     check("a live job is listed", jobs == with_box(shut, ["Jobs", f"1 trouble copy {file}"]))
     check("Enter opens its trouble again", any("permission denied" in row for row in asked) and again == asked)
     check("and that is answered", status == 0 and same and os.listdir(target) == [] and not any("in trouble" in row for row in aborted))

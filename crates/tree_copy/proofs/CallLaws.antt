@@ -24,14 +24,14 @@ use Rattle.link_copy.specs.LinkSteps as link_steps
 use Rattle.link_copy.specs.LinkCopying.{LinkCopying}
 use Rattle.tree_copy.specs.declared.due.Due.TheVariants.{Thing}
 use Rattle.tree_copy.specs.declared.item.Item.{Item}
-use Rattle.tree_copy.specs.declared.level.Level.{Level}
+use Rattle.copy_levels.specs.declared.level.Level.{Level}
 use Rattle.tree_copy.specs.declared.item.Item.TheVariants.{Next, File, Link, Stays}
 use Rattle.tree_copy.specs.declared.progress.Progress.{Progress}
 use Rattle.tree_copy.specs.declared.progress.Progress.TheVariants.{UnderWay, Decided, Anew}
 use Rattle.tree_copy.specs.declared.report.CopyDid.{CopyDid}
 use Rattle.tree_copy.specs.Ending.{EndsAll, FileWinds, FoldersWind, LinkCleaned, LinkStays, LinkWinds, TriesFolder, WindsAfter, WindsAt, stays_if}
 use Rattle.tree_copy.specs.InPlace.{AreMoved, IsInPlace, IsMoved, ItemMoved}
-use Rattle.tree_copy.specs.Levels.{LeftAll, Levels, level, with_copy}
+use Rattle.copy_levels.specs.Levels.{LeftAll, Levels, level, with_copy}
 use Rattle.tree_copy.specs.MadeCalls.{CallLaw, HasPart, IsBeside, IsPartFor, ItemBeside, MakesOnly, MayCall}
 use Rattle.tree_copy.specs.Progress.{link_progress, progress}
 use Rattle.tree_copy.specs.Skipping.{SkipsAt, SkipsFile, SkipsLink, SkipsName, SkipsNamed, SkipsRest, retried_at}

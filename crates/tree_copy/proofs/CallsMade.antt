@@ -40,7 +40,7 @@ use Rattle.link_copy.specs.LinkCopying.{LinkCopying}
 use Rattle.link_copy.specs.LinkSteps.{LinkCalls, LinkStops, next_call as link_call}
 use Rattle.link_copy.specs.declared.stage.Stage.{Stage as LinkStage}
 use Rattle.link_copy.specs.declared.stage.Stage.TheVariants as link_stage
-use Rattle.tree_copy.specs.declared.level.Level.{Level}
+use Rattle.copy_levels.specs.declared.level.Level.{Level}
 use Rattle.tree_copy.specs.InPlace.{AreMoved, IsMoved, IsTargetOf, owed_of}
 use Rattle.tree_copy.specs.MadeCalls.{IsBeside, IsPart, IsPartFor, MakesOnly, MayCall}
 use Rattle.tree_copy.proofs.Callings.{AllMay, all_done, none, stopped, tried, followed}

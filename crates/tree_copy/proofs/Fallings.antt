@@ -25,13 +25,13 @@ use Rattle.subtree_walk.proofs.Falling.{enter_falls, leave_falls, pass_falls}
 use Rattle.tree_copy.specs.declared.due.Due.TheVariants.{Thing}
 use Rattle.tree_copy.specs.declared.item.Item.{Item}
 use Rattle.tree_copy.specs.declared.item.Item.TheVariants.{Next, File, Link, Stays}
-use Rattle.tree_copy.specs.declared.level.Level.{Level}
+use Rattle.copy_levels.specs.declared.level.Level.{Level}
 use Rattle.tree_copy.specs.declared.progress.Progress.{Progress}
 use Rattle.tree_copy.specs.declared.progress.Progress.TheVariants.{UnderWay, Decided, Anew}
 use Rattle.tree_copy.specs.declared.report.CopyDid.{CopyDid}
 use Rattle.tree_copy.specs.declared.report.CopyDid.TheVariants.{Common}
 use Rattle.tree_copy.specs.Falling.{AllMade, FallingLaw, HasName, IsSteady, decides, is_made, things_left}
-use Rattle.tree_copy.specs.Levels.{IsLeft, Levels, level, made_levels, walked, with_copy}
+use Rattle.copy_levels.specs.Levels.{IsLeft, Levels, level, made_levels, walked, with_copy}
 use Rattle.tree_copy.specs.Progress.{link_progress, progress}
 use Rattle.tree_copy.specs.Reports.{IsToldAs}
 use Rattle.tree_copy.specs.Standing.{Seen, after_report, due_at}
@@ -212,7 +212,7 @@ returns_leave old new l free h =
       ap (λ (s : Seen). s.item) r.stands ∙ free,
     )
 
-all_leave : (n : ℕ) (old new : Seen) → LeavesAll n old new → IsSteady old → IsSteady new × (things_left new ≤ things_left old)
+pub all_leave : (n : ℕ) (old new : Seen) → LeavesAll n old new → IsSteady old → IsSteady new × (things_left new ≤ things_left old)
 all_leave zero old new is h = subst (λ (s : Seen). IsSteady s × (things_left s ≤ things_left old)) (sym is) (h, same_many (things_left old))
 all_leave (suc n) old new l h =
     let before = all_leave n old l.0 l.1 h in

@@ -1,13 +1,13 @@
-mod Beginnings
+pub mod Beginnings
 mod CallLaws
 mod Callings
 mod CallsMade
-mod Counting
-mod Fallings
-mod InPlaces
+pub mod Counting
+pub mod Fallings
+pub mod InPlaces
 mod OnDisks
 mod Placed
-mod Staying
+pub mod Staying
 mod TakenUp
 pub mod Windable
-mod Worked
+pub mod Worked

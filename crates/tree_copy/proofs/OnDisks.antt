@@ -23,12 +23,12 @@ use Rattle.link_copy.specs.LinkCopying.{LinkCopying}
 use Rattle.subtree_walk.specs.Places.{OpenFolder, opened}
 use Rattle.tree_copy.specs.declared.item.Item.{Item}
 use Rattle.tree_copy.specs.declared.item.Item.TheVariants.{Next, File, Link, Stays}
-use Rattle.tree_copy.specs.declared.level.Level.{Level}
+use Rattle.copy_levels.specs.declared.level.Level.{Level}
 use Rattle.tree_copy.specs.declared.progress.Progress.{Progress}
 use Rattle.tree_copy.specs.declared.progress.Progress.TheVariants.{UnderWay, Decided, Anew}
 use Rattle.tree_copy.specs.declared.report.CopyDid.{CopyDid}
 use Rattle.tree_copy.specs.Ending.{EndsAll, FoldersWind, LinkWinds, TriesFolder, WindsAt}
-use Rattle.tree_copy.specs.Levels.{LeftAll, Levels, is_around_dirty, made_levels}
+use Rattle.copy_levels.specs.Levels.{LeftAll, Levels, is_around_dirty, made_levels}
 use Rattle.tree_copy.specs.OnDisk.{AllSynced, AroundSynced, IsOnDisk, IsUntouched, OnDiskLaw}
 use Rattle.tree_copy.specs.Progress.{link_progress, progress}
 use Rattle.tree_copy.specs.Skipping.{SkipsAt, SkipsName, SkipsNamed, SkipsRest, retried_at}

@@ -23,10 +23,10 @@ use Rattle.link_copy.specs.LinkCopying.{LinkCopying}
 use Rattle.link_copy.specs.LinkSteps as link_steps
 use Rattle.tree_copy.specs.declared.item.Item.{Item}
 use Rattle.tree_copy.specs.declared.item.Item.TheVariants.{Next, File, Link, Stays}
-use Rattle.tree_copy.specs.declared.level.Level.{Level}
+use Rattle.copy_levels.specs.declared.level.Level.{Level}
 use Rattle.tree_copy.specs.Ending.{EndsAll, FileWinds, FoldersWind, LinkWinds, TriesFolder, WindsAt, stays_if}
 use Rattle.tree_copy.specs.InPlace.{AreMoved, IsInPlace, IsMoved, ItemMoved, owed_of}
-use Rattle.tree_copy.specs.Levels.{LeftAll, Levels, dirtied, emptied, level, passed, with_copy}
+use Rattle.copy_levels.specs.Levels.{LeftAll, Levels, dirtied, emptied, level, passed, with_copy}
 use Rattle.tree_copy.specs.MadeCalls.{StayingLaw}
 use Rattle.tree_copy.specs.Progress.{link_progress, progress}
 use Rattle.tree_copy.specs.Skipping.{SkipsAt, SkipsFile, SkipsLink, SkipsName, SkipsNamed, SkipsRest, retried_at}

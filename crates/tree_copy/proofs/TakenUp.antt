@@ -1,9 +1,9 @@
 -- What a step does with what it takes up.
-use Rattle.std.proofs.Common.{◌≡◌, ℕ, refl, sym, ◌∙◌, subst, inl, inr, false, Option, Some, None}
+use Rattle.std.proofs.Common.{◌≡◌, ℕ, refl, sym, ◌∙◌, subst, inl, inr, false, List, Option, Some, None}
 use Rattle.std.specs.Prelude.{◌⊎◌}
 use Rattle.mc_text.specs.Routes.{Route}
 use Rattle.tree_trait.specs.Change.{CallLog, current}
-use Rattle.tree_trait.specs.Answers.{IfKnown}
+use Rattle.tree_trait.specs.Answers.{IfKnown, IsAscending}
 use Rattle.job_reports.specs.declared.job.Pair.{Pair}
 use Rattle.job_reports.specs.declared.report.Trouble.{Trouble}
 use Rattle.job_reports.specs.declared.report.Did.TheVariants as common
@@ -18,18 +18,43 @@ use Rattle.tree_copy.specs.declared.report.CopyDid.{CopyDid}
 use Rattle.tree_copy.specs.declared.report.CopyStep.{CopyStep}
 use Rattle.tree_copy.specs.declared.report.CopyDid.TheVariants.{Common}
 use Rattle.tree_copy.specs.Standing.{Seen, due}
-use Rattle.tree_copy.specs.Steps.{Advances, AdvancesNext, GoesOn, Leaves, LinkWorks, RunsOut, TakesNext, WhyStopped, WorksOn, link_begun}
+use Rattle.tree_copy.specs.Steps.{Advances, AdvancesNext, FileWorks, FolderMakes, GoesOn, Leaves, LinkWorks, RunsOut, TakesNext, WhyStopped, WorksOn, link_begun}
 use Rattle.tree_copy.specs.Taking.{IsInReach, IsTaken}
 
 module _ (unclaimed : Route → Type 0) (old new : Seen) (did : CopyDid) (before mid after : Option CallLog) (same : mid ≡ before) where
-  pub ran_out : RunsOut old new did mid after → TakesNext unclaimed old new did before after
-  ran_out out = inl record { trouble = out_of_memory_at false; says = out.0; why = inr (inr (inr refl)); apart = refl; same = out.2 ∙ same; stands = out.1 }
-
   -- looks were stopped
   pub stopped_so : (t : Trouble) → WhyStopped unclaimed old t before → did ≡ Common (common.Troubled t) → t.barrier ≡ false → after ≡ mid → new ≡ old → TakesNext unclaimed old new did before after
   stopped_so t why says apart made stands = inl record { trouble = t; says = says; why = why; apart = apart; same = made ∙ same; stands = stands }
 
   module _ (pair : Pair) (next : due old ≡ Thing pair) (reach : IsInReach old.levels.left (Thing pair)) where
+    pub ran_out : RunsOut old new did mid after → TakesNext unclaimed old new did before after
+    ran_out out = inl record { trouble = out_of_memory_at false; says = out.0; why = inr (inr (inr (pair, next, refl))); apart = refl; same = out.2 ∙ same; stands = out.1 }
+
+    pub took_file : IfKnown before (λ log. IsTaken (current log) pair taken.File)
+        → RunsOut old new did mid after ⊎ FileWorks unclaimed (file.begun old.job pair.source pair.target) old new did mid after → TakesNext unclaimed old new did before after
+    took_file is (inl out) = ran_out out
+    took_file is (inr works) = inr (inl record {
+      pair = pair;
+      next = next;
+      reach = reach;
+      is = is;
+      works = subst (λ (x : Option CallLog). FileWorks unclaimed (file.begun old.job pair.source pair.target) old new did x after) same works;
+    })
+
+    pub took_folder : (names : List (List ℕ)) (mode : ℕ) → IfKnown before (λ log. IsTaken (current log) pair (taken.Folder names mode)) → IsAscending names
+        → RunsOut old new did mid after ⊎ FolderMakes pair names mode old new did mid after → TakesNext unclaimed old new did before after
+    took_folder names mode is order (inl out) = ran_out out
+    took_folder names mode is order (inr works) = inr (inr (inr (inl record {
+      pair = pair;
+      names = names;
+      mode = mode;
+      next = next;
+      reach = reach;
+      is = is;
+      in_order = order;
+      works = subst (λ (x : Option CallLog). FolderMakes pair names mode old new did x after) same works;
+    })))
+
     pub took_link : (part : Route) → IfKnown before (λ log. IsTaken (current log) pair taken.Link)
         → IfKnown before (λ log. IsChosen (current log) unclaimed (file.places old.job pair.source pair.target) part)
         → RunsOut old new did mid after ⊎ LinkWorks (link_begun pair part) old new did mid after → TakesNext unclaimed old new did before after

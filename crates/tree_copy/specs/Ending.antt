@@ -23,7 +23,7 @@ use Rattle.tree_copy.specs.Progress.{progress}
 use Rattle.tree_copy.specs.Steps.{idle}
 use Rattle.tree_copy.specs.declared.item.Item.{Item}
 use Rattle.tree_copy.specs.declared.item.Item.TheVariants.{Next, File, Link, Stays}
-use Rattle.tree_copy.specs.Levels.{LeftAll, Levels, dirtied, with_copy}
+use Rattle.copy_levels.specs.Levels.{LeftAll, Levels, dirtied, with_copy}
 use Rattle.tree_copy.specs.Standing.{Seen}
 
 -- a part that stays is remembered

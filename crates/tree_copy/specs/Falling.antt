@@ -8,10 +8,10 @@ use Rattle.folder_copy.specs.declared.stage.Stage.TheVariants.{Make, Fill, Close
 use Rattle.subtree_walk.specs.Ranks.{rank}
 use Rattle.tree_copy.specs.declared.item.Item.{Item}
 use Rattle.tree_copy.specs.declared.item.Item.TheVariants.{Next, File, Link, Stays}
-use Rattle.tree_copy.specs.declared.level.Level.{Level}
+use Rattle.copy_levels.specs.declared.level.Level.{Level}
 use Rattle.tree_copy.specs.declared.report.CopyDid.{CopyDid}
 use Rattle.tree_copy.specs.declared.report.CopyDid.TheVariants.{Common, Set}
-use Rattle.tree_copy.specs.Levels.{Levels, walked}
+use Rattle.copy_levels.specs.Levels.{Levels, walked}
 use Rattle.tree_copy.specs.Standing.{Seen}
 use Rattle.tree_copy.specs.Steps.{CopySteps}
 

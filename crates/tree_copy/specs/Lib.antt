@@ -1,4 +1,3 @@
-pub mod Levels
 pub mod MadeCalls
 pub mod OnDisk
 pub mod Progress

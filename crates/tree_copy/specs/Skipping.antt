@@ -13,7 +13,7 @@ use Rattle.link_copy.specs.LinkCopying.{LinkCopying, taken_anew as link_anew}
 use Rattle.link_copy.specs.LinkSteps as link
 use Rattle.tree_copy.specs.declared.item.Item.{Item}
 use Rattle.tree_copy.specs.declared.item.Item.TheVariants.{Next, File, Link, Stays}
-use Rattle.tree_copy.specs.Levels.{emptied, passed, with_copy}
+use Rattle.copy_levels.specs.Levels.{emptied, passed, with_copy}
 use Rattle.tree_copy.specs.Progress.{link_progress, progress}
 use Rattle.tree_copy.specs.Standing.{Seen}
 use Rattle.tree_copy.specs.Steps.{idle, settled}

@@ -16,7 +16,7 @@ use Rattle.tree_copy.specs.declared.item.Item.TheVariants.{Next, File, Link, Sta
 use Rattle.tree_copy.specs.declared.due.Due.{Due}
 use Rattle.tree_copy.specs.declared.due.Due.TheVariants.{End, Thing}
 use Rattle.tree_copy.specs.declared.report.CopyDid.{CopyDid}
-use Rattle.tree_copy.specs.Levels.{Levels, is_sync_next, outermost}
+use Rattle.copy_levels.specs.Levels.{Levels, is_sync_next, outermost}
 use Rattle.tree_copy.specs.Reports.{changes}
 
 -- the copy of a tree, as it stands: all but the room for more open folders

@@ -33,7 +33,7 @@ use Rattle.folder_copy.specs.declared.stage.NamesState.TheVariants as folder_nam
 use Rattle.subtree_walk.specs.Places.{opened}
 use Rattle.tree_copy.specs.declared.due.Due.TheVariants.{End, Thing}
 use Rattle.tree_copy.specs.declared.item.Item.{Item}
-use Rattle.tree_copy.specs.declared.level.Level.{Level}
+use Rattle.copy_levels.specs.declared.level.Level.{Level}
 use Rattle.tree_copy.specs.declared.item.Item.TheVariants.{Next, File, Link, Stays}
 use Rattle.tree_copy.specs.declared.looking.Taken.TheVariants as taken
 use Rattle.tree_copy.specs.declared.progress.Progress.{Progress}
@@ -41,7 +41,7 @@ use Rattle.tree_copy.specs.declared.progress.Progress.TheVariants.{UnderWay, Dec
 use Rattle.tree_copy.specs.declared.report.CopyDid.{CopyDid}
 use Rattle.tree_copy.specs.declared.report.CopyDid.TheVariants.{Common}
 use Rattle.tree_copy.specs.declared.report.CopyStep.{CopyStep}
-use Rattle.tree_copy.specs.Levels.{IsLeft, closed, dirtied, is_around_dirty, level, made_levels, owes, passed, with_copy}
+use Rattle.copy_levels.specs.Levels.{IsLeft, closed, dirtied, is_around_dirty, level, made_levels, owes, passed, with_copy}
 use Rattle.tree_copy.specs.Progress.{link_progress, progress}
 use Rattle.tree_copy.specs.Reports.{IsFault, IsToldAs}
 use Rattle.tree_copy.specs.Standing.{Seen, after_report, due}
@@ -93,6 +93,7 @@ pub record FileWorks (unclaimed : Route → Type 0) (f : Copying) (old new : See
   pub tells : file.Tells f report moved
   pub called : IfKnown before (λ log. CopyCalls unclaimed f report moved log after)
   pub falls : FileFalls report f moved
+  pub sound : file.IsSound moved.stage moved.folder
   pub stands : new ≡ after_file did moved (idle old)
 
 -- a step of this link's copy
@@ -187,7 +188,7 @@ WhyStopped unclaimed c t before =
     ⊎ ((pair : Pair) × (due c ≡ Thing pair) × IsInReach c.levels.left (Thing pair) × IfKnown before (λ log. LooksStop (current log) pair t))
     ⊎ ((pair : Pair) × (due c ≡ Thing pair) × IsInReach c.levels.left (Thing pair)
     × IfKnown before (λ log. IsTaken (current log) pair taken.Link × NameStops (current log) unclaimed (file.places c.job pair.source pair.target) t.cause t.path))
-    ⊎ (t ≡ out_of_memory_at false)
+    ⊎ ((pair : Pair) × (due c ≡ Thing pair) × (t ≡ out_of_memory_at false))
 
 -- a trouble before any call that changes the tree
 pub record Stops (unclaimed : Route → Type 0) (old new : Seen) (did : CopyDid) (before after : Option CallLog) : Type 0 where

@@ -4,21 +4,21 @@ ghost use Rattle.folder_copy.specs.FolderCopying.{is_dirty as is_dirty_state};
 ghost use Rattle.tree_copy.specs.Standing.{at_barrier, begun, is_fresh, seen};
 
 use crate::item::Item;
-use crate::stack::Stack;
+use copy_levels::Stack;
 use folder_copy::FolderCopy;
 use mc_text::{Name, Names, NoMemory, Path};
 use std::alloc::Global;
 use subtree_walk::Opened;
 
 /// Whether anything was changed yet.
-#[derive(Clone, Copy, Debug, Drop, PartialEq, Eq)]
+#[derive(Clone, Copy, Debug, Drop)]
 pub enum Stage {
     Begin,
     Going,
 }
 
 /// A thing by the folder that holds it, and its name there.
-#[derive(Debug, Drop)]
+#[derive(Drop)]
 pub struct Named {
     pub folder: Path,
     pub name: Name,

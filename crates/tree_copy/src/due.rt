@@ -9,7 +9,7 @@ use mc_text::{Name, Path, PathError};
 use std::alloc::Global;
 
 /// What is taken up next.
-#[derive(Debug, Drop)]
+#[derive(Drop)]
 pub enum Due {
     /// The end of the folder that is worked.
     End,

@@ -2,7 +2,7 @@
 ghost use Rattle.std.specs.Prelude.{◌≡◌, ◌≤◌, None, Some, true};
 ghost use Rattle.link_copy.specs.LinkCopying.{is_removable};
 ghost use Rattle.tree_copy.specs.Ending.{FileWinds, FoldersWind, IsWindable, LinkWinds, WindsAfter, WindsAt, stays_if};
-ghost use Rattle.tree_copy.specs.Levels.{dirtied};
+ghost use Rattle.copy_levels.specs.Levels.{dirtied};
 ghost use Rattle.tree_copy.specs.Standing.{seen};
 
 use crate::copy::TreeCopy;

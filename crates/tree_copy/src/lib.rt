@@ -1,23 +1,19 @@
 //! The copy of a thing with all that lies in it, step by step, over any tree.
 #![tactic(auto)]
 
-mod around;
 mod copy;
 mod due;
 mod ending;
 mod item;
 mod laws;
-mod level;
 mod looking;
 mod making;
 mod progress;
 mod report;
 mod skipping;
-mod stack;
 mod taking;
 mod working;
 
-pub use around::Around;
 pub use copy::{Named, Stage, TreeCopy};
 pub use due::Due;
 pub use item::Item;
@@ -27,8 +23,6 @@ pub use laws::{
     each_decision_leaves_fewer_things, skips_and_last_steps_keep_a_copy_in_its_place,
     what_is_at_work_lies_in_the_folder_that_is_worked,
 };
-pub use level::Level;
 pub use looking::Taken;
 pub use progress::Progress;
 pub use report::{CopyDid, CopyStep};
-pub use stack::Stack;

@@ -17,7 +17,7 @@ use std::alloc::Global;
 use tree_trait::{Children, Meta, Tree};
 
 /// What is taken up.
-#[derive(Debug, Drop)]
+#[derive(Drop)]
 pub enum Taken {
     /// A file, whose target is looked at by its own copy.
     File,

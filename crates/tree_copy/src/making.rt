@@ -1,6 +1,6 @@
 //! The beginning and the end of a folder.
 ghost use Rattle.std.specs.Prelude.{◌≡◌, ◌⊎◌, ◌≤◌, false, true};
-ghost use Rattle.tree_copy.specs.Levels.{is_around_dirty};
+ghost use Rattle.copy_levels.specs.Levels.{is_around_dirty};
 ghost use Rattle.tree_copy.specs.Standing.{due, seen};
 ghost use Rattle.tree_copy.specs.Steps.{AdvancesEnd, Counts, FolderEnds, FolderMakes, IsWorkable, LeavesOrFinishes, RunsOut, SyncsAround, has_debt};
 ghost use Rattle.tree_copy.specs.Taking.{IsInReach};

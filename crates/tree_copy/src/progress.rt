@@ -7,7 +7,7 @@ use file_copy::FileCopy;
 use link_copy::{LinkCopy, Stage};
 
 /// How far the copy of a thing is.
-#[derive(Clone, Copy, Debug, Drop, PartialEq, Eq)]
+#[derive(Drop)]
 pub enum Progress {
     /// Its part stands.
     UnderWay,

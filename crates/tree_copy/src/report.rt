@@ -9,7 +9,7 @@ use job_reports::{Did, Trouble};
 use mc_text::Path;
 
 /// What a step did.
-#[derive(Debug, Drop)]
+#[derive(Drop)]
 pub enum CopyDid {
     /// What any job may report.
     Common(Did),
@@ -18,7 +18,7 @@ pub enum CopyDid {
 }
 
 /// What a step did, and how many changing calls of the tree it made.
-#[derive(Debug, Drop)]
+#[derive(Drop)]
 pub struct CopyStep {
     pub did: CopyDid,
     pub calls: u64,

@@ -3,7 +3,7 @@ ghost use Rattle.std.specs.Prelude.{◌≡◌, ◌⊎◌, false, true, IfOk};
 ghost use Rattle.tree_trait.specs.Change.{current};
 ghost use Rattle.tree_trait.specs.Answers.{IfKnown};
 ghost use Rattle.file_copy.specs.Copying.{begun as file_begun, places};
-ghost use Rattle.tree_copy.specs.Levels.{is_around_dirty};
+ghost use Rattle.copy_levels.specs.Levels.{is_around_dirty};
 ghost use Rattle.tree_copy.specs.Standing.{due, seen};
 ghost use Rattle.tree_copy.specs.Steps.{AdvancesIn, AdvancesNext, Counts, FileWorks, IsWorkable, LinkWorks, RunsOut, TakesNext, link_begun};
 ghost use Rattle.tree_copy.specs.Taking.{IsInReach, IsSound, IsTaken};

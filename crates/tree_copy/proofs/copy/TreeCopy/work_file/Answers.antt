@@ -14,6 +14,7 @@ returns-clause-works g c = record {
   tells = (let s = c.step-stepped.ensures.steps in s.tells);
   called = (let s = c.step-stepped.ensures.steps in s.called);
   falls = (let s = c.step-stepped.ensures.steps in s.falls);
+  sound = c.step-stepped.ensures.sound;
   stands = file_stands c.step-stepped.new.self (Common c.step-stepped.result.did) c.is_dirty.result (seen c.args.self.now) (seen c.note.new.self) (seen c.put_file.new.self) c.requires.free c.is_dirty.ensures c.note.ensures c.put_file.ensures.settled;
 }
 

@@ -1,0 +1,10 @@
+//! The folders that are open while a tree is copied.
+#![tactic(auto)]
+
+mod around;
+mod level;
+mod stack;
+
+pub use around::Around;
+pub use level::Level;
+pub use stack::{LEVELS, Stack};

@@ -1,0 +1,12 @@
+mod Barred
+mod Begun
+mod Counts
+mod Done
+mod Fewer
+mod Held
+mod LastOnes
+mod Left
+mod Listed
+mod Ranked
+mod Targets
+mod Worked

@@ -1,0 +1,13 @@
+-- The machine takes it anew.
+use Rattle.std.proofs.Common.{ap, ◌∙◌}
+use Rattle.tree_copy.specs.Standing.{Seen, seen}
+use Rattle.subtree_copy.specs.Standing.{SubtreeCopying, retries}
+use Rattle.subtree_copy.proofs.Held.{retried_held}
+use Rattle.subtree_copy.proofs.copy.SubtreeCopy.retry.Goals as goal
+
+pub invariant_of-self : goal.invariant_of-self
+invariant_of-self c = retried_held c.self.inside.top c.self.inside.folder (seen c.self.inside.machine) (seen c.retry.new.self) c.retry.ensures.retried c.self.invariant c.retry.ensures.workable
+
+pub returns-clause-retried : goal.returns-clause-retried
+returns-clause-retried c =
+    ap (λ (s : Seen). (let d : SubtreeCopying = record { top = c.self.inside.top; at = s; skips = c.self.inside.skips } in d)) c.retry.ensures.retried ∙ ap (λ (d : SubtreeCopying). retries d) c.self.view_is

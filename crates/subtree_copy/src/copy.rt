@@ -1,0 +1,185 @@
+//! The copy of a thing with all that lies in it.
+ghost use Rattle.std.specs.Prelude.{◌≡◌, IfOk, is_some, option_map, true};
+ghost use Rattle.mc_text.specs.Routes.{is_prefix, parent_of};
+ghost use Rattle.job_answers.specs.Skipping.{kind_in, with_kind};
+ghost use Rattle.job_reports.specs.Paths.{folder_of};
+ghost use Rattle.tree_copy.specs.Standing.{is_fresh};
+ghost use Rattle.subtree_copy.specs.Standing.{IsGoing, at_barrier, is_own, part_of, retries, started};
+ghost use Rattle.subtree_copy.specs.SubtreeSteps.{LastSubtreeStep, SubtreeSkips, SubtreeSteps};
+
+use crate::dirt::note_try;
+use crate::leaving::leave_settled;
+use crate::passing::or_passed_over;
+use crate::standing::{into_part, is_at_barrier, named, part};
+use crate::working::work;
+use file_copy::PartTest;
+use job_answers::{Skips, kind_of};
+use job_reports::{Cause, Did, Ending, LastStepResult, Pair, StepResult};
+use mc_text::{NoMemory, Path};
+use std::alloc::Global;
+use std::marker::Model;
+use tree_copy::TreeCopy;
+use tree_deletion::Dirty;
+use tree_trait::Tree;
+
+/// A copy of what stands at the source of `top`, to its target, which lies in `folder`; and which kinds of troubles it passes over.
+#[derive(Debug, Drop)]
+pub struct SubtreeCopy {
+    machine: TreeCopy,
+    top: Pair,
+    folder: Path,
+    skips: Skips,
+}
+
+impl Model for SubtreeCopy {
+    ghost use Rattle.tree_copy.specs.Standing.{seen};
+    ghost use Rattle.subtree_copy.specs.Standing.{IsHeld, SubtreeCopying};
+
+    ghost Value = { SubtreeCopying };
+
+    ghost view = { λ c. record { top = c.top; at = seen c.machine; skips = c.skips } };
+
+    ghost invariant = { λ c. IsHeld c.top c.folder (seen c.machine) };
+}
+
+impl SubtreeCopy {
+    /// The copy of the thing at the source of `top`, to its target, at which nothing stands. Neither is the root.
+    pub fn begin(alloc: Global, job: u32, top: Pair) -> Result<SubtreeCopy, NoMemory>
+        requires source { is_some (parent_of top.source) ≡ true }
+        requires target { is_some (parent_of top.target) ≡ true }
+        ensures begun { IfOk result (λ copy. copy ≡ started job top) }
+        ensures going { IfOk result IsGoing }
+    {
+        let source = named(alloc, &top.source)?;
+        let target = named(alloc, &top.target)?;
+        let folder = target.folder.copy(alloc)?;
+        Ok(SubtreeCopy {
+            machine: TreeCopy::new(alloc, job, source, target)?,
+            top,
+            folder,
+            skips: Skips::new(),
+        })
+    }
+
+    /// Does the next piece of work. Where that is in a trouble of a kind that is skipped, it is passed over.
+    pub fn step<T: Tree, P: PartTest>(
+        &mut self,
+        alloc: Global,
+        tree: &mut T,
+        parts: &P,
+        dirty: &mut Dirty,
+    ) -> StepResult
+        requires going { IsGoing self.old }
+        ensures steps { SubtreeSteps (λ path. P.is_free parts.now path ≡ true) self.old self.new result.did result.calls
+            dirty.old dirty.new (T.contents tree.old) (T.contents tree.new) (T.fault_count tree.old) (T.fault_count tree.new) }
+        ensures going { IsGoing self.new }
+    {
+        leave_settled(&mut self.machine);
+        let worked = work(&mut self.machine, alloc, tree, parts, dirty);
+        or_passed_over(&mut self.machine, alloc, self.skips, worked)
+    }
+
+    /// What is in trouble is left as it is, with all below it.
+    pub fn skip(&mut self, alloc: Global, cause: Cause) -> Did
+        requires going { IsGoing self.old }
+        ensures skips { SubtreeSkips cause self.old result self.new }
+        ensures going { IsGoing self.new }
+    {
+        self.machine.skip(alloc, cause)
+    }
+
+    /// From now on troubles of this kind are passed over.
+    pub fn skip_all(&mut self, cause: Cause)
+        ensures { self.new ≡ record self.old { skips = with_kind (kind_in cause) self.old.skips } }
+    {
+        self.skips.insert(kind_of(cause));
+    }
+
+    /// What was refused is tried again.
+    pub fn retry(&mut self)
+        requires going { IsGoing self.old }
+        ensures retried { self.new ≡ retries self.old }
+        ensures going { IsGoing self.new }
+    {
+        self.machine.retry();
+    }
+
+    /// Makes the next of the last steps of a job that is to end so: the part is removed, if it can be; each folder that is dirty is
+    /// tried once to be synced, the inner ones first; and then it ends.
+    pub fn wind_up<T: Tree>(
+        &mut self,
+        alloc: Global,
+        tree: &mut T,
+        ending: Ending,
+        dirty: &mut Dirty,
+    ) -> LastStepResult
+        ensures { LastSubtreeStep ending self.old self.new result dirty.old dirty.new
+            (T.contents tree.old) (T.contents tree.new) (T.fault_count tree.old) (T.fault_count tree.new) }
+    {
+        let last = self.machine.wind_up(alloc, tree, ending);
+        note_try(dirty, &last.did, last.left, self.machine.folder());
+        last
+    }
+
+    /// The part that stands.
+    pub fn part(&self) -> Option<&Path>
+        ensures { option_map (λ part. part.now) result ≡ part_of self.now.at.item }
+    {
+        part(&self.machine.item)
+    }
+
+    /// The part that stands, where the copy is given up.
+    pub fn into_part(self) -> Option<Path>
+        ensures { result ≡ part_of self.at.item }
+    {
+        let SubtreeCopy {
+            machine,
+            top: _,
+            folder: _,
+            skips: _,
+        } = self;
+        into_part(machine)
+    }
+
+    /// What is copied.
+    pub fn source(&self) -> &Path
+        ensures { result.now ≡ self.now.top.source }
+    {
+        &self.top.source
+    }
+
+    /// The folder that holds the target.
+    pub fn folder(&self) -> &Path
+        ensures { result.now ≡ folder_of self.now.top.target }
+    {
+        &self.folder
+    }
+
+    /// Whether this is the target, or lies in it.
+    pub fn is_within(&self, folder: &Path) -> bool
+        ensures { result ≡ is_prefix self.now.top.target folder.now }
+    {
+        self.top.target.is_prefix_of(folder)
+    }
+
+    /// Whether this is a folder in which the copy may change names.
+    pub fn is_own(&self, folder: &Path) -> bool
+        ensures { result ≡ is_own self.now folder.now }
+    {
+        folder.same(&self.folder) || self.top.target.is_prefix_of(folder)
+    }
+
+    /// Whether nothing was changed yet.
+    pub fn is_fresh(&self) -> bool
+        ensures { result ≡ is_fresh self.now.at.stage }
+    {
+        self.machine.is_fresh()
+    }
+
+    /// Whether nothing can be skipped: a part is to be removed, or a folder synced.
+    pub fn is_at_barrier(&self) -> bool
+        ensures { result ≡ at_barrier self.now.at }
+    {
+        is_at_barrier(&self.machine)
+    }
+}

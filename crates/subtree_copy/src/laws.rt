@@ -1,0 +1,24 @@
+//! Laws of copies. They have no code: their clauses are proved, and stand here so that they are.
+ghost use Rattle.subtree_copy.specs.Barriers.{BarrierLaw};
+ghost use Rattle.subtree_copy.specs.Counted.{CountLaw};
+ghost use Rattle.subtree_copy.specs.Ranks.{LastRankLaw, RankLaw};
+
+/// A trouble stands at a barrier, where nothing can be skipped, where the copy does after it.
+pub fn a_trouble_stands_where_the_copy_does()
+    ensures { BarrierLaw }
+{}
+
+/// Each step after which the copy goes on leaves fewer steps.
+pub fn each_step_leaves_fewer()
+    ensures { RankLaw }
+{}
+
+/// Each last step but the end leaves fewer last steps.
+pub fn each_last_step_leaves_fewer()
+    ensures { LastRankLaw }
+{}
+
+/// A step counts its calls, at most three, and meets a fault only where the tree's count has risen.
+pub fn a_step_counts_its_calls()
+    ensures { CountLaw }
+{}

@@ -1,0 +1,17 @@
+//! The copy of a thing with all that lies in it, as a job works it: the machine of `tree_copy`, with the list of dirty folders, and
+//! troubles that are passed over without a question.
+#![tactic(auto)]
+
+mod copy;
+mod dirt;
+mod laws;
+mod leaving;
+mod passing;
+mod standing;
+mod working;
+
+pub use copy::SubtreeCopy;
+pub use laws::{
+    a_step_counts_its_calls, a_trouble_stands_where_the_copy_does, each_last_step_leaves_fewer,
+    each_step_leaves_fewer,
+};

@@ -1,0 +1,161 @@
+//! A step with the list of dirty folders: the folder that is worked joins it before its first change, when there may still be no
+//! memory, and leaves it with its sync.
+ghost use Rattle.std.specs.Prelude.{◌≡◌, List, false, true};
+ghost use Rattle.mc_text.specs.Routes.{Route};
+ghost use Rattle.folder_copy.specs.FolderCopying.{is_dirty};
+ghost use Rattle.tree_copy.specs.Standing.{seen};
+ghost use Rattle.tree_copy.specs.Steps.{IsWorkable};
+ghost use Rattle.job_reports.specs.Stops.{out_of_memory_at};
+ghost use Rattle.subtree_copy.specs.Leaving.{is_done as has_ended, may_leave};
+ghost use Rattle.subtree_copy.specs.Marks.{brings_made as brings};
+ghost use Rattle.subtree_copy.specs.SubtreeSteps.{ListSteps, common};
+
+use crate::dirt::{brings_made, but_not, is_left_dirty};
+use crate::leaving::is_done;
+use crate::standing::is_at_barrier;
+use file_copy::PartTest;
+use job_reports::{Did, StepResult, out_of_memory};
+use std::alloc::Global;
+use tree_copy::{CopyDid, CopyStep, TreeCopy};
+use tree_deletion::Dirty;
+use tree_trait::Tree;
+
+/// Makes a step, where no folder is left to be left.
+pub(crate) fn work<T: Tree, P: PartTest>(
+    machine: &mut TreeCopy,
+    alloc: Global,
+    tree: &mut T,
+    parts: &P,
+    dirty: &mut Dirty,
+) -> StepResult
+    requires workable { IsWorkable machine.old.item }
+    requires settled { may_leave (seen machine.old) ≡ false }
+    ensures works { ListSteps (λ path. P.is_free parts.now path ≡ true) (seen machine.old) (seen machine.new) result dirty.old dirty.new
+        (T.contents tree.old) (T.contents tree.new) (T.fault_count tree.old) (T.fault_count tree.new) }
+    ensures workable { IsWorkable machine.new.item }
+{
+    if brings_made(machine) {
+        bring_made(machine, alloc, tree, parts, dirty)
+    } else if is_done(machine) {
+        finish(machine, alloc, tree, parts)
+    } else if machine.is_dirty() {
+        work_in_dirty(machine, alloc, tree, parts, dirty)
+    } else {
+        work_in_clean(machine, alloc, tree, parts, dirty)
+    }
+}
+
+/// The folder around the one that was made leaves the list with its sync.
+fn bring_made<T: Tree, P: PartTest>(
+    machine: &mut TreeCopy,
+    alloc: Global,
+    tree: &mut T,
+    parts: &P,
+    dirty: &mut Dirty,
+) -> StepResult
+    requires workable { IsWorkable machine.old.item }
+    requires settled { may_leave (seen machine.old) ≡ false }
+    requires brings { brings (seen machine.old) ≡ true }
+    ensures works { ListSteps (λ path. P.is_free parts.now path ≡ true) (seen machine.old) (seen machine.new) result dirty.old dirty.new
+        (T.contents tree.old) (T.contents tree.new) (T.fault_count tree.old) (T.fault_count tree.new) }
+    ensures workable { IsWorkable machine.new.item }
+{
+    let stepped = machine.step(alloc, tree, parts);
+    let synced = !machine.stack.is_around_dirty();
+    dirty.remove_if(synced, machine.stack.target_around());
+    told(stepped)
+}
+
+/// Nothing is left, and nothing is owed, so no folder joins the list.
+fn finish<T: Tree, P: PartTest>(
+    machine: &mut TreeCopy,
+    alloc: Global,
+    tree: &mut T,
+    parts: &P,
+) -> StepResult
+    requires workable { IsWorkable machine.old.item }
+    requires settled { may_leave (seen machine.old) ≡ false }
+    requires inner { brings (seen machine.old) ≡ false }
+    requires ended { has_ended (seen machine.old) ≡ true }
+    ensures works { (dirty : List Route) → ListSteps (λ path. P.is_free parts.now path ≡ true) (seen machine.old) (seen machine.new) result dirty dirty
+        (T.contents tree.old) (T.contents tree.new) (T.fault_count tree.old) (T.fault_count tree.new) }
+    ensures workable { IsWorkable machine.new.item }
+{
+    told(machine.step(alloc, tree, parts))
+}
+
+/// The folder that is worked, which is dirty, leaves the list with its sync.
+fn work_in_dirty<T: Tree, P: PartTest>(
+    machine: &mut TreeCopy,
+    alloc: Global,
+    tree: &mut T,
+    parts: &P,
+    dirty: &mut Dirty,
+) -> StepResult
+    requires workable { IsWorkable machine.old.item }
+    requires settled { may_leave (seen machine.old) ≡ false }
+    requires inner { brings (seen machine.old) ≡ false }
+    requires marked { is_dirty machine.old.stack.levels.inner.copy.names ≡ true }
+    ensures works { ListSteps (λ path. P.is_free parts.now path ≡ true) (seen machine.old) (seen machine.new) result dirty.old dirty.new
+        (T.contents tree.old) (T.contents tree.new) (T.fault_count tree.old) (T.fault_count tree.new) }
+    ensures workable { IsWorkable machine.new.item }
+{
+    let stepped = machine.step(alloc, tree, parts);
+    let synced = !is_left_dirty(machine, &stepped.did);
+    dirty.remove_if(synced, machine.folder());
+    told(stepped)
+}
+
+/// The folder that is worked, which is clean, joins the list, and stays there only where it was changed.
+fn work_in_clean<T: Tree, P: PartTest>(
+    machine: &mut TreeCopy,
+    alloc: Global,
+    tree: &mut T,
+    parts: &P,
+    dirty: &mut Dirty,
+) -> StepResult
+    requires workable { IsWorkable machine.old.item }
+    requires settled { may_leave (seen machine.old) ≡ false }
+    requires inner { brings (seen machine.old) ≡ false }
+    requires clean { is_dirty machine.old.stack.levels.inner.copy.names ≡ false }
+    ensures works { ListSteps (λ path. P.is_free parts.now path ≡ true) (seen machine.old) (seen machine.new) result dirty.old dirty.new
+        (T.contents tree.old) (T.contents tree.new) (T.fault_count tree.old) (T.fault_count tree.new) }
+    ensures workable { IsWorkable machine.new.item }
+{
+    let Ok(joined) = dirty.join(alloc, machine.folder()) else {
+        return without_memory(is_at_barrier(machine));
+    };
+    let stepped = machine.step(alloc, tree, parts);
+    let changed = is_left_dirty(machine, &stepped.did);
+    dirty.drop_last_if(but_not(joined, changed));
+    told(stepped)
+}
+
+/// There is no memory for the folder, and nothing was done.
+fn without_memory(barrier: bool) -> StepResult
+    ensures { result ≡ record { did = Did.Troubled (out_of_memory_at barrier); calls = 0 } }
+{
+    StepResult {
+        did: Did::Troubled(out_of_memory(barrier)),
+        calls: 0,
+    }
+}
+
+/// What a step of the machine reports, as any job's step does.
+fn told(stepped: CopyStep) -> StepResult
+    ensures { result ≡ record { did = common stepped.did; calls = stepped.calls } }
+{
+    StepResult {
+        did: common_did(stepped.did),
+        calls: stepped.calls,
+    }
+}
+
+fn common_did(did: CopyDid) -> Did
+    ensures { result ≡ common did }
+{
+    match did {
+        CopyDid::Common(did) => did,
+        CopyDid::Set(path) => Did::Set(path),
+    }
+}

@@ -1,0 +1,10 @@
+pub mod Refused
+pub mod StepsKnown
+pub mod TreeFiles
+pub mod TreeFolders
+pub mod TreeKnows
+pub mod TreeLinks
+pub mod TreePlaces
+pub mod TreeRuns
+pub mod TreeSkips
+pub mod TreeSteps

@@ -1,0 +1,4 @@
+pub mod AtWork
+pub mod Knows
+pub mod Laws
+pub mod Lies

@@ -1,0 +1,26 @@
+//! Laws of the copy of a thing with all that lies in it: what a job that works one knows of the folders that it has open. The functions
+//! do nothing: their contracts are laws of the definitions in `specs/`.
+#![tactic(auto)]
+
+ghost use Rattle.subtree_laws.specs.Laws.{BeginningLaw, MetLaw, SkipLaw, StepLaw};
+
+/// A copy that begins in a folder on the disk, where no change of the target's name waits, knows that of its one open folder.
+pub fn what_a_copy_knows_as_it_begins()
+    ensures { BeginningLaw }
+{}
+
+/// Each step of a copy keeps what is known of its open folders: they stand on the disk, but for one that was just made, and no change
+/// waits of a name that is yet to be met in them.
+pub fn what_each_step_of_a_copy_keeps()
+    ensures { StepLaw }
+{}
+
+/// A skip and a retry keep it, too.
+pub fn what_a_skip_and_a_retry_keep()
+    ensures { SkipLaw }
+{}
+
+/// So what is met next in a folder that is on the disk isn't in doubt.
+pub fn what_is_met_next_is_out_of_doubt()
+    ensures { MetLaw }
+{}
