@@ -19,8 +19,9 @@ pub fn after_keys(
     keys: &[u8],
 ) -> Result<MemTree> {
     let mut desk = begin(alloc, tree, left, right)?;
-    type_keys(alloc, &mut desk, keys)?;
+    let typed = type_keys(alloc, &mut desk, keys);
     let Ended { tree, .. } = desk.end(alloc);
+    typed?;
     Ok(tree.into_inner())
 }
 
