@@ -16,7 +16,7 @@ use crate::scrolling::{rows_shown, scrolled};
 use crate::searching::row_from;
 use mc_text::{Name, NoMemory, Path};
 use panel_listing::Listing;
-use resolving::{ResolveError, resolve_folder};
+use resolving::{ResolveError, Wanted, resolve};
 use std::alloc::Global;
 use std::convert::AsStr;
 use tree_trait::ReadTree;
@@ -214,7 +214,7 @@ impl Panel {
         ensures carried { IfErr result CarriesCause }
     {
         let name = self.current_text(alloc)?;
-        let folder = resolve_folder(alloc, tree, &self.folder, name.as_str())?;
+        let folder = resolve(alloc, tree, Wanted::FolderAlone, &self.folder, name.as_str())?;
         self.go_to(alloc, tree, page, folder)?;
         Ok(Going::Went)
     }
