@@ -3,6 +3,7 @@
 
 mod copying;
 mod deletion;
+mod dirty_setting;
 mod making;
 mod new_folder;
 mod noting;
