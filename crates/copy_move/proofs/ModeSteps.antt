@@ -50,8 +50,8 @@ setting_stays s new (Skipped path cause) t = absurd t
 setting_stays s new (Cleaned part) t = absurd t
 
 pub setting_winds_there : (ending : Ending) (s new : Setting) (last : LastStepResult) (before after : Option CallLog) (f0 f1 : ℕ) → Winds ending s new last before after f0 f1 → new.path ≡ s.path
-setting_winds_there ending s new last before after f0 f1 (inl (dirty, is, tried)) = ap (λ (n : Setting). n.path) is
-setting_winds_there ending s new last before after f0 f1 (inr (clean, is, rest)) = ap (λ (n : Setting). n.path) is
+setting_winds_there ending s new last before after f0 f1 (inl w) = ap (λ (n : Setting). n.path) w.1
+setting_winds_there ending s new last before after f0 f1 (inr w) = ap (λ (n : Setting). n.path) w.1
 
 -- what was given its mode before, and is synced, isn't given one again
 pub clean_setting : (s new : Setting) (did : Did) → Tells s did new → is_fresh s.stage ≡ false → is_dirty s.stage ≡ false → is_dirty new.stage ≡ false

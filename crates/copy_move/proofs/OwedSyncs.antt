@@ -1,5 +1,5 @@
 -- The sync of what an ended job left dirty.
-use Rattle.std.proofs.Common.{◌≡◌, ℕ, ◌≤◌, true, List, [], ◌∷◌, refl, sym, ◌∙◌, subst, inl, inr, Option, Ok, Err, arith}
+use Rattle.std.proofs.Common.{◌≡◌, ℕ, ◌≤◌, true, List, [], ◌∷◌, refl, sym, ◌∙◌, subst, inl, inr, Option, Some, Ok, Err, arith}
 use Rattle.mc_text.specs.Routes.{Route}
 use Rattle.tree_trait.specs.Calls.{Call}
 use Rattle.tree_trait.specs.Change.{CallLog, current}
@@ -16,7 +16,8 @@ use Rattle.job_reports.proofs.Runs.{no_more}
 use Rattle.mode_setting.specs.SettingSteps.{SyncRan, sync_of}
 use Rattle.copy_move.specs.declared.run.Course.TheVariants.{GoesOn, OwedSyncFailed}
 use Rattle.copy_move.specs.Jobs.{Running, is_fresh}
-use Rattle.copy_move.specs.Steps.{OwedSyncStep, step_made}
+use Rattle.copy_move.specs.Steps.{OwedSyncStep, SyncsOwed, step_made}
+use Rattle.copy_move.proofs.StillTelling.{StillTells, performs_tells, sync_stop_tells}
 
 one_done : (log : CallLog) (call : Call) (after : Option CallLog) → AllDone log (call ∷ []) after → Performs {A = Unit {0}} log call (Ok tt) after
 one_done log call after (mid, performs, is) = subst (λ a. Performs {A = Unit {0}} log call (Ok tt) a) (sym is) performs
@@ -70,3 +71,8 @@ module _ (path : Route) (dirty dirty_after : List Route) (job : Running) (goes :
     later = later;
     fault = λ h. absurd cc;
   }
+
+-- a tree that tells what it holds goes on telling
+pub owed_tells : (job new : Running) (path : Route) (did : Did) (dirty dirty_after : List Route) (before after : Option CallLog) (log : CallLog) → before ≡ Some log → SyncsOwed job path did new dirty dirty_after before after → StillTells after
+owed_tells job new path did dirty dirty_after before after log known (inl h) = performs_tells log (sync_of (current log) path) (Ok tt) after (h.called log known)
+owed_tells job new path did dirty dirty_after before after log known (inr h) = sync_stop_tells path h.trouble.cause h.trouble.path log after (h.called log known)

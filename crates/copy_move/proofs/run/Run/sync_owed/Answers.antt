@@ -9,8 +9,8 @@ pub returns-in-Ok : goal.returns-in-Ok
 returns-in-Ok g c =
     record { steps = owed_synced c.args.owed _ _ _ c.requires.course c.requires.fresh c.requires.owed _ _ _ _ c.in-Ok.calls c.in-Ok.ensures c.remove.ensures }
 
-pub returns-in-Err : goal.returns-in-Err
-returns-in-Err g c =
+pub returns : goal.returns
+returns g c =
     record {
       steps = owed_refused c.args.owed _ _ _ c.requires.course c.requires.fresh c.requires.owed _ _ _ _ c.in-Err.stop _ c.in-Err.ensures
           (ap (λ (j : Running). let k : Running = record j { course = OwedSyncFailed c.in-Err.stop.trouble.cause } in k) c.self.view_is) refl;
