@@ -36,8 +36,10 @@ use Rattle.tree_deletion.specs.declared.deletion.Stage.{Stage as DeletionStage}
 use Rattle.tree_deletion.specs.declared.deletion.Stage.TheVariants as deletion
 use Rattle.tree_deletion.specs.Standing.{after_item}
 use Rattle.tree_deletion.specs.Standing as standing
+use Rattle.job_reports.specs.Jobs.{is_link_text}
 use Rattle.copy_move.specs.declared.making.MakingStage.{MakingStage}
 use Rattle.copy_move.specs.declared.making.MakingStage.TheVariants as making
+use Rattle.copy_move.specs.declared.new_thing.NewThing.TheVariants as thing
 use Rattle.copy_move.specs.Deletions.{Deleting, IsAtStage}
 use Rattle.copy_move.specs.Deletions as deletions
 use Rattle.copy_move.specs.Makings.{Making}
@@ -352,7 +354,9 @@ began_told id (plan.Delete (path ∷ more ∷ paths)) = refl
 began_told id (plan.Copy []) = refl
 began_told id (plan.Copy (pair ∷ [])) = began_if id (is_some (parent_of pair.source) && is_some (parent_of pair.target)) (copies id pair.source pair.target) refl
 began_told id (plan.Copy (pair ∷ more ∷ pairs)) = refl
-began_told id (plan.MakeFolder path) = began_if id (is_some (parent_of path)) (makes path) refl
+began_told id (plan.MakeFolder path) = began_if id (is_some (parent_of path)) (makes thing.Folder path) refl
+began_told id (plan.MakeLink path text) = began_if id (is_some (parent_of path) && is_link_text text) (makes (thing.Link text) path) refl
+began_told id (plan.SetMode paths mode) = refl
 
 -- the sync of a folder that an ended job left comes before the first change, and leaves the work as it is
 synced_copy : (c : Copying) (stage : Stage) (folder : FolderState) → copying.is_fresh stage folder ≡ true → synced (work_told (Copy (record c { stage = stage; folder = folder }))) ≡ work_told (Copy (record c { stage = stage; folder = folder }))

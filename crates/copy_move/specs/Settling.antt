@@ -39,7 +39,7 @@ is_within (Copy c) kept = false
 is_within (Delete d) kept = is_prefix d.path kept
 is_within (Make m) kept = false
 
--- the folder of a copy, or of a new folder, joins the dirty ones with its first change, and leaves them with its sync
+-- the folder of a copy, or of a new thing, joins the dirty ones with its first change, and leaves them with its sync
 abbrev pub with_change : Bool → Bool → Route → List Route → List Route
 with_change false true folder dirty = joined folder dirty
 with_change true false folder dirty = without folder dirty

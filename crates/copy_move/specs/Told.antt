@@ -65,7 +65,7 @@ removed path (Copy c) = Copy c
 removed path (Delete d) = Delete (record d { stage = after_item d.path path Going })
 removed path (Make m) = Make m
 
--- the work once its folder was made
+-- the work once its thing was made
 abbrev pub made : Work → Work
 made (Copy c) = Copy c
 made (Delete d) = Delete d

@@ -3,8 +3,9 @@
 
 mod copying;
 mod deletion;
+mod dirty_making;
 mod making;
-mod new_folder;
+mod new_thing;
 mod noting;
 mod owed;
 mod reports;
@@ -14,7 +15,8 @@ mod work;
 
 pub use deletion::TreeDeletion;
 pub use file_copy::PartTest;
-pub use making::{FolderMaking, MakingStage};
+pub use making::{MakingStage, ThingMaking};
+pub use new_thing::NewThing;
 pub use run::{Course, Run};
 pub use tree_deletion::Dirty;
 pub use work::Work;

@@ -9,7 +9,7 @@ ghost use Rattle.copy_move.specs.Told.{running};
 mod answering;
 mod stepping;
 
-use crate::starting::{copy_of, deletion_of, making_of};
+use crate::starting::{copy_of, deletion_of, folder_of, link_of};
 use crate::work::Work;
 use file_copy::PartTest;
 use job_reports::{Cause, Ending, Job, JobKind, StepResult};
@@ -62,7 +62,9 @@ impl Run {
         let work = match job {
             Job::Copy(pairs) => copy_of(alloc, pairs, id)?,
             Job::Delete(paths) => deletion_of(alloc, paths)?,
-            Job::MakeFolder(path) => making_of(alloc, path)?,
+            Job::MakeFolder(path) => folder_of(alloc, path)?,
+            Job::MakeLink(path, text) => link_of(alloc, path, text)?,
+            Job::SetMode(..) => unreachable!(),
         };
         Ok(Run {
             id,
@@ -85,7 +87,7 @@ impl Run {
         self.work.kind()
     }
 
-    /// Its source; of a folder that is made, that folder.
+    /// Its source; of a thing that is made, that thing.
     pub fn path(&self) -> &Path
         ensures { result.now ≡ path_of self.now.work }
     {

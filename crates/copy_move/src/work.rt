@@ -1,4 +1,4 @@
-//! What a job does: it copies a file, deletes a thing with all that lies in it, or makes a folder. One machine for each.
+//! What a job does: it copies a file, deletes a thing with all that lies in it, or makes a folder or a link. One machine for each.
 ghost use Rattle.std.specs.Prelude.{◌≡◌, option_map, true};
 ghost use Rattle.copy_move.specs.Jobs.{IsGoing, at_barrier, is_fresh, kind_of, part_of, path_of, taken_anew as anew, with_skips};
 ghost use Rattle.copy_move.specs.Settling.{changed_folder, is_within};
@@ -6,8 +6,8 @@ ghost use Rattle.copy_move.specs.Steps.{WorkSkips, WorkSteps, WorkWindsUp};
 
 use crate::copying::{step_copy, wind_up_copy};
 use crate::deletion::TreeDeletion;
-use crate::making::FolderMaking;
-use crate::new_folder::{step_making, wind_up_making};
+use crate::dirty_making::{step_making, wind_up_making};
+use crate::making::ThingMaking;
 use file_copy::{FileCopy, PartTest};
 use job_reports::{Cause, Did, Ending, JobKind, LastStepResult, StepResult};
 use mc_text::Path;
@@ -20,7 +20,7 @@ use tree_trait::Tree;
 pub enum Work {
     Copy(FileCopy),
     Delete(TreeDeletion),
-    Make(FolderMaking),
+    Make(ThingMaking),
 }
 
 impl Work {
@@ -108,7 +108,7 @@ impl Work {
         match self {
             Work::Copy(_) => JobKind::Copy,
             Work::Delete(_) => JobKind::Delete,
-            Work::Make(_) => JobKind::MakeFolder,
+            Work::Make(making) => making.thing().kind(),
         }
     }
 
