@@ -3,7 +3,7 @@ use Rattle.std.proofs.Common.{◌≡◌, List, [], ◌∷◌, take, inl, inr, Op
 use Rattle.mc_text.specs.Routes.{Route}
 use Rattle.tree_trait.specs.declared.calls.TreeError.{TreeError}
 use Rattle.tree_trait.specs.declared.calls.TreeError.TheVariants as refused
-use Rattle.tree_trait.specs.Calls.{Call, MakeFolder, RemoveFile, RemoveFolder, SyncFolder}
+use Rattle.tree_trait.specs.Calls.{Call, RemoveFile, RemoveFolder, SyncFolder}
 use Rattle.tree_trait.specs.Calls as calls
 use Rattle.tree_trait.specs.Change.{CallLog, current}
 use Rattle.tree_trait.specs.Answers.{Performs}
@@ -15,12 +15,10 @@ use Rattle.file_copy.specs.declared.stage.Stage.{Stage}
 use Rattle.file_copy.specs.declared.stage.Stage.TheVariants.{Begin, Fill, Clean, Left, Decided}
 use Rattle.job_reports.specs.CallRuns.{RunStops, StopsAt}
 use Rattle.file_copy.specs.Copying.{Copying, Places, places_of}
-use Rattle.job_reports.specs.Jobs.{new_folder_mode}
 use Rattle.job_reports.specs.Paths.{folder_of}
 use Rattle.file_copy.specs.CopyCalls.{CopyCalls, CopyStops, making, placing, writing}
 use Rattle.file_copy.specs.LastSteps.{SyncTried, WindCalls, removable}
 use Rattle.job_reports.proofs.Runs.{all_some}
-use Rattle.copy_move.specs.declared.making.MakingStage.TheVariants as making
 use Rattle.copy_move.specs.declared.work.Work.{Work}
 use Rattle.copy_move.specs.declared.work.Work.TheVariants.{Copy, Delete, Make, SetMode}
 use Rattle.copy_move.specs.declared.run.Course.{Course}
@@ -29,6 +27,7 @@ use Rattle.copy_move.specs.Deletions.{DeletionCalls, IsRefused, LastCalls}
 use Rattle.copy_move.specs.Deletions as deletions
 use Rattle.copy_move.specs.Makings.{Answers, LastMakingCalls, Making, MakingCalls}
 use Rattle.copy_move.specs.Makings as makings
+use Rattle.copy_move.specs.NewThings.{making_call}
 use Rattle.copy_move.specs.ModeSettings.{LastSettingCalls}
 use Rattle.mode_setting.specs.declared.setting.Stage.{Stage as SettingStage}
 use Rattle.mode_setting.specs.declared.setting.Stage.TheVariants as setting
@@ -74,9 +73,9 @@ deletion_tells (Cleaned part) log after h = absurd h
 
 -- a making
 making_tells : (m : Making) (did : Did) (log : CallLog) (after : Option CallLog) → MakingCalls m did log after → StillTells after
-making_tells m (Made path) log after h = performs_tells log (MakeFolder path new_folder_mode) (Ok tt) after h
-making_tells m Barrier log after h = call_tells log (makings.call_of making.Sync m.path) (Ok tt) after h
-making_tells m (Troubled trouble) log after h = call_tells log (makings.call_of m.stage m.path) (Err h.0) after h.2
+making_tells m (Made path) log after h = performs_tells log (making_call m.thing path) (Ok tt) after h
+making_tells m Barrier log after h = call_tells log (makings.sync_of m.path) (Ok tt) after h
+making_tells m (Troubled trouble) log after h = call_tells log (makings.call_of m.thing m.stage m.path) (Err h.0) after h.2
 making_tells m (Ended ending part) log after h = (log, h)
 making_tells m (Began part) log after h = absurd h
 making_tells m (Chunk count) log after h = absurd h
@@ -102,7 +101,7 @@ last_tells (Cleaned part) log after h = absurd h
 last_tells (Troubled trouble) log after h = absurd h
 
 last_making_tells : (m : Making) (did : Did) (log : CallLog) (after : Option CallLog) → LastMakingCalls m did log after → StillTells after
-last_making_tells m Barrier log after h = call_tells log (makings.call_of making.Sync m.path) h.0 after h.1
+last_making_tells m Barrier log after h = call_tells log (makings.sync_of m.path) h.0 after h.1
 last_making_tells m (Ended ending part) log after h = (log, h)
 last_making_tells m (Began part) log after h = absurd h
 last_making_tells m (Chunk count) log after h = absurd h

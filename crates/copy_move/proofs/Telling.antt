@@ -35,8 +35,10 @@ use Rattle.tree_deletion.specs.declared.deletion.Stage.{Stage as DeletionStage}
 use Rattle.tree_deletion.specs.declared.deletion.Stage.TheVariants as deletion
 use Rattle.tree_deletion.specs.Standing.{after_item}
 use Rattle.tree_deletion.specs.Standing as standing
+use Rattle.job_reports.specs.Jobs.{is_link_text}
 use Rattle.copy_move.specs.declared.making.MakingStage.{MakingStage}
 use Rattle.copy_move.specs.declared.making.MakingStage.TheVariants as making
+use Rattle.copy_move.specs.declared.new_thing.NewThing.TheVariants as thing
 use Rattle.copy_move.specs.Deletions.{Deleting, IsAtStage}
 use Rattle.copy_move.specs.Deletions as deletions
 use Rattle.copy_move.specs.Makings.{Making}
@@ -418,7 +420,8 @@ began_told id (plan.Delete (path ∷ more ∷ paths)) = refl
 began_told id (plan.Copy []) = refl
 began_told id (plan.Copy (pair ∷ [])) = began_if id (is_some (parent_of pair.source) && is_some (parent_of pair.target)) (copies id pair.source pair.target) refl
 began_told id (plan.Copy (pair ∷ more ∷ pairs)) = refl
-began_told id (plan.MakeFolder path) = began_if id (is_some (parent_of path)) (makes path) refl
+began_told id (plan.MakeFolder path) = began_if id (is_some (parent_of path)) (makes thing.Folder path) refl
+began_told id (plan.MakeLink path text) = began_if id (is_some (parent_of path) && is_link_text text) (makes (thing.Link text) path) refl
 began_told id (plan.SetMode [] mode) = refl
 began_told id (plan.SetMode (path ∷ []) mode) = began_if id (is_some (parent_of path) && nat_le mode 0o7777) (sets path mode) refl
 began_told id (plan.SetMode (path ∷ more ∷ paths) mode) = refl

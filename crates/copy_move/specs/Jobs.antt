@@ -10,6 +10,7 @@ use Rattle.job_reports.specs.declared.report.Ending.{Ending}
 use Rattle.job_reports.specs.declared.report.Ending.TheVariants.{Aborted}
 use Rattle.job_reports.specs.declared.report.Did.{Did}
 use Rattle.job_reports.specs.declared.report.Did.TheVariants.{Began, Chunk, Placed, Removed, Made, Set, Kept, Skipped, Cleaned, Barrier, Troubled, Ended}
+use Rattle.job_reports.specs.Jobs.{is_link_text}
 use Rattle.job_reports.specs.Reports.{passes_over}
 use Rattle.file_copy.specs.Copying.{begun}
 use Rattle.file_copy.specs.Copying as copying
@@ -23,6 +24,8 @@ use Rattle.job_reports.specs.declared.row.JobKind.TheVariants as kind
 use Rattle.job_reports.specs.declared.answer.Answer.{Answer}
 use Rattle.job_reports.specs.declared.answer.Answer.TheVariants.{Retry, Skip, SkipAll, Abort}
 use Rattle.copy_move.specs.declared.making.MakingStage.TheVariants as making
+use Rattle.copy_move.specs.declared.new_thing.NewThing.{NewThing}
+use Rattle.copy_move.specs.declared.new_thing.NewThing.TheVariants as thing
 use Rattle.copy_move.specs.declared.work.Work.{Work}
 use Rattle.copy_move.specs.declared.work.Work.TheVariants.{Copy, Delete, Make, SetMode}
 use Rattle.copy_move.specs.declared.run.Course.{Course}
@@ -33,6 +36,7 @@ use Rattle.copy_move.specs.Deletions.{DeletionCalls, IsAtStage, LastCalls, start
 use Rattle.copy_move.specs.Deletions as deletions
 use Rattle.copy_move.specs.Makings.{LastMakingCalls, MakingCalls}
 use Rattle.copy_move.specs.Makings as makings
+use Rattle.copy_move.specs.NewThings.{making_kind}
 use Rattle.copy_move.specs.ModeSettings.{LastSettingCalls}
 use Rattle.copy_move.specs.ModeSettings as modes
 use Rattle.mode_setting.specs.declared.setting.Stage.TheVariants.{Give}
@@ -54,9 +58,9 @@ copies id source target = Copy (begun id source target)
 abbrev pub deletes : Route → Work
 deletes path = Delete (started path)
 
--- the making of a folder, just begun
-abbrev pub makes : Route → Work
-makes path = Make (record { path = path; stage = making.Make })
+-- the making of a thing, just begun
+abbrev pub makes : NewThing → Route → Work
+makes new path = Make (record { path = path; thing = new; stage = making.Make })
 
 -- the setting of a thing's mode, just begun
 abbrev pub sets : Route → ℕ → Work
@@ -72,7 +76,8 @@ first_work id (plan.Copy []) = None
 first_work id (plan.Copy (pair ∷ [])) =
     if is_some (parent_of pair.source) && is_some (parent_of pair.target) then Some (copies id pair.source pair.target) else None
 first_work id (plan.Copy (pair ∷ more ∷ pairs)) = None
-first_work id (plan.MakeFolder path) = if is_some (parent_of path) then Some (makes path) else None
+first_work id (plan.MakeFolder path) = if is_some (parent_of path) then Some (makes thing.Folder path) else None
+first_work id (plan.MakeLink path text) = if is_some (parent_of path) && is_link_text text then Some (makes (thing.Link text) path) else None
 first_work id (plan.SetMode [] mode) = None
 first_work id (plan.SetMode (path ∷ []) mode) = if is_some (parent_of path) && nat_le mode 0o7777 then Some (sets path mode) else None
 first_work id (plan.SetMode (path ∷ more ∷ paths) mode) = None
@@ -81,7 +86,7 @@ first_work id (plan.SetMode (path ∷ more ∷ paths) mode) = None
 abbrev pub kind_of : Work → JobKind
 kind_of (Copy c) = kind.Copy
 kind_of (Delete d) = kind.Delete
-kind_of (Make m) = kind.MakeFolder
+kind_of (Make m) = making_kind m.thing
 kind_of (SetMode s) = kind.SetMode
 
 abbrev pub path_of : Work → Route
@@ -112,8 +117,8 @@ is_barred (InTrouble cause) work = at_barrier work
 is_barred (Skips cause) work = at_barrier work
 is_barred (Ends ending) work = at_barrier work
 
--- the work once what stands at this path was left as it is: the file that is copied, something that is deleted, the folder that
--- is not made, or the thing that keeps its mode
+-- the work once what stands at this path was left as it is: the file that is copied, something that is deleted, the thing that
+-- is not made, or the one that keeps its mode
 abbrev pub PassesOver : Work → Route → Work → Type 0
 PassesOver (Copy c) path (Copy new) = (path ≡ c.source) × (new ≡ record c { stage = copying.skipped c.stage })
 PassesOver (Delete d) path (Delete new) = IsAtStage d (after_item d.path path d.stage) new

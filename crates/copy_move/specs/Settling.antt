@@ -46,7 +46,7 @@ is_owed_anywhere (Delete d) kept = is_prefix d.path kept
 is_owed_anywhere (Make m) kept = false
 is_owed_anywhere (SetMode s) kept = true
 
--- the folder of a copy, or of a new folder, or a thing that is given a mode, joins the dirty ones with its first change, and leaves them
+-- the folder of a copy, or of a new thing, or a thing that is given a mode, joins the dirty ones with its first change, and leaves them
 -- with its sync
 abbrev pub with_change : Bool → Bool → Route → List Route → List Route
 with_change false true folder dirty = joined folder dirty

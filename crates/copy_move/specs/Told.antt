@@ -72,7 +72,7 @@ removed path (Delete d) = Delete (record d { stage = after_item d.path path Goin
 removed path (Make m) = Make m
 removed path (SetMode s) = SetMode s
 
--- the work once its folder was made
+-- the work once its thing was made
 abbrev pub made : Work → Work
 made (Copy c) = Copy c
 made (Delete d) = Delete d

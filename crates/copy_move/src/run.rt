@@ -9,7 +9,7 @@ ghost use Rattle.copy_move.specs.Told.{running};
 mod answering;
 mod stepping;
 
-use crate::starting::{copy_of, deletion_of, making_of, setting_of};
+use crate::starting::{copy_of, deletion_of, folder_of, link_of, setting_of};
 use crate::work::Work;
 use file_copy::PartTest;
 use job_reports::{Cause, Ending, Job, JobKind, StepResult};
@@ -62,7 +62,8 @@ impl Run {
         let work = match job {
             Job::Copy(pairs) => copy_of(alloc, pairs, id)?,
             Job::Delete(paths) => deletion_of(alloc, paths)?,
-            Job::MakeFolder(path) => making_of(alloc, path)?,
+            Job::MakeFolder(path) => folder_of(alloc, path)?,
+            Job::MakeLink(path, text) => link_of(alloc, path, text)?,
             Job::SetMode(paths, mode) => setting_of(alloc, paths, *mode)?,
         };
         Ok(Run {
@@ -86,7 +87,7 @@ impl Run {
         self.work.kind()
     }
 
-    /// Its source; of a folder that is made, that folder; of a mode that is set, the thing.
+    /// Its source; of a thing that is made, or given a mode, that thing.
     pub fn path(&self) -> &Path
         ensures { result.now ≡ path_of self.now.work }
     {

@@ -1,4 +1,5 @@
-//! What a job does: it copies a file, deletes a thing with all that lies in it, makes a folder, or sets a thing's mode. One machine for each.
+//! What a job does: it copies a file, deletes a thing with all that lies in it, makes a folder or a link, or sets a thing's mode. One machine
+//! for each.
 ghost use Rattle.std.specs.Prelude.{◌≡◌, option_map, true};
 ghost use Rattle.copy_move.specs.Jobs.{IsGoing, at_barrier, is_fresh, kind_of, part_of, path_of, taken_anew as anew, with_skips};
 ghost use Rattle.copy_move.specs.Settling.{changed_folder, is_owed_anywhere};
@@ -6,9 +7,9 @@ ghost use Rattle.copy_move.specs.Steps.{WorkSkips, WorkSteps, WorkWindsUp};
 
 use crate::copying::{step_copy, wind_up_copy};
 use crate::deletion::TreeDeletion;
+use crate::dirty_making::{step_making, wind_up_making};
 use crate::dirty_setting::{step_setting, wind_up_setting};
-use crate::making::FolderMaking;
-use crate::new_folder::{step_making, wind_up_making};
+use crate::making::ThingMaking;
 use file_copy::{FileCopy, PartTest};
 use job_reports::{Cause, Did, Ending, JobKind, LastStepResult, StepResult};
 use mc_text::Path;
@@ -22,7 +23,7 @@ use tree_trait::Tree;
 pub enum Work {
     Copy(FileCopy),
     Delete(TreeDeletion),
-    Make(FolderMaking),
+    Make(ThingMaking),
     SetMode(ModeSetting),
 }
 
@@ -116,7 +117,7 @@ impl Work {
         match self {
             Work::Copy(_) => JobKind::Copy,
             Work::Delete(_) => JobKind::Delete,
-            Work::Make(_) => JobKind::MakeFolder,
+            Work::Make(making) => making.thing().kind(),
             Work::SetMode(_) => JobKind::SetMode,
         }
     }
