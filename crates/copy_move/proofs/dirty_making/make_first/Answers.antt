@@ -6,7 +6,7 @@ use Rattle.tree_deletion.specs.Folders.{joined}
 use Rattle.copy_move.specs.Makings.{is_dirty}
 use Rattle.copy_move.proofs.FolderSteps.{joins}
 use Rattle.copy_move.proofs.MakingFolders.{as_before, fresh_making, none_made}
-use Rattle.copy_move.proofs.new_folder.make_first.Goals as goal
+use Rattle.copy_move.proofs.dirty_making.make_first.Goals as goal
 
 pub returns-in_default : goal.returns-in_default
 returns-in_default g c = record {

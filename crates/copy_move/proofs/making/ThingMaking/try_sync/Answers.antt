@@ -3,7 +3,7 @@ use Rattle.std.proofs.Common.{ap}
 use Rattle.copy_move.specs.declared.making.MakingStage.TheVariants.{Finish}
 use Rattle.copy_move.specs.Makings.{Making}
 use Rattle.copy_move.proofs.MakingRuns.{steps_tried}
-use Rattle.copy_move.proofs.making.FolderMaking.try_sync.Goals as goal
+use Rattle.copy_move.proofs.making.ThingMaking.try_sync.Goals as goal
 
 pub returns : goal.returns
 returns g c =

@@ -9,7 +9,7 @@ use Rattle.copy_move.specs.Makings.{Making, call_of}
 use Rattle.job_reports.specs.Stops.{trouble_at}
 use Rattle.copy_move.proofs.FolderSteps.{err_is, fault-cause}
 use Rattle.copy_move.proofs.MakingRuns.{steps_refused, steps_synced, steps_unmade, sync_at, sync_call}
-use Rattle.copy_move.proofs.making.FolderMaking.sync.Goals as goal
+use Rattle.copy_move.proofs.making.ThingMaking.sync.Goals as goal
 
 pub returns-in_default : goal.returns-in_default
 returns-in_default g c =
@@ -32,5 +32,5 @@ returns-in-Err g c =
     steps_refused c.args.self.now _ _ _ _ _ c.refused.result.did c.refused.result.calls t (c.refused.ensures.did ∙ ap (λ q. Troubled (trouble_at c.in-Err.error q true)) c.in-Ok.ensures)
     (sync_at c.args.self.now c.folder-owed.result.now c.in-Err.error c.folder-owed.ensures.holds c.requires.stage) refl
     c.sync_folder.ensures.stays_unknown c.sync_folder.ensures.cause.later (λ h. c.in-Err.ensures.cause.risen (err_is c.in-Err.error (fault-cause c.in-Err.error h)))
-    (SyncFolder c.folder-owed.result.now) c.in-Err.error c.refused.ensures.calls (ap (λ s. call_of s c.args.self.now.path) c.requires.stage ∙ sync_call c.args.self.now.path c.folder-owed.result.now c.folder-owed.ensures.holds) refl
+    (SyncFolder c.folder-owed.result.now) c.in-Err.error c.refused.ensures.calls (ap (λ s. call_of c.args.self.now.thing s c.args.self.now.path) c.requires.stage ∙ sync_call c.args.self.now.path c.folder-owed.result.now c.folder-owed.ensures.holds) refl
     (λ log known. c.in-Err.ensures.answer log known)

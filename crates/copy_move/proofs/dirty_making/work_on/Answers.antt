@@ -5,7 +5,7 @@ use Rattle.copy_move.specs.Makings.{is_dirty}
 use Rattle.copy_move.specs.Settling.{with_change}
 use Rattle.copy_move.proofs.FolderSteps.{synced_only}
 use Rattle.copy_move.proofs.MakingFolders.{clean_making, making_stays}
-use Rattle.copy_move.proofs.new_folder.work_on.Goals as goal
+use Rattle.copy_move.proofs.dirty_making.work_on.Goals as goal
 
 pub returns-clause-leaves : goal.returns-clause-leaves
 returns-clause-leaves g c =

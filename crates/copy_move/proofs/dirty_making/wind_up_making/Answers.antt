@@ -3,7 +3,7 @@ use Rattle.std.proofs.Common.{ap, ◌∙◌}
 use Rattle.job_reports.specs.Paths.{folder_of}
 use Rattle.copy_move.specs.DeletionSteps.{after_try}
 use Rattle.copy_move.proofs.MakingFolders.{making_winds_there}
-use Rattle.copy_move.proofs.new_folder.wind_up_making.Goals as goal
+use Rattle.copy_move.proofs.dirty_making.wind_up_making.Goals as goal
 
 pub returns-clause-tries : goal.returns-clause-tries
 returns-clause-tries g c =

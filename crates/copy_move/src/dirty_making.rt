@@ -1,4 +1,4 @@
-//! The making of a folder, with the dirty folders: the one that holds it joins them before it is made, when there may still be no
+//! The making of a thing, with the dirty folders: the one that holds it joins them before it is made, when there may still be no
 //! memory, and leaves them with its sync.
 ghost use Rattle.std.specs.Prelude.{◌≡◌, false, true};
 ghost use Rattle.job_reports.specs.Paths.{folder_of};
@@ -7,7 +7,7 @@ ghost use Rattle.copy_move.specs.Makings.{is_dirty, is_fresh};
 ghost use Rattle.copy_move.specs.MakingSteps.{LastMakingStep, MakingStep};
 ghost use Rattle.copy_move.specs.Settling.{with_change};
 
-use crate::making::FolderMaking;
+use crate::making::ThingMaking;
 use crate::noting::{but_not, note_try};
 use crate::reports::without_call;
 use job_reports::{Did, Ending, LastStepResult, StepResult, out_of_memory};
@@ -17,7 +17,7 @@ use tree_trait::Tree;
 
 /// Does the next piece of work of a making.
 pub(crate) fn step_making<T: Tree>(
-    making: &mut FolderMaking,
+    making: &mut ThingMaking,
     alloc: Global,
     tree: &mut T,
     dirty: &mut Dirty,
@@ -33,9 +33,9 @@ pub(crate) fn step_making<T: Tree>(
     }
 }
 
-/// The step that may make the folder.
+/// The step that may make the thing.
 fn make_first<T: Tree>(
-    making: &mut FolderMaking,
+    making: &mut ThingMaking,
     alloc: Global,
     tree: &mut T,
     dirty: &mut Dirty,
@@ -53,9 +53,9 @@ fn make_first<T: Tree>(
     stepped
 }
 
-/// A step once the folder stands, or was passed over.
+/// A step once the thing stands, or was passed over.
 fn work_on<T: Tree>(
-    making: &mut FolderMaking,
+    making: &mut ThingMaking,
     alloc: Global,
     tree: &mut T,
     dirty: &mut Dirty,
@@ -73,7 +73,7 @@ fn work_on<T: Tree>(
 
 /// Makes the next of the last steps of a making.
 pub(crate) fn wind_up_making<T: Tree>(
-    making: &mut FolderMaking,
+    making: &mut ThingMaking,
     alloc: Global,
     tree: &mut T,
     ending: Ending,
