@@ -30,6 +30,12 @@ LINK = [b"\x18", b"s"]
 COPY = [DOWN, F5, ENTER, ENTER]
 USAGE = b"usage: mc [-b] [-V] [-h] [-P FILE] [-v FILE | -e FILE | --drill N | DIR1 [DIR2]]"
 KEYS = b"F1 help  F2 menu  F3 view  F4 edit  F5 copy  F6 move  F7 mkdir  F8 delete  F9 options  F10 quit"
+HELP = [
+    "usage: mc [-b] [-V] [-h] [-P FILE]",
+    "       [-v FILE | -e FILE | --drill N | DIR1 [DIR2]]",
+    "F1 help  F2 menu  F3 view  F4 edit  F5 copy",
+    "F6 move  F7 mkdir  F8 delete  F9 options  F10 quit",
+]
 PATIENCE = 20.0
 SOMEBODY = 65534
 
@@ -263,6 +269,10 @@ def check_frames(program, base, check):
     for surroundings, size in [({"LINES": "9", "COLUMNS": "80"}, (24, 80)), ({"LINES": "10", "COLUMNS": "40"}, (10, 40))]:
         _, screens, _ = screens_of(program, [], [], size, inside=folder, surroundings=surroundings)
         check(f"{surroundings} is {size[0]} lines", screens[0].rows() == wanted(size, ".."))
+
+    _, told, _ = run(program, [folder], [F1, ENTER, F10])
+    opening, help_shown, shut = (screen.rows() for screen in told.screens[:3])
+    check("F1 shows the help, each line whole", help_shown == with_box(opening, HELP) and shut == opening)
 
     check_cursor(program, base, check)
 

@@ -59,8 +59,10 @@ message_lines (Refused refusal) = refusal_words refusal ∷ path_lines (refusal_
 message_lines (PartLeft path) = part_lines (Some path)
 message_lines (OutOfMemory part) = codes "job ended: out of memory" ∷ part_lines part
 message_lines Help =
-    codes "usage: mc [-b] [-V] [-h] [-P FILE] [-v FILE | -e FILE | --drill N | DIR1 [DIR2]]"
-    ∷ codes "F1 help  F2 menu  F3 view  F4 edit  F5 copy  F6 move  F7 mkdir  F8 delete  F9 options  F10 quit"
+    codes "usage: mc [-b] [-V] [-h] [-P FILE]"
+    ∷ codes "       [-v FILE | -e FILE | --drill N | DIR1 [DIR2]]"
+    ∷ codes "F1 help  F2 menu  F3 view  F4 edit  F5 copy"
+    ∷ codes "F6 move  F7 mkdir  F8 delete  F9 options  F10 quit"
     ∷ []
 
 -- the lines of the box that asks whether to delete one thing

@@ -14,13 +14,15 @@ use session_history::{PlanError, Refusal};
 use std::alloc::Global;
 use std::convert::AsStr;
 
-/// What the program is called with.
-const USAGE: &str =
-    "usage: mc [-b] [-V] [-h] [-P FILE] [-v FILE | -e FILE | --drill N | DIR1 [DIR2]]";
+/// What the program is called with, in lines that a box on 80 columns shows whole.
+const USAGE: &str = "usage: mc [-b] [-V] [-h] [-P FILE]";
+
+const MORE_USAGE: &str = "       [-v FILE | -e FILE | --drill N | DIR1 [DIR2]]";
 
 /// What the function keys do.
-const KEYS: &str =
-    "F1 help  F2 menu  F3 view  F4 edit  F5 copy  F6 move  F7 mkdir  F8 delete  F9 options  F10 quit";
+const KEYS: &str = "F1 help  F2 menu  F3 view  F4 edit  F5 copy";
+
+const MORE_KEYS: &str = "F6 move  F7 mkdir  F8 delete  F9 options  F10 quit";
 
 /// The lines of the box that asks whether to delete one thing.
 pub fn delete_lines(alloc: Global) -> Result<Rows, NoMemory>
@@ -162,7 +164,9 @@ fn help_lines(alloc: Global) -> Result<Rows, NoMemory>
 {
     let mut lines = Rows::new(alloc);
     lines.push(Text::from_str(alloc, USAGE)?)?;
+    lines.push(Text::from_str(alloc, MORE_USAGE)?)?;
     lines.push(Text::from_str(alloc, KEYS)?)?;
+    lines.push(Text::from_str(alloc, MORE_KEYS)?)?;
     Ok(lines)
 }
 
