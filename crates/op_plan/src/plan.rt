@@ -313,7 +313,7 @@ fn plan_link<T: ReadTree>(
 }
 
 /// Whether a link may say this: 1 to 4,095 bytes and no NUL.
-fn is_link_text(text: &str) -> bool
+pub fn is_link_text(text: &str) -> bool
     ensures test { result ≡ is_link_text text.now }
     ensures allowed { OnTrue result (IsLinkText text.now) }
 {
