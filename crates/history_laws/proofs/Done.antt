@@ -2,7 +2,7 @@
 use Rattle.std.proofs.Common.{◌≡◌, ℕ, ◌+◌, Bool, true, false, List, [], ◌∷◌, ◌++◌, length, refl, sym, ◌∙◌, ap, subst, inl, inr, Option, Some, None, arith, append-nil, append_assoc}
 use Rattle.std.specs.Prelude.{is_some, if◌then◌else◌}
 use Rattle.std.proofs.lemmas.Bool.{eq-eqb}
-use Rattle.mc_text.specs.Routes.{Route}
+use Rattle.mc_text.specs.Routes.{Route, same_path}
 use Rattle.tree_trait.specs.declared.file_system.FileSystem.{FileSystem}
 use Rattle.tree_trait.specs.FileSystem.{Spot, find, value_at}
 use Rattle.tree_trait.specs.Shape.{IsTree}
@@ -15,6 +15,8 @@ use Rattle.job_reports.specs.Jobs.{Item}
 use Rattle.session_history.specs.declared.history.Event.TheVariants.{Step}
 use Rattle.session_history.specs.declared.history.Entry.{Entry}
 use Rattle.copy_move.specs.Jobs.{Running}
+use Rattle.copy_move.specs.declared.new_thing.NewThing.{NewThing}
+use Rattle.copy_move.specs.declared.new_thing.NewThing.TheVariants as thing
 use Rattle.copy_move.specs.declared.work.Work.{Work}
 use Rattle.copy_move.specs.declared.work.Work.TheVariants.{Copy, Delete, Make}
 use Rattle.copy_move.specs.Settling.{is_own}
@@ -34,7 +36,7 @@ use Rattle.history_laws.proofs.Holding.{holds_since}
 use Rattle.history_laws.proofs.Lasting.{finished_stays_law}
 use Rattle.history_laws.proofs.Moments.{log_of, prefix_is, traced_count}
 use Rattle.history_laws.proofs.Reports.{HasLive}
-use Rattle.history_laws.proofs.Sources.{item_in}
+use Rattle.history_laws.proofs.Sources.{item_in, making_item}
 use Rattle.history_laws.proofs.Stepped.{more}
 use Rattle.history_laws.proofs.Unnamed.{replayed_since}
 
@@ -123,11 +125,15 @@ module _ (opening : CallLog) (tree : IsTree (current opening)) (settled : all_se
       let first : Some (item_in job.work) ≡ Some item =
       sym (ap (λ b. if b then Some (item_in job.work) else None) (eq-eqb job.id job.id refl)) ∙ (sym (ap (live_item job.id) is) ∙ its) in cc
 
+  making_changed : (new : NewThing) (path folder : Route) → may_change (making_item new path) folder ≡ true → same_path folder (folder_of path) ≡ true
+  making_changed thing.Folder path folder h = h
+  making_changed (thing.Link text) path folder h = h
+
   -- and so are the folders of its own
   own_changed : (work : Work) (folder : Route) → may_change (item_in work) folder ≡ true → is_own work folder ≡ true
   own_changed (Copy c) folder h = h
   own_changed (Delete d) folder h = h
-  own_changed (Make m) folder h = h
+  own_changed (Make m) folder h = making_changed m.thing m.path folder h
 
   ender : (folder : Route) (h : HasFinished e older folder) (f : IsFound) → IsEnder f.was f.after f.before f.now h.part h.id folder
   ender folder h f = by (subst (λ w. EventLeads f.was w f.after f.before f.now) h.ended f.leads)

@@ -24,7 +24,7 @@ use Rattle.job_reports.specs.declared.job.Job.TheVariants as plan
 use Rattle.job_reports.specs.declared.report.Did.TheVariants.{Removed, Kept, Skipped, Barrier, Troubled, Ended}
 use Rattle.job_reports.specs.declared.report.Ending.TheVariants.{Finished}
 use Rattle.job_answers.specs.Skipping.{no_skips}
-use Rattle.subtree_walk.specs.Places.{Place, opened, unopened}
+use Rattle.subtree_walk.specs.Places.{Place, unopened}
 use Rattle.subtree_walk.specs.Ranks.{weight}
 use Rattle.tree_deletion.specs.Descending.{Enters}
 use Rattle.tree_deletion.specs.Steps.{WorkCalls}

@@ -5,16 +5,19 @@ use Rattle.std.specs.Option.{option_map}
 use Rattle.mc_text.specs.Routes.{Route, parent_of}
 use Rattle.job_reports.specs.declared.job.Job.{Job}
 use Rattle.job_reports.specs.declared.job.Job.TheVariants as plan
-use Rattle.job_reports.specs.Jobs.{Item, Copies, Removes, Makes, folder_changed, item_of}
+use Rattle.job_reports.specs.Jobs.{Item, Copies, Removes, Makes, MakesLink, folder_changed, is_link_text, item_of}
 use Rattle.job_reports.specs.declared.report.Ending.{Ending}
 use Rattle.job_reports.specs.declared.report.Ending.TheVariants.{Finished, Aborted, Killed, NoMemory}
 use Rattle.job_reports.specs.declared.report.Cause.{Cause}
 use Rattle.job_reports.specs.declared.report.Did.{Did}
 use Rattle.job_reports.specs.declared.report.Did.TheVariants.{Began, Chunk, Placed, Removed, Made, Set, Kept, Skipped, Cleaned, Barrier, Troubled, Ended}
+use Rattle.job_reports.specs.Paths.{folder_of}
 use Rattle.file_copy.specs.Copying.{Copying, Tells}
 use Rattle.file_copy.specs.LastSteps.{Winds}
 use Rattle.job_reports.specs.declared.answer.Answer.{Answer}
 use Rattle.job_reports.specs.declared.answer.Answer.TheVariants.{Retry, Skip, SkipAll, Abort}
+use Rattle.copy_move.specs.declared.new_thing.NewThing.{NewThing}
+use Rattle.copy_move.specs.declared.new_thing.NewThing.TheVariants as thing
 use Rattle.copy_move.specs.declared.work.Work.{Work}
 use Rattle.copy_move.specs.declared.work.Work.TheVariants.{Copy, Delete, Make}
 use Rattle.copy_move.specs.declared.run.Course.{Course}
@@ -26,17 +29,26 @@ use Rattle.copy_move.specs.Makings as makings
 use Rattle.copy_move.specs.Jobs.{PassesOver, Running, JobTells, TellsOn, WorkTells, WorkWinds, answered, answered_on, copies, deletes, first_work, makes, taken_anew, with_skips}
 use Rattle.copy_move.specs.Settling.{changed_folder}
 
+-- what is made at a path
+abbrev pub making_item : NewThing → Route → Item
+making_item thing.Folder path = Makes path
+making_item (thing.Link text) path = MakesLink path text
+
 -- what a work is at, whatever its stage
 abbrev pub item_in : Work → Item
 item_in (Copy c) = Copies c.source c.target
 item_in (Delete d) = Removes d.path
-item_in (Make m) = Makes m.path
+item_in (Make m) = making_item m.thing m.path
+
+making_folder : (new : NewThing) (path : Route) → folder_changed (making_item new path) ≡ folder_of path
+making_folder thing.Folder path = refl
+making_folder (thing.Link text) path = refl
 
 -- the folder in which it changes names is that of its item
 pub folder_is : (work : Work) → folder_changed (item_in work) ≡ changed_folder work
 folder_is (Copy c) = refl
 folder_is (Delete d) = refl
-folder_is (Make m) = refl
+folder_is (Make m) = making_folder m.thing m.path
 
 -- works on the same item change names in the same folder
 pub folder_same : (old new : Work) → item_in old ≡ item_in new → changed_folder old ≡ changed_folder new
@@ -54,7 +66,9 @@ first_item id (plan.Delete (path ∷ more ∷ paths)) = refl
 first_item id (plan.Copy []) = refl
 first_item id (plan.Copy (pair ∷ [])) = first_if (is_some (parent_of pair.source) && is_some (parent_of pair.target)) (copies id pair.source pair.target)
 first_item id (plan.Copy (pair ∷ more ∷ pairs)) = refl
-first_item id (plan.MakeFolder path) = first_if (is_some (parent_of path)) (makes path)
+first_item id (plan.MakeFolder path) = first_if (is_some (parent_of path)) (makes thing.Folder path)
+first_item id (plan.MakeLink path text) = first_if (is_some (parent_of path) && is_link_text text) (makes (thing.Link text) path)
+first_item id (plan.SetMode paths mode) = refl
 
 copy_paths : (c new : Copying) (did : Did) → Tells c did new → item_in (Copy new) ≡ item_in (Copy c)
 copy_paths c new (Began part) t = ap (λ (x : Copying). item_in (Copy x)) t.1.1
