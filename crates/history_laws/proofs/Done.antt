@@ -15,13 +15,11 @@ use Rattle.job_reports.specs.Jobs.{Item}
 use Rattle.session_history.specs.declared.history.Event.TheVariants.{Step}
 use Rattle.session_history.specs.declared.history.Entry.{Entry}
 use Rattle.copy_move.specs.Jobs.{Running}
-use Rattle.copy_move.specs.declared.new_thing.NewThing.{NewThing}
-use Rattle.copy_move.specs.declared.new_thing.NewThing.TheVariants as thing
 use Rattle.copy_move.specs.declared.work.Work.{Work}
 use Rattle.copy_move.specs.declared.work.Work.TheVariants.{Copy, Delete, Make}
 use Rattle.copy_move.specs.Settling.{is_own}
 use Rattle.copy_move.specs.Steps.{SyncsFolder}
-use Rattle.history_laws.specs.Doubt.{is_unsettled}
+use Rattle.history_laws.specs.Doubt.{IsMountInDoubt, is_unsettled}
 use Rattle.session_history.specs.LiveJobs.{LiveJob, live_item, live_jobs}
 use Rattle.session_history.specs.Named.{has_changed, named_after, named_parts, IsUnnamedSince, names_path}
 use Rattle.history_laws.specs.Replayed.{log_prefix, replayed_tree}
@@ -36,7 +34,7 @@ use Rattle.history_laws.proofs.Holding.{holds_since}
 use Rattle.history_laws.proofs.Lasting.{finished_stays_law}
 use Rattle.history_laws.proofs.Moments.{log_of, prefix_is, traced_count}
 use Rattle.history_laws.proofs.Reports.{HasLive}
-use Rattle.history_laws.proofs.Sources.{item_in, making_item}
+use Rattle.history_laws.proofs.Sources.{item_in, making_changed}
 use Rattle.history_laws.proofs.Stepped.{more}
 use Rattle.history_laws.proofs.Unnamed.{replayed_since}
 
@@ -125,10 +123,6 @@ module _ (opening : CallLog) (tree : IsTree (current opening)) (settled : all_se
       let first : Some (item_in job.work) ≡ Some item =
       sym (ap (λ b. if b then Some (item_in job.work) else None) (eq-eqb job.id job.id refl)) ∙ (sym (ap (live_item job.id) is) ∙ its) in cc
 
-  making_changed : (new : NewThing) (path folder : Route) → may_change (making_item new path) folder ≡ true → same_path folder (folder_of path) ≡ true
-  making_changed thing.Folder path folder h = h
-  making_changed (thing.Link text) path folder h = h
-
   -- and so are the folders of its own
   own_changed : (work : Work) (folder : Route) → may_change (item_in work) folder ≡ true → is_own work folder ≡ true
   own_changed (Copy c) folder h = h
@@ -166,7 +160,7 @@ module _ (opening : CallLog) (tree : IsTree (current opening)) (settled : all_se
       by s = of_step s.job s.new s.its s.leads
 
 module _ (opening now : CallLog) (newest : List Entry) (stand : Stand) (tree : IsTree (current opening)) (settled : all_settled opening.changes ≡ true) (traced : IsTraced opening newest stand now)
-    (e : Entry) (older standing coming : List Entry) (calls : ℕ) (path : Route) (image : FileSystem) (h : HasFinished e older (folder_of path)) (bare : names_path e.what path ≡ false)
+    (e : Entry) (older standing coming : List Entry) (calls : ℕ) (path : Route) (image : FileSystem) (h : HasFinished e older (folder_of path)) (bare : names_path e.what path ≡ false) (no_mount : IsMountInDoubt (log_prefix opening (calls_in older) now) path → ⊥)
     (moment : IsMoment newest standing coming calls) (since : IsUnnamedSince (e ∷ older) path standing) (later : IsUnnamedSince (e ∷ older) path coming) (left : IsCrashImage now (length opening.changes + calls) image) where
   abbrev Holds : Type 0
   Holds = value_at image path ≡ (replayed_tree opening now older path).value
@@ -184,7 +178,7 @@ module _ (opening now : CallLog) (newest : List Entry) (stand : Stand) (tree : I
       finished_stays_law opening now f.now newest older standing coming f.was stand (let a : Stand = f.after in a.dirty) by.job by.new h.part calls path image tree settled traced
       (subst (λ (l : CallLog). IsTraced opening older f.was l) (sym at_start) f.traced)
       by.jobs_is (subst (λ (l : CallLog). WorkLeads by.job (Ended Finished h.part) by.new (let w : Stand = f.was in w.dirty) (let a : Stand = f.after in a.dirty) l f.now) (sym at_start) by.works)
-      (subst (λ i. has_changed i older ≡ true) (sym by.id_is) h.changed) by.within unnamed moment (since_before e older standing path bare since) (since_before e older coming path bare later) left
+      (subst (λ i. has_changed i older ≡ true) (sym by.id_is) h.changed) by.within unnamed no_mount moment (since_before e older standing path bare since) (since_before e older coming path bare later) left
 
   told_same : (replayed_tree opening now (e ∷ older) path) ≡ replayed_tree opening now older path
   told_same = replayed_since opening now older (e ∷ older) path (inr (bare, since_self older))
@@ -209,6 +203,6 @@ module _ (opening now : CallLog) (newest : List Entry) (stand : Stand) (tree : I
   by_part no_part false false stands_is waits_is = of_gone stands_is waits_is
 
 pub done_law : DoneLaw
-done_law opening now newest stand tree settled traced e older standing coming calls path image h no_part bare moment since later left =
-    by_part opening now newest stand tree settled traced e older standing coming calls path image h bare moment since later left no_part (is_some (find (current (log_prefix opening e.calls now)) path)) (is_unsettled (log_prefix opening e.calls now) path)
+done_law opening now newest stand tree settled traced e older standing coming calls path image h no_part bare no_mount moment since later left =
+    by_part opening now newest stand tree settled traced e older standing coming calls path image h bare no_mount moment since later left no_part (is_some (find (current (log_prefix opening e.calls now)) path)) (is_unsettled (log_prefix opening e.calls now) path)
     refl refl

@@ -382,7 +382,7 @@ first_change = record {
 
 -- then the first file is in doubt no more, as the law says
 calmed : name_waits (log_prefix (log []) 5 changed_log) the_file ≡ true → ⊥
-calmed waits = by (calm_law (log []) changed_log changed_entries (stand (changed ∷ []) ([] ∷ [])) small_tree refl changed_traced change settled_entries [] the_file first_change (inl (refl, refl, refl)) waits)
+calmed waits = by ((calm_law (log []) changed_log changed_entries (stand (changed ∷ []) ([] ∷ [])) small_tree refl changed_traced).names change settled_entries [] the_file first_change (inl (refl, refl, refl)) waits)
   where
     by : (names_path change.what the_file ≡ true) ⊎ IsApart (log_prefix (log []) 4 changed_log) [] [] → ⊥
     by (inl named) = true≢false (sym named)

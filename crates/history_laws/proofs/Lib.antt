@@ -28,6 +28,7 @@ pub mod Lasting
 pub mod MakingParts
 pub mod MakingSteps
 pub mod MakingThings
+pub mod ModesStay
 pub mod Moments
 pub mod Owing
 pub mod PartNodes

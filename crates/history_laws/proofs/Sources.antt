@@ -2,7 +2,7 @@
 use Rattle.std.proofs.Common.{◌≡◌, ℕ, Bool, true, false, [], ◌∷◌, refl, sym, ◌∙◌, ap, inl, inr, Some, None}
 use Rattle.std.specs.Prelude.{if◌then◌else◌, is_some, ◌&&◌}
 use Rattle.std.specs.Option.{option_map}
-use Rattle.mc_text.specs.Routes.{Route, parent_of}
+use Rattle.mc_text.specs.Routes.{Route, parent_of, same_path}
 use Rattle.job_reports.specs.declared.job.Job.{Job}
 use Rattle.job_reports.specs.declared.job.Job.TheVariants as plan
 use Rattle.job_reports.specs.Jobs.{Item, Copies, Removes, Makes, MakesLink, folder_changed, is_link_text, item_of}
@@ -28,6 +28,7 @@ use Rattle.copy_move.specs.Makings.{Making}
 use Rattle.copy_move.specs.Makings as makings
 use Rattle.copy_move.specs.Jobs.{PassesOver, Running, JobTells, TellsOn, WorkTells, WorkWinds, answered, answered_on, copies, deletes, first_work, makes, taken_anew, with_skips}
 use Rattle.copy_move.specs.Settling.{changed_folder}
+use Rattle.history_laws.specs.Staying.{may_change}
 
 -- what is made at a path
 abbrev pub making_item : NewThing → Route → Item
@@ -49,6 +50,17 @@ pub folder_is : (work : Work) → folder_changed (item_in work) ≡ changed_fold
 folder_is (Copy c) = refl
 folder_is (Delete d) = refl
 folder_is (Make m) = making_folder m.thing m.path
+
+-- where a thing is made, names change in the folder that holds it and in no other
+making_may : (new : NewThing) (path folder : Route) → may_change (making_item new path) folder ≡ same_path folder (folder_of path)
+making_may thing.Folder path folder = refl
+making_may (thing.Link text) path folder = refl
+
+pub making_changed : (new : NewThing) (path folder : Route) → may_change (making_item new path) folder ≡ true → same_path folder (folder_of path) ≡ true
+making_changed new path folder h = sym (making_may new path folder) ∙ h
+
+pub making_changes : (new : NewThing) (path folder : Route) → same_path folder (folder_of path) ≡ true → may_change (making_item new path) folder ≡ true
+making_changes new path folder h = making_may new path folder ∙ h
 
 -- works on the same item change names in the same folder
 pub folder_same : (old new : Work) → item_in old ≡ item_in new → changed_folder old ≡ changed_folder new

@@ -27,7 +27,7 @@ use Rattle.tree_deletion.specs.Folders.{joined}
 use Rattle.tree_trait.proofs.Visible.{same_path-self}
 use Rattle.job_reports.specs.Paths.{folder_of, without}
 use Rattle.copy_move.specs.Steps.{LeavesDirty, RunStep, step_made}
-use Rattle.history_laws.proofs.Owing.{own_folder}
+use Rattle.history_laws.proofs.Intact.{own_folder}
 use Rattle.mc_desk.specs.Desks.{HasRemoved, HasSynced, JoinsDirty, MovesDirty, RemovesDirty}
 use Rattle.mc_desk.proofs.Adding.{entry}
 
