@@ -2,7 +2,7 @@
 use Rattle.std.proofs.Common.{◌≡◌, ℕ, ◌+◌, Bool, true, false, List, [], ◌∷◌, ◌++◌, length, refl, sym, ◌∙◌, ap, subst, inl, inr, Option, Some, None, arith, append-nil, append_assoc}
 use Rattle.std.specs.Prelude.{is_some, if◌then◌else◌}
 use Rattle.std.proofs.lemmas.Bool.{eq-eqb}
-use Rattle.mc_text.specs.Routes.{Route}
+use Rattle.mc_text.specs.Routes.{Route, same_path}
 use Rattle.tree_trait.specs.declared.file_system.FileSystem.{FileSystem}
 use Rattle.tree_trait.specs.FileSystem.{Spot, find, value_at}
 use Rattle.tree_trait.specs.Shape.{IsTree}
@@ -34,7 +34,7 @@ use Rattle.history_laws.proofs.Holding.{holds_since}
 use Rattle.history_laws.proofs.Lasting.{finished_stays_law}
 use Rattle.history_laws.proofs.Moments.{log_of, prefix_is, traced_count}
 use Rattle.history_laws.proofs.Reports.{HasLive}
-use Rattle.history_laws.proofs.Sources.{item_in}
+use Rattle.history_laws.proofs.Sources.{item_in, making_changed}
 use Rattle.history_laws.proofs.Stepped.{more}
 use Rattle.history_laws.proofs.Unnamed.{replayed_since}
 
@@ -127,7 +127,7 @@ module _ (opening : CallLog) (tree : IsTree (current opening)) (settled : all_se
   own_changed : (work : Work) (folder : Route) → may_change (item_in work) folder ≡ true → is_own work folder ≡ true
   own_changed (Copy c) folder h = h
   own_changed (Delete d) folder h = h
-  own_changed (Make m) folder h = h
+  own_changed (Make m) folder h = making_changed m.thing m.path folder h
 
   ender : (folder : Route) (h : HasFinished e older folder) (f : IsFound) → IsEnder f.was f.after f.before f.now h.part h.id folder
   ender folder h f = by (subst (λ w. EventLeads f.was w f.after f.before f.now) h.ended f.leads)

@@ -55,7 +55,7 @@ use Rattle.history_laws.proofs.Owing.{calm_there, in_filter, owed_names}
 use Rattle.history_laws.proofs.Intact.{own_folder}
 use Rattle.history_laws.proofs.Reports.{HasLive, with_one}
 use Rattle.history_laws.proofs.Resting.{sure_path}
-use Rattle.history_laws.proofs.Sources.{folder_is, folder_same, item_in, tells_same}
+use Rattle.history_laws.proofs.Sources.{folder_is, folder_same, item_in, making_changes, tells_same}
 use Rattle.history_laws.proofs.Prefixes.{calm_event, calm_told, folders_event, folders_told, told_of}
 use Rattle.history_laws.proofs.Stepped.{calm_by, folders_by}
 use Rattle.history_laws.proofs.Unchanged.{first_clean, has_begun, step_clean}
@@ -505,7 +505,7 @@ own_above (Delete d) up own = elim (or_cases (same_path up (folder_of d.path)) (
 own_may : (work : Work) (up : Route) → is_own work up ≡ true → may_change (item_in work) up ≡ true
 own_may (Copy c) up own = own
 own_may (Delete d) up own = own
-own_may (Make m) up own = own
+own_may (Make m) up own = making_changes m.thing m.path up own
 
 -- so where that one isn't in doubt, and nothing waits in one of its own, nothing there is
 own_settled : (log : CallLog) (work : Work) → way_waits log (changed_folder work) ≡ false → ((p : Route) → is_own work (folder_of p) ≡ true → name_waits log p ≡ false) → (path : Route) → is_own work (folder_of path) ≡ true

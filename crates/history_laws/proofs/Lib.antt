@@ -25,9 +25,9 @@ pub mod JobLeads
 pub mod JobSteps
 pub mod Knowing
 pub mod Lasting
-pub mod MakingFolders
 pub mod MakingParts
 pub mod MakingSteps
+pub mod MakingThings
 pub mod ModesStay
 pub mod Moments
 pub mod Owing

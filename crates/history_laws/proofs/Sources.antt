@@ -2,19 +2,22 @@
 use Rattle.std.proofs.Common.{◌≡◌, ℕ, Bool, true, false, [], ◌∷◌, refl, sym, ◌∙◌, ap, inl, inr, Some, None}
 use Rattle.std.specs.Prelude.{if◌then◌else◌, is_some, ◌&&◌}
 use Rattle.std.specs.Option.{option_map}
-use Rattle.mc_text.specs.Routes.{Route, parent_of}
+use Rattle.mc_text.specs.Routes.{Route, parent_of, same_path}
 use Rattle.job_reports.specs.declared.job.Job.{Job}
 use Rattle.job_reports.specs.declared.job.Job.TheVariants as plan
-use Rattle.job_reports.specs.Jobs.{Item, Copies, Removes, Makes, folder_changed, item_of}
+use Rattle.job_reports.specs.Jobs.{Item, Copies, Removes, Makes, MakesLink, folder_changed, is_link_text, item_of}
 use Rattle.job_reports.specs.declared.report.Ending.{Ending}
 use Rattle.job_reports.specs.declared.report.Ending.TheVariants.{Finished, Aborted, Killed, NoMemory}
 use Rattle.job_reports.specs.declared.report.Cause.{Cause}
 use Rattle.job_reports.specs.declared.report.Did.{Did}
 use Rattle.job_reports.specs.declared.report.Did.TheVariants.{Began, Chunk, Placed, Removed, Made, Set, Kept, Skipped, Cleaned, Barrier, Troubled, Ended}
+use Rattle.job_reports.specs.Paths.{folder_of}
 use Rattle.file_copy.specs.Copying.{Copying, Tells}
 use Rattle.file_copy.specs.LastSteps.{Winds}
 use Rattle.job_reports.specs.declared.answer.Answer.{Answer}
 use Rattle.job_reports.specs.declared.answer.Answer.TheVariants.{Retry, Skip, SkipAll, Abort}
+use Rattle.copy_move.specs.declared.new_thing.NewThing.{NewThing}
+use Rattle.copy_move.specs.declared.new_thing.NewThing.TheVariants as thing
 use Rattle.copy_move.specs.declared.work.Work.{Work}
 use Rattle.copy_move.specs.declared.work.Work.TheVariants.{Copy, Delete, Make}
 use Rattle.copy_move.specs.declared.run.Course.{Course}
@@ -25,18 +28,39 @@ use Rattle.copy_move.specs.Makings.{Making}
 use Rattle.copy_move.specs.Makings as makings
 use Rattle.copy_move.specs.Jobs.{PassesOver, Running, JobTells, TellsOn, WorkTells, WorkWinds, answered, answered_on, copies, deletes, first_work, makes, taken_anew, with_skips}
 use Rattle.copy_move.specs.Settling.{changed_folder}
+use Rattle.history_laws.specs.Staying.{may_change}
+
+-- what is made at a path
+abbrev pub making_item : NewThing → Route → Item
+making_item thing.Folder path = Makes path
+making_item (thing.Link text) path = MakesLink path text
 
 -- what a work is at, whatever its stage
 abbrev pub item_in : Work → Item
 item_in (Copy c) = Copies c.source c.target
 item_in (Delete d) = Removes d.path
-item_in (Make m) = Makes m.path
+item_in (Make m) = making_item m.thing m.path
+
+making_folder : (new : NewThing) (path : Route) → folder_changed (making_item new path) ≡ folder_of path
+making_folder thing.Folder path = refl
+making_folder (thing.Link text) path = refl
 
 -- the folder in which it changes names is that of its item
 pub folder_is : (work : Work) → folder_changed (item_in work) ≡ changed_folder work
 folder_is (Copy c) = refl
 folder_is (Delete d) = refl
-folder_is (Make m) = refl
+folder_is (Make m) = making_folder m.thing m.path
+
+-- where a thing is made, names change in the folder that holds it and in no other
+making_may : (new : NewThing) (path folder : Route) → may_change (making_item new path) folder ≡ same_path folder (folder_of path)
+making_may thing.Folder path folder = refl
+making_may (thing.Link text) path folder = refl
+
+pub making_changed : (new : NewThing) (path folder : Route) → may_change (making_item new path) folder ≡ true → same_path folder (folder_of path) ≡ true
+making_changed new path folder h = sym (making_may new path folder) ∙ h
+
+pub making_changes : (new : NewThing) (path folder : Route) → same_path folder (folder_of path) ≡ true → may_change (making_item new path) folder ≡ true
+making_changes new path folder h = making_may new path folder ∙ h
 
 -- works on the same item change names in the same folder
 pub folder_same : (old new : Work) → item_in old ≡ item_in new → changed_folder old ≡ changed_folder new
@@ -54,7 +78,9 @@ first_item id (plan.Delete (path ∷ more ∷ paths)) = refl
 first_item id (plan.Copy []) = refl
 first_item id (plan.Copy (pair ∷ [])) = first_if (is_some (parent_of pair.source) && is_some (parent_of pair.target)) (copies id pair.source pair.target)
 first_item id (plan.Copy (pair ∷ more ∷ pairs)) = refl
-first_item id (plan.MakeFolder path) = first_if (is_some (parent_of path)) (makes path)
+first_item id (plan.MakeFolder path) = first_if (is_some (parent_of path)) (makes thing.Folder path)
+first_item id (plan.MakeLink path text) = first_if (is_some (parent_of path) && is_link_text text) (makes (thing.Link text) path)
+first_item id (plan.SetMode paths mode) = refl
 
 copy_paths : (c new : Copying) (did : Did) → Tells c did new → item_in (Copy new) ≡ item_in (Copy c)
 copy_paths c new (Began part) t = ap (λ (x : Copying). item_in (Copy x)) t.1.1

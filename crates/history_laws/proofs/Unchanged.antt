@@ -9,10 +9,13 @@ use Rattle.copy_move.specs.declared.making.MakingStage.{MakingStage}
 use Rattle.copy_move.specs.declared.making.MakingStage.TheVariants as making
 use Rattle.job_reports.specs.declared.job.Job.{Job}
 use Rattle.job_reports.specs.declared.job.Job.TheVariants as plan
+use Rattle.job_reports.specs.Jobs.{is_link_text}
 use Rattle.file_copy.specs.Copying as copying
 use Rattle.tree_deletion.specs.declared.deletion.Stage.{Stage}
 use Rattle.tree_deletion.specs.declared.deletion.Stage.TheVariants.{Begin, Going, Sync}
 use Rattle.tree_deletion.specs.Standing.{after_item}
+use Rattle.copy_move.specs.declared.new_thing.NewThing.{NewThing}
+use Rattle.copy_move.specs.declared.new_thing.NewThing.TheVariants as thing
 use Rattle.copy_move.specs.declared.work.Work.{Work}
 use Rattle.copy_move.specs.declared.work.Work.TheVariants.{Copy, Delete, Make}
 use Rattle.copy_move.specs.Makings as makings
@@ -111,9 +114,9 @@ deletes_clean : (path : Route) (w : Work) (b : Bool) → (let o : Option Work = 
 deletes_clean path w true is = let e : deletes path ≡ w = cc in ap has_begun (sym e)
 deletes_clean path w false is = absurd (let f : ⊥ = cc in f)
 
-makes_clean : (path : Route) (w : Work) (b : Bool) → (let o : Option Work = if◌then◌else◌ b (Some (makes path)) None in o) ≡ Some w → has_begun w ≡ false
-makes_clean path w true is = let e : makes path ≡ w = cc in ap has_begun (sym e)
-makes_clean path w false is = absurd (let f : ⊥ = cc in f)
+makes_clean : (new : NewThing) (path : Route) (w : Work) (b : Bool) → (let o : Option Work = if◌then◌else◌ b (Some (makes new path)) None in o) ≡ Some w → has_begun w ≡ false
+makes_clean new path w true is = let e : makes new path ≡ w = cc in ap has_begun (sym e)
+makes_clean new path w false is = absurd (let f : ⊥ = cc in f)
 
 copies_clean : (id : ℕ) (source target : Route) (w : Work) (b : Bool) → (let o : Option Work = if◌then◌else◌ b (Some (copies id source target)) None in o) ≡ Some w → has_begun w ≡ false
 copies_clean id source target w true is = let e : copies id source target ≡ w = cc in ap has_begun (sym e)
@@ -126,4 +129,6 @@ first_clean id (plan.Delete (path ∷ more ∷ paths)) w is = absurd (let f : �
 first_clean id (plan.Copy []) w is = absurd (let f : ⊥ = cc in f)
 first_clean id (plan.Copy (pair ∷ [])) w is = copies_clean id pair.source pair.target w (is_some (parent_of pair.source) && is_some (parent_of pair.target)) is
 first_clean id (plan.Copy (pair ∷ more ∷ pairs)) w is = absurd (let f : ⊥ = cc in f)
-first_clean id (plan.MakeFolder path) w is = makes_clean path w (is_some (parent_of path)) is
+first_clean id (plan.MakeFolder path) w is = makes_clean thing.Folder path w (is_some (parent_of path)) is
+first_clean id (plan.MakeLink path text) w is = makes_clean (thing.Link text) path w (is_some (parent_of path) && is_link_text text) is
+first_clean id (plan.SetMode paths mode) w is = absurd (let f : ⊥ = cc in f)

@@ -12,7 +12,7 @@ use Rattle.job_reports.specs.declared.report.Ending.TheVariants.{Finished}
 use Rattle.job_reports.specs.Paths.{folder_of}
 use Rattle.session_history.specs.declared.history.Event.TheVariants.{Step}
 use Rattle.session_history.specs.declared.history.Entry.{Entry}
-use Rattle.job_reports.specs.Jobs.{Item, Copies, Removes, Makes}
+use Rattle.job_reports.specs.Jobs.{Item, Copies, Removes, Makes, MakesLink, Sets}
 use Rattle.copy_move.specs.Jobs.{Running}
 use Rattle.copy_move.specs.Settling.{is_own}
 use Rattle.history_laws.specs.Doubt.{IsMountInDoubt, name_waits, node_waits}
@@ -53,6 +53,8 @@ abbrev pub may_change : Item → Route → Bool
 may_change (Copies source target) folder = same_path folder (folder_of target)
 may_change (Removes path) folder = same_path folder (folder_of path) || is_prefix path folder
 may_change (Makes path) folder = same_path folder (folder_of path)
+may_change (MakesLink path text) folder = same_path folder (folder_of path)
+may_change (Sets path mode) folder = false
 
 -- This entry, after the older ones, is the report of a job that it is finished, which has changed something, and which may have changed
 -- names in this folder.

@@ -1,4 +1,4 @@
--- The making of an empty folder.
+-- The making of a new thing: an empty folder or a link.
 use Rattle.std.proofs.Common.{◌≡◌, ◌⊎◌, ℕ, ◌<◌, Bool, true, false, not, ◌&&◌, List, [], ◌∷◌, ◌++◌, length, refl, sym, ◌∙◌, ap, subst, inl, inr, Option, Some, None, arith, cond, length-append}
 use Rattle.std.specs.Prelude.{is_some, option_and_then, ◌==◌}
 use Rattle.std.specs.Option.{option_map, option_map_or}
@@ -74,14 +74,13 @@ module _ (told : Said) (dirty : List Route) (marks : Marks) (log : CallLog) (kno
     stand = known.stand;
   }
 
--- A folder is made where nothing stood, in one that isn't in doubt; and what the history says then.
-pub record MakesFolder (told after : Said) (marks : Marks) (log : CallLog) (name : List ℕ) (up : Route) (f : ℕ) (made : Node) : Type 0 where
+-- A thing is made where nothing stood, in a folder that isn't in doubt; and what the history says then.
+pub record MakesThing (told after : Said) (marks : Marks) (log : CallLog) (name : List ℕ) (up : Route) (f : ℕ) (made : Node) : Type 0 where
   pub none : told.part ≡ None
   pub firm : IsSureFolder log up
   pub at : find (current log) up ≡ Some f
   pub holds : is_folder (node (current log) f) ≡ true
   pub free : lookup (current log).names f name ≡ None
-  pub folder : is_folder made ≡ true
   pub was : marks.was (name ∷ up) ≡ None
   pub named : (p : Route) → marks.aside p ≡ true → Among after.named p
   pub off : (p : Route) → same_path p (name ∷ up) ≡ false → (after.tree p ≡ told.tree p) × (after.earlier p ≡ told.earlier p)
@@ -96,7 +95,7 @@ pub record MakesFolder (told after : Said) (marks : Marks) (log : CallLog) (name
   pub new_mode : marks.modes (length (current log).nodes) ≡ None
 
 module _ (told after : Said) (dirty dirty_after : List Route) (marks : Marks) (log : CallLog) (was_known : IsKnown told dirty marks log) (name : List ℕ) (up : Route) (f : ℕ) (made : Node)
-    (m : MakesFolder told after marks log name up f made) (listed : Among dirty_after up) (more : (q : Route) → Among dirty q → Among dirty_after q) where
+    (m : MakesThing told after marks log name up f made) (listed : Among dirty_after up) (more : (q : Route) → Among dirty q → Among dirty_after q) where
   abbrev makes : Change
   makes = Makes f name made
 
@@ -121,7 +120,7 @@ module _ (told after : Said) (dirty dirty_after : List Route) (marks : Marks) (l
     folder = m.holds;
     free = m.free;
     was = λ out. m.was;
-    solid = λ out. inr m.folder;
+    solid = λ out. inl (ap (λ b. not b && marks.loose new) (eq-eqb new new refl));
   })
 
   no_longer : (rest : Route) → up ≡ rest ++ name ∷ up → ⊥
@@ -152,7 +151,7 @@ module _ (told after : Said) (dirty dirty_after : List Route) (marks : Marks) (l
   was_free : find (current log) path ≡ None
   was_free = ap (option_and_then (λ g. lookup (current log).names g name)) m.at ∙ m.free
 
-  -- nothing is in the new folder
+  -- nothing is in the new thing
   none_new : (k : List ℕ) → lookup (current log).names new k ≡ None
   none_new k = by (lookup (current log).names new k) refl
     where
@@ -216,7 +215,7 @@ module _ (told after : Said) (dirty dirty_after : List Route) (marks : Marks) (l
     | inr said ↦ both_ways _ (subst (λ j. is_folder (node (current now) j) ≡ false) (sym (says_it i k said).0) bare) (kind_same log makes f f_there ∙ m.holds)
   ]
 
-  -- no name of the new folder waits
+  -- no name in the new thing waits
   none_waits_new : (k : List ℕ) → is_pending new k log.changes ≡ true → ⊥
   none_waits_new k waits = both_ways _ (known.files.bare new k (false_from_ne_true _ (λ is. let there = folder_there (current log).nodes new is in absurd (omega (arith, there))))) waits
 
@@ -352,8 +351,8 @@ module _ (told after : Said) (dirty dirty_after : List Route) (marks : Marks) (l
         folder_sure p there.i there.at there.folder (known.files.mounts p before)
   ]
 
-  pub folder_made_known : IsKnown after dirty_after marked now
-  folder_made_known = record {
+  pub thing_made_known : IsKnown after dirty_after marked now
+  thing_made_known = record {
     guarded = naming_law marked log makes known.guarded naming;
     files = record {
       within = within_more log.changes makes refl known.files.within;
