@@ -3,7 +3,7 @@ use Rattle.std.proofs.Common.{inl}
 use Rattle.session_history.specs.Entries.{calls_in}
 use Rattle.history_laws.specs.Replayed.{log_prefix}
 use Rattle.history_laws.specs.Staying.{FinishedStaysLaw}
-use Rattle.history_laws.proofs.Finished.{finished_law}
+use Rattle.history_laws.proofs.FinishedPaths.{finished_law}
 use Rattle.history_laws.proofs.Holding.{holds_since}
 
 pub finished_stays_law : FinishedStaysLaw

@@ -14,6 +14,7 @@ pub mod ExampleParts
 pub mod Filling
 pub mod Finished
 pub mod FinishedExample
+pub mod FinishedPaths
 pub mod FolderExample
 pub mod Going
 pub mod Holding

@@ -1,4 +1,4 @@
-use Rattle.history_laws.proofs.Finished.{finished_law}
+use Rattle.history_laws.proofs.FinishedPaths.{finished_law}
 use Rattle.history_laws.proofs.what_a_finished_job_leaves.Goals as goal
 
 pub returns : goal.returns
