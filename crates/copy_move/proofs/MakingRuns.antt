@@ -3,7 +3,7 @@ use Rattle.std.proofs.Common.{◌≡◌, ℕ, ◌≤◌, true, false, [], ◌∷
 use Rattle.mc_text.specs.Routes.{Route, parent_of}
 use Rattle.tree_trait.specs.declared.calls.TreeError.{TreeError}
 use Rattle.tree_trait.specs.declared.calls.TreeError.TheVariants as refused
-use Rattle.tree_trait.specs.Calls.{Call, MakeFolder, SyncFolder}
+use Rattle.tree_trait.specs.Calls.{Call, SyncFolder}
 use Rattle.tree_trait.specs.Change.{CallLog}
 use Rattle.tree_trait.specs.Answers.{IfKnown, HasCause, HasRisen, Performs}
 use Rattle.job_reports.specs.declared.report.Cause.TheVariants.{Tree}
@@ -12,13 +12,13 @@ use Rattle.job_reports.specs.declared.report.Ending.{Ending}
 use Rattle.job_reports.specs.declared.report.Did.{Did}
 use Rattle.job_reports.specs.declared.report.Did.TheVariants.{Made, Barrier, Troubled}
 use Rattle.job_reports.specs.CallRuns.{HasMore}
-use Rattle.job_reports.specs.Jobs.{new_folder_mode}
 use Rattle.job_reports.specs.Stops.{refusal_in, calls_made_for, cause_of, trouble_at}
 use Rattle.job_reports.proofs.Runs.{no_more}
 use Rattle.job_reports.proofs.Tried.{answered, counts_try, fault_tried, tries_few}
 use Rattle.copy_move.specs.declared.making.MakingStage.TheVariants.{Make, Sync, Finish}
-use Rattle.copy_move.specs.Makings.{Answers, IsTroubleAt, Making, call_of}
+use Rattle.copy_move.specs.Makings.{Answers, IsTroubleAt, Making, call_of, sync_of}
 use Rattle.copy_move.specs.MakingSteps.{LastMakingStep, MakingStep}
+use Rattle.copy_move.specs.NewThings.{making_call}
 
 -- the sync's trouble names the folder of the path
 sync_trouble : (path folder : Route) → parent_of path ≡ Some folder → (e : TreeError) → IsTroubleAt Sync path (trouble_at e folder true)
@@ -33,7 +33,7 @@ pub make_at : (m : Making) (e : TreeError) → m.stage ≡ Make → IsTroubleAt 
 make_at m e stage = subst (λ s. IsTroubleAt s m.path (trouble_at e m.path false)) (sym stage) (e, refl)
 
 -- the folder that holds the path is the one that is synced
-pub sync_call : (path folder : Route) → parent_of path ≡ Some folder → call_of Sync path ≡ Some (SyncFolder folder)
+pub sync_call : (path folder : Route) → parent_of path ≡ Some folder → sync_of path ≡ Some (SyncFolder folder)
 sync_call [] folder h = absurd cc
 sync_call (name ∷ up) folder h = let same : up ≡ folder = cc in ap (λ q. Some (SyncFolder q)) same
 
@@ -49,15 +49,15 @@ module _ (old new : Making) (before after : Option CallLog) (faults faults_after
   none_counted : (calls : ℕ) → calls ≡ 0 → after ≡ before → IfKnown before (λ log. IfKnown after (HasMore log calls))
   none_counted calls count same log known now is = subst (λ n. HasMore log n now) (sym count) (no_more log now (sym known ∙ (sym same ∙ is)))
 
-  -- the folder stands
+  -- the thing stands
   pub steps_made : (did : Did) (calls : ℕ) → did ≡ Made old.path → calls ≡ 1 → old.stage ≡ Make → new ≡ record old { stage = Sync }
-      → Called (MakeFolder old.path new_folder_mode) (Ok tt) → (before ≡ None → after ≡ None) → faults ≤ faults_after
+      → Called (making_call old.thing old.path) (Ok tt) → (before ≡ None → after ≡ None) → faults ≤ faults_after
       → MakingStep old new did calls before after faults faults_after
   steps_made did calls is count stage new_is called unknown later =
       subst (λ d. MakingStep old new d calls before after faults faults_after) (sym is) record {
         tells = (stage, refl, new_is);
         called = called;
-        counted = counted (MakeFolder old.path new_folder_mode) (Ok tt) calls count called;
+        counted = counted (making_call old.thing old.path) (Ok tt) calls count called;
         few = omega (arith, count);
         unknown = unknown;
         later = later;
@@ -89,7 +89,7 @@ module _ (old new : Making) (before after : Option CallLog) (faults faults_after
         tells = (stage, new_is);
         called = λ log known. (answer, subst (λ call. Answers log call answer after) (sym (sync_call old.path folder within)) (called log known));
         synced = λ log known.
-            subst (λ a. Answers log (call_of Sync old.path) a after) (answered answer left left_is)
+            subst (λ a. Answers log (sync_of old.path) a after) (answered answer left left_is)
             (subst (λ call. Answers log call answer after) (sym (sync_call old.path folder within)) (called log known));
         counted = counted (SyncFolder folder) answer calls count called;
         few = let most = tries_few answer in omega (arith, count, most);
@@ -101,7 +101,7 @@ module _ (old new : Making) (before after : Option CallLog) (faults faults_after
   module _ (did : Did) (calls : ℕ) (t : Trouble) (is : did ≡ Troubled t) (at : IsTroubleAt old.stage old.path t) (new_is : new ≡ old)
       (unknown : before ≡ None → after ≡ None) (later : faults ≤ faults_after) (fault : t.cause ≡ Tree refused.Fault → HasRisen faults faults_after) where
     -- the call was refused
-    pub steps_refused : (call : Call) (e : TreeError) → calls ≡ calls_made_for (Err e) → call_of old.stage old.path ≡ Some call → t.cause ≡ cause_of e → Called call (Err e)
+    pub steps_refused : (call : Call) (e : TreeError) → calls ≡ calls_made_for (Err e) → call_of old.thing old.stage old.path ≡ Some call → t.cause ≡ cause_of e → Called call (Err e)
         → MakingStep old new did calls before after faults faults_after
     steps_refused call e count next cause called =
         subst (λ d. MakingStep old new d calls before after faults faults_after) (sym is) record {
@@ -119,7 +119,7 @@ module _ (old new : Making) (before after : Option CallLog) (faults faults_after
     steps_unmade count cause same =
         subst (λ d. MakingStep old new d calls before after faults faults_after) (sym is) record {
           tells = (at, new_is);
-          called = λ log known. (refused.Memory, cause, unmade (call_of old.stage old.path) log (same ∙ known));
+          called = λ log known. (refused.Memory, cause, unmade (call_of old.thing old.stage old.path) log (same ∙ known));
           counted = none_counted calls count same;
           few = omega (arith, count);
           unknown = unknown;

@@ -3,6 +3,8 @@ pub mod Faults
 pub mod Deletions
 pub mod Makings
 pub mod MakingSteps
+pub mod NewThings
+pub mod ModeSettings
 pub mod Jobs
 pub mod Ranks
 pub mod Settling

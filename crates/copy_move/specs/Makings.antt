@@ -1,8 +1,8 @@
--- The order in which a folder is made: what a step may report where the making stands, and where it stands then; and what a
--- report says of the tree's calls. The folder is made, the one that holds it is synced, and only then is it finished.
+-- The order in which a thing is made, a folder or a link: what a step may report where the making stands, and where it stands then; and
+-- what a report says of the tree's calls. It is made, the folder that holds it is synced, and only then is it finished.
 use Rattle.std.specs.Prelude.{◌≡◌, ◌≢◌, Bool, true, false, [], ◌∷◌, Option, Some, None, Result, Ok, Err}
 use Rattle.mc_text.specs.Routes.{Route}
-use Rattle.tree_trait.specs.Calls.{Call, MakeFolder, SyncFolder}
+use Rattle.tree_trait.specs.Calls.{Call, SyncFolder}
 use Rattle.tree_trait.specs.Change.{CallLog}
 use Rattle.tree_trait.specs.Answers.{Performs}
 use Rattle.tree_trait.specs.declared.calls.TreeError.{TreeError}
@@ -11,14 +11,16 @@ use Rattle.job_reports.specs.declared.report.Ending.{Ending}
 use Rattle.job_reports.specs.declared.report.Ending.TheVariants.{Finished}
 use Rattle.job_reports.specs.declared.report.Did.{Did}
 use Rattle.job_reports.specs.declared.report.Did.TheVariants.{Began, Chunk, Placed, Removed, Made, Set, Kept, Skipped, Cleaned, Barrier, Troubled, Ended}
-use Rattle.job_reports.specs.Jobs.{new_folder_mode}
 use Rattle.job_reports.specs.Stops.{sync_answer, cause_of, trouble_at}
 use Rattle.copy_move.specs.declared.making.MakingStage.{MakingStage}
 use Rattle.copy_move.specs.declared.making.MakingStage.TheVariants.{Make, Sync, Finish, PassedOver}
+use Rattle.copy_move.specs.declared.new_thing.NewThing.{NewThing}
+use Rattle.copy_move.specs.NewThings.{making_call}
 
--- the making of a folder, as it stands: what is to be done next
+-- the making of a thing, as it stands: where, what is made, and what is to be done next
 pub record Making : Type 0 where
   pub path : Route
+  pub thing : NewThing
   pub stage : MakingStage
 
 -- the next call is at a barrier: the sync of the folder
@@ -28,7 +30,7 @@ at_barrier Sync = true
 at_barrier Finish = true
 at_barrier PassedOver = true
 
--- a folder that is skipped is not made
+-- a thing that is skipped is not made
 abbrev pub skipped : MakingStage → MakingStage
 skipped Make = PassedOver
 skipped Sync = Sync
@@ -63,13 +65,17 @@ after_sync Sync = Finish
 after_sync Finish = Finish
 after_sync PassedOver = PassedOver
 
+-- the sync of the folder that holds a path
+abbrev pub sync_of : Route → Option Call
+sync_of [] = None
+sync_of (name ∷ folder) = Some (SyncFolder folder)
+
 -- the call that a making makes next; one that has all done makes none
-abbrev pub call_of : MakingStage → Route → Option Call
-call_of Make path = Some (MakeFolder path new_folder_mode)
-call_of Sync [] = None
-call_of Sync (name ∷ folder) = Some (SyncFolder folder)
-call_of Finish path = None
-call_of PassedOver path = None
+abbrev pub call_of : NewThing → MakingStage → Route → Option Call
+call_of thing Make path = Some (making_call thing path)
+call_of thing Sync path = sync_of path
+call_of thing Finish path = None
+call_of thing PassedOver path = None
 
 -- Trouble is at the path of the stage's call. That of the sync stands at a barrier.
 abbrev pub IsTroubleAt : MakingStage → Route → Trouble → Type 0
@@ -118,9 +124,9 @@ Answers log (Some call) answer after = Performs log call answer after
 -- What a step says of the tree's calls. A making and a sync were done; a trouble is the refusal of the next call, with the
 -- cause that the tree gives; an end makes no call.
 abbrev pub MakingCalls : Making → Did → CallLog → Option CallLog → Type 0
-MakingCalls m (Made path) log after = Performs {A = Unit {0}} log (MakeFolder path new_folder_mode) (Ok tt) after
-MakingCalls m Barrier log after = Answers log (call_of Sync m.path) (Ok tt) after
-MakingCalls m (Troubled trouble) log after = (e : TreeError) × (trouble.cause ≡ cause_of e) × Answers log (call_of m.stage m.path) (Err e) after
+MakingCalls m (Made path) log after = Performs {A = Unit {0}} log (making_call m.thing path) (Ok tt) after
+MakingCalls m Barrier log after = Answers log (sync_of m.path) (Ok tt) after
+MakingCalls m (Troubled trouble) log after = (e : TreeError) × (trouble.cause ≡ cause_of e) × Answers log (call_of m.thing m.stage m.path) (Err e) after
 MakingCalls m (Ended ending part) log after = after ≡ Some log
 MakingCalls m (Began part) log after = ⊥
 MakingCalls m (Chunk count) log after = ⊥
@@ -133,7 +139,7 @@ MakingCalls m (Cleaned part) log after = ⊥
 
 -- What a last step says of the tree's calls: the sync was tried, whatever it answered.
 abbrev pub LastMakingCalls : Making → Did → CallLog → Option CallLog → Type 0
-LastMakingCalls m Barrier log after = (answer : Result (Unit {0}) TreeError) × Answers log (call_of Sync m.path) answer after
+LastMakingCalls m Barrier log after = (answer : Result (Unit {0}) TreeError) × Answers log (sync_of m.path) answer after
 LastMakingCalls m (Ended ending part) log after = after ≡ Some log
 LastMakingCalls m (Began part) log after = ⊥
 LastMakingCalls m (Chunk count) log after = ⊥
@@ -148,5 +154,5 @@ LastMakingCalls m (Troubled trouble) log after = ⊥
 
 -- what a last step tells of the folder: the refusal of its sync, if that was tried in vain
 abbrev pub MakingLeaves : Making → Did → Option TreeError → CallLog → Option CallLog → Type 0
-MakingLeaves m Barrier left log after = Answers log (call_of Sync m.path) (sync_answer left) after
+MakingLeaves m Barrier left log after = Answers log (sync_of m.path) (sync_answer left) after
 MakingLeaves m did left log after = left ≡ None

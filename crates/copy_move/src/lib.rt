@@ -3,8 +3,10 @@
 
 mod copying;
 mod deletion;
+mod dirty_making;
+mod dirty_setting;
 mod making;
-mod new_folder;
+mod new_thing;
 mod noting;
 mod owed;
 mod reports;
@@ -14,7 +16,8 @@ mod work;
 
 pub use deletion::TreeDeletion;
 pub use file_copy::PartTest;
-pub use making::{FolderMaking, MakingStage};
+pub use making::{MakingStage, ThingMaking};
+pub use new_thing::NewThing;
 pub use run::{Course, Run};
 pub use tree_deletion::Dirty;
 pub use work::Work;

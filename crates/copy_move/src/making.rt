@@ -1,11 +1,13 @@
-//! The making of one new, empty folder, a call of the tree at each step: the folder is made, then the one that holds it is
-//! synced, and only then is it finished, so that a folder whose making is finished is on the disk.
+//! The making of one new thing, an empty folder or a link, a call of the tree at each step: it is made, then the folder that holds
+//! it is synced, and only then is it finished, so that a thing whose making is finished is on the disk.
 ghost use Rattle.std.specs.Prelude.{◌≡◌, Some};
 ghost use Rattle.mc_text.specs.Routes.{parent_of};
 ghost use Rattle.job_reports.specs.Paths.{folder_of};
 ghost use Rattle.copy_move.specs.Makings.{at_barrier, is_dirty, is_fresh, skipped as skipped_to};
 ghost use Rattle.copy_move.specs.MakingSteps.{LastMakingStep, MakingSkips, MakingStep};
+ghost use Rattle.copy_move.specs.NewThings.{IsMakable};
 
+use crate::new_thing::NewThing;
 use crate::reports::{ended, last, refused, tried, with_call, without_call};
 use job_reports::{Cause, Did, Ending, LastStepResult, StepResult, out_of_memory};
 use mc_text::Path;
@@ -13,51 +15,52 @@ use std::alloc::Global;
 use std::marker::Model;
 use tree_trait::Tree;
 
-/// A new folder has this mode.
-const FOLDER_MODE: u16 = 0o755;
-
 /// What is to be done next.
 #[derive(Clone, Copy, Debug, Drop, PartialEq, Eq)]
 pub enum MakingStage {
-    /// The folder is to be made.
+    /// The thing is to be made.
     Make,
-    /// The folder stands. The one that holds it is synced before the end, so that no crash takes it away after the end.
+    /// The thing stands. The folder that holds it is synced before the end, so that no crash takes it away after the end.
     Sync,
-    /// The folder stands for good. Nothing is left to be done.
+    /// The thing stands for good. Nothing is left to be done.
     Finish,
-    /// The folder was not made. Nothing is left to be done.
+    /// The thing was not made. Nothing is left to be done.
     PassedOver,
 }
 
-/// The making of one folder.
+/// The making of one thing.
 #[derive(Debug, Drop)]
-pub struct FolderMaking {
+pub struct ThingMaking {
     path: Path,
     folder: Path,
+    thing: NewThing,
     stage: MakingStage,
 }
 
-impl Model for FolderMaking {
+impl Model for ThingMaking {
     ghost use Rattle.std.specs.Prelude.{◌≡◌, Some};
     ghost use Rattle.mc_text.specs.Routes.{parent_of};
     ghost use Rattle.copy_move.specs.Makings.{Making};
+    ghost use Rattle.copy_move.specs.NewThings.{IsMakable};
 
     ghost Value = { Making };
 
-    ghost view = { λ m. record { path = m.path; stage = m.stage } };
+    ghost view = { λ m. record { path = m.path; thing = m.thing; stage = m.stage } };
 
-    ghost invariant = { λ m. parent_of m.path ≡ Some m.folder };
+    ghost invariant = { λ m. (parent_of m.path ≡ Some m.folder) × IsMakable m.thing };
 }
 
-impl FolderMaking {
-    /// The making of a folder at `path`, which is to lie in `folder`.
-    pub fn new(path: Path, folder: Path) -> FolderMaking
-        requires { parent_of path ≡ Some folder }
-        ensures { result ≡ record { path = path; stage = MakingStage.Make } }
+impl ThingMaking {
+    /// The making of a thing at `path`, which is to lie in `folder`.
+    pub fn new(path: Path, folder: Path, thing: NewThing) -> ThingMaking
+        requires holds { parent_of path ≡ Some folder }
+        requires makable { IsMakable thing }
+        ensures { result ≡ record { path = path; thing = thing; stage = MakingStage.Make } }
     {
-        FolderMaking {
+        ThingMaking {
             path,
             folder,
+            thing,
             stage: MakingStage::Make,
         }
     }
@@ -74,7 +77,7 @@ impl FolderMaking {
         }
     }
 
-    /// The folder is not made.
+    /// The thing is not made.
     pub fn skip(&mut self, alloc: Global, cause: Cause) -> Did
         ensures { MakingSkips cause self.old result self.new }
     {
@@ -104,14 +107,21 @@ impl FolderMaking {
         }
     }
 
-    /// The new folder.
+    /// Where it is made.
     pub fn path(&self) -> &Path
         ensures { result.now ≡ self.now.path }
     {
         &self.path
     }
 
-    /// The folder that holds the new one.
+    /// What is made.
+    pub fn thing(&self) -> &NewThing
+        ensures { result.now ≡ self.now.thing }
+    {
+        &self.thing
+    }
+
+    /// The folder that holds the new thing.
     pub fn folder(&self) -> &Path
         ensures holds { parent_of self.now.path ≡ Some result.now }
         ensures is { result.now ≡ folder_of self.now.path }
@@ -150,7 +160,7 @@ impl FolderMaking {
     }
 }
 
-impl FolderMaking {
+impl ThingMaking {
     fn make<T: Tree>(&mut self, alloc: Global, tree: &mut T) -> StepResult
         requires stage { self.old.stage ≡ MakingStage.Make }
         ensures { MakingStep self.old self.new result.did result.calls (T.contents tree.old)
@@ -160,7 +170,7 @@ impl FolderMaking {
         let Ok(path) = self.path.copy(alloc) else {
             return without_call(Did::Troubled(out_of_memory(false)));
         };
-        match tree.make_folder(alloc, &self.path, FOLDER_MODE) {
+        match self.thing.make_at(alloc, tree, &self.path) {
             Ok(()) => {
                 self.stage = MakingStage::Sync;
                 with_call(Did::Made(path))
@@ -200,7 +210,7 @@ impl FolderMaking {
     }
 }
 
-/// Where a making stands without its folder.
+/// Where a making stands without its thing.
 fn skipped(stage: MakingStage) -> MakingStage
     ensures { result ≡ skipped_to stage }
 {

@@ -5,11 +5,13 @@ ghost use Rattle.job_reports.specs.Jobs.{is_workable};
 ghost use Rattle.copy_move.specs.Jobs.{IsGoing, first_work};
 
 use crate::deletion::TreeDeletion;
-use crate::making::FolderMaking;
+use crate::making::ThingMaking;
+use crate::new_thing::NewThing;
 use crate::work::Work;
 use file_copy::FileCopy;
 use job_reports::Pairs;
-use mc_text::{NoMemory, Path, Paths};
+use mc_text::{NoMemory, Path, Paths, Text};
+use mode_setting::ModeSetting;
 use std::alloc::Global;
 
 /// The copy of one file.
@@ -45,13 +47,39 @@ pub(crate) fn deletion_of(alloc: Global, paths: &Paths) -> Result<Work, NoMemory
     Ok(Work::Delete(TreeDeletion::new(alloc, path.copy(alloc)?, folder)))
 }
 
+/// The setting of the mode of one thing.
+pub(crate) fn setting_of(alloc: Global, paths: &Paths, mode: u16) -> Result<Work, NoMemory>
+    requires { is_workable (Job.SetMode paths.now mode) ≡ true }
+    ensures { IfOk result (λ work. (first_work 0 (Job.SetMode paths.now mode) ≡ Some work) × IsGoing work) }
+{
+    let [path] = paths.as_slice() else {
+        unreachable!()
+    };
+    let Some(folder) = path.parent(alloc)? else {
+        unreachable!()
+    };
+    Ok(Work::SetMode(ModeSetting::new(path.copy(alloc)?, folder, mode)))
+}
+
 /// The making of one folder.
-pub(crate) fn making_of(alloc: Global, path: &Path) -> Result<Work, NoMemory>
+pub(crate) fn folder_of(alloc: Global, path: &Path) -> Result<Work, NoMemory>
     requires { is_workable (Job.MakeFolder path.now) ≡ true }
     ensures { IfOk result (λ work. (first_work 0 (Job.MakeFolder path.now) ≡ Some work) × IsGoing work) }
 {
     let Some(folder) = path.parent(alloc)? else {
         unreachable!()
     };
-    Ok(Work::Make(FolderMaking::new(path.copy(alloc)?, folder)))
+    Ok(Work::Make(ThingMaking::new(path.copy(alloc)?, folder, NewThing::Folder)))
+}
+
+/// The making of one link.
+pub(crate) fn link_of(alloc: Global, path: &Path, text: &Text) -> Result<Work, NoMemory>
+    requires { is_workable (Job.MakeLink path.now text.now) ≡ true }
+    ensures { IfOk result (λ work. (first_work 0 (Job.MakeLink path.now text.now) ≡ Some work) × IsGoing work) }
+{
+    let Some(folder) = path.parent(alloc)? else {
+        unreachable!()
+    };
+    let thing = NewThing::Link(text.copy(alloc)?);
+    Ok(Work::Make(ThingMaking::new(path.copy(alloc)?, folder, thing)))
 }

@@ -52,5 +52,7 @@ fn kind_word(kind: JobKind) -> &'static str
         JobKind::Copy => "copy",
         JobKind::Delete => "delete",
         JobKind::MakeFolder => "mkdir",
+        JobKind::MakeLink => "symlink",
+        JobKind::SetMode => "chmod",
     }
 }

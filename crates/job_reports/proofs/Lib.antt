@@ -1,4 +1,5 @@
 pub mod CallAnswers
+pub mod LinkTexts
 pub mod PermittedCalls
 pub mod Reading
 pub mod Runs

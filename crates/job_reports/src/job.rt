@@ -1,5 +1,5 @@
 //! What a job is to do.
-use mc_text::{Path, Paths};
+use mc_text::{Path, Paths, Text};
 use std::marker::Model;
 
 /// A file that is to be copied, and where to.
@@ -31,4 +31,8 @@ pub enum Job {
     Delete(Paths),
     /// Makes a new, empty folder at this path.
     MakeFolder(Path),
+    /// Makes a link with this text at this path.
+    MakeLink(Path, Text),
+    /// Gives each of these this mode, of twelve bits, and nothing that lies below them.
+    SetMode(Paths, u16),
 }

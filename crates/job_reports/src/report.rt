@@ -81,7 +81,7 @@ pub enum Did {
     Placed(Path),
     /// The thing at this path is gone from its folder.
     Removed(Path),
-    /// A new, empty folder stands at this path.
+    /// A new, empty folder stands at this path, or a new link.
     Made(Path),
     /// The thing at this path was given its mode.
     Set(Path),

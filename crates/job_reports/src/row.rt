@@ -22,6 +22,8 @@ pub enum JobKind {
     Copy,
     Delete,
     MakeFolder,
+    MakeLink,
+    SetMode,
 }
 
 /// A live job, as it is seen: its number, what it is at, what it does, and the trouble in which it waits. A list of the jobs will show
@@ -31,7 +33,7 @@ pub struct JobRow {
     pub job: u32,
     pub state: JobState,
     pub kind: JobKind,
-    /// Its source; of a folder that is made, that folder.
+    /// Its source; of a thing that is made, that thing.
     pub path: Path,
     /// Whether it works in the background, which none does yet.
     pub background: bool,

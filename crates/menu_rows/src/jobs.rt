@@ -123,6 +123,8 @@ fn kind_of(word: &str) -> JobKind {
     match word {
         "copy" => JobKind::Copy,
         "delete" => JobKind::Delete,
+        "symlink" => JobKind::MakeLink,
+        "chmod" => JobKind::SetMode,
         _ => JobKind::MakeFolder,
     }
 }

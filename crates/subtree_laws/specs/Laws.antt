@@ -13,7 +13,7 @@ use Rattle.tree_copy.specs.Standing.{Seen, begun, target_name}
 use Rattle.tree_copy.specs.Steps.{CopySteps}
 use Rattle.crash_law.specs.Guarded.{Marks}
 use Rattle.crash_law.specs.Steps.{StandsAt}
-use Rattle.history_laws.specs.Doubt.{is_unsettled}
+use Rattle.history_laws.specs.Doubt.{way_waits}
 use Rattle.history_laws.proofs.FilledFolders.{IsFilling}
 use Rattle.history_laws.proofs.Knowing.{IsKnown, Said}
 use Rattle.history_laws.proofs.Resting.{IsOfFiles}
@@ -48,7 +48,7 @@ pub record SkipLaw : Type 0 where
 abbrev pub MetLaw : Type 0
 MetLaw =
     (log : CallLog) (c : Seen) (name : List ℕ) (names : List (List ℕ)) → FoldersKnown log c → is_around_dirty c.levels.around ≡ false → c.levels.inner.names.names ≡ name ∷ names
-    → is_unsettled log (target_name c name ∷ c.levels.inner.copy.target) ≡ false
+    → way_waits log (target_name c name ∷ c.levels.inner.copy.target) ≡ false
 
 -- The folder that is worked, once it is on the disk, stands at its path after any crash or nowhere, so that names may be changed in it.
 abbrev pub StandingLaw : Type 0
