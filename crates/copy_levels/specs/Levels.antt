@@ -32,6 +32,12 @@ pub record Stacked : Type 0 where
 abbrev pub level : OpenFolder → FolderCopying → Level
 level names copy = record { names = names; copy = copy }
 
+-- The names that are yet to be met in a folder that is open, as they are at its target: what is copied, the one name of the outermost, may
+-- have another name there.
+abbrev pub coming : List ℕ → OpenFolder → List Level → List (List ℕ)
+coming top place [] = map (λ (met : List ℕ). top) place.names
+coming top place (outer ∷ around) = place.names
+
 -- What is copied is the only name in the outermost folder, and may lie 256 levels below that, and one for itself.
 abbrev pub outermost : OpenFolder → FolderCopying → Levels
 outermost names copy = record { inner = level names copy; around = []; left = 257 }

@@ -2,8 +2,8 @@
 ghost use Rattle.std.specs.Prelude.{◌≡◌, ◌+◌, ◌<◌, ◌≤◌, ◌==◌, ◌∷◌, [], drop, length, false, true, IfNone, IfSome, OnErr, OnOk};
 ghost use Rattle.folder_copy.specs.FolderCopying.{is_dirty, is_ready};
 ghost use Rattle.folder_copy.specs.FolderSteps.{Skips, StepsOn, SyncTried};
-ghost use Rattle.subtree_walk.specs.Places.{is_empty};
-ghost use Rattle.copy_levels.specs.Levels.{IsLeft, LeavesClean, NearestSyncs, closed, dirtied, emptied, entered, is_around_dirty, is_sync_next, made_levels, outermost, owed_at, owes, passed, target_around as target_of_nearest, with_copy};
+ghost use Rattle.subtree_walk.specs.Places.{is_empty, is_one_of};
+ghost use Rattle.copy_levels.specs.Levels.{IsLeft, LeavesClean, NearestSyncs, closed, coming, dirtied, emptied, entered, is_around_dirty, is_sync_next, made_levels, outermost, owed_at, owes, passed, target_around as target_of_nearest, with_copy};
 
 use crate::around::Around;
 use crate::level::Level;
@@ -77,6 +77,29 @@ impl Stack {
         ensures none { IfNone result (self.now.levels.inner.names.names ≡ []) }
     {
         self.inner.names.first()
+    }
+
+    /// Whether a thing that is yet to be met there has this name at its target. What is copied has the name `top`.
+    #[tactic(auto, using(crate::proofs::Coming::coming_outside, crate::proofs::Coming::coming_inside))]
+    pub fn is_coming(&self, top: &Name, name: &Name) -> bool
+        ensures { result ≡ is_one_of name.now (coming top.now self.now.levels.inner.names self.now.levels.around) }
+    {
+        if self.is_outermost() {
+            self.is_top_coming(top, name)
+        } else {
+            self.inner.names.has(name)
+        }
+    }
+
+    /// Whether the outermost has a name that is yet to be met, and `top` is this name.
+    #[tactic(auto, using(crate::proofs::Coming::none_coming))]
+    fn is_top_coming(&self, top: &Name, name: &Name) -> bool
+        ensures { result ≡ is_one_of name.now (coming top.now self.now.levels.inner.names []) }
+    {
+        match self.next_name() {
+            Some(_) => top.same(name),
+            None => false,
+        }
     }
 
     /// Whether no folder is around that one.

@@ -1,10 +1,13 @@
 -- The kinds of troubles that are skipped: `Skip all` holds for each later trouble of the same kind, of a refusal of the tree for
 -- the same refusal.
-use Rattle.std.specs.Prelude.{◌≡◌, Bool, true, false}
+use Rattle.std.specs.Prelude.{◌≡◌, ◌&&◌, not, Bool, true, false, if◌then◌else◌, Option, Some, None}
 use Rattle.tree_trait.specs.declared.calls.TreeError.{TreeError}
 use Rattle.tree_trait.specs.declared.calls.TreeError.TheVariants as refused
 use Rattle.job_reports.specs.declared.report.Cause.{Cause}
 use Rattle.job_reports.specs.declared.report.Cause.TheVariants as cause
+use Rattle.job_reports.specs.declared.report.Did.{Did}
+use Rattle.job_reports.specs.declared.report.Did.TheVariants.{Troubled}
+use Rattle.job_reports.specs.declared.report.Trouble.{Trouble}
 use Rattle.job_answers.specs.declared.skips.CauseKind.{CauseKind}
 use Rattle.job_answers.specs.declared.skips.CauseKind.TheVariants.{Tree, TargetKind, SpecialSource, TooDeep, PartTaken, TooLong, Unnamed, Changed, Memory}
 use Rattle.job_answers.specs.declared.skips.SkippedRefusals.{SkippedRefusals}
@@ -49,6 +52,15 @@ holds s TooLong = s.too_long
 holds s Unnamed = s.unnamed
 holds s Changed = s.changed
 holds s Memory = s.memory
+
+-- a trouble is passed over without a question where its kind is skipped, and it isn't at a barrier
+abbrev pub is_passed_over : Skips → Trouble → Bool
+is_passed_over skips trouble = not trouble.barrier && holds skips (kind_in trouble.cause)
+
+-- the cause of such a trouble, which is never told
+abbrev pub passed_cause : Skips → Did → Option Cause
+passed_cause skips (Troubled trouble) = if is_passed_over skips trouble then Some trouble.cause else None
+passed_cause skips did = None
 
 -- the refusal is skipped from now on
 abbrev pub with_refusal : TreeError → SkippedRefusals → SkippedRefusals

@@ -1,5 +1,5 @@
 -- What answers that stand decide.
-use Rattle.std.specs.Prelude.{◌≡◌, ◌==◌, ◌&&◌, Bool, not, if◌then◌else◌, Option, Some, None}
+use Rattle.std.specs.Prelude.{◌≡◌, ◌==◌, Bool, if◌then◌else◌, Option, Some, None}
 use Rattle.std.specs.Int.Signed.{lt_z}
 use Rattle.job_reports.specs.declared.report.Cause.{Cause}
 use Rattle.job_reports.specs.declared.report.Trouble.{Trouble}
@@ -15,7 +15,7 @@ use Rattle.job_answers.specs.declared.standing.Rule.TheVariants as rule
 use Rattle.job_answers.specs.declared.standing.Decision.{Decision}
 use Rattle.job_answers.specs.declared.standing.Decision.TheVariants.{Replace, Keep, Ask}
 use Rattle.job_answers.specs.declared.standing.Standing.{Standing}
-use Rattle.job_answers.specs.Skipping.{holds, kind_in, no_skips, with_kind}
+use Rattle.job_answers.specs.Skipping.{is_passed_over, kind_in, no_skips, with_kind}
 
 -- nothing was answered
 abbrev pub nothing_answered : Standing
@@ -40,7 +40,7 @@ decision_of standing question = decided standing.item standing.rule question
 
 -- a trouble is skipped without a question where `SkipAll` was answered to one of its kind, and it isn't at a barrier
 abbrev pub passes_over : Standing → Trouble → Bool
-passes_over standing trouble = not trouble.barrier && holds standing.skips (kind_in trouble.cause)
+passes_over standing trouble = is_passed_over standing.skips trouble
 
 -- what is answered to a question stands for this item, or for all
 abbrev pub with_reply : Answer → Standing → Standing

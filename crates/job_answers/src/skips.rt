@@ -1,8 +1,8 @@
 //! The kinds of troubles that are skipped without a question.
-ghost use Rattle.std.specs.Prelude.{◌≡◌, true};
-ghost use Rattle.job_answers.specs.Skipping.{holds, holds_refusal, kind_in, no_refusals, no_skips, with_kind, with_refusal};
+ghost use Rattle.std.specs.Prelude.{◌≡◌, None, Some, if◌then◌else◌, true};
+ghost use Rattle.job_answers.specs.Skipping.{holds, holds_refusal, is_passed_over, kind_in, no_refusals, no_skips, passed_cause as cause_passed, with_kind, with_refusal};
 
-use job_reports::Cause;
+use job_reports::{Cause, Did, Trouble};
 use tree_trait::TreeError;
 
 /// The kind of a cause: which it is, without what it tells of the case. Two refusals of the tree are of one kind where they
@@ -104,6 +104,26 @@ impl Skips {
         }
     }
 
+    /// Whether a trouble is passed over without a question. At a barrier none is.
+    pub fn passes_over(&self, trouble: &Trouble) -> bool
+        ensures { result ≡ is_passed_over self.now trouble.now }
+    {
+        if trouble.barrier {
+            return false;
+        }
+        self.contains(kind_of(trouble.cause))
+    }
+
+    /// The cause of a trouble that is passed over without a question.
+    pub fn passed_cause(&self, did: &Did) -> Option<Cause>
+        ensures { result ≡ cause_passed self.now did.now }
+    {
+        match did {
+            Did::Troubled(trouble) => cause_if(self.passes_over(trouble), trouble.cause),
+            _ => None,
+        }
+    }
+
     /// Troubles of this kind are skipped too.
     pub fn insert(&mut self, kind: CauseKind)
         ensures value { self.new ≡ with_kind kind self.old }
@@ -184,4 +204,10 @@ impl SkippedRefusals {
             TreeError::Memory => self.memory = true,
         }
     }
+}
+
+fn cause_if(passes: bool, cause: Cause) -> Option<Cause>
+    ensures { result ≡ (if passes then Some cause else None) }
+{
+    if passes { Some(cause) } else { None }
 }

@@ -70,10 +70,7 @@ impl Standing {
     pub fn passes_over(&self, trouble: &Trouble) -> bool
         ensures { result ≡ passes self.now trouble.now }
     {
-        if trouble.barrier {
-            return false;
-        }
-        self.skips.contains(kind_of(trouble.cause))
+        self.skips.passes_over(trouble)
     }
 
     /// Takes an answer, and says what the job does then. An answer that isn't taken changes nothing. It takes no memory.

@@ -11,7 +11,7 @@ use Rattle.job_reports.specs.declared.report.StepResult.{StepResult}
 use Rattle.job_reports.specs.declared.report.Trouble.{Trouble}
 use Rattle.job_reports.specs.Stops.{out_of_memory_at}
 use Rattle.std.specs.Prelude.{◌&&◌, not, if◌then◌else◌}
-use Rattle.job_answers.specs.Skipping.{holds, kind_in}
+use Rattle.job_answers.specs.Skipping.{holds, kind_in, passed_cause}
 use Rattle.job_answers.specs.declared.skips.Skips.{Skips}
 use Rattle.file_copy.specs.Copying as file
 use Rattle.file_copy.specs.Copying.{Copying}
@@ -37,9 +37,8 @@ use Rattle.tree_copy.specs.declared.due.Due.TheVariants.{End, Thing}
 use Rattle.tree_copy.specs.declared.item.Item.{Item}
 use Rattle.tree_copy.specs.declared.item.Item.TheVariants.{Next, File, Link, Stays}
 use Rattle.tree_copy.specs.declared.progress.Progress.TheVariants.{UnderWay}
-use Rattle.tree_copy.specs.declared.report.CopyDid.{CopyDid}
-use Rattle.tree_copy.specs.declared.report.CopyDid.TheVariants.{Common}
 use Rattle.tree_copy.specs.Falling.{AllMade, IsSteady, is_made}
+use Rattle.tree_copy.specs.Parts.{IsPartPlace}
 use Rattle.tree_copy.specs.Progress.{link_progress, progress}
 use Rattle.tree_copy.specs.Reports.{IsToldAs}
 use Rattle.tree_copy.specs.Skipping as machine
@@ -48,14 +47,14 @@ use Rattle.tree_copy.specs.Steps.{FileWorks, FolderEnds, FolderMakes, GoesOn, Is
 use Rattle.tree_copy.proofs.Fallings.{all_leave}
 use Rattle.subtree_copy.specs.Barriers.{BarrierLaw}
 use Rattle.subtree_copy.specs.Leaving.{may_leave}
-use Rattle.subtree_copy.specs.Passing.{OrPassedOver, passed_cause}
+use Rattle.subtree_copy.specs.Passing.{OrPassedOver}
 use Rattle.subtree_copy.specs.Standing.{at_barrier, barrier_at, barrier_at_end, barrier_at_name}
-use Rattle.subtree_copy.specs.SubtreeSteps.{ListSteps, common, step_result}
+use Rattle.subtree_copy.specs.SubtreeSteps.{ListSteps, step_result}
 use Rattle.subtree_copy.proofs.Targets.{works_at_once}
 
 -- what is in a trouble
-abbrev pub Says : CopyDid → Trouble → Type 0
-Says did t = did ≡ Common (Troubled t)
+abbrev pub Says : Did → Trouble → Type 0
+Says did t = did ≡ Troubled t
 
 -- a name is next
 abbrev pub HasNext : Seen → Type 0
@@ -84,59 +83,56 @@ file_same f m report t tells is = subst (λ (d : Did). file.Tells f d m) is tell
 pub link_same : (l m : LinkCopying) (report : Did) (t : Trouble) → link.Tells l report m → report ≡ Troubled t → (t.barrier ≡ link.at_barrier l.stage) × (m ≡ l)
 link_same l m report t tells is = subst (λ (d : Did). link.Tells l d m) is tells
 
-pub said_so : (did : CopyDid) (report : Did) (t : Trouble) → did ≡ Common report → Says did t → report ≡ Troubled t
-said_so did report t is says = ap common (sym is ∙ says)
-
 -- what is taken up anew has a name yet
-anew_next : (changed : Bool) (did : CopyDid) (c : Seen) → is_around_dirty c.levels.around ≡ false → HasNext c → at_barrier (noted did changed (idle c)) ≡ false
+anew_next : (changed : Bool) (did : Did) (c : Seen) → is_around_dirty c.levels.around ≡ false → HasNext c → at_barrier (noted did changed (idle c)) ≡ false
 anew_next true did c clean h = unbarred (noted did true (idle c)) refl clean h
 anew_next false did c clean h = unbarred (noted did false (idle c)) refl clean h
 
-file_begins : (unclaimed : Route → Type 0) (f : Copying) (old new : Seen) (did : CopyDid) (before after : Option CallLog) (t : Trouble) → FileWorks unclaimed f old new did before after → Says did t → f.stage ≡ file_stage.Begin
+file_begins : (unclaimed : Route → Type 0) (f : Copying) (old new : Seen) (did : Did) (before after : Option CallLog) (t : Trouble) → FileWorks unclaimed f old new did before after → Says did t → f.stage ≡ file_stage.Begin
     → is_around_dirty old.levels.around ≡ false → HasNext old → t.barrier ≡ at_barrier new
 file_begins unclaimed f old new did before after t w says begin clean h =
-    let same = file_same f w.moved w.report t w.tells (said_so did w.report t w.says says) in
+    let same = file_same f w.moved did t w.tells says in
     let m = w.moved in
     let stage : m.stage ≡ file_stage.Begin = ap (λ (x : Copying). x.stage) same.1 ∙ begin in
     (same.0 ∙ ap file.at_barrier begin)
     ∙ sym (ap at_barrier w.stands ∙ (ap (λ s. at_barrier (settled (progress s) (File m) (noted did (file.is_dirty m.folder) (idle old)))) stage ∙ anew_next (file.is_dirty m.folder) did old clean h))
 
-link_begins : (l : LinkCopying) (old new : Seen) (did : CopyDid) (before after : Option CallLog) (t : Trouble) → LinkWorks l old new did before after → Says did t → l.stage ≡ link_stage.Make
+link_begins : (l : LinkCopying) (old new : Seen) (did : Did) (before after : Option CallLog) (t : Trouble) → LinkWorks l old new did before after → Says did t → l.stage ≡ link_stage.Make
     → is_around_dirty old.levels.around ≡ false → HasNext old → t.barrier ≡ at_barrier new
 link_begins l old new did before after t w says begin clean h =
-    let same = link_same l w.moved w.report t w.tells (said_so did w.report t w.says says) in
+    let same = link_same l w.moved did t w.tells says in
     let m = w.moved in
     let stage : m.stage ≡ link_stage.Make = ap (λ (x : LinkCopying). x.stage) same.1 ∙ begin in
     (same.0 ∙ ap link.at_barrier begin)
     ∙ sym (ap at_barrier w.stands ∙ (ap (λ s. at_barrier (settled (link_progress s) (Link m) (noted did (link.is_dirty m.folder) (idle old)))) stage ∙ anew_next (link.is_dirty m.folder) did old clean h))
 
 -- a file or a link that is at work stays so
-file_on : (unclaimed : Route → Type 0) (f : Copying) (old new : Seen) (did : CopyDid) (before after : Option CallLog) (t : Trouble) → FileWorks unclaimed f old new did before after → Says did t → progress f.stage ≡ UnderWay
+file_on : (unclaimed : Route → Type 0) (f : Copying) (old new : Seen) (did : Did) (before after : Option CallLog) (t : Trouble) → FileWorks unclaimed f old new did before after → Says did t → progress f.stage ≡ UnderWay
     → t.barrier ≡ at_barrier new
 file_on unclaimed f old new did before after t w says going =
-    let same = file_same f w.moved w.report t w.tells (said_so did w.report t w.says says) in
+    let same = file_same f w.moved did t w.tells says in
     let m = w.moved in
     let stage : m.stage ≡ f.stage = ap (λ (x : Copying). x.stage) same.1 in
     (same.0 ∙ sym (ap file.at_barrier stage)) ∙ sym (ap at_barrier w.stands ∙ ap (λ p. at_barrier (settled p (File m) (noted did (file.is_dirty m.folder) (idle old)))) (ap progress stage ∙ going))
 
-link_on : (l : LinkCopying) (old new : Seen) (did : CopyDid) (before after : Option CallLog) (t : Trouble) → LinkWorks l old new did before after → Says did t → link_progress l.stage ≡ UnderWay → t.barrier ≡ at_barrier new
+link_on : (l : LinkCopying) (old new : Seen) (did : Did) (before after : Option CallLog) (t : Trouble) → LinkWorks l old new did before after → Says did t → link_progress l.stage ≡ UnderWay → t.barrier ≡ at_barrier new
 link_on l old new did before after t w says going =
-    let same = link_same l w.moved w.report t w.tells (said_so did w.report t w.says says) in
+    let same = link_same l w.moved did t w.tells says in
     let m = w.moved in
     let stage : m.stage ≡ l.stage = ap (λ (x : LinkCopying). x.stage) same.1 in
     (same.0 ∙ sym (ap link.at_barrier stage)) ∙ sym (ap at_barrier w.stands ∙ ap (λ p. at_barrier (settled p (Link m) (noted did (link.is_dirty m.folder) (idle old)))) (ap link_progress stage ∙ going))
 
 -- a trouble at a folder
-pub folder_same : (c m : FolderCopying) (report : FolderDid) (did : CopyDid) (t : Trouble) → IsToldAs report did → folder.Tells c report m → Says did t → (t.barrier ≡ folder.at_barrier c.stage) × (m ≡ c)
+pub folder_same : (c m : FolderCopying) (report : FolderDid) (did : Did) (t : Trouble) → IsToldAs report did → folder.Tells c report m → Says did t → (t.barrier ≡ folder.at_barrier c.stage) × (m ≡ c)
 folder_same c m (folder_did.Troubled trouble) did t told tells says =
-    let same : trouble ≡ t = (let e : Common (Troubled trouble) ≡ Common (Troubled t) = sym told ∙ says in cc) in
+    let same : trouble ≡ t = (let e : Troubled trouble ≡ Troubled t = sym told ∙ says in cc) in
     subst (λ (x : Trouble). (x.barrier ≡ folder.at_barrier c.stage) × (m ≡ c)) same tells
 folder_same c m (folder_did.Made path) did t told tells says = absurd (let e = sym told ∙ says in let f : ⊥ = cc in f)
 folder_same c m (folder_did.Set path) did t told tells says = absurd (let e = sym told ∙ says in let f : ⊥ = cc in f)
 folder_same c m folder_did.Barrier did t told tells says = absurd (let e = sym told ∙ says in let f : ⊥ = cc in f)
 folder_same c m folder_did.Closed did t told tells says = absurd told
 
-makes_next : (pair : Pair) (names : List (List ℕ)) (mode : ℕ) (old new : Seen) (did : CopyDid) (before after : Option CallLog) (t : Trouble) → FolderMakes pair names mode old new did before after → Says did t → old.item ≡ Next
+makes_next : (pair : Pair) (names : List (List ℕ)) (mode : ℕ) (old new : Seen) (did : Did) (before after : Option CallLog) (t : Trouble) → FolderMakes pair names mode old new did before after → Says did t → old.item ≡ Next
     → is_around_dirty old.levels.around ≡ false → HasNext old → t.barrier ≡ at_barrier new
 makes_next pair names mode old new did before after t w says free clean h =
     let same = folder_same (folder.copying pair.source pair.target (Make mode) marks.Synced) w.moved w.report did t w.says w.tells says in
@@ -162,7 +158,7 @@ inner_made : (inner : Level) (around : List Level) → AllMade inner around → 
 inner_made inner [] h = h
 inner_made inner (outer ∷ around) h = h.0
 
-ends_barred : (old new : Seen) (did : CopyDid) (before after : Option CallLog) (t : Trouble) → FolderEnds (at_end old) new did before after → Says did t → due old ≡ End → has_debt (at_end old) ≡ true → old.item ≡ Next
+ends_barred : (old new : Seen) (did : Did) (before after : Option CallLog) (t : Trouble) → FolderEnds (at_end old) new did before after → Says did t → due old ≡ End → has_debt (at_end old) ≡ true → old.item ≡ Next
     → is_around_dirty old.levels.around ≡ false → IsSteady old → t.barrier ≡ at_barrier new
 ends_barred old new did before after t e says next owes free clean steady =
     let c : FolderCopying = (let s = at_end old in s.levels.inner.copy) in
@@ -174,7 +170,7 @@ ends_barred old new did before after t e says next owes free clean steady =
     ∙ (ap (λ names. barrier_at_name names (let m = e.moved in m.stage)) (no_name old.levels.inner.names.names old next) ∙ ap (λ (x : FolderCopying). barrier_at_end x.stage) same.1))) in
     (same.0 ∙ owed_barrier old.levels.inner.copy.stage (is_dirty old.levels.inner.copy.names) (inner_made old.levels.inner old.levels.around steady.made) owes) ∙ sym there
 
-syncs_barred : (old new : Seen) (did : CopyDid) (before after : Option CallLog) (t : Trouble) → SyncsAround old new did before after → Says did t → old.item ≡ Next → t.barrier ≡ at_barrier new
+syncs_barred : (old new : Seen) (did : Did) (before after : Option CallLog) (t : Trouble) → SyncsAround old new did before after → Says did t → old.item ≡ Next → t.barrier ≡ at_barrier new
 syncs_barred old new did before after t s says free =
     let same = folder_same (at_sync s.outer.copy) (record (at_sync s.outer.copy) { names = s.names }) s.report did t s.says s.tells says in
     let dirty : is_dirty s.names ≡ true = ap (λ (x : FolderCopying). is_dirty x.names) same.1 in
@@ -182,10 +178,10 @@ syncs_barred old new did before after t s says free =
     ∙ sym (ap at_barrier s.stands
     ∙ (ap (λ (i : Item). barrier_at i (let l : Levels = record old.levels { around = (let o : Level = record { names = s.outer.names; copy = record s.outer.copy { names = s.names } } in o) ∷ s.around } in l)) free ∙ ap (λ b. b || barrier_at_name old.levels.inner.names.names old.levels.inner.copy.stage) dirty))
 
-takes_barred : (unclaimed : Route → Type 0) (old new : Seen) (did : CopyDid) (before after : Option CallLog) (t : Trouble) → TakesNext unclaimed old new did before after → Says did t → old.item ≡ Next
+takes_barred : (unclaimed : Route → Type 0) (old new : Seen) (did : Did) (before after : Option CallLog) (t : Trouble) → TakesNext unclaimed old new did before after → Says did t → old.item ≡ Next
     → is_around_dirty old.levels.around ≡ false → IsSteady old → t.barrier ≡ at_barrier new
 takes_barred unclaimed old new did before after t (inl s) says free clean steady =
-    let same : s.trouble ≡ t = (let e : Common (Troubled s.trouble) ≡ Common (Troubled t) = sym s.says ∙ says in cc) in
+    let same : s.trouble ≡ t = (let e : Troubled s.trouble ≡ Troubled t = sym s.says ∙ says in cc) in
     (sym (ap (λ (x : Trouble). x.barrier) same) ∙ s.apart) ∙ sym (ap at_barrier s.stands ∙ unbarred old free clean (why_next unclaimed old s.trouble before s.why))
 takes_barred unclaimed old new did before after t (inr (inl w)) says free clean steady =
     file_begins unclaimed (file.begun old.job w.pair.source w.pair.target) old new did before after t w.works says refl clean (next_at old.levels.inner.names.names old w.pair w.next)
@@ -196,30 +192,25 @@ takes_barred unclaimed old new did before after t (inr (inr (inr (inl w)))) says
 takes_barred unclaimed old new did before after t (inr (inr (inr (inr (next, inl (debt, e)))))) says free clean steady = ends_barred old new did before after t e says next debt free clean steady
 takes_barred unclaimed old new did before after t (inr (inr (inr (inr (next, inr (debt, f, same)))))) says free clean steady = absurd (let e = sym f.says ∙ says in let g : ⊥ = cc in g)
 
-goes_barred : (unclaimed : Route → Type 0) (old new : Seen) (did : CopyDid) (before after : Option CallLog) (t : Trouble) → GoesOn unclaimed old new did before after → Says did t → old.item ≡ Next → IsSteady old
+goes_barred : (unclaimed : Route → Type 0) (old new : Seen) (did : Did) (before after : Option CallLog) (t : Trouble) → GoesOn unclaimed old new did before after → Says did t → old.item ≡ Next → IsSteady old
     → t.barrier ≡ at_barrier new
 goes_barred unclaimed old new did before after t (inl s) says free steady = syncs_barred old new did before after t s says free
 goes_barred unclaimed old new did before after t (inr s) says free steady = takes_barred unclaimed old new did before after t s.1 says free s.0 steady
 
-works_barred : (unclaimed : Route → Type 0) (item : Item) (old new : Seen) (did : CopyDid) (before after : Option CallLog) (t : Trouble) → WorksOn item unclaimed old new did before after → Says did t → old.item ≡ item → IsSteady old
+works_barred : (unclaimed : Route → Type 0) (item : Item) (old new : Seen) (did : Did) (before after : Option CallLog) (t : Trouble) → WorksOn item unclaimed old new did before after → Says did t → old.item ≡ item → IsSteady old
     → IsWorkable item → t.barrier ≡ at_barrier new
 works_barred unclaimed Next old new did before after t w says is steady can = goes_barred unclaimed old new did before after t w says is steady
 works_barred unclaimed (File f) old new did before after t w says is steady can = file_on unclaimed f old new did before after t w says can.0
 works_barred unclaimed (Link l) old new did before after t w says is steady can = link_on l old new did before after t w says can.0
 works_barred unclaimed (Stays part) old new did before after t w says is steady can = absurd w
 
--- the machine's report of a trouble
-pub troubled : (report : CopyDid) (t : Trouble) → common report ≡ Troubled t → Says report t
-troubled (Common did) t is = ap Common is
-troubled report t is = absurd (let f : ⊥ = cc in f)
-
 pub list_barred : (free : Route → Bool) (old new : Seen) (worked : StepResult) (dirty dirty_after : List Route) (before after : Option CallLog) (f0 f1 : ℕ) (t : Trouble)
-    → ListSteps (λ path. free path ≡ true) old new worked dirty dirty_after before after f0 f1 → worked.did ≡ Troubled t → may_leave old ≡ false → IsSteady old → IsWorkable old.item → t.barrier ≡ at_barrier new
+    → ListSteps free old new worked dirty dirty_after before after f0 f1 → worked.did ≡ Troubled t → may_leave old ≡ false → IsSteady old → IsWorkable old.item → t.barrier ≡ at_barrier new
 list_barred free old new worked dirty dirty_after before after f0 f1 t (inl s) says settled steady can =
     let same : out_of_memory_at (at_barrier old) ≡ t = (let e : Troubled (out_of_memory_at (at_barrier old)) ≡ Troubled t = sym (ap (λ (r : StepResult). r.did) s.says) ∙ says in cc) in
     sym (ap (λ (x : Trouble). x.barrier) same) ∙ sym (ap at_barrier s.stays)
 list_barred free old new worked dirty dirty_after before after f0 f1 t (inr s) says settled steady can =
-    works_barred (λ path. free path ≡ true) old.item old new s.report before after t (works_at_once (λ path. free path ≡ true) old new s.report worked.calls before after f0 f1 s.steps settled) (troubled s.report t (sym s.says ∙ says)) refl steady can
+    works_barred (IsPartPlace free old) old.item old new worked.did before after t (works_at_once free old new worked.did worked.calls before after f0 f1 s.steps settled) says refl steady can
 
 -- what is left where a trouble was passed over
 end_unbarred : (stage : Stage) → barrier_at_end stage ≡ false → folder.at_barrier stage ≡ false

@@ -5,7 +5,7 @@ use Rattle.mc_text.specs.Routes.{Route}
 use Rattle.tree_trait.specs.declared.calls.TreeError.TheVariants as refused
 use Rattle.tree_trait.specs.Answers.{IfKnown, HasRisen}
 use Rattle.tree_trait.specs.Change.{CallLog}
-use Rattle.job_answers.specs.Skipping.{holds, kind_in}
+use Rattle.job_answers.specs.Skipping.{holds, kind_in, passed_cause}
 use Rattle.job_answers.specs.declared.skips.Skips.{Skips}
 use Rattle.job_reports.specs.declared.report.Cause.{Cause}
 use Rattle.job_reports.specs.declared.report.Cause.TheVariants.{Tree}
@@ -26,16 +26,15 @@ use Rattle.link_copy.specs.LinkCopying.{LinkCopying}
 use Rattle.link_copy.specs.LinkSteps as link_steps
 use Rattle.tree_copy.specs.declared.item.Item.{Item}
 use Rattle.tree_copy.specs.declared.item.Item.TheVariants.{Next, File, Link, Stays}
-use Rattle.tree_copy.specs.declared.report.CopyDid.{CopyDid}
-use Rattle.tree_copy.specs.declared.report.CopyDid.TheVariants.{Common}
 use Rattle.tree_copy.specs.Reports.{IsFault, IsToldAs}
+use Rattle.tree_copy.specs.Parts.{IsPartPlace}
 use Rattle.tree_copy.specs.Skipping as machine
 use Rattle.tree_copy.specs.Standing.{Seen}
 use Rattle.tree_copy.specs.Steps.{FileWorks, LinkWorks, TakesNext, WorksOn}
 use Rattle.subtree_copy.specs.Counted.{CountLaw, MeetsFault, StepCounts}
-use Rattle.subtree_copy.specs.Passing.{OrPassedOver, passed_cause}
-use Rattle.subtree_copy.specs.SubtreeSteps.{ListSteps, SubtreeSteps, common, step_result}
-use Rattle.subtree_copy.proofs.Barred.{passed_trouble, troubled}
+use Rattle.subtree_copy.specs.Passing.{OrPassedOver}
+use Rattle.subtree_copy.specs.SubtreeSteps.{ListSteps, SubtreeSteps, step_result}
+use Rattle.subtree_copy.proofs.Barred.{passed_trouble}
 
 -- no call was made
 none_made : (before after : Option CallLog) → after ≡ before → IfKnown before (λ log. IfKnown after (HasMore log 0))
@@ -61,23 +60,23 @@ meets Barrier h = absurd h
 meets (Ended ending part) h = absurd h
 
 -- the machine's steps pass over nothing
-abbrev Passes : CopyDid → Type 0
-Passes did = (path : Route) × (cause : Cause) × (did ≡ Common (Skipped path cause))
+abbrev Passes : Did → Type 0
+Passes did = (path : Route) × (cause : Cause) × (did ≡ Skipped path cause)
 
-file_keeps : (unclaimed : Route → Type 0) (f : Copying) (old new : Seen) (did : CopyDid) (before after : Option CallLog) → FileWorks unclaimed f old new did before after → Passes did → ⊥
-file_keeps unclaimed f old new did before after w p = subst (λ (d : Did). file.Tells f d w.moved) (ap common (sym w.says ∙ p.2)) w.tells
+file_keeps : (unclaimed : Route → Type 0) (f : Copying) (old new : Seen) (did : Did) (before after : Option CallLog) → FileWorks unclaimed f old new did before after → Passes did → ⊥
+file_keeps unclaimed f old new did before after w p = subst (λ (d : Did). file.Tells f d w.moved) p.2 w.tells
 
-link_keeps : (l : LinkCopying) (old new : Seen) (did : CopyDid) (before after : Option CallLog) → LinkWorks l old new did before after → Passes did → ⊥
-link_keeps l old new did before after w p = subst (λ (d : Did). link.Tells l d w.moved) (ap common (sym w.says ∙ p.2)) w.tells
+link_keeps : (l : LinkCopying) (old new : Seen) (did : Did) (before after : Option CallLog) → LinkWorks l old new did before after → Passes did → ⊥
+link_keeps l old new did before after w p = subst (λ (d : Did). link.Tells l d w.moved) p.2 w.tells
 
-told_keeps : (report : FolderDid) (did : CopyDid) → IsToldAs report did → Passes did → ⊥
+told_keeps : (report : FolderDid) (did : Did) → IsToldAs report did → Passes did → ⊥
 told_keeps (folder_did.Made path) did told p = let e = sym told ∙ p.2 in let f : ⊥ = cc in f
 told_keeps (folder_did.Set path) did told p = let e = sym told ∙ p.2 in let f : ⊥ = cc in f
 told_keeps folder_did.Barrier did told p = let e = sym told ∙ p.2 in let f : ⊥ = cc in f
 told_keeps folder_did.Closed did told p = told
 told_keeps (folder_did.Troubled trouble) did told p = let e = sym told ∙ p.2 in let f : ⊥ = cc in f
 
-takes_keep : (unclaimed : Route → Type 0) (old new : Seen) (did : CopyDid) (before after : Option CallLog) → TakesNext unclaimed old new did before after → Passes did → ⊥
+takes_keep : (unclaimed : Route → Type 0) (old new : Seen) (did : Did) (before after : Option CallLog) → TakesNext unclaimed old new did before after → Passes did → ⊥
 takes_keep unclaimed old new did before after (inl s) p = let e = sym s.says ∙ p.2 in let f : ⊥ = cc in f
 takes_keep unclaimed old new did before after (inr (inl t)) p = file_keeps unclaimed _ old new did before after t.works p
 takes_keep unclaimed old new did before after (inr (inr (inl t))) p = link_keeps _ old new did before after t.works p
@@ -85,20 +84,16 @@ takes_keep unclaimed old new did before after (inr (inr (inr (inl t)))) p = let 
 takes_keep unclaimed old new did before after (inr (inr (inr (inr (next, inl (debt, e)))))) p = told_keeps e.report did e.says p
 takes_keep unclaimed old new did before after (inr (inr (inr (inr (next, inr (debt, f, same)))))) p = let e = sym f.says ∙ p.2 in let g : ⊥ = cc in g
 
-works_keep : (unclaimed : Route → Type 0) (item : Item) (old new : Seen) (did : CopyDid) (before after : Option CallLog) → WorksOn item unclaimed old new did before after → Passes did → ⊥
+works_keep : (unclaimed : Route → Type 0) (item : Item) (old new : Seen) (did : Did) (before after : Option CallLog) → WorksOn item unclaimed old new did before after → Passes did → ⊥
 works_keep unclaimed Next old new did before after (inl s) p = told_keeps s.report did s.says p
 works_keep unclaimed Next old new did before after (inr s) p = takes_keep unclaimed old new did before after s.1 p
 works_keep unclaimed (File f) old new did before after w p = file_keeps unclaimed f old new did before after w p
 works_keep unclaimed (Link l) old new did before after w p = link_keeps l old new did before after w p
 works_keep unclaimed (Stays part) old new did before after w p = w
 
-skipped : (report : CopyDid) (path : Route) (cause : Cause) → common report ≡ Skipped path cause → report ≡ Common (Skipped path cause)
-skipped (Common did) path cause is = ap Common is
-skipped report path cause is = absurd (let f : ⊥ = cc in f)
-
 -- a step with the list of dirty folders
 list_counts : (free : Route → Bool) (old new : Seen) (worked : StepResult) (dirty dirty_after : List Route) (before after : Option CallLog) (f0 f1 : ℕ)
-    → ListSteps (λ path. free path ≡ true) old new worked dirty dirty_after before after f0 f1 → StepCounts worked.did worked.calls before after f0 f1
+    → ListSteps free old new worked dirty dirty_after before after f0 f1 → StepCounts worked.did worked.calls before after f0 f1
 list_counts free old new worked dirty dirty_after before after f0 f1 (inl s) =
     subst (λ (r : StepResult). StepCounts r.did r.calls before after f0 f1) (sym s.says) record {
       counted = none_made before after s.same;
@@ -116,10 +111,10 @@ list_counts free old new worked dirty dirty_after before after f0 f1 (inr s) =
     risen (inl m) =
         let steps = s.steps in
         let c = steps.counts in
-        c.fault (subst IsFault (sym (troubled s.report m.0 (sym s.says ∙ m.1))) m.2)
+        c.fault (subst IsFault (sym m.1) m.2)
     risen (inr m) =
         let steps = s.steps in
-        absurd (works_keep (λ path. free path ≡ true) (let mid = steps.mid in mid.item) steps.mid new s.report before after steps.works (m.0, m.1, skipped s.report m.0 m.1 (sym s.says ∙ m.2)))
+        absurd (works_keep (IsPartPlace free steps.mid) (let mid = steps.mid in mid.item) steps.mid new worked.did before after steps.works (m.0, m.1, m.2))
 
 -- what is passed over is told with its cause, or there is no memory to tell it
 abbrev TellsCause : Cause → Did → Type 0

@@ -34,14 +34,12 @@ use Rattle.copy_levels.specs.Levels.{Levels, dirtied, is_around_dirty, made_leve
 use Rattle.tree_copy.specs.declared.due.Due.TheVariants.{Thing}
 use Rattle.tree_copy.specs.declared.item.Item.{Item}
 use Rattle.tree_copy.specs.declared.item.Item.TheVariants.{Next, File, Link, Stays}
-use Rattle.tree_copy.specs.declared.report.CopyDid.{CopyDid}
 use Rattle.tree_copy.specs.Falling.{HasName, decides, things_left}
 use Rattle.tree_copy.specs.Progress.{link_progress, progress}
 use Rattle.tree_copy.specs.Reports.{IsToldAs}
 use Rattle.tree_copy.specs.Standing.{Seen, due_at}
 use Rattle.tree_copy.specs.Steps.{FileWorks, FolderEnds, FolderMakes, GoesOn, LinkWorks, SyncsAround, TakesNext, WorksOn, at_end, idle, link_begun, noted, settled}
 use Rattle.subtree_copy.specs.Ranks.{anew, around_rank, dirt, file_rank, goes_on, item_rank, level_rank, levels_rank, link_rank, rank_by, stage_rank}
-use Rattle.subtree_copy.specs.SubtreeSteps.{common}
 
 -- one thing fewer is so many steps fewer
 one_fewer : (b t u : ℕ) → u < t → u * b + b ≤ t * b
@@ -63,10 +61,6 @@ marked : (changed : Bool) (l : Levels) → levels_rank (dirtied changed l) ≤ l
 marked true l = omega arith
 marked false l = omega arith
 
--- the machine goes on after this report
-abbrev pub moves : CopyDid → Bool
-moves did = goes_on (common did)
-
 -- how many steps are left at most once a file's copy stands so, of which there were so many
 abbrev pub FitsFile : ℕ → ℕ → FileStage → Type 0
 FitsFile most x (file_stage.Fill part facts done) = file_rank most (file_stage.Fill part facts done) + 1 < x
@@ -87,7 +81,7 @@ pub same_things : (n : ℕ) → n ≤ n
 same_things n = omega arith
 
 -- fewer are left where a file's copy is noted and put back, or is passed
-module _ (most x : ℕ) (did : CopyDid) (changed : Bool) (old : Seen) (some : 1 ≤ length old.levels.inner.names.names) where
+module _ (most x : ℕ) (did : Did) (changed : Bool) (old : Seen) (some : 1 ≤ length old.levels.inner.names.names) where
   -- the copy once the report is noted
   abbrev told : Seen
   told = noted did changed (idle old)
@@ -176,18 +170,18 @@ link_fits most l m (Skipped path cause) t h = absurd t
 abbrev pub Before : ℕ → ℕ → Seen → ℕ
 Before most x old = things_left old * anew most + (x + levels_rank old.levels)
 
-file_falls : (most : ℕ) → 2 ^ 64 ≤ most → (unclaimed : Route → Type 0) (f : Copying) (old new : Seen) (did : CopyDid) (before after : Option CallLog) → FileWorks unclaimed f old new did before after
-    → 1 ≤ length old.levels.inner.names.names → moves did ≡ true → rank_by most new < Before most (file_rank most f.stage) old
+file_falls : (most : ℕ) → 2 ^ 64 ≤ most → (unclaimed : Route → Type 0) (f : Copying) (old new : Seen) (did : Did) (before after : Option CallLog) → FileWorks unclaimed f old new did before after
+    → 1 ≤ length old.levels.inner.names.names → goes_on did ≡ true → rank_by most new < Before most (file_rank most f.stage) old
 file_falls most enough unclaimed f old new did before after w some h =
     let m = w.moved in
-    let fits = file_fits most enough f m w.report w.tells w.sound (sym (ap moves w.says) ∙ h) in
+    let fits = file_fits most enough f m did w.tells w.sound h in
     subst (λ (s : Seen). rank_by most s < Before most (file_rank most f.stage) old) (sym w.stands) (file_settles most (file_rank most f.stage) did (file.is_dirty m.folder) old some m m.stage refl fits)
 
-link_falls : (most : ℕ) (l : LinkCopying) (old new : Seen) (did : CopyDid) (before after : Option CallLog) → LinkWorks l old new did before after
-    → 1 ≤ length old.levels.inner.names.names → moves did ≡ true → rank_by most new < Before most (link_rank most l.stage) old
+link_falls : (most : ℕ) (l : LinkCopying) (old new : Seen) (did : Did) (before after : Option CallLog) → LinkWorks l old new did before after
+    → 1 ≤ length old.levels.inner.names.names → goes_on did ≡ true → rank_by most new < Before most (link_rank most l.stage) old
 link_falls most l old new did before after w some h =
     let m = w.moved in
-    let fits = link_fits most l m w.report w.tells (sym (ap moves w.says) ∙ h) in
+    let fits = link_fits most l m did w.tells h in
     subst (λ (s : Seen). rank_by most s < Before most (link_rank most l.stage) old) (sym w.stands) (link_settles most (link_rank most l.stage) did (link.is_dirty m.folder) old some m m.stage refl fits)
 
 -- a folder that was made is open
@@ -200,14 +194,14 @@ made_rank names m l (Make mode) is = omega arith
 made_rank names m l (Close owed) is = omega arith
 made_rank names m l Done is = omega arith
 
-made_says : (c m : FolderCopying) (report : FolderDid) (did : CopyDid) (mode : ℕ) → IsToldAs report did → folder.Tells c report m → c.stage ≡ Make mode → moves did ≡ true → decides did ≡ true
+made_says : (c m : FolderCopying) (report : FolderDid) (did : Did) (mode : ℕ) → IsToldAs report did → folder.Tells c report m → c.stage ≡ Make mode → goes_on did ≡ true → decides did ≡ true
 made_says c m (folder_did.Made path) did mode told t is h = ap decides told
 made_says c m (folder_did.Set path) did mode told t is h = absurd (let e = sym is ∙ t.1 in let f : ⊥ = cc in f)
 made_says c m folder_did.Barrier did mode told t is h = absurd (let e = sym is ∙ t.0 in let f : ⊥ = cc in f)
 made_says c m folder_did.Closed did mode told t is h = absurd told
-made_says c m (folder_did.Troubled trouble) did mode told t is h = absurd (false≢true (sym (ap moves told) ∙ h))
+made_says c m (folder_did.Troubled trouble) did mode told t is h = absurd (false≢true (sym (ap goes_on told) ∙ h))
 
-makes_falls : (most : ℕ) (pair : Pair) (names : List (List ℕ)) (mode : ℕ) (old new : Seen) (did : CopyDid) (before after : Option CallLog) → FolderMakes pair names mode old new did before after → old.item ≡ Next → moves did ≡ true
+makes_falls : (most : ℕ) (pair : Pair) (names : List (List ℕ)) (mode : ℕ) (old new : Seen) (did : Did) (before after : Option CallLog) → FolderMakes pair names mode old new did before after → old.item ≡ Next → goes_on did ≡ true
     → (decides did ≡ true → things_left new < things_left old) → rank_by most new < Before most (anew most) old
 makes_falls most pair names mode old new did before after w free h fewer =
     let m = w.moved in
@@ -228,7 +222,7 @@ closing_rank Done = omega arith
 abbrev pub copy_rank : FolderCopying → ℕ
 copy_rank c = 2 * stage_rank c.stage + dirt c.names
 
-end_falls : (c m : FolderCopying) (report : FolderDid) (did : CopyDid) → IsToldAs report did → folder.Tells c report m → moves did ≡ true → copy_rank m < copy_rank c
+end_falls : (c m : FolderCopying) (report : FolderDid) (did : Did) → IsToldAs report did → folder.Tells c report m → goes_on did ≡ true → copy_rank m < copy_rank c
 end_falls c m (folder_did.Made path) did told (mode, at, same, is) h =
     let e1 : stage_rank c.stage ≡ 4 = ap stage_rank at in
     let e2 : stage_rank m.stage ≡ 3 = ap (λ (x : FolderCopying). stage_rank x.stage) is in
@@ -245,9 +239,9 @@ end_falls c m folder_did.Barrier did told (at, dirty, is) h =
     let e3 : dirt m.names ≡ 0 = ap (λ (x : FolderCopying). dirt x.names) is in
     omega (arith, e1, e2, e3)
 end_falls c m folder_did.Closed did told t h = absurd told
-end_falls c m (folder_did.Troubled trouble) did told t h = absurd (false≢true (sym (ap moves told) ∙ h))
+end_falls c m (folder_did.Troubled trouble) did told t h = absurd (false≢true (sym (ap goes_on told) ∙ h))
 
-ends_falls : (most : ℕ) (old new : Seen) (did : CopyDid) (before after : Option CallLog) → FolderEnds (at_end old) new did before after → old.item ≡ Next → moves did ≡ true → things_left new ≤ things_left old
+ends_falls : (most : ℕ) (old new : Seen) (did : Did) (before after : Option CallLog) → FolderEnds (at_end old) new did before after → old.item ≡ Next → goes_on did ≡ true → things_left new ≤ things_left old
     → rank_by most new < Before most (anew most) old
 ends_falls most old new did before after e free h fewer =
     let c : FolderCopying = (let s = at_end old in s.levels.inner.copy) in
@@ -258,18 +252,18 @@ ends_falls most old new did before after e free h fewer =
     same_falls (anew most) (things_left old) (things_left new) (anew most + levels_rank old.levels) (item_rank most new.item + levels_rank new.levels) fewer (omega (arith, item, same, less, closed))
 
 -- the folder around
-synced : (c : FolderCopying) (names : NamesState) (report : FolderDid) (did : CopyDid) → IsToldAs report did → folder.Tells (at_sync c) report (record (at_sync c) { names = names }) → moves did ≡ true → dirt names ≡ 0
+synced : (c : FolderCopying) (names : NamesState) (report : FolderDid) (did : Did) → IsToldAs report did → folder.Tells (at_sync c) report (record (at_sync c) { names = names }) → goes_on did ≡ true → dirt names ≡ 0
 synced c names (folder_did.Made path) did told t h = absurd (let e = t.1 in let f : ⊥ = cc in f)
 synced c names (folder_did.Set path) did told t h = absurd (let e = t.1 in let f : ⊥ = cc in f)
 synced c names folder_did.Barrier did told t h = ap (λ (x : FolderCopying). dirt x.names) t.2
 synced c names folder_did.Closed did told t h = absurd told
-synced c names (folder_did.Troubled trouble) did told t h = absurd (false≢true (sym (ap moves told) ∙ h))
+synced c names (folder_did.Troubled trouble) did told t h = absurd (false≢true (sym (ap goes_on told) ∙ h))
 
 pub dirty_counts : (names : NamesState) → is_dirty names ≡ true → dirt names ≡ 1
 dirty_counts Dirty is = refl
 dirty_counts Synced is = absurd (false≢true is)
 
-syncs_falls : (most : ℕ) (old new : Seen) (did : CopyDid) (before after : Option CallLog) → SyncsAround old new did before after → old.item ≡ Next → moves did ≡ true → things_left new ≤ things_left old
+syncs_falls : (most : ℕ) (old new : Seen) (did : Did) (before after : Option CallLog) → SyncsAround old new did before after → old.item ≡ Next → goes_on did ≡ true → things_left new ≤ things_left old
     → rank_by most new < Before most (anew most) old
 syncs_falls most old new did before after s free h fewer =
     let item : item_rank most new.item ≡ anew most = ap (item_rank most) (ap (λ (c : Seen). c.item) s.stands ∙ free) in
@@ -285,28 +279,28 @@ some_name [] c pair is = absurd (let f : ⊥ = cc in f)
 some_name (name ∷ names) c pair is = omega arith
 
 -- no more things are left, and fewer where one was decided
-abbrev pub Things : Seen → Seen → CopyDid → Type 0
+abbrev pub Things : Seen → Seen → Did → Type 0
 Things old new did = (things_left new ≤ things_left old) × (decides did ≡ true → things_left new < things_left old)
 
-takes_falls : (most : ℕ) → 2 ^ 64 ≤ most → (unclaimed : Route → Type 0) (old new : Seen) (did : CopyDid) (before after : Option CallLog) → TakesNext unclaimed old new did before after → old.item ≡ Next → moves did ≡ true
+takes_falls : (most : ℕ) → 2 ^ 64 ≤ most → (unclaimed : Route → Type 0) (old new : Seen) (did : Did) (before after : Option CallLog) → TakesNext unclaimed old new did before after → old.item ≡ Next → goes_on did ≡ true
     → Things old new did → rank_by most new < Before most (anew most) old
-takes_falls most enough unclaimed old new did before after (inl s) free h fewer = absurd (false≢true (sym (ap moves s.says) ∙ h))
+takes_falls most enough unclaimed old new did before after (inl s) free h fewer = absurd (false≢true (sym (ap goes_on s.says) ∙ h))
 takes_falls most enough unclaimed old new did before after (inr (inl t)) free h fewer =
     file_falls most enough unclaimed (file.begun old.job t.pair.source t.pair.target) old new did before after t.works (some_name old.levels.inner.names.names old t.pair t.next) h
 takes_falls most enough unclaimed old new did before after (inr (inr (inl t))) free h fewer =
     link_falls most (link_begun t.pair t.part) old new did before after t.works (some_name old.levels.inner.names.names old t.pair t.next) h
 takes_falls most enough unclaimed old new did before after (inr (inr (inr (inl t)))) free h fewer = makes_falls most t.pair t.names t.mode old new did before after t.works free h fewer.1
 takes_falls most enough unclaimed old new did before after (inr (inr (inr (inr (next, inl (debt, e)))))) free h fewer = ends_falls most old new did before after e free h fewer.0
-takes_falls most enough unclaimed old new did before after (inr (inr (inr (inr (next, inr (debt, f, same)))))) free h fewer = absurd (false≢true (sym (ap moves f.says) ∙ h))
+takes_falls most enough unclaimed old new did before after (inr (inr (inr (inr (next, inr (debt, f, same)))))) free h fewer = absurd (false≢true (sym (ap goes_on f.says) ∙ h))
 
-goes_falls : (most : ℕ) → 2 ^ 64 ≤ most → (unclaimed : Route → Type 0) (old new : Seen) (did : CopyDid) (before after : Option CallLog) → GoesOn unclaimed old new did before after → old.item ≡ Next → moves did ≡ true
+goes_falls : (most : ℕ) → 2 ^ 64 ≤ most → (unclaimed : Route → Type 0) (old new : Seen) (did : Did) (before after : Option CallLog) → GoesOn unclaimed old new did before after → old.item ≡ Next → goes_on did ≡ true
     → Things old new did → rank_by most new < Before most (anew most) old
 goes_falls most enough unclaimed old new did before after (inl s) free h fewer = syncs_falls most old new did before after s free h fewer.0
 goes_falls most enough unclaimed old new did before after (inr s) free h fewer = takes_falls most enough unclaimed old new did before after s.1 free h fewer
 
 -- a step of the machine after which it goes on
-pub works_falls : (most : ℕ) → 2 ^ 64 ≤ most → (unclaimed : Route → Type 0) (item : Item) (old new : Seen) (did : CopyDid) (before after : Option CallLog) → WorksOn item unclaimed old new did before after → old.item ≡ item
-    → HasName item old.levels → moves did ≡ true → Things old new did → rank_by most new < Before most (item_rank most item) old
+pub works_falls : (most : ℕ) → 2 ^ 64 ≤ most → (unclaimed : Route → Type 0) (item : Item) (old new : Seen) (did : Did) (before after : Option CallLog) → WorksOn item unclaimed old new did before after → old.item ≡ item
+    → HasName item old.levels → goes_on did ≡ true → Things old new did → rank_by most new < Before most (item_rank most item) old
 works_falls most enough unclaimed Next old new did before after w is named h fewer = goes_falls most enough unclaimed old new did before after w is h fewer
 works_falls most enough unclaimed (File f) old new did before after w is named h fewer = file_falls most enough unclaimed f old new did before after w named h
 works_falls most enough unclaimed (Link l) old new did before after w is named h fewer = link_falls most l old new did before after w named h

@@ -47,12 +47,12 @@ module _ (top : Pair) (folder : Route) where
   }
 
   pub worked_held : (free : Route → Bool) (old new : Seen) (result : StepResult) (dirty dirty_after : List Route) (before after : Option CallLog) (f0 f1 : ℕ)
-      → ListSteps (λ path. free path ≡ true) old new result dirty dirty_after before after f0 f1 → IsHeld top folder old → IsWorkable new.item → IsHeld top folder new
+      → ListSteps free old new result dirty dirty_after before after f0 f1 → IsHeld top folder old → IsWorkable new.item → IsHeld top folder new
   worked_held free old new result dirty dirty_after before after f0 f1 (inl s) h w = subst (IsHeld top folder) (sym s.stays) h
   worked_held free old new result dirty dirty_after before after f0 f1 (inr s) h w = record {
     holds = h.holds;
-    in_place = (let p = place_law free top old new s.report result.calls before after f0 f1 s.steps h.in_place in p.0);
-    in_worked = (let law = worked_folder_law in law.step free old new s.report result.calls before after f0 f1 s.steps h.in_worked);
+    in_place = (let p = place_law free top old new result.did result.calls before after f0 f1 s.steps h.in_place in p.0);
+    in_worked = (let law = worked_folder_law in law.step free old new result.did result.calls before after f0 f1 s.steps h.in_worked);
     windable = windable new.item w;
   }
 

@@ -1,3 +1,4 @@
+mod Answered
 mod Barred
 mod Begun
 mod Counts

@@ -5,11 +5,11 @@ use Rattle.std.proofs.lemmas.Bool.{false≢true, true≢false}
 use Rattle.mc_text.specs.Routes.{Route}
 use Rattle.job_reports.specs.Paths.{without}
 use Rattle.folder_copy.specs.FolderCopying.{is_dirty}
-use Rattle.tree_copy.specs.declared.report.CopyDid.{CopyDid}
+use Rattle.job_reports.specs.declared.report.Did.{Did}
 use Rattle.copy_levels.specs.Levels.{is_around_dirty, target_around}
 use Rattle.tree_copy.specs.Standing.{Seen}
-use Rattle.tree_deletion.specs.Folders.{joined}
-use Rattle.subtree_copy.specs.Marks.{brings_made, folder_worked, is_dirty_after, is_left_dirty, was_dirty, with_change}
+use Rattle.tree_deletion.specs.Folders.{joined, with_change}
+use Rattle.subtree_copy.specs.Marks.{brings_made, folder_worked, is_dirty_after, is_left_dirty, was_dirty}
 
 -- a folder that is dirty leaves the list where it was synced
 pub leaves_list : (now : Bool) (there folder : Route) (dirty : List Route) → (now ≡ false → there ≡ folder) → (if not now then without there dirty else dirty) ≡ with_change true now folder dirty
@@ -41,13 +41,13 @@ chosen_inner false was now there folder outer dirty is = refl
 chosen_inner true was now there folder outer dirty is = absurd (true≢false is)
 
 -- that of the folder around
-pub of_around : (old new : Seen) (did : CopyDid) (dirty : List Route) → brings_made old ≡ true
+pub of_around : (old new : Seen) (did : Did) (dirty : List Route) → brings_made old ≡ true
     → with_change true (is_around_dirty new.levels.around) (target_around old.levels.around) dirty ≡ with_change (was_dirty old) (is_dirty_after old did new) (folder_worked old) dirty
 of_around old new did dirty is =
     chosen_outer (brings_made old) (is_dirty old.levels.inner.copy.names) (is_around_dirty new.levels.around) (is_left_dirty did new) (target_around old.levels.around) old.levels.inner.copy.target dirty is
 
 -- that of the innermost folder
-pub of_inner : (old new : Seen) (did : CopyDid) (dirty : List Route) → brings_made old ≡ false
+pub of_inner : (old new : Seen) (did : Did) (dirty : List Route) → brings_made old ≡ false
     → with_change (is_dirty old.levels.inner.copy.names) (is_left_dirty did new) old.levels.inner.copy.target dirty ≡ with_change (was_dirty old) (is_dirty_after old did new) (folder_worked old) dirty
 of_inner old new did dirty is =
     chosen_inner (brings_made old) (is_dirty old.levels.inner.copy.names) (is_left_dirty did new) (is_around_dirty new.levels.around) old.levels.inner.copy.target (target_around old.levels.around) dirty is

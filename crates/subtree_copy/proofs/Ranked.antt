@@ -33,8 +33,8 @@ use Rattle.subtree_walk.proofs.Falling.{pass_falls}
 use Rattle.copy_levels.specs.Levels.{Levels, emptied, made_levels, passed, walked}
 use Rattle.tree_copy.specs.declared.item.Item.{Item}
 use Rattle.tree_copy.specs.declared.item.Item.TheVariants.{Next, File, Link, Stays}
-use Rattle.tree_copy.specs.declared.report.CopyDid.{CopyDid}
 use Rattle.tree_copy.specs.Falling.{HasName, IsSteady, things_left}
+use Rattle.tree_copy.specs.Parts.{IsPartPlace}
 use Rattle.tree_copy.specs.Progress.{link_progress, progress}
 use Rattle.tree_copy.specs.Skipping as machine
 use Rattle.tree_copy.specs.Standing.{Seen, after_report}
@@ -45,7 +45,7 @@ use Rattle.subtree_copy.specs.Passing.{OrPassedOver}
 use Rattle.subtree_copy.specs.Ranks.{RankLaw, anew, around_rank, file_rank, goes_on, item_rank, level_rank, levels_rank, link_rank, rank_by, stage_rank}
 use Rattle.subtree_copy.specs.Standing.{SubtreeCopying, at_barrier, barrier_at, barrier_at_end, barrier_at_name}
 use Rattle.subtree_copy.specs.SubtreeSteps.{ListSteps, SubtreeSteps, step_result}
-use Rattle.subtree_copy.proofs.Barred.{IsOpenAt, Says, file_same, folder_same, left_workable, link_same, list_barred, opens_at, passed_trouble, said_so, troubled}
+use Rattle.subtree_copy.proofs.Barred.{IsOpenAt, Says, file_same, folder_same, left_workable, link_same, list_barred, opens_at, passed_trouble}
 use Rattle.subtree_copy.proofs.Fewer.{Before, FitsFile, FitsLink, closing_rank, copy_rank, fewer_falls, file_settles, link_settles, same_things, some_name, works_falls}
 use Rattle.subtree_copy.proofs.Targets.{works_at_once}
 
@@ -65,11 +65,11 @@ left_rank most (suc n) old mid l =
     (ap (λ (c : Seen). item_rank most c.item) r.stands ∙ before.0, omega (arith, more, around))
 
 -- what is in a trouble has a step more at most
-file_troubled : (most : ℕ) (unclaimed : Route → Type 0) (f : Copying) (old new : Seen) (did : CopyDid) (before after : Option CallLog) (t : Trouble) → FileWorks unclaimed f old new did before after → Says did t
+file_troubled : (most : ℕ) (unclaimed : Route → Type 0) (f : Copying) (old new : Seen) (did : Did) (before after : Option CallLog) (t : Trouble) → FileWorks unclaimed f old new did before after → Says did t
     → 1 ≤ length old.levels.inner.names.names → rank_by most new < Before most (file_rank most f.stage + 2) old
 file_troubled most unclaimed f old new did before after t w says some =
     let m = w.moved in
-    let same = file_same f m w.report t w.tells (said_so did w.report t w.says says) in
+    let same = file_same f m did t w.tells says in
     let stage : m.stage ≡ f.stage = ap (λ (x : Copying). x.stage) same.1 in
     subst (λ (s : Seen). rank_by most s < Before most (file_rank most f.stage + 2) old) (sym w.stands)
     (file_settles most (file_rank most f.stage + 2) did (file.is_dirty m.folder) old some m m.stage refl (subst (λ s. FitsFile most (file_rank most f.stage + 2) s) (sym stage) (fits f.stage)))
@@ -81,11 +81,11 @@ file_troubled most unclaimed f old new did before after t w says some =
     fits (file_stage.Left part) = omega arith
     fits file_stage.Decided = omega arith
 
-link_troubled : (most : ℕ) (l : LinkCopying) (old new : Seen) (did : CopyDid) (before after : Option CallLog) (t : Trouble) → LinkWorks l old new did before after → Says did t
+link_troubled : (most : ℕ) (l : LinkCopying) (old new : Seen) (did : Did) (before after : Option CallLog) (t : Trouble) → LinkWorks l old new did before after → Says did t
     → 1 ≤ length old.levels.inner.names.names → rank_by most new < Before most (link_rank most l.stage + 2) old
 link_troubled most l old new did before after t w says some =
     let m = w.moved in
-    let same = link_same l m w.report t w.tells (said_so did w.report t w.says says) in
+    let same = link_same l m did t w.tells says in
     let stage : m.stage ≡ l.stage = ap (λ (x : LinkCopying). x.stage) same.1 in
     subst (λ (s : Seen). rank_by most s < Before most (link_rank most l.stage + 2) old) (sym w.stands)
     (link_settles most (link_rank most l.stage + 2) did (link.is_dirty m.folder) old some m m.stage refl (subst (λ s. FitsLink most (link_rank most l.stage + 2) s) (sym stage) (fits l.stage)))
@@ -108,7 +108,7 @@ some_more a b x l n h = omega (arith, h)
 no_more : (n m : ℕ) → n ≡ m → n ≤ m + 1
 no_more n m e = omega (arith, e)
 
-makes_troubled : (most : ℕ) (pair : Pair) (names : List (List ℕ)) (mode : ℕ) (old new : Seen) (did : CopyDid) (before after : Option CallLog) (t : Trouble) → FolderMakes pair names mode old new did before after → Says did t
+makes_troubled : (most : ℕ) (pair : Pair) (names : List (List ℕ)) (mode : ℕ) (old new : Seen) (did : Did) (before after : Option CallLog) (t : Trouble) → FolderMakes pair names mode old new did before after → Says did t
     → OneMore most old new
 makes_troubled most pair names mode old new did before after t w says =
     let m = w.moved in
@@ -116,7 +116,7 @@ makes_troubled most pair names mode old new did before after t w says =
     no_more (rank_by most new) (rank_by most old) (ap (λ (c : Seen). rank_by most c) w.stands
     ∙ ap (λ (s : Stage). rank_by most (record old { stage = after_report did old.stage; levels = made_levels s (opened pair.source names) m old.levels })) (ap (λ (x : FolderCopying). x.stage) same.1))
 
-ends_troubled : (most : ℕ) (old new : Seen) (did : CopyDid) (before after : Option CallLog) (t : Trouble) → FolderEnds (at_end old) new did before after → Says did t → OneMore most old new
+ends_troubled : (most : ℕ) (old new : Seen) (did : Did) (before after : Option CallLog) (t : Trouble) → FolderEnds (at_end old) new did before after → Says did t → OneMore most old new
 ends_troubled most old new did before after t e says =
     let c : FolderCopying = (let s = at_end old in s.levels.inner.copy) in
     let same = folder_same c e.moved e.report did t e.says e.tells says in
@@ -125,7 +125,7 @@ ends_troubled most old new did before after t e says =
     ap (λ (s : Seen). rank_by most s) e.stands ∙ ap (λ (x : FolderCopying). things_left old * anew most + (item_rank most old.item + (copy_rank x + around_rank old.levels.around))) same.1 in
     omega (arith, closed, now)
 
-takes_troubled : (most : ℕ) (unclaimed : Route → Type 0) (old new : Seen) (did : CopyDid) (before after : Option CallLog) (t : Trouble) → TakesNext unclaimed old new did before after → Says did t → old.item ≡ Next
+takes_troubled : (most : ℕ) (unclaimed : Route → Type 0) (old new : Seen) (did : Did) (before after : Option CallLog) (t : Trouble) → TakesNext unclaimed old new did before after → Says did t → old.item ≡ Next
     → OneMore most old new
 takes_troubled most unclaimed old new did before after t (inl s) says free = no_more _ _ (ap (λ (c : Seen). rank_by most c) s.stands)
 takes_troubled most unclaimed old new did before after t (inr (inl w)) says free =
@@ -140,14 +140,14 @@ takes_troubled most unclaimed old new did before after t (inr (inr (inr (inl w))
 takes_troubled most unclaimed old new did before after t (inr (inr (inr (inr (next, inl (debt, e)))))) says free = ends_troubled most old new did before after t e says
 takes_troubled most unclaimed old new did before after t (inr (inr (inr (inr (next, inr (debt, f, same)))))) says free = absurd (let e = sym f.says ∙ says in let g : ⊥ = cc in g)
 
-goes_troubled : (most : ℕ) (unclaimed : Route → Type 0) (old new : Seen) (did : CopyDid) (before after : Option CallLog) (t : Trouble) → GoesOn unclaimed old new did before after → Says did t → t.barrier ≡ false → old.item ≡ Next
+goes_troubled : (most : ℕ) (unclaimed : Route → Type 0) (old new : Seen) (did : Did) (before after : Option CallLog) (t : Trouble) → GoesOn unclaimed old new did before after → Says did t → t.barrier ≡ false → old.item ≡ Next
     → OneMore most old new
 goes_troubled most unclaimed old new did before after t (inl s) says apart free =
     let same = folder_same (at_sync s.outer.copy) (record (at_sync s.outer.copy) { names = s.names }) s.report did t s.says s.tells says in
     absurd (true≢false (sym same.0 ∙ apart))
 goes_troubled most unclaimed old new did before after t (inr s) says apart free = takes_troubled most unclaimed old new did before after t s.1 says free
 
-works_troubled : (most : ℕ) (unclaimed : Route → Type 0) (item : Item) (old new : Seen) (did : CopyDid) (before after : Option CallLog) (t : Trouble) → WorksOn item unclaimed old new did before after → Says did t → t.barrier ≡ false
+works_troubled : (most : ℕ) (unclaimed : Route → Type 0) (item : Item) (old new : Seen) (did : Did) (before after : Option CallLog) (t : Trouble) → WorksOn item unclaimed old new did before after → Says did t → t.barrier ≡ false
     → old.item ≡ item → HasName item old.levels → OneMore most old new
 works_troubled most unclaimed Next old new did before after t w says apart is named = goes_troubled most unclaimed old new did before after t w says apart is
 works_troubled most unclaimed (File f) old new did before after t w says apart is named =
@@ -161,7 +161,7 @@ works_troubled most unclaimed (Link k) old new did before after t w says apart i
 works_troubled most unclaimed (Stays part) old new did before after t w says apart is named = absurd w
 
 -- a skip leaves two fewer at least
-abbrev TwoFewer : ℕ → Seen → Seen → Type 0
+abbrev pub TwoFewer : ℕ → Seen → Seen → Type 0
 TwoFewer most old new = rank_by most new + 2 ≤ rank_by most old
 
 some_weight : (left : ℕ) → 1 ≤ weight left
@@ -287,7 +287,7 @@ link_two most cause l old new did s is open_at some h = go s.1
         subst (λ (c : Seen). TwoFewer most old c) (sym (s.2 ∙ ap (λ (x : LinkCopying). settled (link_progress x.stage) (Link x) (idle old)) k.1)) (link_skipped most l m old l.stage refl refl open_at is some)
     go (inr k) = absurd (false≢true (sym (ap goes_on k.0) ∙ h))
 
-skip_falls : (most : ℕ) (item : Item) (cause : Cause) (old new : Seen) (did : Did) → machine.SkipsAt item cause old did new → old.item ≡ item → at_barrier old ≡ false → HasName item old.levels → goes_on did ≡ true → TwoFewer most old new
+pub skip_falls : (most : ℕ) (item : Item) (cause : Cause) (old new : Seen) (did : Did) → machine.SkipsAt item cause old did new → old.item ≡ item → at_barrier old ≡ false → HasName item old.levels → goes_on did ≡ true → TwoFewer most old new
 skip_falls most Next cause old new did s is open_at named h = named_falls most old.levels.inner.names.names cause old new did s refl is (opens_at old is open_at) h
 skip_falls most (File f) cause old new did s is open_at named h = file_two most cause f old new did s is (sym (ap (λ (i : Item). barrier_at i old.levels) is) ∙ open_at) named h
 skip_falls most (Link l) cause old new did s is open_at named h = link_two most cause l old new did s is (sym (ap (λ (i : Item). barrier_at i old.levels) is) ∙ open_at) named h
@@ -295,31 +295,29 @@ skip_falls most (Stays part) cause old new did s is open_at named h = absurd s
 
 -- a step with the list, of a copy that is steady
 module _ (most : ℕ) (enough : 2 ^ 64 ≤ most) (free : Route → Bool) (old new : Seen) (worked : StepResult) (dirty dirty_after : List Route) (before after : Option CallLog) (f0 f1 : ℕ)
-    (w : ListSteps (λ path. free path ≡ true) old new worked dirty dirty_after before after f0 f1) (settled_at : may_leave old ≡ false) (steady : IsSteady old) where
+    (w : ListSteps free old new worked dirty dirty_after before after f0 f1) (settled_at : may_leave old ≡ false) (steady : IsSteady old) where
   list_falls : goes_on worked.did ≡ true → rank_by most new < rank_by most old
   list_falls h = go w
     where
-      go : ListSteps (λ path. free path ≡ true) old new worked dirty dirty_after before after f0 f1 → rank_by most new < rank_by most old
+      go : ListSteps free old new worked dirty dirty_after before after f0 f1 → rank_by most new < rank_by most old
       go (inl s) = absurd (false≢true (sym (ap (λ (r : StepResult). goes_on r.did) s.says) ∙ h))
       go (inr s) =
-          let l = falling_law free old new s.report worked.calls before after f0 f1 s.steps steady in
-          works_falls most enough (λ path. free path ≡ true) old.item old new s.report before after (works_at_once (λ path. free path ≡ true) old new s.report worked.calls before after f0 f1 s.steps settled_at) refl steady.named
-          (sym (ap goes_on s.says) ∙ h) (l.1, l.2)
+          let l = falling_law free old new worked.did worked.calls before after f0 f1 s.steps steady in
+          works_falls most enough (IsPartPlace free old) old.item old new worked.did before after (works_at_once free old new worked.did worked.calls before after f0 f1 s.steps settled_at) refl steady.named h (l.1, l.2)
 
   list_troubled : (t : Trouble) → worked.did ≡ Troubled t → t.barrier ≡ false → OneMore most old new × IsSteady new
   list_troubled t says apart = go w
     where
-      go : ListSteps (λ path. free path ≡ true) old new worked dirty dirty_after before after f0 f1 → OneMore most old new × IsSteady new
+      go : ListSteps free old new worked dirty dirty_after before after f0 f1 → OneMore most old new × IsSteady new
       go (inl s) = (no_more _ _ (ap (λ (c : Seen). rank_by most c) s.stays), subst IsSteady (sym s.stays) steady)
       go (inr s) =
-          let l = falling_law free old new s.report worked.calls before after f0 f1 s.steps steady in (
-            works_troubled most (λ path. free path ≡ true) old.item old new s.report before after t (works_at_once (λ path. free path ≡ true) old new s.report worked.calls before after f0 f1 s.steps settled_at)
-                (troubled s.report t (sym s.says ∙ says)) apart refl steady.named,
+          let l = falling_law free old new worked.did worked.calls before after f0 f1 s.steps steady in (
+            works_troubled most (IsPartPlace free old) old.item old new worked.did before after t (works_at_once free old new worked.did worked.calls before after f0 f1 s.steps settled_at) says apart refl steady.named,
             l.0,
           )
 
 ranked : (most : ℕ) → 2 ^ 64 ≤ most → (free : Route → Bool) (old new : SubtreeCopying) (did : Did) (calls : ℕ) (dirty dirty_after : List Route) (before after : Option CallLog) (f0 f1 : ℕ)
-    → SubtreeSteps (λ path. free path ≡ true) old new did calls dirty dirty_after before after f0 f1 → IsSteady old.at → IsWorkable old.at.item → goes_on did ≡ true → rank_by most new.at < rank_by most old.at
+    → SubtreeSteps free old new did calls dirty dirty_after before after f0 f1 → IsSteady old.at → IsWorkable old.at.item → goes_on did ≡ true → rank_by most new.at < rank_by most old.at
 ranked most enough free old new did calls dirty dirty_after before after f0 f1 s steady can h =
     let l = s.leaves in
     let m = all_leave l.0 old.at s.mid l.1 steady in

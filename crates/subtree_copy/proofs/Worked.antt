@@ -9,66 +9,61 @@ use Rattle.job_reports.specs.Paths.{without}
 use Rattle.job_reports.specs.Stops.{out_of_memory_at}
 use Rattle.folder_copy.specs.FolderCopying.{is_dirty}
 use Rattle.copy_levels.specs.Levels.{is_around_dirty, target_around}
-use Rattle.tree_copy.specs.declared.report.CopyDid.{CopyDid}
+use Rattle.job_reports.specs.declared.report.Did.{Did}
 use Rattle.tree_copy.specs.Standing.{Seen}
 use Rattle.tree_copy.specs.Steps.{CopySteps}
-use Rattle.tree_deletion.specs.Folders.{joined}
+use Rattle.tree_deletion.specs.Folders.{joined, with_change}
 use Rattle.subtree_copy.specs.Leaving.{may_leave}
-use Rattle.subtree_copy.specs.Marks.{brings_made, folder_worked, is_dirty_after, is_left_dirty, was_dirty, with_change}
+use Rattle.subtree_copy.specs.Marks.{brings_made, folder_worked, is_dirty_after, is_left_dirty, was_dirty}
 use Rattle.subtree_copy.specs.Standing.{at_barrier}
-use Rattle.subtree_copy.specs.SubtreeSteps.{ListSteps, common, step_result}
+use Rattle.subtree_copy.specs.SubtreeSteps.{ListSteps, step_result}
 use Rattle.subtree_copy.proofs.Listed.{joins_list, leaves_list, of_around, of_inner, unchanged}
 use Rattle.subtree_copy.proofs.Targets.{stays_around, stays_inner}
 
 -- there was no memory to keep the folder
-pub ran_short : (unclaimed : Route → Type 0) (old : Seen) (result : StepResult) (barrier : Bool) (dirty dirty_after : List Route) (before : Option CallLog) (f0 : ℕ)
-    → result ≡ step_result (Troubled (out_of_memory_at barrier)) 0 → barrier ≡ at_barrier old → dirty_after ≡ dirty → ListSteps unclaimed old old result dirty dirty_after before before f0 f0
-ran_short unclaimed old result barrier dirty dirty_after before f0 says barred list =
+pub ran_short : (free : Route → Bool) (old : Seen) (result : StepResult) (barrier : Bool) (dirty dirty_after : List Route) (before : Option CallLog) (f0 : ℕ)
+    → result ≡ step_result (Troubled (out_of_memory_at barrier)) 0 → barrier ≡ at_barrier old → dirty_after ≡ dirty → ListSteps free old old result dirty dirty_after before before f0 f0
+ran_short free old result barrier dirty dirty_after before f0 says barred list =
     inl record { says = says ∙ ap (λ b. step_result (Troubled (out_of_memory_at b)) 0) barred; stays = refl; list = list; same = refl; later = refl }
 
-module _ (unclaimed : Route → Type 0) (old new : Seen) (did : CopyDid) (calls : ℕ) (before after : Option CallLog) (f0 f1 : ℕ) (steps : CopySteps unclaimed old new did calls before after f0 f1) (settled : may_leave old ≡ false)
-    (result : StepResult) (says : result ≡ step_result (common did) calls) (dirty dirty_after : List Route) where
-  listed : dirty_after ≡ with_change (was_dirty old) (is_dirty_after old did new) (folder_worked old) dirty → ListSteps unclaimed old new result dirty dirty_after before after f0 f1
-  listed list = inr record {
-    report = did;
-    says = ap (λ (r : StepResult). r.did) says;
-    steps = subst (λ (r : StepResult). CopySteps unclaimed old new did r.calls before after f0 f1) (sym says) steps;
-    list = list;
-  }
+module _ (free : Route → Bool) (old new : Seen) (result : StepResult) (before after : Option CallLog) (f0 f1 : ℕ) (steps : CopySteps free old new result.did result.calls before after f0 f1) (settled : may_leave old ≡ false)
+    (dirty dirty_after : List Route) where
+  listed : dirty_after ≡ with_change (was_dirty old) (is_dirty_after old result.did new) (folder_worked old) dirty → ListSteps free old new result dirty dirty_after before after f0 f1
+  listed list = inr record { steps = steps; list = list }
 
   -- the folder around was dirty
   pub worked_around : brings_made old ≡ true → (now synced : Bool) (there : Route) → now ≡ is_around_dirty new.levels.around → synced ≡ not now → there ≡ target_around new.levels.around
-      → dirty_after ≡ (if synced then without there dirty else dirty) → ListSteps unclaimed old new result dirty dirty_after before after f0 f1
+      → dirty_after ≡ (if synced then without there dirty else dirty) → ListSteps free old new result dirty dirty_after before after f0 f1
   worked_around brings now synced there is off at list =
-      let stays = stays_around unclaimed old new did calls before after f0 f1 steps settled brings in
+      let stays = stays_around free old new result.did result.calls before after f0 f1 steps settled brings in
       listed (list
       ∙ (ap (λ b. if b then without there dirty else dirty) off
       ∙ (leaves_list now there (target_around old.levels.around) dirty (λ _. at ∙ stays.1)
-      ∙ (ap (λ b. with_change true b (target_around old.levels.around) dirty) is ∙ of_around old new did dirty brings))))
+      ∙ (ap (λ b. with_change true b (target_around old.levels.around) dirty) is ∙ of_around old new result.did dirty brings))))
 
   -- nothing was left to be done
-  pub worked_at_end : brings_made old ≡ false → is_left_dirty did new ≡ is_dirty old.levels.inner.copy.names → dirty_after ≡ dirty → ListSteps unclaimed old new result dirty dirty_after before after f0 f1
+  pub worked_at_end : brings_made old ≡ false → is_left_dirty result.did new ≡ is_dirty old.levels.inner.copy.names → dirty_after ≡ dirty → ListSteps free old new result dirty dirty_after before after f0 f1
   worked_at_end brings same list =
       listed (list
       ∙ (unchanged (is_dirty old.levels.inner.copy.names) old.levels.inner.copy.target dirty
-      ∙ (ap (λ b. with_change (is_dirty old.levels.inner.copy.names) b old.levels.inner.copy.target dirty) (sym same) ∙ of_inner old new did dirty brings)))
+      ∙ (ap (λ b. with_change (is_dirty old.levels.inner.copy.names) b old.levels.inner.copy.target dirty) (sym same) ∙ of_inner old new result.did dirty brings)))
 
   -- the innermost was dirty
-  pub worked_in_dirty : brings_made old ≡ false → is_dirty old.levels.inner.copy.names ≡ true → (now synced : Bool) (there : Route) → now ≡ is_left_dirty did new → synced ≡ not now → there ≡ new.levels.inner.copy.target
-      → dirty_after ≡ (if synced then without there dirty else dirty) → ListSteps unclaimed old new result dirty dirty_after before after f0 f1
+  pub worked_in_dirty : brings_made old ≡ false → is_dirty old.levels.inner.copy.names ≡ true → (now synced : Bool) (there : Route) → now ≡ is_left_dirty result.did new → synced ≡ not now → there ≡ new.levels.inner.copy.target
+      → dirty_after ≡ (if synced then without there dirty else dirty) → ListSteps free old new result dirty dirty_after before after f0 f1
   worked_in_dirty brings was now synced there is off at list =
       listed (list
       ∙ (ap (λ b. if b then without there dirty else dirty) off
-      ∙ (leaves_list now there old.levels.inner.copy.target dirty (λ clean. at ∙ stays_inner unclaimed old new did calls before after f0 f1 steps settled brings (sym is ∙ clean))
+      ∙ (leaves_list now there old.levels.inner.copy.target dirty (λ clean. at ∙ stays_inner free old new result.did result.calls before after f0 f1 steps settled brings (sym is ∙ clean))
       ∙ (ap (λ b. with_change true b old.levels.inner.copy.target dirty) is
-      ∙ (ap (λ b. with_change b (is_left_dirty did new) old.levels.inner.copy.target dirty) (sym was) ∙ of_inner old new did dirty brings)))))
+      ∙ (ap (λ b. with_change b (is_left_dirty result.did new) old.levels.inner.copy.target dirty) (sym was) ∙ of_inner old new result.did dirty brings)))))
 
   -- the innermost was clean
-  pub worked_in_clean : brings_made old ≡ false → is_dirty old.levels.inner.copy.names ≡ false → (now more dropped : Bool) (there : Route) (with_it : List Route) → now ≡ is_left_dirty did new → there ≡ old.levels.inner.copy.target
+  pub worked_in_clean : brings_made old ≡ false → is_dirty old.levels.inner.copy.names ≡ false → (now more dropped : Bool) (there : Route) (with_it : List Route) → now ≡ is_left_dirty result.did new → there ≡ old.levels.inner.copy.target
       → with_it ≡ joined there dirty → (if more then take (length with_it - 1) with_it else with_it) ≡ dirty → dropped ≡ (more && not now)
-      → dirty_after ≡ (if dropped then take (length with_it - 1) with_it else with_it) → ListSteps unclaimed old new result dirty dirty_after before after f0 f1
+      → dirty_after ≡ (if dropped then take (length with_it - 1) with_it else with_it) → ListSteps free old new result dirty dirty_after before after f0 f1
   worked_in_clean brings was now more dropped there with_it is at joins back off list =
       listed (joins_list now more dropped there dirty with_it dirty_after joins back off list
       ∙ (ap (λ f. with_change false now f dirty) at
       ∙ (ap (λ b. with_change false b old.levels.inner.copy.target dirty) is
-      ∙ (ap (λ b. with_change b (is_left_dirty did new) old.levels.inner.copy.target dirty) (sym was) ∙ of_inner old new did dirty brings))))
+      ∙ (ap (λ b. with_change b (is_left_dirty result.did new) old.levels.inner.copy.target dirty) (sym was) ∙ of_inner old new result.did dirty brings))))

@@ -11,4 +11,4 @@ use Rattle.subtree_copy.specs.SubtreeSteps.{SubtreeSteps}
 abbrev pub BarrierLaw : Type 0
 BarrierLaw =
     (free : Route → Bool) (old new : SubtreeCopying) (trouble : Trouble) (calls : ℕ) (dirty dirty_after : List Route) (before after : Option CallLog) (faults faults_after : ℕ)
-    → SubtreeSteps (λ path. free path ≡ true) old new (Troubled trouble) calls dirty dirty_after before after faults faults_after → IsSteady old.at → IsGoing old → trouble.barrier ≡ at_barrier new.at
+    → SubtreeSteps free old new (Troubled trouble) calls dirty dirty_after before after faults faults_after → IsSteady old.at → IsGoing old → trouble.barrier ≡ at_barrier new.at

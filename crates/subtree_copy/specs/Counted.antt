@@ -27,4 +27,4 @@ pub record StepCounts (did : Did) (calls : ℕ) (before after : Option CallLog) 
 abbrev pub CountLaw : Type 0
 CountLaw =
     (free : Route → Bool) (old new : SubtreeCopying) (did : Did) (calls : ℕ) (dirty dirty_after : List Route) (before after : Option CallLog) (faults faults_after : ℕ)
-    → SubtreeSteps (λ path. free path ≡ true) old new did calls dirty dirty_after before after faults faults_after → StepCounts did calls before after faults faults_after
+    → SubtreeSteps free old new did calls dirty dirty_after before after faults faults_after → StepCounts did calls before after faults faults_after

@@ -1,31 +1,13 @@
--- The marks of the open folders, and the list of dirty folders, which mirrors them.
-use Rattle.std.specs.Prelude.{Bool, true, false, List, if◌then◌else◌, Option, Some, None}
+-- The marks of the open folders, which the list of dirty folders mirrors.
+use Rattle.std.specs.Prelude.{Bool, true, false, if◌then◌else◌}
 use Rattle.mc_text.specs.Routes.{Route}
-use Rattle.tree_trait.specs.declared.calls.TreeError.{TreeError}
 use Rattle.job_reports.specs.declared.report.Did.{Did}
-use Rattle.job_reports.specs.declared.report.Did.TheVariants.{Barrier, Made}
-use Rattle.job_reports.specs.Paths.{without}
+use Rattle.job_reports.specs.declared.report.Did.TheVariants.{Made}
 use Rattle.folder_copy.specs.FolderCopying.{is_dirty}
 use Rattle.tree_copy.specs.declared.item.Item.{Item}
 use Rattle.tree_copy.specs.declared.item.Item.TheVariants.{Next, File, Link, Stays}
-use Rattle.tree_copy.specs.declared.report.CopyDid.{CopyDid}
-use Rattle.tree_copy.specs.declared.report.CopyDid.TheVariants.{Common}
 use Rattle.copy_levels.specs.Levels.{Levels, is_around_dirty, target_around}
 use Rattle.tree_copy.specs.Standing.{Seen}
-use Rattle.tree_deletion.specs.Folders.{joined}
-
--- a folder joins the dirty ones with its first change, and leaves them with its sync
-abbrev pub with_change : Bool → Bool → Route → List Route → List Route
-with_change false true folder dirty = joined folder dirty
-with_change true false folder dirty = without folder dirty
-with_change false false folder dirty = dirty
-with_change true true folder dirty = dirty
-
--- the dirty folders once this one was tried
-abbrev pub after_try : Did → Option TreeError → Route → List Route → List Route
-after_try Barrier None folder dirty = without folder dirty
-after_try Barrier (Some e) folder dirty = dirty
-after_try did left folder dirty = dirty
 
 -- the next call is the sync of the folder around, so that the one that is worked, which was made, is on the disk
 abbrev pub brings_in : Item → Levels → Bool
@@ -46,10 +28,10 @@ abbrev pub was_dirty : Seen → Bool
 was_dirty c = if brings_made c then true else is_dirty c.levels.inner.copy.names
 
 -- The innermost folder is dirty after a step that worked there; where one was made in it, that one is the innermost.
-abbrev pub is_left_dirty : CopyDid → Seen → Bool
-is_left_dirty (Common (Made path)) c = true
+abbrev pub is_left_dirty : Did → Seen → Bool
+is_left_dirty (Made path) c = true
 is_left_dirty did c = is_dirty c.levels.inner.copy.names
 
 -- the folder that a step worked is dirty after it
-abbrev pub is_dirty_after : Seen → CopyDid → Seen → Bool
+abbrev pub is_dirty_after : Seen → Did → Seen → Bool
 is_dirty_after old did new = if brings_made old then is_around_dirty new.levels.around else is_left_dirty did new

@@ -1,7 +1,8 @@
 -- How many steps a copy makes at most before its end or its next trouble, whatever the tree lists. Each step leaves fewer.
-use Rattle.std.specs.Prelude.{◌≡◌, ◌<◌, ℕ, ◌+◌, ◌-◌, ◌*◌, ◌^◌, Bool, true, false, List, [], ◌∷◌, Option, Some, None}
+use Rattle.std.specs.Prelude.{◌≡◌, ◌<◌, ◌≤◌, ℕ, ◌+◌, ◌-◌, ◌*◌, ◌^◌, Bool, true, false, List, [], ◌∷◌, Option, Some, None}
 use Rattle.mc_text.specs.Routes.{Route}
 use Rattle.tree_trait.specs.Change.{CallLog}
+use Rattle.job_reports.specs.declared.report.Cause.{Cause}
 use Rattle.job_reports.specs.declared.report.Did.{Did}
 use Rattle.job_reports.specs.declared.report.Did.TheVariants.{Troubled, Ended}
 use Rattle.job_reports.specs.declared.report.Ending.{Ending}
@@ -23,8 +24,8 @@ use Rattle.tree_copy.specs.declared.item.Item.{Item}
 use Rattle.tree_copy.specs.declared.item.Item.TheVariants.{Next, File, Link, Stays}
 use Rattle.tree_copy.specs.Falling.{IsSteady, things_left}
 use Rattle.tree_copy.specs.Standing.{Seen}
-use Rattle.subtree_copy.specs.Standing.{IsGoing, SubtreeCopying}
-use Rattle.subtree_copy.specs.SubtreeSteps.{LastSubtreeStep, SubtreeSteps}
+use Rattle.subtree_copy.specs.Standing.{IsGoing, SubtreeCopying, at_barrier, retries}
+use Rattle.subtree_copy.specs.SubtreeSteps.{LastSubtreeStep, SubtreeSkips, SubtreeSteps}
 
 -- a sync is owed
 abbrev pub dirt : NamesState → ℕ
@@ -95,7 +96,15 @@ goes_on did = true
 abbrev pub RankLaw : Type 0
 RankLaw =
     (free : Route → Bool) (old new : SubtreeCopying) (did : Did) (calls : ℕ) (dirty dirty_after : List Route) (before after : Option CallLog) (faults faults_after : ℕ)
-    → SubtreeSteps (λ path. free path ≡ true) old new did calls dirty dirty_after before after faults faults_after → IsSteady old.at → IsGoing old → goes_on did ≡ true → rank new.at < rank old.at
+    → SubtreeSteps free old new did calls dirty dirty_after before after faults faults_after → IsSteady old.at → IsGoing old → goes_on did ≡ true → rank new.at < rank old.at
+
+-- What a person answers to a trouble. A skip after which the copy goes on leaves two steps fewer at least; a retry leaves those of one thing
+-- more at most, which is begun again. The copy stays steady with both.
+pub record AnsweredLaw : Type 0 where
+  pub skip : (cause : Cause) (old new : SubtreeCopying) (did : Did) → SubtreeSkips cause old did new → IsSteady old.at → at_barrier old.at ≡ false → goes_on did ≡ true → rank new.at + 2 ≤ rank old.at
+  pub skipped : (cause : Cause) (old new : SubtreeCopying) (did : Did) → SubtreeSkips cause old did new → IsSteady old.at → IsSteady new.at
+  pub retry : (c : SubtreeCopying) → IsGoing c → (let again : SubtreeCopying = retries c in rank again.at) ≤ rank c.at + anew (2 ^ 64) + 4
+  pub retried : (c : SubtreeCopying) → IsSteady c.at → (let again : SubtreeCopying = retries c in IsSteady again.at)
 
 -- Of last steps: the part at work, and one try for each folder that is dirty.
 abbrev pub marks_around : List Level → ℕ
@@ -113,6 +122,10 @@ last_of (Stays part) = 0
 
 abbrev pub last_rank : Seen → ℕ
 last_rank c = last_of c.item + marks c.levels
+
+-- They are fewer than those of a copy that goes on, so one that waits counts as one that is aborted.
+abbrev pub WaitingLaw : Type 0
+WaitingLaw = (c : SubtreeCopying) → IsGoing c → last_rank c.at < rank c.at
 
 -- Each last step but the end leaves fewer.
 abbrev pub LastRankLaw : Type 0

@@ -1,29 +1,23 @@
 -- What a step of the copy does, as a job works it: the machine's step, and what it makes of the dirty folders.
-use Rattle.std.specs.Prelude.{◌≡◌, ◌⊎◌, ℕ, false, List, Option}
+use Rattle.std.specs.Prelude.{◌≡◌, ◌⊎◌, ℕ, Bool, false, List, Option}
 use Rattle.mc_text.specs.Routes.{Route}
 use Rattle.tree_trait.specs.Change.{CallLog}
 use Rattle.job_reports.specs.declared.report.Cause.{Cause}
 use Rattle.job_reports.specs.declared.report.Did.{Did}
-use Rattle.job_reports.specs.declared.report.Did.TheVariants.{Set, Troubled}
+use Rattle.job_reports.specs.declared.report.Did.TheVariants.{Troubled}
 use Rattle.job_reports.specs.declared.report.Ending.{Ending}
 use Rattle.job_reports.specs.declared.report.LastStepResult.{LastStepResult}
 use Rattle.job_reports.specs.declared.report.StepResult.{StepResult}
 use Rattle.job_reports.specs.Stops.{out_of_memory_at}
-use Rattle.tree_copy.specs.declared.report.CopyDid.{CopyDid}
-use Rattle.tree_copy.specs.declared.report.CopyDid.TheVariants as copied
 use Rattle.tree_copy.specs.Ending.{WindsAt}
 use Rattle.tree_copy.specs.Skipping as machine
 use Rattle.tree_copy.specs.Standing.{Seen}
 use Rattle.tree_copy.specs.Steps.{CopySteps, IsWorkable}
 use Rattle.subtree_copy.specs.Leaving.{LeavesSettled, may_leave}
-use Rattle.subtree_copy.specs.Marks.{after_try, folder_worked, is_dirty_after, was_dirty, with_change}
+use Rattle.subtree_copy.specs.Marks.{folder_worked, is_dirty_after, was_dirty}
 use Rattle.subtree_copy.specs.Passing.{OrPassedOver}
 use Rattle.subtree_copy.specs.Standing.{SubtreeCopying, at_barrier}
-
--- the machine's report, as any job reports it
-abbrev pub common : CopyDid → Did
-common (copied.Common did) = did
-common (copied.Set path) = Set path
+use Rattle.tree_deletion.specs.Folders.{after_try, with_change}
 
 abbrev pub step_result : Did → ℕ → StepResult
 step_result did calls = record { did = did; calls = calls }
@@ -37,27 +31,25 @@ pub record RunsShort (old new : Seen) (result : StepResult) (dirty dirty_after :
   pub later : faults_after ≡ faults
 
 -- A step of the machine. The folder that it works joins the dirty ones with its first change, and leaves them with its sync.
-pub record MachineSteps (unclaimed : Route → Type 0) (old new : Seen) (result : StepResult) (dirty dirty_after : List Route) (before after : Option CallLog) (faults faults_after : ℕ) : Type 0 where
-  pub report : CopyDid
-  pub says : result.did ≡ common report
-  pub steps : CopySteps unclaimed old new report result.calls before after faults faults_after
-  pub list : dirty_after ≡ with_change (was_dirty old) (is_dirty_after old report new) (folder_worked old) dirty
+pub record MachineSteps (free : Route → Bool) (old new : Seen) (result : StepResult) (dirty dirty_after : List Route) (before after : Option CallLog) (faults faults_after : ℕ) : Type 0 where
+  pub steps : CopySteps free old new result.did result.calls before after faults faults_after
+  pub list : dirty_after ≡ with_change (was_dirty old) (is_dirty_after old result.did new) (folder_worked old) dirty
 
 -- a step with the list of dirty folders, where no folder is left to be left
-abbrev pub ListSteps : (Route → Type 0) → Seen → Seen → StepResult → List Route → List Route → Option CallLog → Option CallLog → ℕ → ℕ → Type 0
-ListSteps unclaimed old new result dirty dirty_after before after faults faults_after =
+abbrev pub ListSteps : (Route → Bool) → Seen → Seen → StepResult → List Route → List Route → Option CallLog → Option CallLog → ℕ → ℕ → Type 0
+ListSteps free old new result dirty dirty_after before after faults faults_after =
     RunsShort old new result dirty dirty_after before after faults faults_after
-    ⊎ MachineSteps unclaimed old new result dirty dirty_after before after faults faults_after
+    ⊎ MachineSteps free old new result dirty dirty_after before after faults faults_after
 
 -- A step: folders that owe nothing are left; the machine makes a step; and what it is in trouble with is passed over, where troubles of
 -- that kind are skipped.
-pub record SubtreeSteps (unclaimed : Route → Type 0) (old new : SubtreeCopying) (did : Did) (calls : ℕ) (dirty dirty_after : List Route) (before after : Option CallLog) (faults faults_after : ℕ) : Type 0 where
+pub record SubtreeSteps (free : Route → Bool) (old new : SubtreeCopying) (did : Did) (calls : ℕ) (dirty dirty_after : List Route) (before after : Option CallLog) (faults faults_after : ℕ) : Type 0 where
   pub mid : Seen
   pub leaves : LeavesSettled old.at mid
   pub settled : may_leave mid ≡ false
   pub worked : StepResult
   pub moved : Seen
-  pub works : ListSteps unclaimed mid moved worked dirty dirty_after before after faults faults_after
+  pub works : ListSteps free mid moved worked dirty dirty_after before after faults faults_after
   pub going : IsWorkable moved.item
   pub passes : OrPassedOver old.skips worked moved new.at (step_result did calls)
   pub stands : new ≡ record old { at = new.at }

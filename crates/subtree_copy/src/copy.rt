@@ -7,7 +7,6 @@ ghost use Rattle.tree_copy.specs.Standing.{is_fresh};
 ghost use Rattle.subtree_copy.specs.Standing.{IsGoing, at_barrier, is_own, part_of, retries, started};
 ghost use Rattle.subtree_copy.specs.SubtreeSteps.{LastSubtreeStep, SubtreeSkips, SubtreeSteps};
 
-use crate::dirt::note_try;
 use crate::leaving::leave_settled;
 use crate::passing::or_passed_over;
 use crate::standing::{into_part, is_at_barrier, named, part};
@@ -70,7 +69,7 @@ impl SubtreeCopy {
         dirty: &mut Dirty,
     ) -> StepResult
         requires going { IsGoing self.old }
-        ensures steps { SubtreeSteps (λ path. P.is_free parts.now path ≡ true) self.old self.new result.did result.calls
+        ensures steps { SubtreeSteps (P.is_free parts.now) self.old self.new result.did result.calls
             dirty.old dirty.new (T.contents tree.old) (T.contents tree.new) (T.fault_count tree.old) (T.fault_count tree.new) }
         ensures going { IsGoing self.new }
     {
@@ -117,7 +116,7 @@ impl SubtreeCopy {
             (T.contents tree.old) (T.contents tree.new) (T.fault_count tree.old) (T.fault_count tree.new) }
     {
         let last = self.machine.wind_up(alloc, tree, ending);
-        note_try(dirty, &last.did, last.left, self.machine.folder());
+        dirty.note_try(&last.did, last.left, self.machine.folder());
         last
     }
 

@@ -1,7 +1,7 @@
 //! Laws of copies. They have no code: their clauses are proved, and stand here so that they are.
 ghost use Rattle.subtree_copy.specs.Barriers.{BarrierLaw};
 ghost use Rattle.subtree_copy.specs.Counted.{CountLaw};
-ghost use Rattle.subtree_copy.specs.Ranks.{LastRankLaw, RankLaw};
+ghost use Rattle.subtree_copy.specs.Ranks.{AnsweredLaw, LastRankLaw, RankLaw, WaitingLaw};
 
 /// A trouble stands at a barrier, where nothing can be skipped, where the copy does after it.
 pub fn a_trouble_stands_where_the_copy_does()
@@ -11,6 +11,16 @@ pub fn a_trouble_stands_where_the_copy_does()
 /// Each step after which the copy goes on leaves fewer steps.
 pub fn each_step_leaves_fewer()
     ensures { RankLaw }
+{}
+
+/// A skip that goes on leaves fewer steps, and a retry those of one thing more at most.
+pub fn what_answers_leave()
+    ensures { AnsweredLaw }
+{}
+
+/// The last steps of a copy are fewer than those that it has left.
+pub fn last_steps_are_fewer()
+    ensures { WaitingLaw }
 {}
 
 /// Each last step but the end leaves fewer last steps.

@@ -13,5 +13,5 @@ mod working;
 pub use copy::SubtreeCopy;
 pub use laws::{
     a_step_counts_its_calls, a_trouble_stands_where_the_copy_does, each_last_step_leaves_fewer,
-    each_step_leaves_fewer,
+    each_step_leaves_fewer, last_steps_are_fewer, what_answers_leave,
 };

@@ -8,16 +8,16 @@ ghost use Rattle.tree_copy.specs.Steps.{IsWorkable};
 ghost use Rattle.job_reports.specs.Stops.{out_of_memory_at};
 ghost use Rattle.subtree_copy.specs.Leaving.{is_done as has_ended, may_leave};
 ghost use Rattle.subtree_copy.specs.Marks.{brings_made as brings};
-ghost use Rattle.subtree_copy.specs.SubtreeSteps.{ListSteps, common};
+ghost use Rattle.subtree_copy.specs.SubtreeSteps.{ListSteps};
 
-use crate::dirt::{brings_made, but_not, is_left_dirty};
+use crate::dirt::{brings_made, is_left_dirty};
 use crate::leaving::is_done;
 use crate::standing::is_at_barrier;
 use file_copy::PartTest;
 use job_reports::{Did, StepResult, out_of_memory};
 use std::alloc::Global;
-use tree_copy::{CopyDid, CopyStep, TreeCopy};
-use tree_deletion::Dirty;
+use tree_copy::TreeCopy;
+use tree_deletion::{Dirty, but_not};
 use tree_trait::Tree;
 
 /// Makes a step, where no folder is left to be left.
@@ -30,7 +30,7 @@ pub(crate) fn work<T: Tree, P: PartTest>(
 ) -> StepResult
     requires workable { IsWorkable machine.old.item }
     requires settled { may_leave (seen machine.old) ≡ false }
-    ensures works { ListSteps (λ path. P.is_free parts.now path ≡ true) (seen machine.old) (seen machine.new) result dirty.old dirty.new
+    ensures works { ListSteps (P.is_free parts.now) (seen machine.old) (seen machine.new) result dirty.old dirty.new
         (T.contents tree.old) (T.contents tree.new) (T.fault_count tree.old) (T.fault_count tree.new) }
     ensures workable { IsWorkable machine.new.item }
 {
@@ -56,14 +56,14 @@ fn bring_made<T: Tree, P: PartTest>(
     requires workable { IsWorkable machine.old.item }
     requires settled { may_leave (seen machine.old) ≡ false }
     requires brings { brings (seen machine.old) ≡ true }
-    ensures works { ListSteps (λ path. P.is_free parts.now path ≡ true) (seen machine.old) (seen machine.new) result dirty.old dirty.new
+    ensures works { ListSteps (P.is_free parts.now) (seen machine.old) (seen machine.new) result dirty.old dirty.new
         (T.contents tree.old) (T.contents tree.new) (T.fault_count tree.old) (T.fault_count tree.new) }
     ensures workable { IsWorkable machine.new.item }
 {
     let stepped = machine.step(alloc, tree, parts);
     let synced = !machine.stack.is_around_dirty();
     dirty.remove_if(synced, machine.stack.target_around());
-    told(stepped)
+    stepped
 }
 
 /// Nothing is left, and nothing is owed, so no folder joins the list.
@@ -77,11 +77,11 @@ fn finish<T: Tree, P: PartTest>(
     requires settled { may_leave (seen machine.old) ≡ false }
     requires inner { brings (seen machine.old) ≡ false }
     requires ended { has_ended (seen machine.old) ≡ true }
-    ensures works { (dirty : List Route) → ListSteps (λ path. P.is_free parts.now path ≡ true) (seen machine.old) (seen machine.new) result dirty dirty
+    ensures works { (dirty : List Route) → ListSteps (P.is_free parts.now) (seen machine.old) (seen machine.new) result dirty dirty
         (T.contents tree.old) (T.contents tree.new) (T.fault_count tree.old) (T.fault_count tree.new) }
     ensures workable { IsWorkable machine.new.item }
 {
-    told(machine.step(alloc, tree, parts))
+    machine.step(alloc, tree, parts)
 }
 
 /// The folder that is worked, which is dirty, leaves the list with its sync.
@@ -96,14 +96,14 @@ fn work_in_dirty<T: Tree, P: PartTest>(
     requires settled { may_leave (seen machine.old) ≡ false }
     requires inner { brings (seen machine.old) ≡ false }
     requires marked { is_dirty machine.old.stack.levels.inner.copy.names ≡ true }
-    ensures works { ListSteps (λ path. P.is_free parts.now path ≡ true) (seen machine.old) (seen machine.new) result dirty.old dirty.new
+    ensures works { ListSteps (P.is_free parts.now) (seen machine.old) (seen machine.new) result dirty.old dirty.new
         (T.contents tree.old) (T.contents tree.new) (T.fault_count tree.old) (T.fault_count tree.new) }
     ensures workable { IsWorkable machine.new.item }
 {
     let stepped = machine.step(alloc, tree, parts);
     let synced = !is_left_dirty(machine, &stepped.did);
     dirty.remove_if(synced, machine.folder());
-    told(stepped)
+    stepped
 }
 
 /// The folder that is worked, which is clean, joins the list, and stays there only where it was changed.
@@ -118,7 +118,7 @@ fn work_in_clean<T: Tree, P: PartTest>(
     requires settled { may_leave (seen machine.old) ≡ false }
     requires inner { brings (seen machine.old) ≡ false }
     requires clean { is_dirty machine.old.stack.levels.inner.copy.names ≡ false }
-    ensures works { ListSteps (λ path. P.is_free parts.now path ≡ true) (seen machine.old) (seen machine.new) result dirty.old dirty.new
+    ensures works { ListSteps (P.is_free parts.now) (seen machine.old) (seen machine.new) result dirty.old dirty.new
         (T.contents tree.old) (T.contents tree.new) (T.fault_count tree.old) (T.fault_count tree.new) }
     ensures workable { IsWorkable machine.new.item }
 {
@@ -128,7 +128,7 @@ fn work_in_clean<T: Tree, P: PartTest>(
     let stepped = machine.step(alloc, tree, parts);
     let changed = is_left_dirty(machine, &stepped.did);
     dirty.drop_last_if(but_not(joined, changed));
-    told(stepped)
+    stepped
 }
 
 /// There is no memory for the folder, and nothing was done.
@@ -138,24 +138,5 @@ fn without_memory(barrier: bool) -> StepResult
     StepResult {
         did: Did::Troubled(out_of_memory(barrier)),
         calls: 0,
-    }
-}
-
-/// What a step of the machine reports, as any job's step does.
-fn told(stepped: CopyStep) -> StepResult
-    ensures { result ≡ record { did = common stepped.did; calls = stepped.calls } }
-{
-    StepResult {
-        did: common_did(stepped.did),
-        calls: stepped.calls,
-    }
-}
-
-fn common_did(did: CopyDid) -> Did
-    ensures { result ≡ common did }
-{
-    match did {
-        CopyDid::Common(did) => did,
-        CopyDid::Set(path) => Did::Set(path),
     }
 }

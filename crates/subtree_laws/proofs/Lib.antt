@@ -1,3 +1,10 @@
+pub mod ItemFiles
+pub mod ItemLinks
+pub mod ItemParts
+pub mod ItemSteps
+mod PartMade
+mod PartsApart
+pub mod QuietRuns
 pub mod Refused
 pub mod StepsKnown
 pub mod TreeFiles

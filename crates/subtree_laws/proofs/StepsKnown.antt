@@ -2,7 +2,7 @@
 use Rattle.std.proofs.Common.{◌≡◌, ℕ, suc, zero, true, List, [], ◌∷◌, refl, sym, ◌∙◌, ap, subst, inl, inr, Option, Some}
 use Rattle.std.specs.Prelude.{if◌then◌else◌, map}
 use Rattle.mc_text.specs.Routes.{Route}
-use Rattle.tree_trait.specs.Change.{CallLog}
+use Rattle.tree_trait.specs.Change.{CallLog, current}
 use Rattle.tree_trait.specs.CrashImages.{Among}
 use Rattle.file_copy.specs.Copying as file
 use Rattle.file_copy.specs.Copying.{Copying}
@@ -10,30 +10,33 @@ use Rattle.link_copy.specs.LinkCopying as link
 use Rattle.link_copy.specs.LinkCopying.{LinkCopying}
 use Rattle.subtree_walk.specs.Places.{is_empty}
 use Rattle.copy_levels.specs.declared.level.Level.{Level}
-use Rattle.copy_levels.specs.Levels.{closed, is_around_dirty}
+use Rattle.copy_levels.specs.Levels.{closed, coming, is_around_dirty}
 use Rattle.tree_copy.specs.declared.item.Item.{Item}
 use Rattle.tree_copy.specs.declared.item.Item.TheVariants.{Next, File, Link, Stays}
 use Rattle.tree_copy.specs.declared.progress.Progress.{Progress}
 use Rattle.tree_copy.specs.declared.progress.Progress.TheVariants.{UnderWay, Decided, Anew}
-use Rattle.tree_copy.specs.declared.report.CopyDid.{CopyDid}
+use Rattle.job_reports.specs.declared.report.Did.{Did}
+use Rattle.tree_copy.specs.Parts.{IsPartPlace, ahead}
 use Rattle.tree_copy.specs.Progress.{link_progress, progress}
 use Rattle.tree_copy.specs.Standing.{Seen, target_name}
 use Rattle.tree_copy.specs.Steps.{FileWorks, LeavesAll, LinkWorks, TakesNext, WorksOn, idle, link_begun, noted, settled}
-use Rattle.history_laws.proofs.Resting.{sure_path}
+use Rattle.history_laws.proofs.Changing.{folder_anchored}
+use Rattle.history_laws.proofs.Resting.{stands_at, sure_path}
 use Rattle.subtree_laws.specs.AtWork.{ItemKnown}
-use Rattle.subtree_laws.specs.Knows.{LevelsKnow, ahead, coming}
-use Rattle.subtree_laws.specs.Laws.{BeginningLaw, FoldersKnown, MetLaw, StepLaw}
+use Rattle.subtree_laws.specs.Knows.{LevelsKnow}
+use Rattle.subtree_laws.specs.Laws.{BeginningLaw, FoldersKnown, MetLaw, StandingLaw, StepLaw}
 use Rattle.subtree_laws.specs.Lies.{AreLaid}
 use Rattle.subtree_laws.proofs.TreeFolders.{closed_levels}
 use Rattle.subtree_laws.proofs.TreeKnows.{filled_inner, levels_left}
 use Rattle.subtree_laws.proofs.TreePlaces.{laid_closed, laid_left, laid_works, nested_of, next_once, placed_of}
-use Rattle.subtree_laws.proofs.TreeSteps.{copy_step}
+use Rattle.subtree_laws.proofs.ItemSteps.{works_item}
+use Rattle.subtree_laws.proofs.TreeSteps.{StepKnown, copy_step}
 
 -- a copy that was begun
 pub beginning_law : BeginningLaw
 beginning_law log job source target filled = (
-  record { inner = filled; around = tt },
-  record { once = ((λ among. among), tt); made = λ mode is. let f : ⊥ = cc in f },
+  (record { inner = filled; around = tt }, record { once = ((λ among. among), tt); made = λ mode is. let f : ⊥ = cc in f }),
+  tt,
 )
 
 -- with this name at its target
@@ -66,7 +69,7 @@ settled_name UnderWay item c = refl
 settled_name Decided item c = refl
 settled_name Anew item c = refl
 
-module _ (unclaimed : Route → Type 0) (old new : Seen) (did : CopyDid) (before after : Option CallLog) where
+module _ (unclaimed : Route → Type 0) (old new : Seen) (did : Did) (before after : Option CallLog) where
   file_name : (f : Copying) → FileWorks unclaimed f old new did before after → new.name ≡ old.name
   file_name f w =
       let moved = w.moved in
@@ -93,22 +96,22 @@ module _ (unclaimed : Route → Type 0) (old new : Seen) (did : CopyDid) (before
   works_name (Stays part) w = absurd w
 
 pub step_law : StepLaw
-step_law free old new did calls log now faults faults_after s tree files item begins known =
-    let unclaimed : Route → Type 0 = λ path. free path ≡ true in
+step_law free old new did calls log now faults faults_after s tree files (known, item) =
     let mid = s.mid in
     let k = leaves_all s.folders log old mid s.leaves known in
     let place = placed_of mid.name mid.levels.inner mid.levels.around k.1 in
-    let levels = copy_step unclaimed old new did calls log now faults faults_after s (record {
+    let begins : StepKnown log mid = record {
       tree = tree;
       files = files;
       nested = nested_of mid.name mid.levels.inner mid.levels.around k.1;
       levels = k.0;
       made = place.made;
       once = λ name names is. next_once mid name names is place.once;
-      begins = begins;
-    }) (item_left s.folders log old mid s.leaves item) in
-    let laid = laid_works unclaimed mid new did (Some log) (Some now) k.1 mid.item s.works in
-    subst (KnownAs now new) (sym (works_name unclaimed mid new did (Some log) (Some now) mid.item s.works)) (levels, laid)
+    } in
+    let here = item_left s.folders log old mid s.leaves item in
+    let levels = copy_step free old new did calls log now faults faults_after s begins here in
+    let laid = laid_works (IsPartPlace free mid) mid new did (Some log) (Some now) k.1 mid.item s.works in
+    (subst (KnownAs now new) (sym (works_name (IsPartPlace free mid) mid new did (Some log) (Some now) mid.item s.works)) (levels, laid), works_item free mid new did log now begins mid.item refl here s.works)
 
 -- the name that is met next, as it is at its target
 among_next : (c : Seen) (name : List ℕ) (names : List (List ℕ)) → c.levels.inner.names.names ≡ name ∷ names → Among (ahead c) (target_name c name)
@@ -124,3 +127,11 @@ met_law log c name names known clean is =
     let filling = filled_inner (is_around_dirty c.levels.around) log c.levels.inner.copy.target (ahead c) clean l.inner in
     let firm = filling.firm in
     sure_path log (target_name c name ∷ c.levels.inner.copy.target) firm.sure (filling.calm (target_name c name) (among_next c name names is))
+
+pub standing_law : StandingLaw
+standing_law told dirty marks log c known folders clean =
+    let l = folders.0 in
+    let filling = filled_inner (is_around_dirty c.levels.around) log c.levels.inner.copy.target (ahead c) clean l.inner in
+    let firm = filling.firm in
+    let there = stands_at (current log) c.levels.inner.copy.target firm.stands in
+    (there.i, record { at = there.at; anchored = folder_anchored told dirty marks log known c.levels.inner.copy.target there.i there.at there.folder })

@@ -22,16 +22,17 @@ use Rattle.folder_copy.specs.declared.stage.Stage.{Stage}
 use Rattle.folder_copy.specs.declared.stage.Stage.TheVariants as at
 use Rattle.subtree_walk.specs.Places.{opened}
 use Rattle.copy_levels.specs.declared.level.Level.{Level}
-use Rattle.tree_copy.specs.declared.report.CopyDid.{CopyDid}
-use Rattle.copy_levels.specs.Levels.{Levels, closed, is_around_dirty, level, made_levels, passed, with_copy}
+use Rattle.job_reports.specs.declared.report.Did.{Did}
+use Rattle.copy_levels.specs.Levels.{Levels, closed, coming, is_around_dirty, level, made_levels, passed, with_copy}
 use Rattle.tree_copy.specs.Standing.{Seen}
 use Rattle.tree_copy.specs.Steps.{FolderEnds, FolderMakes, SyncsAround}
 use Rattle.history_laws.proofs.FilledFolders.{IsNew, folder_opens}
 use Rattle.history_laws.proofs.Resting.{IsOfFiles}
-use Rattle.subtree_laws.specs.Knows.{AroundKnow, InnerKnows, LevelsKnow, coming}
+use Rattle.subtree_laws.specs.Knows.{AroundKnow, InnerKnows, LevelsKnow}
 use Rattle.subtree_laws.specs.Lies.{AreNested}
+use Rattle.subtree_laws.proofs.QuietRuns.{row_done, row_stops}
 use Rattle.subtree_laws.proofs.TreeKnows.{levels_entered, levels_opened, levels_passed, levels_refused}
-use Rattle.subtree_laws.proofs.TreeRuns.{row_done, row_named, row_quiet, row_stops}
+use Rattle.subtree_laws.proofs.TreeRuns.{row_named, row_quiet}
 
 -- the copy of the innermost folder itself goes on, to the same target
 pub copy_levels : (log : CallLog) (name : List ℕ) (l : Levels) (moved : FolderCopying) → moved.target ≡ l.inner.copy.target → LevelsKnow log name l → LevelsKnow log name (with_copy moved l)
@@ -107,7 +108,7 @@ module _ (log now : CallLog) (name : List ℕ) (l : Levels) (known : FolderKnown
     makes pair names mode moved Barrier target_is (stage, dirty, new_is) rows = absurd (let f : ⊥ = cc in f)
     makes pair names mode moved Closed target_is (stage, clean_is, new_is) rows = absurd (let f : ⊥ = cc in f)
 
-    pub folder_makes : (pair : Pair) (names : List (List ℕ)) (mode : ℕ) (old new : Seen) (did : CopyDid) → old.levels ≡ l → pair.target ≡ n ∷ up → FolderMakes pair names mode old new did (Some log) (Some now) → LevelsKnow now name new.levels
+    pub folder_makes : (pair : Pair) (names : List (List ℕ)) (mode : ℕ) (old new : Seen) (did : Did) → old.levels ≡ l → pair.target ≡ n ∷ up → FolderMakes pair names mode old new did (Some log) (Some now) → LevelsKnow now name new.levels
     folder_makes pair names mode old new did levels_are target_is w =
         subst (λ (s : Seen). LevelsKnow now name s.levels) (sym w.stands)
         (subst (λ (x : Levels). LevelsKnow now name (made_levels w.moved.stage (opened pair.source names) w.moved x)) (sym levels_are)
@@ -133,7 +134,7 @@ module _ (log now : CallLog) (name : List ℕ) (l : Levels) (known : FolderKnown
     quiet_ends moved (Troubled trouble) (barrier, new_is) run =
         copy_levels now name l moved (ap (λ (x : FolderCopying). x.target) new_is) (next_stops c.target c.stage c.names trouble.cause trouble.path run)
 
-    pub folder_ends : (old new : Seen) (did : CopyDid) → old.levels ≡ l → FolderEnds old new did (Some log) (Some now) → LevelsKnow now name new.levels
+    pub folder_ends : (old new : Seen) (did : Did) → old.levels ≡ l → FolderEnds old new did (Some log) (Some now) → LevelsKnow now name new.levels
     folder_ends old new did levels_are w =
         subst (λ (s : Seen). LevelsKnow now name s.levels) (sym w.stands)
         (subst (λ (x : Levels). LevelsKnow now name (with_copy w.moved x)) (sym levels_are)
@@ -171,7 +172,7 @@ module _ (log now : CallLog) (name : List ℕ) (l : Levels) (known : FolderKnown
     syncs names (Set path) (mode, stage, path_is, new_is) rows = absurd (let f : ⊥ = cc in f)
     syncs names Closed (stage, synced, new_is) is = absurd (let f : ⊥ = cc in f)
 
-  pub syncs_around : (old new : Seen) (did : CopyDid) → old.levels ≡ l → SyncsAround old new did (Some log) (Some now) → LevelsKnow now name new.levels
+  pub syncs_around : (old new : Seen) (did : Did) → old.levels ≡ l → SyncsAround old new did (Some log) (Some now) → LevelsKnow now name new.levels
   syncs_around old new did levels_are s =
       let was = ap (λ (x : Levels). x.around) (sym levels_are) ∙ s.was in
       let dirty = subst (λ (x : Levels). is_around_dirty x.around ≡ true) levels_are s.dirty in

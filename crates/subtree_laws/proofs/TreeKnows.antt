@@ -14,11 +14,11 @@ use Rattle.folder_copy.specs.FolderCopying.{FolderCopying, is_dirty}
 use Rattle.folder_copy.specs.declared.stage.NamesState.TheVariants.{Synced}
 use Rattle.subtree_walk.specs.Places.{OpenFolder}
 use Rattle.copy_levels.specs.declared.level.Level.{Level}
-use Rattle.copy_levels.specs.Levels.{IsLeft, Levels, dirtied, emptied, entered, is_around_dirty, level, passed}
+use Rattle.copy_levels.specs.Levels.{IsLeft, Levels, coming, dirtied, emptied, entered, is_around_dirty, level, passed}
 use Rattle.history_laws.proofs.FilledCalls.{MayFill, filling_call}
 use Rattle.history_laws.proofs.FilledFolders.{IsFilling, IsNew, filling_fewer, filling_quiet, new_quiet, opens_synced}
 use Rattle.history_laws.proofs.Resting.{IsOfFiles}
-use Rattle.subtree_laws.specs.Knows.{AroundKnow, InnerKnows, LevelsKnow, coming}
+use Rattle.subtree_laws.specs.Knows.{AroundKnow, InnerKnows, LevelsKnow}
 use Rattle.subtree_laws.proofs.Refused.{refused_change}
 
 new_of : (log : CallLog) (up : Route) (names : List (List ℕ)) → IsFilling log up names → IsNew log up names
@@ -40,7 +40,7 @@ among_mapped : (name : List ℕ) (names : List (List ℕ)) (k : List ℕ) → Am
 among_mapped name [] k among = among
 among_mapped name (first ∷ names) k among = inr among
 
-fewer_coming : (name : List ℕ) (place later : OpenFolder) (around : List Level) → later.names ≡ drop 1 place.names → (k : List ℕ) → Among (coming name later around) k → Among (coming name place around) k
+pub fewer_coming : (name : List ℕ) (place later : OpenFolder) (around : List Level) → later.names ≡ drop 1 place.names → (k : List ℕ) → Among (coming name later around) k → Among (coming name place around) k
 fewer_coming name place later [] is k among = among_mapped name place.names k (subst (λ xs. Among (map (λ (met : List ℕ). name) xs) k) is among)
 fewer_coming name place later (outer ∷ around) is k among = among_later place.names k (subst (λ xs. Among xs k) is among)
 

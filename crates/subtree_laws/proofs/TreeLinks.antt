@@ -20,20 +20,20 @@ use Rattle.link_copy.specs.declared.stage.Stage.TheVariants as at
 use Rattle.tree_copy.specs.declared.item.Item.TheVariants.{Link}
 use Rattle.tree_copy.specs.declared.progress.Progress.{Progress}
 use Rattle.tree_copy.specs.declared.progress.Progress.TheVariants.{UnderWay, Decided}
-use Rattle.tree_copy.specs.declared.report.CopyDid.{CopyDid}
-use Rattle.copy_levels.specs.Levels.{Levels, is_around_dirty, passed}
+use Rattle.copy_levels.specs.Levels.{Levels, coming, is_around_dirty, passed}
 use Rattle.tree_copy.specs.Progress.{link_progress}
 use Rattle.tree_copy.specs.Standing.{Seen}
 use Rattle.tree_copy.specs.Steps.{after_link, idle, noted, settled}
 use Rattle.history_laws.proofs.FilledCalls.{IsNoneOf}
 use Rattle.subtree_laws.specs.AtWork.{HasItem}
-use Rattle.subtree_laws.specs.Knows.{LevelsKnow, coming}
+use Rattle.subtree_laws.specs.Knows.{LevelsKnow}
 use Rattle.subtree_laws.specs.Lies.{AreNested}
+use Rattle.subtree_laws.proofs.QuietRuns.{row_done, row_stops}
 use Rattle.subtree_laws.proofs.TreeFiles.{Needs, needs, settled_levels}
 use Rattle.subtree_laws.proofs.TreeKnows.{levels_passed, levels_refused}
-use Rattle.subtree_laws.proofs.TreeRuns.{row_done, row_named, row_quiet, row_renamed, row_stops}
+use Rattle.subtree_laws.proofs.TreeRuns.{row_named, row_quiet, row_renamed}
 
-link_then : (now : CallLog) (name : List ℕ) (moved : LinkCopying) (did : CopyDid) (old new : Seen) (p : Progress) → link_progress moved.stage ≡ p → new ≡ after_link did moved (idle old) → Needs now name p old.levels → LevelsKnow now name new.levels
+link_then : (now : CallLog) (name : List ℕ) (moved : LinkCopying) (did : Did) (old new : Seen) (p : Progress) → link_progress moved.stage ≡ p → new ≡ after_link did moved (idle old) → Needs now name p old.levels → LevelsKnow now name new.levels
 link_then now name moved did old new p p_is stands known =
     subst (λ (s : Seen). LevelsKnow now name s.levels) (sym stands)
     (subst (λ q. LevelsKnow now name (let s : Seen = settled q (Link moved) (noted did (link.is_dirty moved.folder) (idle old)) in s.levels)) (sym p_is)
@@ -102,23 +102,23 @@ module _ (log now : CallLog) (name : List ℕ) (l : Levels) (c : LinkCopying) (k
       let item = known.item (ap has_part is) in
       row_renamed name (passed false l) known.clean known.nested log now c.part c.target (Ok tt) known.tree (row_done log now (Rename c.part c.target) rows) item.work (levels_passed log name false l known.levels)
 
-  pub link_step : (moved : LinkCopying) (report : Did) (did : CopyDid) (old new : Seen) → old.levels ≡ l → Tells c report moved → LinkCalls c report log (Some now) → new ≡ after_link did moved (idle old) → LevelsKnow now name new.levels
-  link_step moved (Began part) did old new levels_are (stage, part_is, new_is) (read, rows) stands =
-      link_then now name moved did old new UnderWay (ap (λ (x : LinkCopying). link_progress x.stage) new_is) stands (subst (LevelsKnow now name) (sym levels_are) (begun stage (rows_at at.Make stage rows)))
-  link_step moved (Placed path) did old new levels_are (stage, path_is, new_is) (read, rows) stands =
-      link_then now name moved did old new Decided (ap (λ (x : LinkCopying). link_progress x.stage) new_is) stands (subst (λ (x : Levels). LevelsKnow now name (passed false x)) (sym levels_are) (placed stage (rows_at at.Place stage rows)))
-  link_step moved (Cleaned part) did old new levels_are (follows, stage, part_is, new_is) (read, rows) stands =
-      link_then now name moved did old new (link_progress (after_clean follows)) (ap (λ (x : LinkCopying). link_progress x.stage) new_is) stands
+  pub link_step : (moved : LinkCopying) (did : Did) (old new : Seen) → old.levels ≡ l → Tells c did moved → LinkCalls c did log (Some now) → new ≡ after_link did moved (idle old) → LevelsKnow now name new.levels
+  link_step moved (Began part) old new levels_are (stage, part_is, new_is) (read, rows) stands =
+      link_then now name moved (Began part) old new UnderWay (ap (λ (x : LinkCopying). link_progress x.stage) new_is) stands (subst (LevelsKnow now name) (sym levels_are) (begun stage (rows_at at.Make stage rows)))
+  link_step moved (Placed path) old new levels_are (stage, path_is, new_is) (read, rows) stands =
+      link_then now name moved (Placed path) old new Decided (ap (λ (x : LinkCopying). link_progress x.stage) new_is) stands (subst (λ (x : Levels). LevelsKnow now name (passed false x)) (sym levels_are) (placed stage (rows_at at.Place stage rows)))
+  link_step moved (Cleaned part) old new levels_are (follows, stage, part_is, new_is) (read, rows) stands =
+      link_then now name moved (Cleaned part) old new (link_progress (after_clean follows)) (ap (λ (x : LinkCopying). link_progress x.stage) new_is) stands
       (needs now name (link_progress (after_clean follows)) old.levels (subst (LevelsKnow now name) (sym levels_are) (removed follows stage (rows_at (at.Clean follows) stage rows))))
-  link_step moved Barrier did old new levels_are (stage, dirty, new_is) (read, rows) stands =
-      link_then now name moved did old new (link_progress moved.stage) refl stands (needs now name (link_progress moved.stage) old.levels (subst (LevelsKnow now name) (sym levels_are)
+  link_step moved Barrier old new levels_are (stage, dirty, new_is) (read, rows) stands =
+      link_then now name moved Barrier old new (link_progress moved.stage) refl stands (needs now name (link_progress moved.stage) old.levels (subst (LevelsKnow now name) (sym levels_are)
       (row_quiet name l known.clean known.nested log now (SyncFolder (folder_of c.target)) (Ok tt) known.tree (row_done log now (SyncFolder (folder_of c.target)) (rows_at at.Decided stage rows)) (λ q ns. tt) known.levels)))
-  link_step moved (Troubled trouble) did old new levels_are tells calls stands =
-      link_then now name moved did old new (link_progress moved.stage) refl stands (needs now name (link_progress moved.stage) old.levels (subst (LevelsKnow now name) (sym levels_are) (stops c.stage trouble.cause trouble.path calls)))
-  link_step moved (Chunk count) did old new levels_are tells calls stands = absurd tells
-  link_step moved (Ended ending part) did old new levels_are tells calls stands = absurd tells
-  link_step moved (Removed path) did old new levels_are tells calls stands = absurd tells
-  link_step moved (Made path) did old new levels_are tells calls stands = absurd tells
-  link_step moved (Set path) did old new levels_are tells calls stands = absurd tells
-  link_step moved (Kept path) did old new levels_are tells calls stands = absurd tells
-  link_step moved (Skipped path why) did old new levels_are tells calls stands = absurd tells
+  link_step moved (Troubled trouble) old new levels_are tells calls stands =
+      link_then now name moved (Troubled trouble) old new (link_progress moved.stage) refl stands (needs now name (link_progress moved.stage) old.levels (subst (LevelsKnow now name) (sym levels_are) (stops c.stage trouble.cause trouble.path calls)))
+  link_step moved (Chunk count) old new levels_are tells calls stands = absurd tells
+  link_step moved (Ended ending part) old new levels_are tells calls stands = absurd tells
+  link_step moved (Removed path) old new levels_are tells calls stands = absurd tells
+  link_step moved (Made path) old new levels_are tells calls stands = absurd tells
+  link_step moved (Set path) old new levels_are tells calls stands = absurd tells
+  link_step moved (Kept path) old new levels_are tells calls stands = absurd tells
+  link_step moved (Skipped path why) old new levels_are tells calls stands = absurd tells

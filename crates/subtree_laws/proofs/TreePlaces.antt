@@ -26,12 +26,12 @@ use Rattle.tree_copy.specs.declared.item.Item.TheVariants.{Next, File, Link, Sta
 use Rattle.copy_levels.specs.declared.level.Level.{Level}
 use Rattle.tree_copy.specs.declared.progress.Progress.{Progress}
 use Rattle.tree_copy.specs.declared.progress.Progress.TheVariants.{UnderWay, Decided, Anew}
-use Rattle.tree_copy.specs.declared.report.CopyDid.{CopyDid}
-use Rattle.copy_levels.specs.Levels.{IsLeft, Levels, closed, dirtied, emptied, entered, level, made_levels, passed, with_copy}
+use Rattle.job_reports.specs.declared.report.Did.{Did}
+use Rattle.copy_levels.specs.Levels.{IsLeft, Levels, closed, coming, dirtied, emptied, entered, level, made_levels, passed, with_copy}
 use Rattle.tree_copy.specs.Progress.{link_progress, progress}
 use Rattle.tree_copy.specs.Standing.{Seen, target_name}
 use Rattle.tree_copy.specs.Steps.{FileWorks, GoesOn, LinkWorks, TakesNext, WorksOn, idle, link_begun, noted, settled}
-use Rattle.subtree_laws.specs.Knows.{coming, later}
+use Rattle.subtree_laws.specs.Knows.{later}
 use Rattle.subtree_laws.specs.Lies.{AreLaid, AreNested, IsOnce, IsPlaced}
 use Rattle.subtree_laws.proofs.TreeSteps.{closing_not, next_of}
 
@@ -113,7 +113,7 @@ module _ (name : List ℕ) where
   pub laid_copy : (moved : FolderCopying) (l : Levels) → moved.target ≡ l.inner.copy.target → ((mode : ℕ) → moved.stage ≡ at.Make mode → ⊥) → Laid l → Laid (with_copy moved l)
   laid_copy moved l same made h = inner_laid name l.inner _ l.around same (λ p. record { once = p.once; made = made }) h
 
-  laid_settled : (p : Progress) (item : Item) (did : CopyDid) (changed : Bool) (c : Seen) → Laid c.levels → Laid (let s : Seen = settled p item (noted did changed c) in s.levels)
+  laid_settled : (p : Progress) (item : Item) (did : Did) (changed : Bool) (c : Seen) → Laid c.levels → Laid (let s : Seen = settled p item (noted did changed c) in s.levels)
   laid_settled UnderWay item did changed c h = laid_dirtied changed c.levels h
   laid_settled Decided item did changed c h = laid_passed false (dirtied changed c.levels) (laid_dirtied changed c.levels h)
   laid_settled Anew item did changed c h = laid_dirtied changed c.levels h
@@ -170,7 +170,7 @@ module _ (name : List ℕ) where
         }) k.2,
       )
 
-module _ (unclaimed : Route → Type 0) (old new : Seen) (did : CopyDid) (before after : Option CallLog) (h : AreLaid old.name old.levels.inner old.levels.around) where
+module _ (unclaimed : Route → Type 0) (old new : Seen) (did : Did) (before after : Option CallLog) (h : AreLaid old.name old.levels.inner old.levels.around) where
   abbrev Then : Type 0
   Then = AreLaid old.name new.levels.inner new.levels.around
 

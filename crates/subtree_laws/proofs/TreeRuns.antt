@@ -20,12 +20,13 @@ use Rattle.job_reports.specs.declared.report.Cause.TheVariants as cause
 use Rattle.job_reports.proofs.CallAnswers.{done_call, some_log}
 use Rattle.file_copy.specs.CopyCalls.{part_mode, placing}
 use Rattle.copy_levels.specs.declared.level.Level.{Level}
-use Rattle.copy_levels.specs.Levels.{Levels, is_around_dirty}
+use Rattle.copy_levels.specs.Levels.{Levels, coming, is_around_dirty, passed}
 use Rattle.history_laws.proofs.FilledCalls.{IsNoneOf, MayFill, PlacesBeside}
-use Rattle.subtree_laws.specs.AtWork.{IsAtWork}
-use Rattle.subtree_laws.specs.Knows.{LevelsKnow, coming}
+use Rattle.subtree_laws.specs.AtWork.{HasItem, IsAtWork}
+use Rattle.subtree_laws.specs.Knows.{LevelsKnow}
 use Rattle.subtree_laws.specs.Lies.{AreNested}
-use Rattle.subtree_laws.proofs.TreeKnows.{MayFillAround, levels_call, levels_quiet, levels_refused}
+use Rattle.subtree_laws.proofs.QuietRuns.{row_done, tree_moded, tree_synced}
+use Rattle.subtree_laws.proofs.TreeKnows.{MayFillAround, levels_call, levels_quiet}
 
 -- what may be done in each folder that lies higher may be done around
 pub around_may : (s : FileSystem) (name : List ℕ) (call : Call) (up : Route) (around : List Level) → AreNested up around → ((q : Route) (names : List (List ℕ)) → length q < length up → MayFill s q names call) → MayFillAround s name around call
@@ -39,23 +40,6 @@ around_may s name call up (outer ∷ around) nested may =
 -- a name in a folder is none of those in a higher one
 pub higher_off : (q up : Route) (k : List ℕ) (names : List (List ℕ)) → length q < length up → IsNoneOf q names (k ∷ up)
 higher_off q up k names less other same among = let e = ap (λ (r : Route). length r) same in absurd (omega (arith, e, less))
-
--- a row of one call was done, or it was refused, or nothing was called
-pub row_done : (log now : CallLog) (call : Call) → AllDone log (call ∷ []) (Some now) → Performs {A = Unit {0}} log call (Ok tt) (Some now)
-row_done log now call h = subst (λ (l : CallLog). Performs {A = Unit {0}} log call (Ok tt) (Some l)) (sym (some_log now h.0 h.2)) h.1
-
-pub row_stops : (log now : CallLog) (call : Call) (why : Cause) (path : Option Route) → RunStops (call ∷ []) why path log (Some now) → (now ≡ log) ⊎ ((e : TreeError) × Performs {A = Unit {0}} log call (Err e) (Some now))
-row_stops log now call (cause.Tree e) path (which, named, inl stop) = inr (e, stop.1)
-row_stops log now call (cause.Tree e) path (which, named, inr later) = absurd later.2
-row_stops log now call cause.Memory path (none, (zero, few, done)) = inl (some_log now log done)
-row_stops log now call cause.Memory path (none, (suc count, few, done)) = absurd (omega (arith, few))
-row_stops log now call (cause.TargetKind kind) path h = absurd h
-row_stops log now call cause.SpecialSource path h = absurd h
-row_stops log now call cause.TooDeep path h = absurd h
-row_stops log now call (cause.Unnamed count) path h = absurd h
-row_stops log now call cause.PartTaken path h = absurd h
-row_stops log now call cause.TooLong path h = absurd h
-row_stops log now call (cause.Changed said got) path h = absurd h
 
 off_in : (up : Route) (k : List ℕ) (rest : List (List ℕ)) → (Among rest k → ⊥) → IsNoneOf up rest (k ∷ up)
 off_in up k rest off other same among = off (let e : k ≡ other = cc in subst (λ m. Among rest m) (sym e) among)
@@ -100,11 +84,10 @@ at_work_quiet log c up rest part target tree none w = record {
   target_off = w.target_off;
 }
 
-tree_synced : (log : CallLog) (i : ℕ) → IsTree (current log) → IsTree (current (with_change log (Syncs i)))
-tree_synced log i tree = subst IsTree (sym (current_more log (Syncs i))) tree
-
-tree_moded : (log : CallLog) (i mode : ℕ) → IsTree (current log) → IsTree (current (with_change log (Sets i mode)))
-tree_moded log i mode tree = subst IsTree (sym (current_more log (Sets i mode))) (tree_set (current log) i _ tree refl)
+pub has_quiet : (name : List ℕ) (l : Levels) (part target : Route) (log : CallLog) (c : Change) → IsTree (current log) → ((n g : ℕ) (m : List ℕ) → says c n g m ≡ None) → HasItem log name l part target
+    → HasItem (with_change log c) name l part target
+unfolding at_work_quiet
+has_quiet name l part target log c tree none h = record { work = at_work_quiet log c l.inner.copy.target (let p : Levels = passed false l in coming name p.inner.names p.around) part target tree none h.work; off = h.off }
 
 -- What is known of open folders, in which a file or a link is at work.
 module _ (name : List ℕ) (l : Levels) (clean : is_around_dirty l.around ≡ false) (nested : AreNested l.inner.copy.target l.around) where
@@ -168,70 +151,3 @@ module _ (name : List ℕ) (l : Levels) (clean : is_around_dirty l.around ≡ fa
       by : (b : Bool) → (part_mode mode == mode) ≡ b → AllDone log (if◌then◌else◌ b [] (SetMode part mode ∷ []) ++ SyncFile part ∷ Rename part target ∷ []) (Some now) → LevelsKnow now name l
       by true is rows = tail log ready rows
       by false is (mid, set, later) = tail mid (ready_moded log mid part target mode ready set) later
-
--- a part is synced, or given its mode
-synced_levels : (from mid : CallLog) (name : List ℕ) (l : Levels) (part : Route) → IsTree (current from) → Performs {A = Unit {0}} from (SyncFile part) (Ok tt) (Some mid) → LevelsKnow from name l → IsTree (current mid) × LevelsKnow mid name l
-synced_levels from mid name l part tree h known =
-    let d = done_call from (SyncFile part) mid h in (
-      subst (λ (x : CallLog). IsTree (current x)) (sym d.is) (tree_synced from (found (current from) part) tree),
-      subst (λ (x : CallLog). LevelsKnow x name l) (sym d.is) (levels_quiet from (Syncs (found (current from) part)) tree (λ n g m. refl) name l known),
-    )
-
-moded_levels : (from mid : CallLog) (name : List ℕ) (l : Levels) (part : Route) (mode : ℕ) → IsTree (current from) → Performs {A = Unit {0}} from (SetMode part mode) (Ok tt) (Some mid) → LevelsKnow from name l
-    → IsTree (current mid) × LevelsKnow mid name l
-moded_levels from mid name l part mode tree h known =
-    let d = done_call from (SetMode part mode) mid h in (
-      subst (λ (x : CallLog). IsTree (current x)) (sym d.is) (tree_moded from (found (current from) part) mode tree),
-      subst (λ (x : CallLog). LevelsKnow x name l) (sym d.is) (levels_quiet from (Sets (found (current from) part) mode) tree (λ n g m. refl) name l known),
-    )
-
--- The calls that place a part stop: those that were done name nothing.
-module _ (now : CallLog) (name : List ℕ) (l : Levels) (part target : Route) where
-  abbrev tail : List Call
-  tail = SyncFile part ∷ Rename part target ∷ []
-
-  same_levels : (from : CallLog) → (let o : Option CallLog = Some now in o) ≡ Some from → LevelsKnow from name l → LevelsKnow now name l
-  same_levels from is known = subst (λ (x : CallLog). LevelsKnow x name l) (sym (some_log now from is)) known
-
-  tail_at : (from : CallLog) (call : Call) (e : TreeError) → StopsAt from tail call e (Some now) → IsTree (current from) × LevelsKnow from name l → LevelsKnow now name l
-  tail_at from call e (inl (is, refused)) (tree, known) = levels_refused from now tree (SyncFile part) e refused name l known
-  tail_at from call e (inr (mid, synced, inl (is, refused))) (tree, known) =
-      let m = synced_levels from mid name l part tree synced known in levels_refused mid now m.0 (Rename part target) e refused name l m.1
-  tail_at from call e (inr (mid, synced, inr (last, moved, none))) known = absurd none
-
-  tail_stops : (from : CallLog) (why : Cause) (path : Option Route) → RunStops tail why path from (Some now) → IsTree (current from) × LevelsKnow from name l → LevelsKnow now name l
-  tail_stops from (cause.Tree e) path (call, named, stops) known = tail_at from call e stops known
-  tail_stops from cause.Memory path (none, (zero, few, done)) known = same_levels from done known.1
-  tail_stops from cause.Memory path (none, (suc zero, few, (mid, synced, end))) known = same_levels mid end (synced_levels from mid name l part known.0 synced known.1).1
-  tail_stops from cause.Memory path (none, (suc (suc count), few, done)) known = absurd (omega (arith, few))
-  tail_stops from (cause.TargetKind kind) path h known = absurd h
-  tail_stops from cause.SpecialSource path h known = absurd h
-  tail_stops from cause.TooDeep path h known = absurd h
-  tail_stops from (cause.Unnamed count) path h known = absurd h
-  tail_stops from cause.PartTaken path h known = absurd h
-  tail_stops from cause.TooLong path h known = absurd h
-  tail_stops from (cause.Changed said got) path h known = absurd h
-
-  moded_stops : (from : CallLog) (mode : ℕ) (why : Cause) (path : Option Route) → RunStops (SetMode part mode ∷ tail) why path from (Some now) → IsTree (current from) × LevelsKnow from name l → LevelsKnow now name l
-  moded_stops from mode (cause.Tree e) path (call, named, inl (is, refused)) known = levels_refused from now known.0 (SetMode part mode) e refused name l known.1
-  moded_stops from mode (cause.Tree e) path (call, named, inr (mid, set, stops)) known = tail_at mid call e stops (moded_levels from mid name l part mode known.0 set known.1)
-  moded_stops from mode cause.Memory path (none, (zero, few, done)) known = same_levels from done known.1
-  moded_stops from mode cause.Memory path (none, (suc zero, few, (mid, set, end))) known = same_levels mid end (moded_levels from mid name l part mode known.0 set known.1).1
-  moded_stops from mode cause.Memory path (none, (suc (suc zero), few, (mid, set, (last, synced, end)))) known =
-      let m = moded_levels from mid name l part mode known.0 set known.1 in same_levels last end (synced_levels mid last name l part m.0 synced m.1).1
-  moded_stops from mode cause.Memory path (none, (suc (suc (suc count)), few, done)) known = absurd (omega (arith, few))
-  moded_stops from mode (cause.TargetKind kind) path h known = absurd h
-  moded_stops from mode cause.SpecialSource path h known = absurd h
-  moded_stops from mode cause.TooDeep path h known = absurd h
-  moded_stops from mode (cause.Unnamed count) path h known = absurd h
-  moded_stops from mode cause.PartTaken path h known = absurd h
-  moded_stops from mode cause.TooLong path h known = absurd h
-  moded_stops from mode (cause.Changed said got) path h known = absurd h
-
-pub part_stops : (log now : CallLog) (name : List ℕ) (l : Levels) → IsTree (current log) → (mode : ℕ) (part target : Route) (why : Cause) (path : Option Route) → RunStops (placing mode part target) why path log (Some now) → LevelsKnow log name l
-    → LevelsKnow now name l
-part_stops log now name l tree mode part target why path run known = by (part_mode mode == mode) run
-  where
-    by : (b : Bool) → RunStops (if◌then◌else◌ b [] (SetMode part mode ∷ []) ++ SyncFile part ∷ Rename part target ∷ []) why path log (Some now) → LevelsKnow now name l
-    by true run = tail_stops now name l part target log why path run (tree, known)
-    by false run = moded_stops now name l part target log mode why path run (tree, known)

@@ -17,6 +17,7 @@ use Rattle.tree_copy.specs.Standing.{Seen}
 use Rattle.tree_copy.specs.Steps.{idle, settled}
 use Rattle.subtree_laws.specs.Laws.{FoldersKnown, SkipLaw}
 use Rattle.subtree_laws.proofs.TreeFolders.{copy_levels}
+use Rattle.subtree_laws.proofs.ItemSteps.{retries_item, skips_item}
 use Rattle.subtree_laws.proofs.TreeKnows.{levels_emptied, levels_passed}
 use Rattle.subtree_laws.proofs.TreePlaces.{laid_copy, laid_emptied, laid_passed, placed_of}
 
@@ -78,6 +79,6 @@ module _ (log : CallLog) where
 
 pub skip_law : SkipLaw
 skip_law = record {
-  skip = λ log cause old new did skips known. skips_at log old.item cause old new did skips known;
-  retry = λ log c known. retries_at log c.item c known;
+  skip = λ log cause old new did skips known. (skips_at log old.item cause old new did skips known.0, skips_item log cause old new did skips known.1);
+  retry = λ log c known. (retries_at log c.item c known.0, retries_item log c known.1);
 }

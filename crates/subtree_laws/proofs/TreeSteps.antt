@@ -1,5 +1,5 @@
 -- A step in the copy of a tree keeps what is known of the folders that are open.
-use Rattle.std.proofs.Common.{◌≡◌, ℕ, false, List, [], ◌∷◌, refl, sym, ◌∙◌, ap, subst, inl, inr, Some}
+use Rattle.std.proofs.Common.{◌≡◌, ℕ, Bool, false, List, [], ◌∷◌, refl, sym, ◌∙◌, ap, subst, inl, inr, Some}
 use Rattle.mc_text.specs.Routes.{Route}
 use Rattle.tree_trait.specs.Change.{CallLog, current}
 use Rattle.tree_trait.specs.CrashImages.{Among}
@@ -9,7 +9,7 @@ use Rattle.job_reports.specs.declared.job.Pair.{Pair}
 use Rattle.job_reports.proofs.CallAnswers.{some_log}
 use Rattle.file_copy.specs.Copying as file
 use Rattle.file_copy.specs.Copying.{Copying}
-use Rattle.file_copy.specs.PartNames.{part_name}
+use Rattle.file_copy.specs.PartNames.{IsFirstFree, IsShort, part_name, part_path}
 use Rattle.folder_copy.specs.FolderCopying.{closing}
 use Rattle.folder_copy.specs.declared.stage.Stage.{Stage}
 use Rattle.folder_copy.specs.declared.stage.Stage.TheVariants as at
@@ -21,22 +21,24 @@ use Rattle.file_copy.specs.declared.stage.Stage.TheVariants as file_stage
 use Rattle.tree_copy.specs.declared.due.Due.TheVariants.{Thing}
 use Rattle.tree_copy.specs.declared.item.Item.{Item}
 use Rattle.tree_copy.specs.declared.item.Item.TheVariants.{Next, File, Link, Stays}
-use Rattle.tree_copy.specs.declared.report.CopyDid.{CopyDid}
+use Rattle.job_reports.specs.declared.report.Did.{Did}
 use Rattle.copy_levels.specs.Levels.{closed, is_around_dirty}
+use Rattle.tree_copy.specs.Parts.{IsPartPlace, ahead}
 use Rattle.tree_copy.specs.Standing.{Seen, due_at, pair_of, target_name}
 use Rattle.tree_copy.specs.Progress.{link_progress, progress}
 use Rattle.tree_copy.specs.declared.progress.Progress.TheVariants.{Anew, UnderWay}
 use Rattle.tree_copy.specs.Steps.{CopySteps, FileWorks, GoesOn, LinkWorks, TakesFile, TakesFolder, TakesLink, TakesNext, WorksOn, at_end, link_begun}
 use Rattle.history_laws.proofs.Resting.{IsOfFiles}
-use Rattle.subtree_laws.specs.AtWork.{ItemKnown, PartsApart}
+use Rattle.subtree_laws.specs.AtWork.{ItemKnown}
 use Rattle.subtree_laws.specs.Knows.{LevelsKnow, later}
 use Rattle.subtree_laws.specs.Lies.{AreNested}
+use Rattle.subtree_laws.proofs.PartsApart.{parts_apart}
 use Rattle.subtree_laws.proofs.TreeFiles.{FileKnown, file_step}
 use Rattle.subtree_laws.proofs.TreeFolders.{closed_levels, folder_ends, folder_makes, syncs_around}
 use Rattle.subtree_laws.proofs.TreeLinks.{LinkKnown, link_step}
 
--- What is known of a tree's copy as a step begins: of its folders, and that a part which is begun has the name of nothing that is yet to be met.
-pub record StepKnown (unclaimed : Route → Type 0) (log : CallLog) (c : Seen) : Type 0 where
+-- What is known of a tree's copy as a step begins.
+pub record StepKnown (log : CallLog) (c : Seen) : Type 0 where
   pub tree : IsTree (current log)
   pub files : IsOfFiles log
   pub nested : AreNested c.levels.inner.copy.target c.levels.around
@@ -44,7 +46,6 @@ pub record StepKnown (unclaimed : Route → Type 0) (log : CallLog) (c : Seen) :
   pub made : (mode : ℕ) → c.levels.inner.copy.stage ≡ at.Make mode → ⊥
   -- no name comes twice
   pub once : (name : List ℕ) (names : List (List ℕ)) → c.levels.inner.names.names ≡ name ∷ names → Among (later c) (target_name c name) → ⊥
-  pub begins : PartsApart unclaimed log c
 
 pub closing_not : (stage : Stage) → ((mode : ℕ) → stage ≡ at.Make mode → ⊥) → (mode : ℕ) → closing stage ≡ at.Make mode → ⊥
 closing_not (at.Make other) none mode is = none other refl
@@ -52,10 +53,10 @@ closing_not (at.Fill owed) none mode is = (let f : ⊥ = cc in f)
 closing_not (at.Close owed) none mode is = (let f : ⊥ = cc in f)
 closing_not at.Done none mode is = (let f : ⊥ = cc in f)
 
-begun_not : (stage : FileStage) → progress stage ≡ UnderWay → stage ≡ file_stage.Begin → ⊥
+pub begun_not : (stage : FileStage) → progress stage ≡ UnderWay → stage ≡ file_stage.Begin → ⊥
 begun_not stage going is = (let e : Anew ≡ UnderWay = sym (ap progress is) ∙ going in let f : ⊥ = cc in f)
 
-made_not : (stage : LinkStage) → link_progress stage ≡ UnderWay → stage ≡ link_stage.Make → ⊥
+pub made_not : (stage : LinkStage) → link_progress stage ≡ UnderWay → stage ≡ link_stage.Make → ⊥
 made_not stage going is = (let e : Anew ≡ UnderWay = sym (ap link_progress is) ∙ going in let f : ⊥ = cc in f)
 
 -- what is taken up is the thing that has the next name
@@ -69,48 +70,72 @@ pub next_of : (c : Seen) (names : List (List ℕ)) (pair : Pair) → due_at name
 next_of c [] pair is = absurd (let f : ⊥ = cc in f)
 next_of c (name ∷ rest) pair is = record { name = name; rest = rest; names_are = refl; target_is = (let same : pair ≡ pair_of c name = cc in ap (λ (p : Pair). p.target) same) }
 
-module _ (unclaimed : Route → Type 0) (old new : Seen) (did : CopyDid) (log now : CallLog) (known : StepKnown unclaimed log old) where
+module _ (free : Route → Bool) (old new : Seen) (did : Did) (log now : CallLog) (known : StepKnown log old) where
+  abbrev Unclaimed : Route → Type 0
+  Unclaimed = IsPartPlace free old
+
   abbrev Stay : Type 0
   Stay = LevelsKnow now old.name new.levels
 
-  file_works : (f : Copying) → FileKnown unclaimed log old.name old.levels f → FileWorks unclaimed f old new did (Some log) (Some now) → Stay
-  file_works f file w = file_step unclaimed log now old.name old.levels f file w.moved w.report did old new refl w.tells (w.called log refl) w.stands
+  file_works : (f : Copying) → FileKnown Unclaimed log old.name old.levels f → FileWorks Unclaimed f old new did (Some log) (Some now) → Stay
+  file_works f file w = file_step Unclaimed log now old.name old.levels f file w.moved did old new refl w.short w.tells (w.called log refl) w.stands
 
   link_works : (l : LinkCopying) → LinkKnown log old.name old.levels l → LinkWorks l old new did (Some log) (Some now) → Stay
-  link_works l link w = link_step log now old.name old.levels l link w.moved w.report did old new refl w.tells (w.called log refl) w.stands
+  link_works l link w = link_step log now old.name old.levels l link w.moved did old new refl w.tells (w.called log refl) w.stands
+
+  -- a part that is begun has the name of nothing that is yet to be met
+  part_apart : (source target : Route) (k : ℕ) → folder_of target ≡ old.levels.inner.copy.target → IsFirstFree (current log) Unclaimed (file.places old.job source target) k
+      → IsShort (part_path (file.places old.job source target) k) → Among (ahead old) (part_name old.job k) → ⊥
+  part_apart source target k within first short = (let open_to = first.free in parts_apart free old (part_name old.job k) (folder_of target) (open_to.unclaimed short))
 
   same_log : now ≡ log → LevelsKnow now old.name old.levels
   same_log is = subst (λ (x : CallLog). LevelsKnow x old.name old.levels) (sym is) known.levels
 
   -- a file is taken up
-  takes_file : is_around_dirty old.levels.around ≡ false → TakesFile unclaimed old new did (Some log) (Some now) → Stay
-  takes_file clean t =
+  pub taken_file : is_around_dirty old.levels.around ≡ false → (t : TakesFile Unclaimed old new did (Some log) (Some now)) → FileKnown Unclaimed log old.name old.levels (file.begun old.job t.pair.source t.pair.target)
+  taken_file clean t =
       let next = next_of old old.levels.inner.names.names t.pair t.next in
       let within : folder_of t.pair.target ≡ old.levels.inner.copy.target = ap folder_of next.target_is in
-      file_works (file.begun old.job t.pair.source t.pair.target) (record {
+      record {
         tree = known.tree;
         clean = clean;
         nested = known.nested;
         levels = known.levels;
         within = within;
         item = λ part is. absurd (let f : ⊥ = cc in f);
-        begins = λ is k free. known.begins t.pair.source t.pair.target k within free;
-      }) t.works
+        begins = λ is k open_to short. part_apart t.pair.source t.pair.target k within open_to short;
+      }
 
   -- a link is
-  takes_link : is_around_dirty old.levels.around ≡ false → TakesLink unclaimed old new did (Some log) (Some now) → Stay
-  takes_link clean t =
+  pub taken_link : is_around_dirty old.levels.around ≡ false → (t : TakesLink Unclaimed old new did (Some log) (Some now)) → LinkKnown log old.name old.levels (link_begun t.pair t.part)
+  taken_link clean t =
       let next = next_of old old.levels.inner.names.names t.pair t.next in
       let within : folder_of t.pair.target ≡ old.levels.inner.copy.target = ap folder_of next.target_is in
       let chosen = t.chosen log refl in
-      link_works (link_begun t.pair t.part) (record {
+      record {
         tree = known.tree;
         clean = clean;
         nested = known.nested;
         levels = known.levels;
         item = λ is. absurd (let f : ⊥ = cc in f);
-        begins = λ is. (part_name old.job chosen.0, chosen.1 ∙ ap (λ (r : Route). part_name old.job chosen.0 ∷ r) within, known.begins t.pair.source t.pair.target chosen.0 within chosen.2);
-      }) t.works
+        begins = λ is. (part_name old.job chosen.0, chosen.1 ∙ ap (λ (r : Route). part_name old.job chosen.0 ∷ r) within, part_apart t.pair.source t.pair.target chosen.0 within chosen.2 (subst IsShort chosen.1 t.short));
+      }
+
+  -- the file or link at work
+  pub worked_file : (f : Copying) → ItemKnown log old (File f) → FileKnown Unclaimed log old.name old.levels f
+  worked_file f (clean, going, within, item) = record {
+    tree = known.tree;
+    clean = clean;
+    nested = known.nested;
+    levels = known.levels;
+    within = within;
+    item = item;
+    begins = λ is. absurd (begun_not f.stage going is);
+  }
+
+  pub worked_link : (l : LinkCopying) → ItemKnown log old (Link l) → LinkKnown log old.name old.levels l
+  worked_link l (clean, going, within, item) =
+      record { tree = known.tree; clean = clean; nested = known.nested; levels = known.levels; item = item; begins = λ is. absurd (made_not l.stage going is) }
 
   -- a folder is
   takes_folder : is_around_dirty old.levels.around ≡ false → TakesFolder old new did (Some log) (Some now) → Stay
@@ -119,10 +144,10 @@ module _ (unclaimed : Route → Type 0) (old new : Seen) (did : CopyDid) (log no
       folder_makes log now old.name old.levels (record { tree = known.tree; files = known.files; nested = known.nested; levels = known.levels }) clean (target_name old next.name) (known.once next.name next.rest next.names_are)
       t.pair t.names t.mode old new did refl next.target_is t.works
 
-  takes_next : is_around_dirty old.levels.around ≡ false → TakesNext unclaimed old new did (Some log) (Some now) → Stay
+  takes_next : is_around_dirty old.levels.around ≡ false → TakesNext Unclaimed old new did (Some log) (Some now) → Stay
   takes_next clean (inl s) = subst (λ (x : Seen). LevelsKnow now old.name x.levels) (sym s.stands) (same_log (some_log now log s.same))
-  takes_next clean (inr (inl t)) = takes_file clean t
-  takes_next clean (inr (inr (inl t))) = takes_link clean t
+  takes_next clean (inr (inl t)) = file_works (file.begun old.job t.pair.source t.pair.target) (taken_file clean t) t.works
+  takes_next clean (inr (inr (inl t))) = link_works (link_begun t.pair t.part) (taken_link clean t) t.works
   takes_next clean (inr (inr (inr (inl t)))) = takes_folder clean t
   takes_next clean (inr (inr (inr (inr (next, inl (debt, ends)))))) =
       folder_ends log now old.name (closed old.levels) (record { tree = known.tree; files = known.files; nested = known.nested; levels = closed_levels log old.name old.levels known.levels }) clean
@@ -130,27 +155,17 @@ module _ (unclaimed : Route → Type 0) (old new : Seen) (did : CopyDid) (log no
   takes_next clean (inr (inr (inr (inr (next, inr (debt, f, same)))))) =
       subst (λ (x : Seen). LevelsKnow now old.name x.levels) (sym f.stands) (closed_levels now old.name old.levels (same_log (some_log now log same)))
 
-  goes_on : GoesOn unclaimed old new did (Some log) (Some now) → Stay
+  goes_on : GoesOn Unclaimed old new did (Some log) (Some now) → Stay
   goes_on (inl s) = syncs_around log now old.name old.levels (record { tree = known.tree; files = known.files; nested = known.nested; levels = known.levels }) old new did refl s
   goes_on (inr (clean, takes)) = takes_next clean takes
 
-  pub works_on : (item : Item) → ItemKnown log old item → WorksOn item unclaimed old new did (Some log) (Some now) → Stay
+  pub works_on : (item : Item) → ItemKnown log old item → WorksOn item Unclaimed old new did (Some log) (Some now) → Stay
   works_on Next item w = goes_on w
-  works_on (File f) (clean, going, within, item) w =
-      file_works f (record {
-        tree = known.tree;
-        clean = clean;
-        nested = known.nested;
-        levels = known.levels;
-        within = within;
-        item = item;
-        begins = λ is. absurd (begun_not f.stage going is);
-      }) w
-  works_on (Link l) (clean, going, item) w =
-      link_works l (record { tree = known.tree; clean = clean; nested = known.nested; levels = known.levels; item = item; begins = λ is. absurd (made_not l.stage going is) }) w
+  works_on (File f) item w = file_works f (worked_file f item) w
+  works_on (Link l) item w = link_works l (worked_link l item) w
   works_on (Stays part) item w = absurd w
 
 -- A step, where this is known once the folders are left that owe nothing.
-pub copy_step : (unclaimed : Route → Type 0) (old new : Seen) (did : CopyDid) (calls : ℕ) (log now : CallLog) (faults faults_after : ℕ) (s : CopySteps unclaimed old new did calls (Some log) (Some now) faults faults_after)
-    → StepKnown unclaimed log s.mid → ItemKnown log s.mid s.mid.item → LevelsKnow now (let m : Seen = s.mid in m.name) new.levels
-copy_step unclaimed old new did calls log now faults faults_after s known item = works_on unclaimed s.mid new did log now known s.mid.item item s.works
+pub copy_step : (free : Route → Bool) (old new : Seen) (did : Did) (calls : ℕ) (log now : CallLog) (faults faults_after : ℕ) (s : CopySteps free old new did calls (Some log) (Some now) faults faults_after)
+    → StepKnown log s.mid → ItemKnown log s.mid s.mid.item → LevelsKnow now (let m : Seen = s.mid in m.name) new.levels
+copy_step free old new did calls log now faults faults_after s known item = works_on free s.mid new did log now known s.mid.item item s.works

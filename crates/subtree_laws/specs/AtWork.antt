@@ -7,17 +7,14 @@ use Rattle.tree_trait.specs.CrashImages.{Among}
 use Rattle.tree_trait.specs.FileSystem.{find, node}
 use Rattle.tree_trait.specs.Refusals.{is_folder}
 use Rattle.job_reports.specs.Paths.{folder_of}
-use Rattle.file_copy.specs.Copying as file
 use Rattle.file_copy.specs.Copying.{part_at}
-use Rattle.file_copy.specs.PartNames.{IsFirstFree, part_name}
 use Rattle.link_copy.specs.LinkCopying.{has_part}
-use Rattle.copy_levels.specs.Levels.{Levels, is_around_dirty, passed}
+use Rattle.copy_levels.specs.Levels.{Levels, coming, is_around_dirty, passed}
 use Rattle.tree_copy.specs.declared.item.Item.{Item}
 use Rattle.tree_copy.specs.declared.item.Item.TheVariants.{Next, File, Link, Stays}
 use Rattle.tree_copy.specs.declared.progress.Progress.TheVariants.{UnderWay}
 use Rattle.tree_copy.specs.Progress.{link_progress, progress}
 use Rattle.tree_copy.specs.Standing.{Seen}
-use Rattle.subtree_laws.specs.Knows.{ahead, coming}
 
 -- The part of a file or a link that is at work in this folder, and the target that it is to come to, which is met next.
 pub record IsAtWork (s : FileSystem) (up : Route) (rest : List (List ℕ)) (part target : Route) : Type 0 where
@@ -44,10 +41,6 @@ abbrev pub ItemKnown : CallLog → Seen → Item → Type 0
 ItemKnown log c Next = ⊤
 ItemKnown log c (File f) = (is_around_dirty c.levels.around ≡ false) × (progress f.stage ≡ UnderWay) × (folder_of f.target ≡ c.levels.inner.copy.target)
     × ((part : Route) → part_at f.stage ≡ Some part → HasItem log c.name c.levels part f.target)
-ItemKnown log c (Link l) = (is_around_dirty c.levels.around ≡ false) × (link_progress l.stage ≡ UnderWay) × (has_part l.stage ≡ true → HasItem log c.name c.levels l.part l.target)
+ItemKnown log c (Link l) = (is_around_dirty c.levels.around ≡ false) × (link_progress l.stage ≡ UnderWay) × (folder_of l.target ≡ c.levels.inner.copy.target)
+    × (has_part l.stage ≡ true → HasItem log c.name c.levels l.part l.target)
 ItemKnown log c (Stays part) = ⊤
-
--- a part that is begun in the folder that is worked has the name of nothing that is yet to be met there
-abbrev pub PartsApart : (Route → Type 0) → CallLog → Seen → Type 0
-PartsApart unclaimed log c =
-    (source target : Route) (k : ℕ) → folder_of target ≡ c.levels.inner.copy.target → IsFirstFree (current log) unclaimed (file.places c.job source target) k → Among (ahead c) (part_name c.job k) → ⊥

@@ -1,26 +1,15 @@
 -- What is known of the folders that the copy of a tree has open: each is filled, but for the innermost, which may just have been made. A folder
 -- that is filled stands on the disk, and no change waits of a name that is yet to be met in it (`IsFilling` of `history_laws`); of one that was just
 -- made only the second is known (`IsNew`).
-use Rattle.std.specs.Prelude.{ℕ, ⊤, Bool, true, false, List, [], ◌∷◌, map}
+use Rattle.std.specs.Prelude.{ℕ, ⊤, Bool, true, false, List, [], ◌∷◌}
 use Rattle.mc_text.specs.Routes.{Route}
 use Rattle.tree_trait.specs.Change.{CallLog}
-use Rattle.subtree_walk.specs.Places.{OpenFolder}
 use Rattle.copy_levels.specs.declared.level.Level.{Level}
-use Rattle.copy_levels.specs.Levels.{Levels, is_around_dirty, passed}
+use Rattle.copy_levels.specs.Levels.{Levels, coming, is_around_dirty, passed}
 use Rattle.tree_copy.specs.Standing.{Seen}
 use Rattle.history_laws.proofs.FilledFolders.{IsFilling, IsNew}
 
--- The names that are yet to be met in a folder that is open, as they are at its target: what is copied, the one name of the outermost, may have
--- another name there.
-abbrev pub coming : List ℕ → OpenFolder → List Level → List (List ℕ)
-coming name place [] = map (λ (met : List ℕ). name) place.names
-coming name place (outer ∷ around) = place.names
-
--- in the folder that is worked
-abbrev pub ahead : Seen → List (List ℕ)
-ahead c = coming c.name c.levels.inner.names c.levels.around
-
--- and once the next one is done with
+-- the names that are yet to be met in the folder that is worked (`ahead` of `tree_copy`), once the next one is done with
 abbrev pub later : Seen → List (List ℕ)
 later c = (let p : Levels = passed false c.levels in coming c.name p.inner.names p.around)
 

@@ -8,14 +8,16 @@ use Rattle.job_reports.specs.declared.report.Cause.{Cause}
 use Rattle.job_reports.specs.declared.report.Did.{Did}
 use Rattle.copy_levels.specs.Levels.{is_around_dirty}
 use Rattle.tree_copy.specs.declared.copy.Named.{Named}
-use Rattle.tree_copy.specs.declared.report.CopyDid.{CopyDid}
 use Rattle.tree_copy.specs.Skipping.{Skips, retried}
 use Rattle.tree_copy.specs.Standing.{Seen, begun, target_name}
 use Rattle.tree_copy.specs.Steps.{CopySteps}
+use Rattle.crash_law.specs.Guarded.{Marks}
+use Rattle.crash_law.specs.Steps.{StandsAt}
 use Rattle.history_laws.specs.Doubt.{way_waits}
 use Rattle.history_laws.proofs.FilledFolders.{IsFilling}
+use Rattle.history_laws.proofs.Knowing.{IsKnown, Said}
 use Rattle.history_laws.proofs.Resting.{IsOfFiles}
-use Rattle.subtree_laws.specs.AtWork.{ItemKnown, PartsApart}
+use Rattle.subtree_laws.specs.AtWork.{ItemKnown}
 use Rattle.subtree_laws.specs.Knows.{LevelsKnow}
 use Rattle.subtree_laws.specs.Lies.{AreLaid}
 
@@ -23,25 +25,33 @@ use Rattle.subtree_laws.specs.Lies.{AreLaid}
 abbrev pub FoldersKnown : CallLog → Seen → Type 0
 FoldersKnown log c = LevelsKnow log c.name c.levels × AreLaid c.name c.levels.inner c.levels.around
 
+-- What is known of a copy: of its folders, and of the file or link at work.
+abbrev pub CopyKnown : CallLog → Seen → Type 0
+CopyKnown log c = FoldersKnown log c × ItemKnown log c c.item
+
 -- It is known of a copy that begins, where the folder of its target stands on the disk, and no change of the target's name waits.
 abbrev pub BeginningLaw : Type 0
-BeginningLaw = (log : CallLog) (job : ℕ) (source target : Named) → IsFilling log target.folder (target.name ∷ []) → FoldersKnown log (begun job source target)
+BeginningLaw = (log : CallLog) (job : ℕ) (source target : Named) → IsFilling log target.folder (target.name ∷ []) → CopyKnown log (begun job source target)
 
--- Each step keeps it, whatever its calls are answered. A job has to know besides, as the step begins, where the part at work stands, and once the
--- folders are left that owe nothing, that a part which is begun has the name of nothing that is yet to be met.
+-- Each step keeps it, whatever its calls are answered.
 abbrev pub StepLaw : Type 0
 StepLaw =
-    (free : Route → Bool) (old new : Seen) (did : CopyDid) (calls : ℕ) (log now : CallLog) (faults faults_after : ℕ)
-    → (s : CopySteps (λ path. free path ≡ true) old new did calls (Some log) (Some now) faults faults_after) → IsTree (current log) → IsOfFiles log → ItemKnown log old old.item
-    → PartsApart (λ path. free path ≡ true) log s.mid → FoldersKnown log old → FoldersKnown now new
+    (free : Route → Bool) (old new : Seen) (did : Did) (calls : ℕ) (log now : CallLog) (faults faults_after : ℕ)
+    → CopySteps free old new did calls (Some log) (Some now) faults faults_after → IsTree (current log) → IsOfFiles log → CopyKnown log old → CopyKnown now new
 
 -- So do a skip and a retry, which call nothing.
 pub record SkipLaw : Type 0 where
-  pub skip : (log : CallLog) (cause : Cause) (old new : Seen) (did : Did) → Skips cause old did new → FoldersKnown log old → FoldersKnown log new
-  pub retry : (log : CallLog) (c : Seen) → FoldersKnown log c → FoldersKnown log (retried c)
+  pub skip : (log : CallLog) (cause : Cause) (old new : Seen) (did : Did) → Skips cause old did new → CopyKnown log old → CopyKnown log new
+  pub retry : (log : CallLog) (c : Seen) → CopyKnown log c → CopyKnown log (retried c)
 
 -- What is met next in a folder that is on the disk is not in doubt: no change waits of its target, nor of a folder above that.
 abbrev pub MetLaw : Type 0
 MetLaw =
     (log : CallLog) (c : Seen) (name : List ℕ) (names : List (List ℕ)) → FoldersKnown log c → is_around_dirty c.levels.around ≡ false → c.levels.inner.names.names ≡ name ∷ names
     → way_waits log (target_name c name ∷ c.levels.inner.copy.target) ≡ false
+
+-- The folder that is worked, once it is on the disk, stands at its path after any crash or nowhere, so that names may be changed in it.
+abbrev pub StandingLaw : Type 0
+StandingLaw =
+    (told : Said) (dirty : List Route) (marks : Marks) (log : CallLog) (c : Seen) → IsKnown told dirty marks log → FoldersKnown log c → is_around_dirty c.levels.around ≡ false
+    → (f : ℕ) × StandsAt marks log c.levels.inner.copy.target f

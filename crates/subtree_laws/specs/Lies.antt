@@ -5,8 +5,8 @@ use Rattle.tree_trait.specs.CrashImages.{Among}
 use Rattle.folder_copy.specs.declared.stage.Stage.{Stage}
 use Rattle.folder_copy.specs.declared.stage.Stage.TheVariants as at
 use Rattle.subtree_walk.specs.Places.{OpenFolder}
+use Rattle.copy_levels.specs.Levels.{coming}
 use Rattle.copy_levels.specs.declared.level.Level.{Level}
-use Rattle.subtree_laws.specs.Knows.{coming}
 
 -- no folder lies at or below one of those around it, which are one level up each
 abbrev pub AreNested : Route → List Level → Type 0

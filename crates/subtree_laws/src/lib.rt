@@ -2,15 +2,17 @@
 //! do nothing: their contracts are laws of the definitions in `specs/`.
 #![tactic(auto)]
 
-ghost use Rattle.subtree_laws.specs.Laws.{BeginningLaw, MetLaw, SkipLaw, StepLaw};
+ghost use Rattle.subtree_laws.specs.Laws.{BeginningLaw, MetLaw, SkipLaw, StandingLaw, StepLaw};
 
-/// A copy that begins in a folder on the disk, where no change of the target's name waits, knows that of its one open folder.
+/// A copy that begins in a folder on the disk, where no change of the target's name waits, knows that of its one open folder, and nothing is
+/// at work.
 pub fn what_a_copy_knows_as_it_begins()
     ensures { BeginningLaw }
 {}
 
 /// Each step of a copy keeps what is known of its open folders: they stand on the disk, but for one that was just made, and no change
-/// waits of a name that is yet to be met in them.
+/// waits of a name that is yet to be met in them. And what is known of the file or link at work: its part stands beside its target, which
+/// is free.
 pub fn what_each_step_of_a_copy_keeps()
     ensures { StepLaw }
 {}
@@ -23,4 +25,9 @@ pub fn what_a_skip_and_a_retry_keep()
 /// So what is met next in a folder that is on the disk isn't in doubt.
 pub fn what_is_met_next_is_out_of_doubt()
     ensures { MetLaw }
+{}
+
+/// The folder that is worked, once it is on the disk, stands there after any crash, or nowhere.
+pub fn what_is_worked_in_stands()
+    ensures { StandingLaw }
 {}

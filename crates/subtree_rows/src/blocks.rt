@@ -2,6 +2,7 @@
 ghost use Rattle.std.specs.Prelude.{◌≡◌, ◌<◌, [], length};
 
 use crate::copying::tell_copy;
+use crate::crashes::tell_crashes;
 use crate::orders::{Orders, orders_of, prepare};
 use crate::showing::tell_tree;
 use crate::things::{CopiedThings, put_mount};
@@ -34,5 +35,6 @@ fn tell_in(page: &mut Page, tree: &mut MemTree, block: &str)
 fn tell_ordered(page: &mut Page, tree: &mut MemTree, orders: &Orders) {
     prepare(page, tree, orders);
     tell_copy(page, tree, orders);
+    tell_crashes(page, tree, orders.crash);
     tell_tree(page, tree);
 }

@@ -1,17 +1,19 @@
 //! Runs a copy, and tells its steps, a line for each.
-ghost use Rattle.std.specs.Prelude.{◌≡◌, IfSome};
-ghost use Rattle.tree_copy.specs.Ending.{IsWindable};
-ghost use Rattle.tree_copy.specs.Steps.{IsWorkable};
+ghost use Rattle.std.specs.Prelude.{◌≡◌, is_some, true, IfSome};
+ghost use Rattle.mc_text.specs.Routes.{parent_of};
+ghost use Rattle.subtree_copy.specs.Standing.{IsGoing};
 
 use crate::orders::Orders;
 use crate::telling::{Told, tell_skip, tell_step};
 use file_copy::PartTest;
-use job_reports::{Cause, Did, Ending};
-use mc_text::{Name, Path};
+use job_reports::{Cause, Did, Ending, Pair};
+use mc_text::Path;
 use row_page::{Page, number};
+use row_reports::tell_of;
 use row_trees::path_of;
 use std::alloc::Global;
-use tree_copy::{CopyDid, Named, TreeCopy};
+use subtree_copy::SubtreeCopy;
+use tree_deletion::Dirty;
 use tree_trait::Tree;
 
 /// A copy that makes more steps is not ended.
@@ -39,46 +41,72 @@ enum Then {
     Nothing,
 }
 
-/// The steps of a copy by job 1.
+/// The steps of a copy by job 1, and the folders that it leaves dirty.
 pub fn tell_copy<T: Tree>(page: &mut Page, tree: &mut T, orders: &Orders) {
     match copy_of(page, orders) {
-        Some(mut copy) => run(page, tree, &mut copy, orders),
+        Some(mut copy) => tell_steps(page, tree, &mut copy, orders),
         None => page.fail(),
     }
 }
 
-fn copy_of(page: &mut Page, orders: &Orders) -> Option<TreeCopy>
-    ensures workable { IfSome result (λ copy. IsWorkable copy.item) }
+fn copy_of(page: &mut Page, orders: &Orders) -> Option<SubtreeCopy>
+    ensures going { IfSome result IsGoing }
 {
-    let source = named(page, orders.source)?;
-    let target = named(page, orders.target)?;
-    begun(page.alloc(), source, target)
+    let source = path_of(page, orders.source)?;
+    let target = path_of(page, orders.target)?;
+    begun(page.alloc(), Pair { source, target })
 }
 
-fn begun(alloc: Global, source: Named, target: Named) -> Option<TreeCopy>
-    ensures workable { IfSome result (λ copy. IsWorkable copy.item) }
+fn begun(alloc: Global, top: Pair) -> Option<SubtreeCopy>
+    ensures going { IfSome result IsGoing }
 {
-    match TreeCopy::new(alloc, 1, source, target) {
+    if !has_folder(alloc, &top.source) {
+        return None;
+    }
+    if !has_folder(alloc, &top.target) {
+        return None;
+    }
+    match SubtreeCopy::begin(alloc, 1, top) {
         Ok(copy) => Some(copy),
         Err(_error) => None,
     }
 }
 
-/// A thing by its folder and its name.
-fn named(page: &mut Page, field: &str) -> Option<Named> {
-    let path = path_of(page, field)?;
-    let folder = path.parent(page.alloc()).ok()??;
-    let name = Name::new(page.alloc(), path.last()?).ok()?;
-    Some(Named { folder, name })
+/// Whether a folder holds it: it isn't the root.
+fn has_folder(alloc: Global, path: &Path) -> bool
+    ensures { result ≡ true → is_some (parent_of path.now) ≡ true }
+{
+    match path.parent(alloc) {
+        Ok(Some(_folder)) => true,
+        Ok(None) => false,
+        Err(_error) => false,
+    }
+}
+
+fn tell_steps<T: Tree>(page: &mut Page, tree: &mut T, copy: &mut SubtreeCopy, orders: &Orders)
+    requires going { IsGoing copy.old }
+{
+    let mut dirty = Dirty::new(page.alloc());
+    run(page, tree, copy, orders, &mut dirty);
+    for folder in dirty.folders() {
+        tell_of(page, "  dirty", folder);
+        page.put("\n");
+    }
 }
 
 /// The steps up to the end; or up to an abort, and then the last steps.
-fn run<T: Tree>(page: &mut Page, tree: &mut T, copy: &mut TreeCopy, orders: &Orders)
-    requires workable { IsWorkable copy.old.item }
+fn run<T: Tree>(
+    page: &mut Page,
+    tree: &mut T,
+    copy: &mut SubtreeCopy,
+    orders: &Orders,
+    dirty: &mut Dirty,
+)
+    requires going { IsGoing copy.old }
 {
     let mut told = Told::new();
-    if !has_ended(page, tree, copy, orders, &mut told) {
-        wind_up(page, tree, copy, &mut told);
+    if !has_ended(page, tree, copy, orders, dirty, &mut told) {
+        wind_up(page, tree, copy, dirty, &mut told);
     }
     told.finish(page);
 }
@@ -87,12 +115,13 @@ fn run<T: Tree>(page: &mut Page, tree: &mut T, copy: &mut TreeCopy, orders: &Ord
 fn has_ended<T: Tree>(
     page: &mut Page,
     tree: &mut T,
-    copy: &mut TreeCopy,
+    copy: &mut SubtreeCopy,
     orders: &Orders,
+    dirty: &mut Dirty,
     told: &mut Told,
 ) -> bool
-    requires workable { IsWorkable copy.old.item }
-    ensures workable { IsWorkable copy.new.item }
+    requires going { IsGoing copy.old }
+    ensures going { IsGoing copy.new }
 {
     let claims = Claims {
         free: orders.claimed.is_empty(),
@@ -102,7 +131,7 @@ fn has_ended<T: Tree>(
         if is_after(orders.abort, made) {
             return false;
         }
-        match step(page, tree, copy, &claims, told) {
+        match step(page, tree, copy, &claims, dirty, told) {
             Then::Step => {}
             Then::Nothing => return true,
             Then::Answer(cause) => {
@@ -123,12 +152,13 @@ fn letter(answers: &str, place: usize) -> Option<u8> {
 }
 
 /// Answers a trouble; whether the copy goes on.
-fn is_answered(page: &mut Page, copy: &mut TreeCopy, cause: Cause, answer: Option<u8>) -> bool
-    requires workable { IsWorkable copy.old.item }
-    ensures workable { IsWorkable copy.new.item }
+fn is_answered(page: &mut Page, copy: &mut SubtreeCopy, cause: Cause, answer: Option<u8>) -> bool
+    requires going { IsGoing copy.old }
+    ensures going { IsGoing copy.new }
 {
     match answer {
         Some(b's') => skip(page, copy, cause),
+        Some(b'a') => skip_all(page, copy, cause),
         Some(b'r') => retry(page, copy),
         _ => return false,
     }
@@ -144,26 +174,20 @@ fn is_after(abort: &str, made: usize) -> bool {
 fn step<T: Tree>(
     page: &mut Page,
     tree: &mut T,
-    copy: &mut TreeCopy,
+    copy: &mut SubtreeCopy,
     claims: &Claims,
+    dirty: &mut Dirty,
     told: &mut Told,
 ) -> Then
-    requires workable { IsWorkable copy.old.item }
-    ensures workable { IsWorkable copy.new.item }
+    requires going { IsGoing copy.old }
+    ensures going { IsGoing copy.new }
 {
-    let stepped = copy.step(page.alloc(), tree, claims);
+    let stepped = copy.step(page.alloc(), tree, claims, dirty);
     tell_step(page, told, &stepped.did, stepped.calls);
     after(&stepped.did)
 }
 
-fn after(did: &CopyDid) -> Then {
-    match did {
-        CopyDid::Set(_) => Then::Step,
-        CopyDid::Common(did) => after_common(did),
-    }
-}
-
-fn after_common(did: &Did) -> Then {
+fn after(did: &Did) -> Then {
     match did {
         Did::Troubled(trouble) => Then::Answer(trouble.cause),
         Did::Ended { .. } => Then::Nothing,
@@ -171,29 +195,42 @@ fn after_common(did: &Did) -> Then {
     }
 }
 
-fn skip(page: &mut Page, copy: &mut TreeCopy, cause: Cause)
-    requires workable { IsWorkable copy.old.item }
-    ensures workable { IsWorkable copy.new.item }
+fn skip(page: &mut Page, copy: &mut SubtreeCopy, cause: Cause)
+    requires going { IsGoing copy.old }
+    ensures going { IsGoing copy.new }
 {
     let did = copy.skip(page.alloc(), cause);
     tell_skip(page, &did);
 }
 
-fn retry(page: &mut Page, copy: &mut TreeCopy)
-    requires workable { IsWorkable copy.old.item }
-    ensures workable { IsWorkable copy.new.item }
+/// What is in trouble is left, and whatever comes into a trouble of its kind later.
+fn skip_all(page: &mut Page, copy: &mut SubtreeCopy, cause: Cause)
+    requires going { IsGoing copy.old }
+    ensures going { IsGoing copy.new }
+{
+    copy.skip_all(cause);
+    skip(page, copy, cause);
+}
+
+fn retry(page: &mut Page, copy: &mut SubtreeCopy)
+    requires going { IsGoing copy.old }
+    ensures going { IsGoing copy.new }
 {
     copy.retry();
     page.put("  retry\n");
 }
 
 /// Makes the last steps of a copy that is aborted.
-fn wind_up<T: Tree>(page: &mut Page, tree: &mut T, copy: &mut TreeCopy, told: &mut Told)
-    requires { IsWindable copy.old.item }
-{
+fn wind_up<T: Tree>(
+    page: &mut Page,
+    tree: &mut T,
+    copy: &mut SubtreeCopy,
+    dirty: &mut Dirty,
+    told: &mut Told,
+) {
     page.put("  abort\n");
     for _ in 0..MOST_STEPS {
-        if has_wound_up(page, tree, copy, told) {
+        if has_wound_up(page, tree, copy, dirty, told) {
             return;
         }
     }
@@ -204,17 +241,15 @@ fn wind_up<T: Tree>(page: &mut Page, tree: &mut T, copy: &mut TreeCopy, told: &m
 fn has_wound_up<T: Tree>(
     page: &mut Page,
     tree: &mut T,
-    copy: &mut TreeCopy,
+    copy: &mut SubtreeCopy,
+    dirty: &mut Dirty,
     told: &mut Told,
-) -> bool
-    requires windable { IsWindable copy.old.item }
-    ensures windable { IsWindable copy.new.item }
-{
-    let stepped = copy.wind_up(page.alloc(), tree, Ending::Aborted);
+) -> bool {
+    let stepped = copy.wind_up(page.alloc(), tree, Ending::Aborted, dirty);
     let ended = matches!(&stepped.did, Did::Ended { .. });
     if let Some(error) = stepped.left {
         page.tell(format_args!("  refused {error:?}\n"));
     }
-    tell_step(page, told, &CopyDid::Common(stepped.did), stepped.calls);
+    tell_step(page, told, &stepped.did, stepped.calls);
     ended
 }

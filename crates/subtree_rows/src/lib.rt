@@ -3,6 +3,7 @@
 
 mod blocks;
 mod copying;
+mod crashes;
 mod orders;
 mod showing;
 mod telling;

@@ -9,7 +9,8 @@ use tree_trait::Tree;
 pub struct Orders<'a> {
     pub source: &'a str,
     pub target: &'a str,
-    /// A letter for each trouble: `r` tries again, `s` leaves the thing as it is. Where none is left the copy is aborted.
+    /// A letter for each trouble: `r` tries again, `s` leaves the thing as it is, `a` whatever comes into such a trouble. Where none is
+    /// left the copy is aborted.
     pub answers: &'a str,
     /// The copy is aborted after so many steps.
     pub abort: &'a str,
@@ -23,6 +24,8 @@ pub struct Orders<'a> {
     pub taken: &'a str,
     /// Another job has a claim on each path of a part, if this is spelled.
     pub claimed: &'a str,
+    /// A path of which it is told what a crash may leave there.
+    pub crash: &'a str,
 }
 
 /// The orders that lines spell.
@@ -37,6 +40,7 @@ pub fn orders_of(lines: &str) -> Orders<'_> {
         moved: field(lines, "move "),
         taken: field(lines, "taken "),
         claimed: field(lines, "claimed "),
+        crash: field(lines, "crash "),
     }
 }
 

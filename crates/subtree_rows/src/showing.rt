@@ -4,7 +4,7 @@ use row_page::Page;
 use row_reports::tell_of;
 use std::convert::AsStr;
 use std::str;
-use tree_trait::{Meta, Tree};
+use tree_trait::{Meta, Tree, TreeError};
 
 /// So many things are told.
 const TOLD: u32 = 24;
@@ -73,6 +73,7 @@ fn tell_meta<T: Tree>(
         Kind::File => {
             tell_mode(page, "file", path, meta.mode);
             tell_bytes(page, tree, path);
+            page.put("\n");
         }
         Kind::Link => tell_link(page, tree, path),
         Kind::Other => {
@@ -91,16 +92,36 @@ fn tell_mode(page: &mut Page, word: &str, path: &Path, mode: u16) {
 fn tell_bytes<T: Tree>(page: &mut Page, tree: &mut T, path: &Path) {
     let mut bytes = [0u8; 16];
     match tree.read_at(page.alloc(), path, 0, &mut bytes) {
-        Ok(0) => page.put(" empty\n"),
+        Ok(0) => page.put(" empty"),
         Ok(count) => tell_front(page, bytes.get(..count).unwrap_or(&[])),
-        Err(error) => page.tell(format_args!(" {error:?}\n")),
+        Err(error) => page.tell(format_args!(" {error:?}")),
     }
 }
 
 fn tell_front(page: &mut Page, bytes: &[u8]) {
     page.put(" ");
     page.put(str::from_utf8(bytes).unwrap_or("?"));
-    page.put("\n");
+}
+
+fn tell_kind<T: Tree>(page: &mut Page, tree: &mut T, path: &Path, meta: Meta) {
+    match meta.kind {
+        Kind::File => {
+            page.tell(format_args!("file {:o}", meta.mode));
+            tell_bytes(page, tree, path);
+        }
+        Kind::Folder => page.put("folder"),
+        Kind::Link => page.put("link"),
+        Kind::Other => page.put("other"),
+    }
+}
+
+/// What stands at a path, in a few words.
+pub fn tell_at<T: Tree>(page: &mut Page, tree: &mut T, path: &Path) {
+    match tree.stat(page.alloc(), path) {
+        Ok(meta) => tell_kind(page, tree, path, meta),
+        Err(TreeError::Missing) => page.put("nothing"),
+        Err(error) => page.tell(format_args!("{error:?}")),
+    }
 }
 
 fn tell_link<T: Tree>(page: &mut Page, tree: &mut T, path: &Path) {

@@ -1,8 +1,7 @@
 //! What a step did, in words.
 use job_reports::Did;
 use row_page::Page;
-use row_reports::{tell_of, tell_report};
-use tree_copy::CopyDid;
+use row_reports::tell_report;
 
 /// So many reports are told whole; of later ones only troubles, skips and ends.
 const TOLD: u32 = 24;
@@ -38,22 +37,19 @@ impl Told {
 }
 
 /// What a step did, and how many changing calls it made.
-pub fn tell_step(page: &mut Page, told: &mut Told, did: &CopyDid, calls: u64) {
+pub fn tell_step(page: &mut Page, told: &mut Told, did: &Did, calls: u64) {
     if told.takes(is_told_always(did)) {
         page.put("  ");
-        tell(page, did);
+        tell_report(page, did);
         page.tell(format_args!(", calls {calls}\n"));
     }
 }
 
-fn is_told_always(did: &CopyDid) -> bool {
-    match did {
-        CopyDid::Set(_) => false,
-        CopyDid::Common(did) => matches!(
-            did,
-            Did::Troubled(_) | Did::Cleaned(_) | Did::Ended { .. }
-        ),
-    }
+fn is_told_always(did: &Did) -> bool {
+    matches!(
+        did,
+        Did::Troubled(_) | Did::Skipped(_, _) | Did::Cleaned(_) | Did::Ended { .. }
+    )
 }
 
 /// What a skip reports.
@@ -61,11 +57,4 @@ pub fn tell_skip(page: &mut Page, did: &Did) {
     page.put("  ");
     tell_report(page, did);
     page.put("\n");
-}
-
-fn tell(page: &mut Page, did: &CopyDid) {
-    match did {
-        CopyDid::Set(path) => tell_of(page, "Set", path),
-        CopyDid::Common(did) => tell_report(page, did),
-    }
 }

@@ -1,6 +1,8 @@
 -- Where a walk stands, and where it stands once it goes on.
 use Rattle.std.specs.Prelude.{◌≡◌, ℕ, ◌+◌, ◌-◌, Bool, true, false, ◌||◌, List, [], ◌∷◌, drop, refl}
 use Rattle.std.specs.Coded.{Coded, code_by, coded×, coded_list, coded_ℕ}
+use Rattle.std.specs.List.{list_any}
+use Rattle.std.specs.Str.{bytes_eq}
 use Rattle.mc_text.specs.Routes.{Route}
 
 -- a folder that is open, the names in it that are yet to be met, and whether one of those that were met was left
@@ -36,6 +38,10 @@ is_empty (folder ∷ folders) = false
 -- no folder is around the one that is worked
 abbrev pub is_outermost : Place → Bool
 is_outermost place = is_empty place.around
+
+-- it is one of these names
+abbrev pub is_one_of : List ℕ → List (List ℕ) → Bool
+is_one_of name names = list_any (λ met. bytes_eq met name) names
 
 -- a folder of which nothing was met yet
 abbrev pub opened : Route → List (List ℕ) → OpenFolder

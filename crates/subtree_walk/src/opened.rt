@@ -1,5 +1,6 @@
 //! A folder whose children are met one by one.
 ghost use Rattle.std.specs.Prelude.{◌≡◌, ◌≤◌, ◌^◌, ◌||◌, [], ◌∷◌, drop, length, false, reverse, IfSome, IfNone};
+ghost use Rattle.subtree_walk.specs.Places.{is_one_of as one_of};
 
 use mc_text::{Name, Names, Path};
 use std::alloc::Global;
@@ -64,6 +65,14 @@ impl Opened {
         self.names.last()
     }
 
+    /// Whether this name is yet to be met.
+    #[tactic(auto, using(crate::proofs::Ahead::one_reversed))]
+    pub fn has(&self, name: &Name) -> bool
+        ensures { result ≡ one_of name.now self.now.names }
+    {
+        is_one_of(name, self.names.as_slice())
+    }
+
     /// Whether something in it was left.
     pub fn is_spared(&self) -> bool
         ensures { result ≡ self.now.spared }
@@ -91,6 +100,12 @@ impl Opened {
     {
         self.path
     }
+}
+
+fn is_one_of(name: &Name, names: &[Name]) -> bool
+    ensures { result ≡ one_of name.now names.now }
+{
+    names.iter().any(|met| met.same(name))
 }
 
 /// One of them. (The prover keeps no branch of a call.)

@@ -28,11 +28,11 @@ use Rattle.copy_levels.specs.declared.level.Level.{Level}
 use Rattle.tree_copy.specs.declared.item.Item.TheVariants.{Next, File, Link, Stays}
 use Rattle.tree_copy.specs.declared.progress.Progress.{Progress}
 use Rattle.tree_copy.specs.declared.progress.Progress.TheVariants.{UnderWay, Decided, Anew}
-use Rattle.tree_copy.specs.declared.report.CopyDid.{CopyDid}
 use Rattle.tree_copy.specs.Ending.{EndsAll, FileWinds, FoldersWind, LinkCleaned, LinkStays, LinkWinds, TriesFolder, WindsAfter, WindsAt, stays_if}
 use Rattle.tree_copy.specs.InPlace.{AreMoved, IsInPlace, IsMoved, ItemMoved}
 use Rattle.copy_levels.specs.Levels.{LeftAll, Levels, level, with_copy}
 use Rattle.tree_copy.specs.MadeCalls.{CallLaw, HasPart, IsBeside, IsPartFor, ItemBeside, MakesOnly, MayCall}
+use Rattle.tree_copy.specs.Parts.{IsPartPlace}
 use Rattle.tree_copy.specs.Progress.{link_progress, progress}
 use Rattle.tree_copy.specs.Skipping.{SkipsAt, SkipsFile, SkipsLink, SkipsName, SkipsNamed, SkipsRest, retried_at}
 use Rattle.tree_copy.specs.Standing.{Seen}
@@ -51,7 +51,7 @@ settled_part job Anew item c is h = h
 idle_part : (job : ℕ) (c : Seen) → HasPart job c → HasPart job (idle c)
 idle_part job c h = record { by = h.by; beside = tt }
 
-noted_part : (job : ℕ) (did : CopyDid) (changed : Bool) (c : Seen) → HasPart job c → HasPart job (noted did changed c)
+noted_part : (job : ℕ) (did : Did) (changed : Bool) (c : Seen) → HasPart job c → HasPart job (noted did changed c)
 noted_part job did changed c h = record { by = h.by; beside = h.beside }
 
 leaves_part : (job : ℕ) (old new : Seen) → Leaves old new → HasPart job old → HasPart job new
@@ -68,20 +68,20 @@ module _ (top : Pair) (job : ℕ) where
   kept : (new : Seen) (log : CallLog) (after : Option CallLog) → HasPart job new → MakesOnly (MayCall top job) log after → HasPart job new × MakesOnly (MayCall top job) log after
   kept new log after h m = (h, m)
 
-  file_step : (unclaimed : Route → Type 0) (f : Copying) (old new : Seen) (did : CopyDid) (before after : Option CallLog) → FileWorks unclaimed f old new did before after → IsMoved top f.source f.target
+  file_step : (unclaimed : Route → Type 0) (f : Copying) (old new : Seen) (did : Did) (before after : Option CallLog) → FileWorks unclaimed f old new did before after → IsMoved top f.source f.target
       → f.job ≡ job → IsBeside job f.target (part_at f.stage) → HasPart job old → Makes before after new
   file_step unclaimed f old new did before after w m by beside h log known =
-      let makes = file_makes top job unclaimed f w.moved w.report log after by (f.source, m) beside w.tells (w.called log known) in
+      let makes = file_makes top job unclaimed f w.moved did log after by (f.source, m) beside w.tells (w.called log known) in
       let k : KeepsFile top job f w.moved = makes.0 in
       kept new log after
       (subst (HasPart job) (sym w.stands)
       (settled_part job (progress w.moved.stage) (File w.moved) (noted did (file.is_dirty w.moved.folder) (idle old)) (k.0 ∙ by, k.2) (noted_part job did (file.is_dirty w.moved.folder) (idle old) (idle_part job old h))))
       makes.1
 
-  link_step : (l : LinkCopying) (old new : Seen) (did : CopyDid) (before after : Option CallLog) → LinkWorks l old new did before after → IsMoved top l.source l.target
+  link_step : (l : LinkCopying) (old new : Seen) (did : Did) (before after : Option CallLog) → LinkWorks l old new did before after → IsMoved top l.source l.target
       → IfKnown before (λ log. IsPartFor job l.target l.part) → HasPart job old → Makes before after new
   link_step l old new did before after w m beside h log known =
-      let makes = link_makes top job l w.moved w.report log after (l.source, m) (beside log known) w.tells (w.called log known) in
+      let makes = link_makes top job l w.moved did log after (l.source, m) (beside log known) w.tells (w.called log known) in
       kept new log after
       (subst (HasPart job) (sym w.stands)
       (settled_part job (link_progress w.moved.stage) (Link w.moved) (noted did (link.is_dirty w.moved.folder) (idle old)) makes.0 (noted_part job did (link.is_dirty w.moved.folder) (idle old) (idle_part job old h))))
@@ -90,7 +90,7 @@ module _ (top : Pair) (job : ℕ) where
   no_call : (old new : Seen) (before after : Option CallLog) → after ≡ before → new ≡ old → HasPart job old → Makes before after new
   no_call old new before after same stays h log known = (subst (HasPart job) (sym stays) h, none (MayCall top job) log after (same ∙ known))
 
-  takes : (unclaimed : Route → Type 0) (old new : Seen) (did : CopyDid) (before after : Option CallLog) → TakesNext unclaimed old new did before after → IsInPlace top old → HasPart job old → Makes before after new
+  takes : (unclaimed : Route → Type 0) (old new : Seen) (did : Did) (before after : Option CallLog) → TakesNext unclaimed old new did before after → IsInPlace top old → HasPart job old → Makes before after new
   takes unclaimed old new did before after (inl s) p h = no_call old new before after s.same s.stands h
   takes unclaimed old new did before after (inr (inl t)) p h =
       file_step unclaimed (file.begun old.job t.pair.source t.pair.target) old new did before after t.works (pair_moved top old.levels.inner.names.names old t.pair refl t.next p) h.by tt h
@@ -109,7 +109,7 @@ module _ (top : Pair) (job : ℕ) where
       )
   takes unclaimed old new did before after (inr (inr (inr (inr (next, inr (debt, f, same)))))) p h = no_call (at_end old) new before after same f.stands record { by = h.by; beside = h.beside }
 
-  syncs : (old new : Seen) (did : CopyDid) (before after : Option CallLog) → SyncsAround old new did before after → IsInPlace top old → HasPart job old → Makes before after new
+  syncs : (old new : Seen) (did : Did) (before after : Option CallLog) → SyncsAround old new did before after → IsInPlace top old → HasPart job old → Makes before after new
   syncs old new did before after s p h = λ log known.
       let k = subst (λ (xs : List Level). AreMoved top old.levels.inner xs) s.was p.levels in (
         subst (HasPart job) (sym s.stands) record { by = h.by; beside = h.beside },
@@ -117,11 +117,11 @@ module _ (top : Pair) (job : ℕ) where
             (levels_keep top s.outer (level s.outer.names (at_sync s.outer.copy)) s.around refl refl (λ o. refl) (λ name n. n) k.1) (s.called log known),
       )
 
-  goes : (unclaimed : Route → Type 0) (old new : Seen) (did : CopyDid) (before after : Option CallLog) → GoesOn unclaimed old new did before after → IsInPlace top old → HasPart job old → Makes before after new
+  goes : (unclaimed : Route → Type 0) (old new : Seen) (did : Did) (before after : Option CallLog) → GoesOn unclaimed old new did before after → IsInPlace top old → HasPart job old → Makes before after new
   goes unclaimed old new did before after (inl s) p h = syncs old new did before after s p h
   goes unclaimed old new did before after (inr s) p h = takes unclaimed old new did before after s.1 p h
 
-  works : (unclaimed : Route → Type 0) (item : Item) (old new : Seen) (did : CopyDid) (before after : Option CallLog) → WorksOn item unclaimed old new did before after → ItemMoved top item → ItemBeside job item
+  works : (unclaimed : Route → Type 0) (item : Item) (old new : Seen) (did : Did) (before after : Option CallLog) → WorksOn item unclaimed old new did before after → ItemMoved top item → ItemBeside job item
       → IsInPlace top old → HasPart job old → Makes before after new
   works unclaimed Next old new did before after w m b p h = goes unclaimed old new did before after w p h
   works unclaimed (File f) old new did before after w m b p h = file_step unclaimed f old new did before after w m b.0 b.1 h
@@ -245,7 +245,7 @@ call_law = record {
   step = λ free top job old new did calls before after f0 f1 s p h.
       let mid = all_leave job s.folders old s.mid s.leaves h in
       let at = leaves_all top s.folders old s.mid s.leaves p in
-      works top job (λ path. free path ≡ true) s.mid.item s.mid new did before after s.works at.item mid.beside at mid;
+      works top job (IsPartPlace free s.mid) s.mid.item s.mid new did before after s.works at.item mid.beside at mid;
   last_step = λ top job ending old new last before after f0 f1 w p h. winds top job old.item ending old new last before after f0 f1 w p.item h.beside p h;
   skip = λ job cause old new did s h. skips_at job old.item cause old new did s h.beside h;
   retry = λ job old h. retries_at job old.item old h.beside h;

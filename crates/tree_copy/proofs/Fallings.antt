@@ -28,10 +28,9 @@ use Rattle.tree_copy.specs.declared.item.Item.TheVariants.{Next, File, Link, Sta
 use Rattle.copy_levels.specs.declared.level.Level.{Level}
 use Rattle.tree_copy.specs.declared.progress.Progress.{Progress}
 use Rattle.tree_copy.specs.declared.progress.Progress.TheVariants.{UnderWay, Decided, Anew}
-use Rattle.tree_copy.specs.declared.report.CopyDid.{CopyDid}
-use Rattle.tree_copy.specs.declared.report.CopyDid.TheVariants.{Common}
 use Rattle.tree_copy.specs.Falling.{AllMade, FallingLaw, HasName, IsSteady, decides, is_made, things_left}
 use Rattle.copy_levels.specs.Levels.{IsLeft, Levels, level, made_levels, walked, with_copy}
+use Rattle.tree_copy.specs.Parts.{IsPartPlace}
 use Rattle.tree_copy.specs.Progress.{link_progress, progress}
 use Rattle.tree_copy.specs.Reports.{IsToldAs}
 use Rattle.tree_copy.specs.Standing.{Seen, after_report, due_at}
@@ -55,7 +54,7 @@ closing_made (Fill owed) h = refl
 closing_made (Close owed) h = refl
 closing_made Done h = refl
 
-dirty_made : (changed : Bool) (c : Seen) (did : CopyDid) → AllMade c.levels.inner c.levels.around → (let n = noted did changed c in AllMade n.levels.inner n.levels.around)
+dirty_made : (changed : Bool) (c : Seen) (did : Did) → AllMade c.levels.inner c.levels.around → (let n = noted did changed c in AllMade n.levels.inner n.levels.around)
 dirty_made true c did h = made_inner c.levels.inner _ c.levels.around (inner_made c.levels.inner c.levels.around h) h
 dirty_made false c did h = made_inner c.levels.inner _ c.levels.around (inner_made c.levels.inner c.levels.around h) h
 
@@ -70,7 +69,7 @@ settles Decided item c has some made =
     (record { named = tt; made = made_inner c.levels.inner _ c.levels.around (inner_made c.levels.inner c.levels.around made) made }, omega (arith, less), λ h. less)
 settles Anew item c has some made = (record { named = tt; made = made }, (let n : ℕ = things_left c in let e : n ≤ n = omega arith in e), λ h. absurd cc)
 
-file_decided : (f new : Copying) (report : Did) → file.Tells f report new → decides (Common report) ≡ true → progress new.stage ≡ Decided
+file_decided : (f new : Copying) (report : Did) → file.Tells f report new → decides report ≡ true → progress new.stage ≡ Decided
 file_decided f new (Placed path) t h = ap (λ (x : Copying). progress x.stage) t.4
 file_decided f new (Made made) t h = absurd t
 file_decided f new (Began part) t h = absurd (false≢true h)
@@ -84,7 +83,7 @@ file_decided f new Barrier t h = absurd (false≢true h)
 file_decided f new (Troubled trouble) t h = absurd (false≢true h)
 file_decided f new (Ended ending part) t h = absurd (false≢true h)
 
-link_decided : (l new : LinkCopying) (report : Did) → link.Tells l report new → decides (Common report) ≡ true → link_progress new.stage ≡ Decided
+link_decided : (l new : LinkCopying) (report : Did) → link.Tells l report new → decides report ≡ true → link_progress new.stage ≡ Decided
 link_decided l new (Placed path) t h = ap (λ (x : LinkCopying). link_progress x.stage) t.2
 link_decided l new (Made made) t h = absurd t
 link_decided l new (Began part) t h = absurd (false≢true h)
@@ -98,23 +97,23 @@ link_decided l new Barrier t h = absurd (false≢true h)
 link_decided l new (Troubled trouble) t h = absurd (false≢true h)
 link_decided l new (Ended ending part) t h = absurd (false≢true h)
 
-file_leaves : (unclaimed : Route → Type 0) (f : Copying) (old new : Seen) (did : CopyDid) (before after : Option CallLog) → FileWorks unclaimed f old new did before after
+file_leaves : (unclaimed : Route → Type 0) (f : Copying) (old new : Seen) (did : Did) (before after : Option CallLog) → FileWorks unclaimed f old new did before after
     → 1 ≤ length old.levels.inner.names.names → AllMade old.levels.inner old.levels.around → Leaving old new (decides did ≡ true)
 file_leaves unclaimed f old new did before after w some made =
     let c : Seen = noted did (file.is_dirty w.moved.folder) old in
     let l : Leaving c (settled (progress w.moved.stage) (File w.moved) (idle c)) (progress w.moved.stage ≡ Decided) =
     settles (progress w.moved.stage) (File w.moved) c some some (dirty_made (file.is_dirty w.moved.folder) old did made) in
     subst (λ (s : Seen). Leaving old s (decides did ≡ true)) (sym w.stands)
-    (l.0, l.1, λ h. l.2 (file_decided f w.moved w.report w.tells (sym (ap decides w.says) ∙ h)))
+    (l.0, l.1, λ h. l.2 (file_decided f w.moved did w.tells h))
 
-link_leaves : (k : LinkCopying) (old new : Seen) (did : CopyDid) (before after : Option CallLog) → LinkWorks k old new did before after
+link_leaves : (k : LinkCopying) (old new : Seen) (did : Did) (before after : Option CallLog) → LinkWorks k old new did before after
     → 1 ≤ length old.levels.inner.names.names → AllMade old.levels.inner old.levels.around → Leaving old new (decides did ≡ true)
 link_leaves k old new did before after w some made =
     let c : Seen = noted did (link.is_dirty w.moved.folder) old in
     let l : Leaving c (settled (link_progress w.moved.stage) (Link w.moved) (idle c)) (link_progress w.moved.stage ≡ Decided) =
     settles (link_progress w.moved.stage) (Link w.moved) c some some (dirty_made (link.is_dirty w.moved.folder) old did made) in
     subst (λ (s : Seen). Leaving old s (decides did ≡ true)) (sym w.stands)
-    (l.0, l.1, λ h. l.2 (link_decided k w.moved w.report w.tells (sym (ap decides w.says) ∙ h)))
+    (l.0, l.1, λ h. l.2 (link_decided k w.moved did w.tells h))
 
 -- a folder is gone into
 abbrev IsFilled : Stage → Type 0
@@ -124,7 +123,7 @@ same_many : (n : ℕ) → n ≤ n
 same_many n = omega arith
 
 -- a folder is made, and gone into
-makes : (pair : Pair) (names : List (List ℕ)) (moved : FolderCopying) (c : Seen) (to : CopyDid) (stage : Stage) → moved.stage ≡ stage → length names ≤ 2 ^ 64 → 1 ≤ c.levels.left
+makes : (pair : Pair) (names : List (List ℕ)) (moved : FolderCopying) (c : Seen) (to : Did) (stage : Stage) → moved.stage ≡ stage → length names ≤ 2 ^ 64 → 1 ≤ c.levels.left
     → 1 ≤ length c.levels.inner.names.names → c.item ≡ Next → AllMade c.levels.inner c.levels.around
     → Leaving c (record c { stage = after_report to c.stage; levels = made_levels stage (opened pair.source names) moved c.levels }) (IsFilled stage)
 makes pair names moved c to (Fill owed) is few deeper some free made =
@@ -144,14 +143,14 @@ makes pair names moved c to Done is few deeper some free made =
     (record { named = subst (λ (i : Item). HasName i c.levels) (sym free) tt; made = made }, same_many (things_left c), λ h. absurd (let e = h.1 in let f : ⊥ = cc in f))
 
 -- a report that a folder was made says that it can be filled
-made_filled : (c new : FolderCopying) (report : FolderDid) (did : CopyDid) → IsToldAs report did → folder.Tells c report new → decides did ≡ true → IsFilled new.stage
+made_filled : (c new : FolderCopying) (report : FolderDid) (did : Did) → IsToldAs report did → folder.Tells c report new → decides did ≡ true → IsFilled new.stage
 made_filled c new (folder_did.Made path) did told t h = (folder.owed_mode t.0, ap (λ (x : FolderCopying). x.stage) t.3)
 made_filled c new (folder_did.Set path) did told t h = absurd (false≢true (sym (ap decides told) ∙ h))
 made_filled c new folder_did.Barrier did told t h = absurd (false≢true (sym (ap decides told) ∙ h))
 made_filled c new folder_did.Closed did told t h = absurd told
 made_filled c new (folder_did.Troubled trouble) did told t h = absurd (false≢true (sym (ap decides told) ∙ h))
 
-folder_leaves : (pair : Pair) (names : List (List ℕ)) (mode : ℕ) (old new : Seen) (did : CopyDid) (before after : Option CallLog) → FolderMakes pair names mode old new did before after
+folder_leaves : (pair : Pair) (names : List (List ℕ)) (mode : ℕ) (old new : Seen) (did : Did) (before after : Option CallLog) → FolderMakes pair names mode old new did before after
     → 1 ≤ old.levels.left → 1 ≤ length old.levels.inner.names.names → old.item ≡ Next → AllMade old.levels.inner old.levels.around → Leaving old new (decides did ≡ true)
 folder_leaves pair names mode old new did before after w deeper some free made =
     let l = makes pair names w.moved old did w.moved.stage refl w.few deeper some free made in
@@ -166,7 +165,7 @@ end_made c new folder_did.Barrier t h = ap (λ (x : FolderCopying). is_made x.st
 end_made c new folder_did.Closed t h = ap (λ (x : FolderCopying). is_made x.stage) t.2
 end_made c new (folder_did.Troubled trouble) t h = ap (λ (x : FolderCopying). is_made x.stage) t.1 ∙ h
 
-end_decides_not : (c new : FolderCopying) (report : FolderDid) (did : CopyDid) → IsToldAs report did → folder.Tells c report new → is_made c.stage ≡ true → decides did ≡ true → ⊥
+end_decides_not : (c new : FolderCopying) (report : FolderDid) (did : Did) → IsToldAs report did → folder.Tells c report new → is_made c.stage ≡ true → decides did ≡ true → ⊥
 end_decides_not c new (folder_did.Made path) did told t made h = false≢true (sym (ap is_made t.1) ∙ made)
 end_decides_not c new (folder_did.Set path) did told t made h = false≢true (sym (ap decides told) ∙ h)
 end_decides_not c new folder_did.Barrier did told t made h = false≢true (sym (ap decides told) ∙ h)
@@ -176,7 +175,7 @@ end_decides_not c new (folder_did.Troubled trouble) did told t made h = false≢
 closed_made : (c : Seen) → AllMade c.levels.inner c.levels.around → (let e = at_end c in AllMade e.levels.inner e.levels.around)
 closed_made c h = made_inner c.levels.inner _ c.levels.around (closing_made c.levels.inner.copy.stage (inner_made c.levels.inner c.levels.around h)) h
 
-end_leaves : (c new : Seen) (did : CopyDid) (before after : Option CallLog) → FolderEnds c new did before after → c.item ≡ Next → AllMade c.levels.inner c.levels.around → Leaving c new (decides did ≡ true)
+end_leaves : (c new : Seen) (did : Did) (before after : Option CallLog) → FolderEnds c new did before after → c.item ≡ Next → AllMade c.levels.inner c.levels.around → Leaving c new (decides did ≡ true)
 end_leaves c new did before after w free made =
     let stands = inner_made c.levels.inner c.levels.around made in
     subst (λ (s : Seen). Leaving c s (decides did ≡ true)) (sym w.stands) (
@@ -225,10 +224,10 @@ named_at : (names : List (List ℕ)) (c : Seen) (pair : Pair) → due_at names c
 named_at [] c pair is = absurd (let f : ⊥ = cc in f)
 named_at (name ∷ names) c pair is = omega arith
 
-stays_so : (old new : Seen) (did : CopyDid) → new ≡ old → decides did ≡ false → IsSteady old → Leaving old new (decides did ≡ true)
+stays_so : (old new : Seen) (did : Did) → new ≡ old → decides did ≡ false → IsSteady old → Leaving old new (decides did ≡ true)
 stays_so old new did is none h = subst (λ (s : Seen). Leaving old s (decides did ≡ true)) (sym is) (h, same_many (things_left old), λ yes. absurd (false≢true (sym none ∙ yes)))
 
-takes_leave : (unclaimed : Route → Type 0) (old new : Seen) (did : CopyDid) (before after : Option CallLog) → TakesNext unclaimed old new did before after → old.item ≡ Next → IsSteady old
+takes_leave : (unclaimed : Route → Type 0) (old new : Seen) (did : Did) (before after : Option CallLog) → TakesNext unclaimed old new did before after → old.item ≡ Next → IsSteady old
     → Leaving old new (decides did ≡ true)
 takes_leave unclaimed old new did before after (inl s) free h = stays_so old new did s.stands (ap decides s.says) h
 takes_leave unclaimed old new did before after (inr (inl t)) free h =
@@ -246,7 +245,7 @@ around_made inner outer new was around is same h =
     let k = subst (λ (xs : List Level). AllMade inner xs) is h in
     (k.0, made_inner outer (level outer.names new) around (ap is_made same ∙ inner_made outer around k.1) k.1)
 
-syncs_leave : (old new : Seen) (did : CopyDid) (before after : Option CallLog) → SyncsAround old new did before after → old.item ≡ Next → IsSteady old → Leaving old new (decides did ≡ true)
+syncs_leave : (old new : Seen) (did : Did) (before after : Option CallLog) → SyncsAround old new did before after → old.item ≡ Next → IsSteady old → Leaving old new (decides did ≡ true)
 syncs_leave old new did before after s free h =
     let synced : FolderCopying = record s.outer.copy { names = s.names } in
     let names = ap (λ (xs : List Level). map (λ (o : Level). o.names) xs) s.was in
@@ -259,12 +258,12 @@ syncs_leave old new did before after s free h =
       λ yes. absurd (end_decides_not (at_sync s.outer.copy) (record (at_sync s.outer.copy) { names = s.names }) s.report did s.says s.tells refl yes),
     )
 
-goes_leave : (unclaimed : Route → Type 0) (old new : Seen) (did : CopyDid) (before after : Option CallLog) → GoesOn unclaimed old new did before after → old.item ≡ Next → IsSteady old
+goes_leave : (unclaimed : Route → Type 0) (old new : Seen) (did : Did) (before after : Option CallLog) → GoesOn unclaimed old new did before after → old.item ≡ Next → IsSteady old
     → Leaving old new (decides did ≡ true)
 goes_leave unclaimed old new did before after (inl s) free h = syncs_leave old new did before after s free h
 goes_leave unclaimed old new did before after (inr s) free h = takes_leave unclaimed old new did before after s.1 free h
 
-works_leave : (unclaimed : Route → Type 0) (item : Item) (old new : Seen) (did : CopyDid) (before after : Option CallLog) → old.item ≡ item → WorksOn item unclaimed old new did before after → IsSteady old
+works_leave : (unclaimed : Route → Type 0) (item : Item) (old new : Seen) (did : Did) (before after : Option CallLog) → old.item ≡ item → WorksOn item unclaimed old new did before after → IsSteady old
     → Leaving old new (decides did ≡ true)
 works_leave unclaimed Next old new did before after is w h = goes_leave unclaimed old new did before after w is h
 works_leave unclaimed (File f) old new did before after is w h =
@@ -276,6 +275,6 @@ works_leave unclaimed (Stays part) old new did before after is w h = absurd w
 pub falling_law : FallingLaw
 falling_law free old new did calls before after f0 f1 s h =
     let m = all_leave s.folders old s.mid s.leaves h in
-    let l = works_leave (λ path. free path ≡ true) s.mid.item s.mid new did before after refl s.works m.0 in
+    let l = works_leave (IsPartPlace free s.mid) s.mid.item s.mid new did before after refl s.works m.0 in
     let a = m.1 in let b = l.1 in
     (l.0, omega (arith, a, b), λ yes. let less = l.2 yes in omega (arith, a, less))

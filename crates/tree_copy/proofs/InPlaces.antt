@@ -28,10 +28,9 @@ use Rattle.tree_copy.specs.declared.item.Item.TheVariants.{Next, File, Link, Sta
 use Rattle.copy_levels.specs.declared.level.Level.{Level}
 use Rattle.tree_copy.specs.declared.progress.Progress.{Progress}
 use Rattle.tree_copy.specs.declared.progress.Progress.TheVariants.{UnderWay, Decided, Anew}
-use Rattle.tree_copy.specs.declared.report.CopyDid.{CopyDid}
-use Rattle.tree_copy.specs.declared.report.CopyDid.TheVariants.{Common}
 use Rattle.tree_copy.specs.InPlace.{AreMoved, IsInPlace, IsMoved, IsTargetOf, ItemMoved, NamesTarget, PlaceLaw, owed_of}
 use Rattle.copy_levels.specs.Levels.{closed, dirtied, level, made_levels, passed, with_copy}
+use Rattle.tree_copy.specs.Parts.{IsPartPlace}
 use Rattle.tree_copy.specs.Progress.{link_progress, progress}
 use Rattle.tree_copy.specs.Reports.{IsToldAs}
 use Rattle.tree_copy.specs.Standing.{Seen, after_report, due_at, pair_of}
@@ -113,7 +112,7 @@ module _ (top : Pair) where
   pub idle_in_place : (c : Seen) → IsInPlace top c → IsInPlace top (idle c)
   idle_in_place c h = record { name = h.name; levels = h.levels; item = tt }
 
-  noted_in_place : (did : CopyDid) (changed : Bool) (c : Seen) → IsInPlace top c → IsInPlace top (noted_seen did changed c)
+  noted_in_place : (did : Did) (changed : Bool) (c : Seen) → IsInPlace top c → IsInPlace top (noted_seen did changed c)
   noted_in_place did changed c h = record { name = h.name; levels = dirty_keeps changed top c.levels.inner c.levels.around h.levels; item = h.item }
 
   pub settled_in_place : (p : Progress) (item : Item) (c : Seen) → ItemMoved top item → IsInPlace top c → IsInPlace top (settled p item c)
@@ -125,12 +124,12 @@ module _ (top : Pair) where
   }
   settled_in_place Anew item c moved h = h
 
-  names_file : (f new : Copying) (report : Did) → file.Tells f report new → IsMoved top f.source f.target → NamesTarget top (Common report)
+  names_file : (f new : Copying) (report : Did) → file.Tells f report new → IsMoved top f.source f.target → NamesTarget top report
   names_file f new (Placed path) t m = (f.source, moved_to top f.source f.target f.source path refl t.3 m)
   names_file f new (Made made) t m = absurd t
   names_file f new (Began part) t m = tt
   names_file f new (Chunk count) t m = tt
-  names_file f new (Set path) t m = tt
+  names_file f new (Set path) t m = absurd t
   names_file f new (Removed path) t m = tt
   names_file f new (Kept path) t m = tt
   names_file f new (Skipped path cause) t m = tt
@@ -139,12 +138,12 @@ module _ (top : Pair) where
   names_file f new (Troubled trouble) t m = tt
   names_file f new (Ended ending part) t m = tt
 
-  names_link : (l new : LinkCopying) (report : Did) → link.Tells l report new → IsMoved top l.source l.target → NamesTarget top (Common report)
+  names_link : (l new : LinkCopying) (report : Did) → link.Tells l report new → IsMoved top l.source l.target → NamesTarget top report
   names_link l new (Placed path) t m = (l.source, moved_to top l.source l.target l.source path refl t.1 m)
   names_link l new (Made made) t m = absurd t
   names_link l new (Began part) t m = tt
   names_link l new (Chunk count) t m = tt
-  names_link l new (Set path) t m = tt
+  names_link l new (Set path) t m = absurd t
   names_link l new (Removed path) t m = tt
   names_link l new (Kept path) t m = tt
   names_link l new (Skipped path cause) t m = tt
@@ -153,24 +152,24 @@ module _ (top : Pair) where
   names_link l new (Troubled trouble) t m = tt
   names_link l new (Ended ending part) t m = tt
 
-  file_keeps : (unclaimed : Route → Type 0) (f : Copying) (old new : Seen) (did : CopyDid) (before after : Option CallLog) → FileWorks unclaimed f old new did before after → IsMoved top f.source f.target
+  file_keeps : (unclaimed : Route → Type 0) (f : Copying) (old new : Seen) (did : Did) (before after : Option CallLog) → FileWorks unclaimed f old new did before after → IsMoved top f.source f.target
       → IsInPlace top old → IsInPlace top new × NamesTarget top did
   file_keeps unclaimed f old new did before after w m h =
-      let same = file_paths f w.moved w.report w.tells in (
+      let same = file_paths f w.moved did w.tells in (
         subst (IsInPlace top) (sym w.stands)
             (settled_in_place (progress w.moved.stage) (File w.moved) (noted_seen did (file.is_dirty w.moved.folder) (idle old)) (moved_to top f.source f.target w.moved.source w.moved.target same.0 same.1 m)
             (noted_in_place did (file.is_dirty w.moved.folder) (idle old) (idle_in_place old h))),
-        subst (NamesTarget top) (sym w.says) (names_file f w.moved w.report w.tells m),
+        names_file f w.moved did w.tells m,
       )
 
-  link_keeps : (l : LinkCopying) (old new : Seen) (did : CopyDid) (before after : Option CallLog) → LinkWorks l old new did before after → IsMoved top l.source l.target
+  link_keeps : (l : LinkCopying) (old new : Seen) (did : Did) (before after : Option CallLog) → LinkWorks l old new did before after → IsMoved top l.source l.target
       → IsInPlace top old → IsInPlace top new × NamesTarget top did
   link_keeps l old new did before after w m h =
-      let same = link_paths l w.moved w.report w.tells in (
+      let same = link_paths l w.moved did w.tells in (
         subst (IsInPlace top) (sym w.stands)
             (settled_in_place (link_progress w.moved.stage) (Link w.moved) (noted_seen did (link.is_dirty w.moved.folder) (idle old)) (moved_to top l.source l.target w.moved.source w.moved.target same.0 same.1 m)
             (noted_in_place did (link.is_dirty w.moved.folder) (idle old) (idle_in_place old h))),
-        subst (NamesTarget top) (sym w.says) (names_link l w.moved w.report w.tells m),
+        names_link l w.moved did w.tells m,
       )
 
   -- what is taken up lies in its place
@@ -195,7 +194,7 @@ module _ (top : Pair) where
       }
 
   -- a folder that was made is gone into, or all stays
-  made_in_place : (stage : Stage) (names : OpenFolder) (moved : FolderCopying) (c : Seen) (to : CopyDid) → IsMoved top moved.source moved.target → IsInPlace top c
+  made_in_place : (stage : Stage) (names : OpenFolder) (moved : FolderCopying) (c : Seen) (to : Did) → IsMoved top moved.source moved.target → IsInPlace top c
       → IsInPlace top (record c { stage = after_report to c.stage; levels = made_levels stage names moved c.levels })
   made_in_place (Fill owed) names moved c to m h = record {
     name = h.name;
@@ -210,14 +209,14 @@ module _ (top : Pair) where
   made_in_place (Close owed) names moved c to m h = record { name = h.name; levels = h.levels; item = h.item }
   made_in_place Done names moved c to m h = record { name = h.name; levels = h.levels; item = h.item }
 
-  names_made : (c new : FolderCopying) (mode : ℕ) (report : FolderDid) (did : CopyDid) → c.stage ≡ Make mode → IsToldAs report did → folder.Tells c report new → IsMoved top c.source c.target → NamesTarget top did
+  names_made : (c new : FolderCopying) (mode : ℕ) (report : FolderDid) (did : Did) → c.stage ≡ Make mode → IsToldAs report did → folder.Tells c report new → IsMoved top c.source c.target → NamesTarget top did
   names_made c new mode (folder_did.Made path) did is told t m = subst (NamesTarget top) (sym told) (c.source, moved_to top c.source c.target c.source path refl t.2 m)
   names_made c new mode (folder_did.Set path) did is told t m = absurd (let e = sym is ∙ t.1 in let f : ⊥ = cc in f)
   names_made c new mode folder_did.Barrier did is told t m = subst (NamesTarget top) (sym told) tt
   names_made c new mode folder_did.Closed did is told t m = absurd told
   names_made c new mode (folder_did.Troubled trouble) did is told t m = subst (NamesTarget top) (sym told) tt
 
-  folder_keeps : (pair : Pair) (names : List (List ℕ)) (mode : ℕ) (old new : Seen) (did : CopyDid) (before after : Option CallLog) → FolderMakes pair names mode old new did before after
+  folder_keeps : (pair : Pair) (names : List (List ℕ)) (mode : ℕ) (old new : Seen) (did : Did) (before after : Option CallLog) → FolderMakes pair names mode old new did before after
       → IsMoved top pair.source pair.target → IsInPlace top old → IsInPlace top new × NamesTarget top did
   folder_keeps pair names mode old new did before after w m h =
       let same = folder_paths (folder.copying pair.source pair.target (Make mode) Synced) w.moved w.report w.tells in (
@@ -242,14 +241,14 @@ module _ (top : Pair) where
   names_again [] inner new path t h = absurd (let e = sym (ap owed_of t.1) ∙ h.keeps in let f : ⊥ = cc in f)
   names_again (outer ∷ around) inner new path t h = (inner.copy.source, moved_to top inner.copy.source inner.copy.target inner.copy.source path refl t.2 h.0)
 
-  names_end : (around : List Level) (inner : Level) (new : FolderCopying) (report : FolderDid) (did : CopyDid) → IsToldAs report did → folder.Tells inner.copy report new → AreMoved top inner around → NamesTarget top did
+  names_end : (around : List Level) (inner : Level) (new : FolderCopying) (report : FolderDid) (did : Did) → IsToldAs report did → folder.Tells inner.copy report new → AreMoved top inner around → NamesTarget top did
   names_end around inner new (folder_did.Made path) did told t h = subst (NamesTarget top) (sym told) (names_again around inner new path t h)
   names_end around inner new (folder_did.Set path) did told t h = subst (NamesTarget top) (sym told) (names_set around inner new path t h)
   names_end around inner new folder_did.Barrier did told t h = subst (NamesTarget top) (sym told) tt
   names_end around inner new folder_did.Closed did told t h = absurd told
   names_end around inner new (folder_did.Troubled trouble) did told t h = subst (NamesTarget top) (sym told) tt
 
-  ends_keep : (old new : Seen) (did : CopyDid) (before after : Option CallLog) → FolderEnds old new did before after → IsInPlace top old → IsInPlace top new × NamesTarget top did
+  ends_keep : (old new : Seen) (did : Did) (before after : Option CallLog) → FolderEnds old new did before after → IsInPlace top old → IsInPlace top new × NamesTarget top did
   ends_keep old new did before after w h =
       let same = folder_paths old.levels.inner.copy w.moved w.report w.tells in (
         subst (IsInPlace top) (sym w.stands) record {
@@ -278,7 +277,7 @@ module _ (top : Pair) where
   leaves_all zero old new is h = subst (IsInPlace top) (sym is) h
   leaves_all (suc n) old new l h = leaves_keep l.0 new l.3 (leaves_all n old l.0 l.1 h)
 
-  takes_keep : (unclaimed : Route → Type 0) (old new : Seen) (did : CopyDid) (before after : Option CallLog) → TakesNext unclaimed old new did before after → IsInPlace top old → IsInPlace top new × NamesTarget top did
+  takes_keep : (unclaimed : Route → Type 0) (old new : Seen) (did : Did) (before after : Option CallLog) → TakesNext unclaimed old new did before after → IsInPlace top old → IsInPlace top new × NamesTarget top did
   takes_keep unclaimed old new did before after (inl s) h = (subst (IsInPlace top) (sym s.stands) h, subst (NamesTarget top) (sym s.says) tt)
   takes_keep unclaimed old new did before after (inr (inl t)) h =
       file_keeps unclaimed (file.begun old.job t.pair.source t.pair.target) old new did before after t.works (pair_moved old.levels.inner.names.names old t.pair refl t.next h) h
@@ -295,24 +294,24 @@ module _ (top : Pair) where
       let k = subst (λ (xs : List Level). AreMoved top inner xs) is h in
       (k.0, levels_keep top outer (level outer.names (record outer.copy { names = names })) around refl refl (λ o. o) (λ name n. n) k.1)
 
-  names_sync : (c new : FolderCopying) (report : FolderDid) (did : CopyDid) → c.stage ≡ Close None → IsToldAs report did → folder.Tells c report new → owed_of c.stage ≡ None → NamesTarget top did
+  names_sync : (c new : FolderCopying) (report : FolderDid) (did : Did) → c.stage ≡ Close None → IsToldAs report did → folder.Tells c report new → owed_of c.stage ≡ None → NamesTarget top did
   names_sync c new (folder_did.Made path) did at told t h = absurd (let e = sym at ∙ t.1 in let f : ⊥ = cc in f)
   names_sync c new (folder_did.Set path) did at told t h = absurd (let e = sym (ap owed_of t.1) ∙ h in let f : ⊥ = cc in f)
   names_sync c new folder_did.Barrier did at told t h = subst (NamesTarget top) (sym told) tt
   names_sync c new folder_did.Closed did at told t h = absurd told
   names_sync c new (folder_did.Troubled trouble) did at told t h = subst (NamesTarget top) (sym told) tt
 
-  syncs_keep : (old new : Seen) (did : CopyDid) (before after : Option CallLog) → SyncsAround old new did before after → IsInPlace top old → IsInPlace top new × NamesTarget top did
+  syncs_keep : (old new : Seen) (did : Did) (before after : Option CallLog) → SyncsAround old new did before after → IsInPlace top old → IsInPlace top new × NamesTarget top did
   syncs_keep old new did before after s h = (
     subst (IsInPlace top) (sym s.stands) record { name = h.name; levels = synced_around old.levels.inner s.outer s.names old.levels.around s.around s.was h.levels; item = h.item },
     names_sync (at_sync s.outer.copy) (record (at_sync s.outer.copy) { names = s.names }) s.report did refl s.says s.tells refl,
   )
 
-  goes_keep : (unclaimed : Route → Type 0) (old new : Seen) (did : CopyDid) (before after : Option CallLog) → GoesOn unclaimed old new did before after → IsInPlace top old → IsInPlace top new × NamesTarget top did
+  goes_keep : (unclaimed : Route → Type 0) (old new : Seen) (did : Did) (before after : Option CallLog) → GoesOn unclaimed old new did before after → IsInPlace top old → IsInPlace top new × NamesTarget top did
   goes_keep unclaimed old new did before after (inl s) h = syncs_keep old new did before after s h
   goes_keep unclaimed old new did before after (inr s) h = takes_keep unclaimed old new did before after s.1 h
 
-  works_keep : (unclaimed : Route → Type 0) (item : Item) (old new : Seen) (did : CopyDid) (before after : Option CallLog) → WorksOn item unclaimed old new did before after → ItemMoved top item
+  works_keep : (unclaimed : Route → Type 0) (item : Item) (old new : Seen) (did : Did) (before after : Option CallLog) → WorksOn item unclaimed old new did before after → ItemMoved top item
       → IsInPlace top old → IsInPlace top new × NamesTarget top did
   works_keep unclaimed Next old new did before after w m h = goes_keep unclaimed old new did before after w h
   works_keep unclaimed (File f) old new did before after w m h = file_keeps unclaimed f old new did before after w m h
@@ -322,4 +321,4 @@ module _ (top : Pair) where
 pub place_law : PlaceLaw
 place_law free top old new did calls before after f0 f1 s h =
     let m = leaves_all top s.folders old s.mid s.leaves h in
-    works_keep top (λ path. free path ≡ true) s.mid.item s.mid new did before after s.works m.item m
+    works_keep top (IsPartPlace free s.mid) s.mid.item s.mid new did before after s.works m.item m

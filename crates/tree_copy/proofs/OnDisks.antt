@@ -26,10 +26,10 @@ use Rattle.tree_copy.specs.declared.item.Item.TheVariants.{Next, File, Link, Sta
 use Rattle.copy_levels.specs.declared.level.Level.{Level}
 use Rattle.tree_copy.specs.declared.progress.Progress.{Progress}
 use Rattle.tree_copy.specs.declared.progress.Progress.TheVariants.{UnderWay, Decided, Anew}
-use Rattle.tree_copy.specs.declared.report.CopyDid.{CopyDid}
 use Rattle.tree_copy.specs.Ending.{EndsAll, FoldersWind, LinkWinds, TriesFolder, WindsAt}
 use Rattle.copy_levels.specs.Levels.{LeftAll, Levels, is_around_dirty, made_levels}
 use Rattle.tree_copy.specs.OnDisk.{AllSynced, AroundSynced, IsOnDisk, IsUntouched, OnDiskLaw}
+use Rattle.tree_copy.specs.Parts.{IsPartPlace}
 use Rattle.tree_copy.specs.Progress.{link_progress, progress}
 use Rattle.tree_copy.specs.Skipping.{SkipsAt, SkipsName, SkipsNamed, SkipsRest, retried_at}
 use Rattle.tree_copy.specs.Standing.{Seen, after_report}
@@ -75,10 +75,10 @@ settled_around UnderWay item c = refl
 settled_around Decided item c = refl
 settled_around Anew item c = refl
 
-file_around : (unclaimed : Route → Type 0) (f : Copying) (old new : Seen) (did : CopyDid) (before after : Option CallLog) → FileWorks unclaimed f old new did before after → new.levels.around ≡ old.levels.around
+file_around : (unclaimed : Route → Type 0) (f : Copying) (old new : Seen) (did : Did) (before after : Option CallLog) → FileWorks unclaimed f old new did before after → new.levels.around ≡ old.levels.around
 file_around unclaimed f old new did before after w = ap (λ (c : Seen). c.levels.around) w.stands ∙ settled_around (progress w.moved.stage) (File w.moved) _
 
-link_around : (l : LinkCopying) (old new : Seen) (did : CopyDid) (before after : Option CallLog) → LinkWorks l old new did before after → new.levels.around ≡ old.levels.around
+link_around : (l : LinkCopying) (old new : Seen) (did : Did) (before after : Option CallLog) → LinkWorks l old new did before after → new.levels.around ≡ old.levels.around
 link_around l old new did before after w = ap (λ (c : Seen). c.levels.around) w.stands ∙ settled_around (link_progress w.moved.stage) (Link w.moved) _
 
 -- a folder that is made is not dirty
@@ -89,14 +89,14 @@ made_clean source target mode new folder_did.Barrier t = ap (λ (c : FolderCopyi
 made_clean source target mode new folder_did.Closed t = ap (λ (c : FolderCopying). is_dirty c.names) t.2
 made_clean source target mode new (folder_did.Troubled trouble) t = ap (λ (c : FolderCopying). is_dirty c.names) t.1
 
-made_on_disk : (stage : Stage) (names : OpenFolder) (moved : FolderCopying) (c : Seen) (did : CopyDid) → is_dirty moved.names ≡ false → c.item ≡ Next → AllSynced c.levels.around
+made_on_disk : (stage : Stage) (names : OpenFolder) (moved : FolderCopying) (c : Seen) (did : Did) → is_dirty moved.names ≡ false → c.item ≡ Next → AllSynced c.levels.around
     → IsOnDisk (record c { stage = after_report did c.stage; levels = made_levels stage names moved c.levels })
 made_on_disk (Fill owed) names moved c did clean free h = (λ dirty. record { free = free; clean = clean }, h)
 made_on_disk (Make mode) names moved c did clean free h = from_all c.item c.levels.inner c.levels.around h
 made_on_disk (Close owed) names moved c did clean free h = from_all c.item c.levels.inner c.levels.around h
 made_on_disk Done names moved c did clean free h = from_all c.item c.levels.inner c.levels.around h
 
-takes : (unclaimed : Route → Type 0) (old new : Seen) (did : CopyDid) (before after : Option CallLog) → TakesNext unclaimed old new did before after → old.item ≡ Next → AllSynced old.levels.around → IsOnDisk new
+takes : (unclaimed : Route → Type 0) (old new : Seen) (did : Did) (before after : Option CallLog) → TakesNext unclaimed old new did before after → old.item ≡ Next → AllSynced old.levels.around → IsOnDisk new
 takes unclaimed old new did before after (inl s) free h = kept old.levels.around new (ap (λ (c : Seen). c.levels.around) s.stands) h
 takes unclaimed old new did before after (inr (inl t)) free h = kept old.levels.around new (file_around unclaimed _ old new did before after t.works) h
 takes unclaimed old new did before after (inr (inr (inl t))) free h = kept old.levels.around new (link_around _ old new did before after t.works) h
@@ -109,17 +109,17 @@ takes unclaimed old new did before after (inr (inr (inr (inr (next, inr (debt, f
 nearest : (item : Item) (inner outer : Level) (was around : List Level) → was ≡ outer ∷ around → AroundSynced item inner was → AroundSynced item inner (outer ∷ around)
 nearest item inner outer was around is h = subst (AroundSynced item inner) is h
 
-syncs : (old new : Seen) (did : CopyDid) (before after : Option CallLog) → SyncsAround old new did before after → IsOnDisk old → IsOnDisk new
+syncs : (old new : Seen) (did : Did) (before after : Option CallLog) → SyncsAround old new did before after → IsOnDisk old → IsOnDisk new
 syncs old new did before after s h =
     let k = nearest old.item old.levels.inner s.outer old.levels.around s.around s.was h in
     let dirty : is_dirty s.outer.copy.names ≡ true = ap is_around_dirty (sym s.was) ∙ s.dirty in
     subst IsOnDisk (sym s.stands) (λ still. k.0 dirty, k.1)
 
-goes : (unclaimed : Route → Type 0) (old new : Seen) (did : CopyDid) (before after : Option CallLog) → GoesOn unclaimed old new did before after → old.item ≡ Next → IsOnDisk old → IsOnDisk new
+goes : (unclaimed : Route → Type 0) (old new : Seen) (did : Did) (before after : Option CallLog) → GoesOn unclaimed old new did before after → old.item ≡ Next → IsOnDisk old → IsOnDisk new
 goes unclaimed old new did before after (inl s) free h = syncs old new did before after s h
 goes unclaimed old new did before after (inr s) free h = takes unclaimed old new did before after s.1 free (quiet old.item old.levels.inner old.levels.around s.0 h)
 
-works : (unclaimed : Route → Type 0) (item : Item) (old new : Seen) (did : CopyDid) (before after : Option CallLog) → WorksOn item unclaimed old new did before after → old.item ≡ item
+works : (unclaimed : Route → Type 0) (item : Item) (old new : Seen) (did : Did) (before after : Option CallLog) → WorksOn item unclaimed old new did before after → old.item ≡ item
     → AroundSynced item old.levels.inner old.levels.around → IsOnDisk new
 works unclaimed Next old new did before after w is h = goes unclaimed old new did before after w is (subst (λ (i : Item). AroundSynced i old.levels.inner old.levels.around) (sym is) h)
 works unclaimed (File f) old new did before after w is h = kept old.levels.around new (file_around unclaimed f old new did before after w) (file_busy f old.levels.inner old.levels.around h)
@@ -205,7 +205,7 @@ pub on_disk_law : OnDiskLaw
 on_disk_law = record {
   begins = λ job source target. tt;
   step = λ free old new did calls before after f0 f1 s h.
-      works (λ path. free path ≡ true) s.mid.item s.mid new did before after s.works refl (leaves s.folders old s.mid s.leaves h);
+      works (IsPartPlace free s.mid) s.mid.item s.mid new did before after s.works refl (leaves s.folders old s.mid s.leaves h);
   skip = λ cause old new did s h. skips_stay old.item cause old new did s refl h;
   retry = λ old h. retries_stay old.item old refl h;
   last_step = λ ending old new last before after f0 f1 w h. winds_stay old.item ending old new last before after f0 f1 w h;

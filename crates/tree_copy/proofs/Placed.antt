@@ -14,7 +14,6 @@ use Rattle.job_reports.specs.declared.report.Did.TheVariants.{Began, Chunk, Plac
 use Rattle.tree_copy.specs.declared.item.Item.{Item}
 use Rattle.tree_copy.specs.declared.item.Item.TheVariants.{Next, File, Link}
 use Rattle.tree_copy.specs.declared.progress.Progress.TheVariants.{UnderWay}
-use Rattle.tree_copy.specs.declared.report.CopyDid.{CopyDid}
 use Rattle.tree_copy.specs.Progress.{link_progress, progress}
 use Rattle.tree_copy.specs.Standing.{Seen}
 use Rattle.tree_copy.specs.Steps.{after_file, after_link, idle, noted, settled, stays_ready}
@@ -23,12 +22,12 @@ use Rattle.tree_copy.specs.Steps.{after_file, after_link, idle, noted, settled, 
 pub idle_same : (c : Seen) → c.item ≡ Next → idle c ≡ c
 idle_same c free = ap (λ (i : Item). record c { item = i }) (sym free)
 
-pub file_stands : (m : Copying) (did : CopyDid) (changed : Bool) (old mid new : Seen) → old.item ≡ Next → changed ≡ file.is_dirty m.folder → mid ≡ noted did changed old → new ≡ settled (progress m.stage) (File m) mid
+pub file_stands : (m : Copying) (did : Did) (changed : Bool) (old mid new : Seen) → old.item ≡ Next → changed ≡ file.is_dirty m.folder → mid ≡ noted did changed old → new ≡ settled (progress m.stage) (File m) mid
     → new ≡ after_file did m (idle old)
 file_stands m did changed old mid new free dirty was is =
     is ∙ ap (λ (s : Seen). settled (progress m.stage) (File m) s) (was ∙ (ap (λ b. noted did b old) dirty ∙ ap (λ (s : Seen). noted did (file.is_dirty m.folder) s) (sym (idle_same old free))))
 
-pub link_stands : (m : LinkCopying) (did : CopyDid) (changed : Bool) (old mid new : Seen) → old.item ≡ Next → changed ≡ link.is_dirty m.folder → mid ≡ noted did changed old → new ≡ settled (link_progress m.stage) (Link m) mid
+pub link_stands : (m : LinkCopying) (did : Did) (changed : Bool) (old mid new : Seen) → old.item ≡ Next → changed ≡ link.is_dirty m.folder → mid ≡ noted did changed old → new ≡ settled (link_progress m.stage) (Link m) mid
     → new ≡ after_link did m (idle old)
 link_stands m did changed old mid new free dirty was is =
     is ∙ ap (λ (s : Seen). settled (link_progress m.stage) (Link m) s) (was ∙ (ap (λ b. noted did b old) dirty ∙ ap (λ (s : Seen). noted did (link.is_dirty m.folder) s) (sym (idle_same old free))))

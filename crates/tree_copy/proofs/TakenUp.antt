@@ -1,5 +1,5 @@
 -- What a step does with what it takes up.
-use Rattle.std.proofs.Common.{◌≡◌, ℕ, refl, sym, ◌∙◌, subst, inl, inr, false, List, Option, Some, None}
+use Rattle.std.proofs.Common.{◌≡◌, ℕ, refl, sym, ◌∙◌, subst, inl, inr, Bool, false, List, Option, Some, None}
 use Rattle.std.specs.Prelude.{◌⊎◌}
 use Rattle.mc_text.specs.Routes.{Route}
 use Rattle.tree_trait.specs.Change.{CallLog, current}
@@ -14,16 +14,16 @@ use Rattle.tree_copy.specs.declared.due.Due.TheVariants.{Thing}
 use Rattle.tree_copy.specs.declared.looking.Taken.TheVariants as taken
 use Rattle.tree_copy.specs.declared.item.Item.{Item}
 use Rattle.tree_copy.specs.declared.item.Item.TheVariants.{Next}
-use Rattle.tree_copy.specs.declared.report.CopyDid.{CopyDid}
-use Rattle.tree_copy.specs.declared.report.CopyStep.{CopyStep}
-use Rattle.tree_copy.specs.declared.report.CopyDid.TheVariants.{Common}
+use Rattle.job_reports.specs.declared.report.Did.{Did}
+use Rattle.job_reports.specs.declared.report.StepResult.{StepResult}
+use Rattle.tree_copy.specs.Parts.{IsPartPlace}
 use Rattle.tree_copy.specs.Standing.{Seen, due}
 use Rattle.tree_copy.specs.Steps.{Advances, AdvancesNext, FileWorks, FolderMakes, GoesOn, Leaves, LinkWorks, RunsOut, TakesNext, WhyStopped, WorksOn, link_begun}
-use Rattle.tree_copy.specs.Taking.{IsInReach, IsTaken}
+use Rattle.tree_copy.specs.Taking.{IsInReach, IsShort, IsTaken}
 
-module _ (unclaimed : Route → Type 0) (old new : Seen) (did : CopyDid) (before mid after : Option CallLog) (same : mid ≡ before) where
+module _ (unclaimed : Route → Type 0) (old new : Seen) (did : Did) (before mid after : Option CallLog) (same : mid ≡ before) where
   -- looks were stopped
-  pub stopped_so : (t : Trouble) → WhyStopped unclaimed old t before → did ≡ Common (common.Troubled t) → t.barrier ≡ false → after ≡ mid → new ≡ old → TakesNext unclaimed old new did before after
+  pub stopped_so : (t : Trouble) → WhyStopped unclaimed old t before → did ≡ common.Troubled t → t.barrier ≡ false → after ≡ mid → new ≡ old → TakesNext unclaimed old new did before after
   stopped_so t why says apart made stands = inl record { trouble = t; says = says; why = why; apart = apart; same = made ∙ same; stands = stands }
 
   module _ (pair : Pair) (next : due old ≡ Thing pair) (reach : IsInReach old.levels.left (Thing pair)) where
@@ -55,26 +55,27 @@ module _ (unclaimed : Route → Type 0) (old new : Seen) (did : CopyDid) (before
       works = subst (λ (x : Option CallLog). FolderMakes pair names mode old new did x after) same works;
     })))
 
-    pub took_link : (part : Route) → IfKnown before (λ log. IsTaken (current log) pair taken.Link)
+    pub took_link : (part : Route) → IsShort part → IfKnown before (λ log. IsTaken (current log) pair taken.Link)
         → IfKnown before (λ log. IsChosen (current log) unclaimed (file.places old.job pair.source pair.target) part)
         → RunsOut old new did mid after ⊎ LinkWorks (link_begun pair part) old new did mid after → TakesNext unclaimed old new did before after
-    took_link part is chosen (inl out) = ran_out out
-    took_link part is chosen (inr works) = inr (inr (inl record {
+    took_link part short is chosen (inl out) = ran_out out
+    took_link part short is chosen (inr works) = inr (inr (inl record {
       pair = pair;
       part = part;
       next = next;
       reach = reach;
       is = is;
       chosen = chosen;
+      short = short;
       works = subst (λ (x : Option CallLog). LinkWorks (link_begun pair part) old new did x after) same works;
     }))
 
 -- where nothing is at work, a piece of a step is one of any
-pub next_advances : (unclaimed : Route → Type 0) (old new : Seen) (i : Item) (r : Option CopyStep) (before after : Option CallLog) (f0 f1 : ℕ) → old.item ≡ Next → i ≡ Next
-    → AdvancesNext unclaimed (record old { item = i }) new r before after f0 f1 → Advances unclaimed old new r before after f0 f1
-next_advances unclaimed old new i None before after f0 f1 free is a = (free, subst (λ (j : Item). Leaves (record old { item = j }) new) (is ∙ sym free) a.0, a.1, a.2)
-next_advances unclaimed old new i (Some stepped) before after f0 f1 free is a = (
-  subst (λ (j : Item). WorksOn j unclaimed old new stepped.did before after) (sym free)
-      (subst (λ (j : Item). GoesOn unclaimed (record old { item = j }) new stepped.did before after) (is ∙ sym free) a.0),
+pub next_advances : (free : Route → Bool) (old new : Seen) (i : Item) (r : Option StepResult) (before after : Option CallLog) (f0 f1 : ℕ) → old.item ≡ Next → i ≡ Next
+    → AdvancesNext (IsPartPlace free old) (record old { item = i }) new r before after f0 f1 → Advances free old new r before after f0 f1
+next_advances free old new i None before after f0 f1 idle is a = (idle, subst (λ (j : Item). Leaves (record old { item = j }) new) (is ∙ sym idle) a.0, a.1, a.2)
+next_advances free old new i (Some stepped) before after f0 f1 idle is a = (
+  subst (λ (j : Item). WorksOn j (IsPartPlace free old) old new stepped.did before after) (sym idle)
+      (subst (λ (j : Item). GoesOn (IsPartPlace free old) (record old { item = j }) new stepped.did before after) (is ∙ sym idle) a.0),
   a.1,
 )

@@ -17,8 +17,8 @@ use Rattle.tree_copy.specs.declared.item.Item.{Item}
 use Rattle.tree_copy.specs.declared.item.Item.TheVariants.{Next, File, Link, Stays}
 use Rattle.tree_copy.specs.declared.progress.Progress.{Progress}
 use Rattle.tree_copy.specs.declared.progress.Progress.TheVariants.{UnderWay, Decided, Anew}
-use Rattle.tree_copy.specs.declared.report.CopyDid.{CopyDid}
 use Rattle.copy_levels.specs.Levels.{Levels, dirtied}
+use Rattle.tree_copy.specs.Parts.{IsPartPlace}
 use Rattle.tree_copy.specs.Progress.{link_progress, progress}
 use Rattle.tree_copy.specs.Skipping.{SkipsAt, SkipsName, SkipsNamed, SkipsRest, retried_at}
 use Rattle.tree_copy.specs.Standing.{Seen, due_at, pair_of}
@@ -34,7 +34,7 @@ folder_at c = c.levels.inner.copy.target
 none_in : (c : Seen) → c.item ≡ Next → IsInWorked c
 none_in c free = subst (ItemIn (folder_at c)) (sym free) tt
 
-same_folder : (changed : Bool) (did : CopyDid) (c : Seen) → folder_at (noted did changed c) ≡ folder_at c
+same_folder : (changed : Bool) (did : Did) (c : Seen) → folder_at (noted did changed c) ≡ folder_at c
 same_folder true did c = refl
 same_folder false did c = refl
 
@@ -48,20 +48,20 @@ pair_in : (names : List (List ℕ)) (c : Seen) (pair : Pair) → due_at names c 
 pair_in [] c pair is = absurd (let f : ⊥ = cc in f)
 pair_in (name ∷ names) c pair is = let same : pair_of c name ≡ pair = cc in ap (λ (p : Pair). folder_of p.target) (sym same)
 
-file_step : (unclaimed : Route → Type 0) (f : Copying) (old new : Seen) (did : CopyDid) (before after : Option CallLog) → FileWorks unclaimed f old new did before after → folder_of f.target ≡ folder_at old
+file_step : (unclaimed : Route → Type 0) (f : Copying) (old new : Seen) (did : Did) (before after : Option CallLog) → FileWorks unclaimed f old new did before after → folder_of f.target ≡ folder_at old
     → IsInWorked new
 file_step unclaimed f old new did before after w here =
-    let same = file_paths f w.moved w.report w.tells in
+    let same = file_paths f w.moved did w.tells in
     let changed = file.is_dirty w.moved.folder in
     subst IsInWorked (sym w.stands) (settled_in (progress w.moved.stage) (File w.moved) (noted did changed (idle old)) refl ((ap folder_of same.1 ∙ here) ∙ sym (same_folder changed did (idle old))))
 
-link_step : (l : LinkCopying) (old new : Seen) (did : CopyDid) (before after : Option CallLog) → LinkWorks l old new did before after → folder_of l.target ≡ folder_at old → IsInWorked new
+link_step : (l : LinkCopying) (old new : Seen) (did : Did) (before after : Option CallLog) → LinkWorks l old new did before after → folder_of l.target ≡ folder_at old → IsInWorked new
 link_step l old new did before after w here =
-    let same = link_paths l w.moved w.report w.tells in
+    let same = link_paths l w.moved did w.tells in
     let changed = link.is_dirty w.moved.folder in
     subst IsInWorked (sym w.stands) (settled_in (link_progress w.moved.stage) (Link w.moved) (noted did changed (idle old)) refl ((ap folder_of same.1 ∙ here) ∙ sym (same_folder changed did (idle old))))
 
-takes : (unclaimed : Route → Type 0) (old new : Seen) (did : CopyDid) (before after : Option CallLog) → TakesNext unclaimed old new did before after → old.item ≡ Next → IsInWorked new
+takes : (unclaimed : Route → Type 0) (old new : Seen) (did : Did) (before after : Option CallLog) → TakesNext unclaimed old new did before after → old.item ≡ Next → IsInWorked new
 takes unclaimed old new did before after (inl s) free = subst IsInWorked (sym s.stands) (none_in old free)
 takes unclaimed old new did before after (inr (inl t)) free =
     file_step unclaimed (file.begun old.job t.pair.source t.pair.target) old new did before after t.works (pair_in old.levels.inner.names.names old t.pair t.next)
@@ -71,11 +71,11 @@ takes unclaimed old new did before after (inr (inr (inr (inl t)))) free = let w 
 takes unclaimed old new did before after (inr (inr (inr (inr (next, inl (debt, e)))))) free = none_in new (ap (λ (c : Seen). c.item) e.stands ∙ free)
 takes unclaimed old new did before after (inr (inr (inr (inr (next, inr (debt, f, same)))))) free = none_in new (ap (λ (c : Seen). c.item) f.stands ∙ free)
 
-goes : (unclaimed : Route → Type 0) (old new : Seen) (did : CopyDid) (before after : Option CallLog) → GoesOn unclaimed old new did before after → old.item ≡ Next → IsInWorked new
+goes : (unclaimed : Route → Type 0) (old new : Seen) (did : Did) (before after : Option CallLog) → GoesOn unclaimed old new did before after → old.item ≡ Next → IsInWorked new
 goes unclaimed old new did before after (inl s) free = none_in new (ap (λ (c : Seen). c.item) s.stands ∙ free)
 goes unclaimed old new did before after (inr s) free = takes unclaimed old new did before after s.1 free
 
-works : (unclaimed : Route → Type 0) (item : Item) (old new : Seen) (did : CopyDid) (before after : Option CallLog) → WorksOn item unclaimed old new did before after → old.item ≡ item
+works : (unclaimed : Route → Type 0) (item : Item) (old new : Seen) (did : Did) (before after : Option CallLog) → WorksOn item unclaimed old new did before after → old.item ≡ item
     → ItemIn (folder_at old) item → IsInWorked new
 works unclaimed Next old new did before after w is here = goes unclaimed old new did before after w is
 works unclaimed (File f) old new did before after w is here = file_step unclaimed f old new did before after w here
@@ -127,7 +127,7 @@ worked_folder_law = record {
   begins = λ job source target. tt;
   step = λ free old new did calls before after f0 f1 s here.
       let mid = leaves s.folders old s.mid s.leaves here in
-      works (λ path. free path ≡ true) s.mid.item s.mid new did before after s.works refl mid;
+      works (IsPartPlace free s.mid) s.mid.item s.mid new did before after s.works refl mid;
   skip = λ cause old new did s here. skips_in old.item cause old new did s refl here;
   retry = λ old here. retries_in old.item old refl here;
 }

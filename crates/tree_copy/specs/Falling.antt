@@ -9,8 +9,7 @@ use Rattle.subtree_walk.specs.Ranks.{rank}
 use Rattle.tree_copy.specs.declared.item.Item.{Item}
 use Rattle.tree_copy.specs.declared.item.Item.TheVariants.{Next, File, Link, Stays}
 use Rattle.copy_levels.specs.declared.level.Level.{Level}
-use Rattle.tree_copy.specs.declared.report.CopyDid.{CopyDid}
-use Rattle.tree_copy.specs.declared.report.CopyDid.TheVariants.{Common, Set}
+use Rattle.job_reports.specs.declared.report.Did.{Did}
 use Rattle.copy_levels.specs.Levels.{Levels, walked}
 use Rattle.tree_copy.specs.Standing.{Seen}
 use Rattle.tree_copy.specs.Steps.{CopySteps}
@@ -43,15 +42,14 @@ abbrev pub things_left : Seen → ℕ
 things_left c = rank (walked c.levels)
 
 -- a thing was placed, or a folder made
-abbrev pub decides : CopyDid → Bool
-decides (Common (common.Placed path)) = true
-decides (Common (common.Made path)) = true
-decides (Common did) = false
-decides (Set path) = false
+abbrev pub decides : Did → Bool
+decides (common.Placed path) = true
+decides (common.Made path) = true
+decides did = false
 
 -- No step leaves more things, and each that places a thing or makes a folder leaves fewer.
 abbrev pub FallingLaw : Type 0
 FallingLaw =
-    (free : Route → Bool) (old new : Seen) (did : CopyDid) (calls : ℕ) (before after : Option CallLog) (faults faults_after : ℕ)
-    → CopySteps (λ path. free path ≡ true) old new did calls before after faults faults_after → IsSteady old
+    (free : Route → Bool) (old new : Seen) (did : Did) (calls : ℕ) (before after : Option CallLog) (faults faults_after : ℕ)
+    → CopySteps free old new did calls before after faults faults_after → IsSteady old
     → IsSteady new × (things_left new ≤ things_left old) × (decides did ≡ true → things_left new < things_left old)

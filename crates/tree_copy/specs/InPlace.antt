@@ -11,8 +11,7 @@ use Rattle.folder_copy.specs.declared.stage.Stage.TheVariants.{Make, Fill, Close
 use Rattle.tree_copy.specs.declared.item.Item.{Item}
 use Rattle.tree_copy.specs.declared.item.Item.TheVariants.{Next, File, Link, Stays}
 use Rattle.copy_levels.specs.declared.level.Level.{Level}
-use Rattle.tree_copy.specs.declared.report.CopyDid.{CopyDid}
-use Rattle.tree_copy.specs.declared.report.CopyDid.TheVariants.{Common, Set}
+use Rattle.job_reports.specs.declared.report.Did.{Did}
 use Rattle.tree_copy.specs.Standing.{Seen}
 use Rattle.tree_copy.specs.Steps.{CopySteps}
 
@@ -58,14 +57,14 @@ pub record IsInPlace (top : Pair) (c : Seen) : Type 0 where
 abbrev pub IsTargetOf : Pair → Route → Type 0
 IsTargetOf top path = (source : Route) × IsMoved top source path
 
-abbrev pub NamesTarget : Pair → CopyDid → Type 0
-NamesTarget top (Common (common.Placed path)) = IsTargetOf top path
-NamesTarget top (Common (common.Made path)) = IsTargetOf top path
-NamesTarget top (Set path) = IsTargetOf top path
-NamesTarget top (Common did) = ⊤
+abbrev pub NamesTarget : Pair → Did → Type 0
+NamesTarget top (common.Placed path) = IsTargetOf top path
+NamesTarget top (common.Made path) = IsTargetOf top path
+NamesTarget top (common.Set path) = IsTargetOf top path
+NamesTarget top did = ⊤
 
 -- A copy that is in its place stays there with each step, and what it places, makes and gives a mode is the target of a thing of the source.
 abbrev pub PlaceLaw : Type 0
 PlaceLaw =
-    (free : Route → Bool) (top : Pair) (old new : Seen) (did : CopyDid) (calls : ℕ) (before after : Option CallLog) (faults faults_after : ℕ)
-    → CopySteps (λ path. free path ≡ true) old new did calls before after faults faults_after → IsInPlace top old → IsInPlace top new × NamesTarget top did
+    (free : Route → Bool) (top : Pair) (old new : Seen) (did : Did) (calls : ℕ) (before after : Option CallLog) (faults faults_after : ℕ)
+    → CopySteps free old new did calls before after faults faults_after → IsInPlace top old → IsInPlace top new × NamesTarget top did

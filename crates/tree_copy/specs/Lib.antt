@@ -1,5 +1,6 @@
 pub mod MadeCalls
 pub mod OnDisk
+pub mod Parts
 pub mod Progress
 pub mod Reports
 pub mod Standing

@@ -16,7 +16,6 @@ use Rattle.file_copy.specs.Copying.{part_at}
 use Rattle.file_copy.specs.PartNames.{part_name}
 use Rattle.tree_copy.specs.declared.item.Item.{Item}
 use Rattle.tree_copy.specs.declared.item.Item.TheVariants.{Next, File, Link, Stays}
-use Rattle.tree_copy.specs.declared.report.CopyDid.{CopyDid}
 use Rattle.tree_copy.specs.Ending.{WindsAt}
 use Rattle.tree_copy.specs.InPlace.{IsInPlace, IsTargetOf}
 use Rattle.tree_copy.specs.Skipping.{Skips, retried}
@@ -79,8 +78,8 @@ pub record HasPart (job : ℕ) (c : Seen) : Type 0 where
 
 -- Each changing call of a step, and of a last step, is one of these; and the part stays beside its target.
 pub record CallLaw : Type 0 where
-  pub step : (free : Route → Bool) (top : Pair) (job : ℕ) (old new : Seen) (did : CopyDid) (calls : ℕ) (before after : Option CallLog) (faults faults_after : ℕ)
-      → CopySteps (λ path. free path ≡ true) old new did calls before after faults faults_after → IsInPlace top old → HasPart job old
+  pub step : (free : Route → Bool) (top : Pair) (job : ℕ) (old new : Seen) (did : Did) (calls : ℕ) (before after : Option CallLog) (faults faults_after : ℕ)
+      → CopySteps free old new did calls before after faults faults_after → IsInPlace top old → HasPart job old
       → IfKnown before (λ log. HasPart job new × MakesOnly (MayCall top job) log after)
   pub last_step : (top : Pair) (job : ℕ) (ending : Ending) (old new : Seen) (last : LastStepResult) (before after : Option CallLog) (faults faults_after : ℕ)
       → WindsAt old.item ending old new last before after faults faults_after → IsInPlace top old → HasPart job old

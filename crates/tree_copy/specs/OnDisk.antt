@@ -12,7 +12,6 @@ use Rattle.tree_copy.specs.declared.copy.Named.{Named}
 use Rattle.tree_copy.specs.declared.item.Item.{Item}
 use Rattle.tree_copy.specs.declared.item.Item.TheVariants.{Next}
 use Rattle.copy_levels.specs.declared.level.Level.{Level}
-use Rattle.tree_copy.specs.declared.report.CopyDid.{CopyDid}
 use Rattle.tree_copy.specs.Ending.{WindsAt}
 use Rattle.tree_copy.specs.Skipping.{Skips, retried}
 use Rattle.tree_copy.specs.Standing.{Seen, begun}
@@ -39,8 +38,8 @@ IsOnDisk c = AroundSynced c.item c.levels.inner c.levels.around
 -- A copy that begins is so, and each step, skip, retry and last step keeps it.
 pub record OnDiskLaw : Type 0 where
   pub begins : (job : ℕ) (source target : Named) → IsOnDisk (begun job source target)
-  pub step : (free : Route → Bool) (old new : Seen) (did : CopyDid) (calls : ℕ) (before after : Option CallLog) (faults faults_after : ℕ)
-      → CopySteps (λ path. free path ≡ true) old new did calls before after faults faults_after → IsOnDisk old → IsOnDisk new
+  pub step : (free : Route → Bool) (old new : Seen) (did : Did) (calls : ℕ) (before after : Option CallLog) (faults faults_after : ℕ)
+      → CopySteps free old new did calls before after faults faults_after → IsOnDisk old → IsOnDisk new
   pub skip : (cause : Cause) (old new : Seen) (did : Did) → Skips cause old did new → IsOnDisk old → IsOnDisk new
   pub retry : (old : Seen) → IsOnDisk old → IsOnDisk (retried old)
   pub last_step : (ending : Ending) (old new : Seen) (last : LastStepResult) (before after : Option CallLog) (faults faults_after : ℕ)

@@ -15,7 +15,7 @@ use Rattle.tree_copy.specs.declared.item.Item.{Item}
 use Rattle.tree_copy.specs.declared.item.Item.TheVariants.{Next, File, Link, Stays}
 use Rattle.tree_copy.specs.declared.due.Due.{Due}
 use Rattle.tree_copy.specs.declared.due.Due.TheVariants.{End, Thing}
-use Rattle.tree_copy.specs.declared.report.CopyDid.{CopyDid}
+use Rattle.job_reports.specs.declared.report.Did.{Did}
 use Rattle.copy_levels.specs.Levels.{Levels, is_sync_next, outermost}
 use Rattle.tree_copy.specs.Reports.{changes}
 
@@ -55,7 +55,7 @@ abbrev pub at_barrier : Seen → Bool
 at_barrier c = barrier_at c.item c.levels
 
 -- how far it is after a report
-abbrev pub after_report : CopyDid → Stage → Stage
+abbrev pub after_report : Did → Stage → Stage
 after_report did stage = if changes did then Going else stage
 
 -- what is copied may have another name at its target; what lies in it has its own

@@ -10,6 +10,7 @@ use Rattle.job_reports.specs.declared.report.Did.{Did}
 use Rattle.job_reports.specs.declared.report.Did.TheVariants as common
 use Rattle.job_reports.specs.declared.report.Ending.TheVariants.{Finished}
 use Rattle.job_reports.specs.CallRuns.{HasMore}
+use Rattle.job_reports.specs.Reports.{IsFault}
 use Rattle.job_reports.specs.Stops.{out_of_memory_at}
 use Rattle.file_copy.specs.Copying as file
 use Rattle.file_copy.specs.Copying.{Copying}
@@ -38,14 +39,13 @@ use Rattle.tree_copy.specs.declared.item.Item.TheVariants.{Next, File, Link, Sta
 use Rattle.tree_copy.specs.declared.looking.Taken.TheVariants as taken
 use Rattle.tree_copy.specs.declared.progress.Progress.{Progress}
 use Rattle.tree_copy.specs.declared.progress.Progress.TheVariants.{UnderWay, Decided, Anew}
-use Rattle.tree_copy.specs.declared.report.CopyDid.{CopyDid}
-use Rattle.tree_copy.specs.declared.report.CopyDid.TheVariants.{Common}
-use Rattle.tree_copy.specs.declared.report.CopyStep.{CopyStep}
+use Rattle.job_reports.specs.declared.report.StepResult.{StepResult}
 use Rattle.copy_levels.specs.Levels.{IsLeft, closed, dirtied, is_around_dirty, level, made_levels, owes, passed, with_copy}
+use Rattle.tree_copy.specs.Parts.{IsPartPlace, IsShortPart}
 use Rattle.tree_copy.specs.Progress.{link_progress, progress}
-use Rattle.tree_copy.specs.Reports.{IsFault, IsToldAs}
+use Rattle.tree_copy.specs.Reports.{IsToldAs}
 use Rattle.tree_copy.specs.Standing.{Seen, after_report, due}
-use Rattle.tree_copy.specs.Taking.{DueStops, IsInReach, IsTaken, LooksStop}
+use Rattle.tree_copy.specs.Taking.{DueStops, IsInReach, IsShort, IsTaken, LooksStop}
 
 -- a step can be made: a file or a link is at work while its part stands, and no part is left that could not be removed
 abbrev pub IsWorkable : Item → Type 0
@@ -70,15 +70,15 @@ settled Decided item c = record c { levels = passed false c.levels }
 settled Anew item c = c
 
 -- a name in the target of the folder that is worked was changed, if one was, and this was reported
-abbrev pub noted : CopyDid → Bool → Seen → Seen
+abbrev pub noted : Did → Bool → Seen → Seen
 noted did changed c = record c { stage = after_report did c.stage; levels = dirtied changed c.levels }
 
 -- where the copy stands after a step of a file's copy
-abbrev pub after_file : CopyDid → Copying → Seen → Seen
+abbrev pub after_file : Did → Copying → Seen → Seen
 after_file did f c = settled (progress f.stage) (File f) (noted did (file.is_dirty f.folder) c)
 
 -- where the copy stands after a step of a link's copy
-abbrev pub after_link : CopyDid → LinkCopying → Seen → Seen
+abbrev pub after_link : Did → LinkCopying → Seen → Seen
 after_link did l c = settled (link_progress l.stage) (Link l) (noted did (link.is_dirty l.folder) c)
 
 -- nothing is at work yet
@@ -86,28 +86,25 @@ abbrev pub idle : Seen → Seen
 idle c = record c { item = Next }
 
 -- a step of this file's copy
-pub record FileWorks (unclaimed : Route → Type 0) (f : Copying) (old new : Seen) (did : CopyDid) (before after : Option CallLog) : Type 0 where
+pub record FileWorks (unclaimed : Route → Type 0) (f : Copying) (old new : Seen) (did : Did) (before after : Option CallLog) : Type 0 where
   pub moved : Copying
-  pub report : Did
-  pub says : did ≡ Common report
-  pub tells : file.Tells f report moved
-  pub called : IfKnown before (λ log. CopyCalls unclaimed f report moved log after)
-  pub falls : FileFalls report f moved
+  pub tells : file.Tells f did moved
+  pub called : IfKnown before (λ log. CopyCalls unclaimed f did moved log after)
+  pub falls : FileFalls did f moved
   pub sound : file.IsSound moved.stage moved.folder
+  pub short : IsShortPart (file.part_at moved.stage)
   pub stands : new ≡ after_file did moved (idle old)
 
 -- a step of this link's copy
-pub record LinkWorks (l : LinkCopying) (old new : Seen) (did : CopyDid) (before after : Option CallLog) : Type 0 where
+pub record LinkWorks (l : LinkCopying) (old new : Seen) (did : Did) (before after : Option CallLog) : Type 0 where
   pub moved : LinkCopying
-  pub report : Did
-  pub says : did ≡ Common report
-  pub tells : link.Tells l report moved
-  pub called : IfKnown before (λ log. LinkCalls l report log after)
-  pub falls : LinkFalls report l moved
+  pub tells : link.Tells l did moved
+  pub called : IfKnown before (λ log. LinkCalls l did log after)
+  pub falls : LinkFalls did l moved
   pub stands : new ≡ after_link did moved (idle old)
 
 -- a file is taken up
-pub record TakesFile (unclaimed : Route → Type 0) (old new : Seen) (did : CopyDid) (before after : Option CallLog) : Type 0 where
+pub record TakesFile (unclaimed : Route → Type 0) (old new : Seen) (did : Did) (before after : Option CallLog) : Type 0 where
   pub pair : Pair
   pub next : due old ≡ Thing pair
   pub reach : IsInReach old.levels.left (Thing pair)
@@ -119,17 +116,18 @@ abbrev pub link_begun : Pair → Route → LinkCopying
 link_begun pair part = link.copying (link.places pair.source pair.target part) link_stage.Make names_state.Synced
 
 -- a link is taken up; its part has the first name that is free
-pub record TakesLink (unclaimed : Route → Type 0) (old new : Seen) (did : CopyDid) (before after : Option CallLog) : Type 0 where
+pub record TakesLink (unclaimed : Route → Type 0) (old new : Seen) (did : Did) (before after : Option CallLog) : Type 0 where
   pub pair : Pair
   pub part : Route
   pub next : due old ≡ Thing pair
   pub reach : IsInReach old.levels.left (Thing pair)
   pub is : IfKnown before (λ log. IsTaken (current log) pair taken.Link)
   pub chosen : IfKnown before (λ log. IsChosen (current log) unclaimed (file.places old.job pair.source pair.target) part)
+  pub short : IsShort part
   pub works : LinkWorks (link_begun pair part) old new did before after
 
 -- a folder is made, and gone into
-pub record FolderMakes (pair : Pair) (names : List (List ℕ)) (mode : ℕ) (old new : Seen) (did : CopyDid) (before after : Option CallLog) : Type 0 where
+pub record FolderMakes (pair : Pair) (names : List (List ℕ)) (mode : ℕ) (old new : Seen) (did : Did) (before after : Option CallLog) : Type 0 where
   pub few : length names ≤ 2 ^ 64
   pub moved : FolderCopying
   pub report : FolderDid
@@ -139,7 +137,7 @@ pub record FolderMakes (pair : Pair) (names : List (List ℕ)) (mode : ℕ) (old
   pub stands : new ≡ record old { stage = after_report did old.stage; levels = made_levels moved.stage (opened pair.source names) moved old.levels }
 
 -- a folder is taken up
-pub record TakesFolder (old new : Seen) (did : CopyDid) (before after : Option CallLog) : Type 0 where
+pub record TakesFolder (old new : Seen) (did : Did) (before after : Option CallLog) : Type 0 where
   pub pair : Pair
   pub names : List (List ℕ)
   pub mode : ℕ
@@ -150,7 +148,7 @@ pub record TakesFolder (old new : Seen) (did : CopyDid) (before after : Option C
   pub works : FolderMakes pair names mode old new did before after
 
 -- a step at a folder whose children are decided
-pub record FolderEnds (old new : Seen) (did : CopyDid) (before after : Option CallLog) : Type 0 where
+pub record FolderEnds (old new : Seen) (did : Did) (before after : Option CallLog) : Type 0 where
   pub moved : FolderCopying
   pub report : FolderDid
   pub says : IsToldAs report did
@@ -160,9 +158,9 @@ pub record FolderEnds (old new : Seen) (did : CopyDid) (before after : Option Ca
   pub stands : new ≡ record old { stage = after_report did old.stage; levels = with_copy moved old.levels }
 
 -- all is copied or was left, and synced
-pub record Finishes (old new : Seen) (did : CopyDid) : Type 0 where
+pub record Finishes (old new : Seen) (did : Did) : Type 0 where
   pub last : old.levels.around ≡ []
-  pub says : did ≡ Common (common.Ended Finished None)
+  pub says : did ≡ common.Ended Finished None
   pub stands : new ≡ old
 
 -- where the copy stands once the children of the folder that is worked are decided
@@ -174,7 +172,7 @@ abbrev pub has_debt : Seen → Bool
 has_debt c = owes c.levels.inner.copy.stage c.levels.inner.copy.names
 
 -- at the end of a folder comes what it owes, and then, where it is the outermost, the end of all
-abbrev pub WorksAtEnd : Seen → Seen → CopyDid → Option CallLog → Option CallLog → Type 0
+abbrev pub WorksAtEnd : Seen → Seen → Did → Option CallLog → Option CallLog → Type 0
 WorksAtEnd old new did before after =
     (due old ≡ End)
     × (((has_debt (at_end old) ≡ true) × FolderEnds (at_end old) new did before after)
@@ -191,16 +189,16 @@ WhyStopped unclaimed c t before =
     ⊎ ((pair : Pair) × (due c ≡ Thing pair) × (t ≡ out_of_memory_at false))
 
 -- a trouble before any call that changes the tree
-pub record Stops (unclaimed : Route → Type 0) (old new : Seen) (did : CopyDid) (before after : Option CallLog) : Type 0 where
+pub record Stops (unclaimed : Route → Type 0) (old new : Seen) (did : Did) (before after : Option CallLog) : Type 0 where
   pub trouble : Trouble
-  pub says : did ≡ Common (common.Troubled trouble)
+  pub says : did ≡ common.Troubled trouble
   pub why : WhyStopped unclaimed old trouble before
   pub apart : trouble.barrier ≡ false
   pub same : after ≡ before
   pub stands : new ≡ old
 
 -- The folder around is synced: only then is the one that is worked, which was made, on the disk.
-pub record SyncsAround (old new : Seen) (did : CopyDid) (before after : Option CallLog) : Type 0 where
+pub record SyncsAround (old new : Seen) (did : Did) (before after : Option CallLog) : Type 0 where
   pub dirty : is_around_dirty old.levels.around ≡ true
   pub outer : Level
   pub around : List Level
@@ -213,7 +211,7 @@ pub record SyncsAround (old new : Seen) (did : CopyDid) (before after : Option C
   pub stands : new ≡ record old { stage = after_report did old.stage; levels = record old.levels { around = level outer.names (record outer.copy { names = names }) ∷ around } }
 
 -- What a step does with the next name, or the end of a folder, in a folder that is on the disk.
-abbrev pub TakesNext : (Route → Type 0) → Seen → Seen → CopyDid → Option CallLog → Option CallLog → Type 0
+abbrev pub TakesNext : (Route → Type 0) → Seen → Seen → Did → Option CallLog → Option CallLog → Type 0
 TakesNext unclaimed old new did before after =
     Stops unclaimed old new did before after
     ⊎ TakesFile unclaimed old new did before after
@@ -222,23 +220,23 @@ TakesNext unclaimed old new did before after =
     ⊎ WorksAtEnd old new did before after
 
 -- What a step does where nothing is at work: a folder that was made is brought onto the disk, and only then something is put into it.
-abbrev pub GoesOn : (Route → Type 0) → Seen → Seen → CopyDid → Option CallLog → Option CallLog → Type 0
+abbrev pub GoesOn : (Route → Type 0) → Seen → Seen → Did → Option CallLog → Option CallLog → Type 0
 GoesOn unclaimed old new did before after =
     SyncsAround old new did before after ⊎ ((is_around_dirty old.levels.around ≡ false) × TakesNext unclaimed old new did before after)
 
 -- What a step does, by what is at work.
-abbrev pub WorksOn : Item → (Route → Type 0) → Seen → Seen → CopyDid → Option CallLog → Option CallLog → Type 0
+abbrev pub WorksOn : Item → (Route → Type 0) → Seen → Seen → Did → Option CallLog → Option CallLog → Type 0
 WorksOn Next unclaimed old new did before after = GoesOn unclaimed old new did before after
 WorksOn (File f) unclaimed old new did before after = FileWorks unclaimed f old new did before after
 WorksOn (Link l) unclaimed old new did before after = LinkWorks l old new did before after
 WorksOn (Stays part) unclaimed old new did before after = ⊥
 
 -- there is no memory, and nothing was done
-abbrev pub RunsOut : Seen → Seen → CopyDid → Option CallLog → Option CallLog → Type 0
-RunsOut old new did before after = (did ≡ Common (common.Troubled (out_of_memory_at false))) × (new ≡ old) × (after ≡ before)
+abbrev pub RunsOut : Seen → Seen → Did → Option CallLog → Option CallLog → Type 0
+RunsOut old new did before after = (did ≡ common.Troubled (out_of_memory_at false)) × (new ≡ old) × (after ≡ before)
 
 -- A step counts its calls, at most three, and reports a fault only where the tree's count has risen.
-pub record Counts (did : CopyDid) (calls : ℕ) (before after : Option CallLog) (faults faults_after : ℕ) : Type 0 where
+pub record Counts (did : Did) (calls : ℕ) (before after : Option CallLog) (faults faults_after : ℕ) : Type 0 where
   pub counted : IfKnown before (λ log. IfKnown after (HasMore log calls))
   pub few : calls ≤ 3
   pub unknown : before ≡ None → after ≡ None
@@ -258,7 +256,7 @@ pub record Leaves (old new : Seen) : Type 0 where
   pub returns : Returns (at_end old) new
 
 -- a folder is left, and the outermost is the last
-abbrev pub LeavesOrFinishes : Seen → Seen → Option CopyStep → Type 0
+abbrev pub LeavesOrFinishes : Seen → Seen → Option StepResult → Type 0
 LeavesOrFinishes old new None = Returns old new
 LeavesOrFinishes old new (Some stepped) = Finishes old new stepped.did × (stepped.calls ≡ 0)
 
@@ -268,33 +266,34 @@ LeavesAll zero old new = new ≡ old
 LeavesAll (suc n) old new = (mid : Seen) × LeavesAll n old mid × (mid.item ≡ Next) × Leaves mid new
 
 -- The next piece of a step at the end of a folder: it is left, or something is done that is reported.
-abbrev pub AdvancesEnd : Seen → Seen → Option CopyStep → Option CallLog → Option CallLog → ℕ → ℕ → Type 0
+abbrev pub AdvancesEnd : Seen → Seen → Option StepResult → Option CallLog → Option CallLog → ℕ → ℕ → Type 0
 AdvancesEnd old new None before after faults faults_after = Leaves old new × (after ≡ before) × (faults ≤ faults_after)
 AdvancesEnd old new (Some stepped) before after faults faults_after =
     WorksAtEnd old new stepped.did before after × Counts stepped.did stepped.calls before after faults faults_after
 
 -- The next piece of a step in a folder that is on the disk: a folder is left, or something is done that is reported.
-abbrev pub AdvancesIn : (Route → Type 0) → Seen → Seen → Option CopyStep → Option CallLog → Option CallLog → ℕ → ℕ → Type 0
+abbrev pub AdvancesIn : (Route → Type 0) → Seen → Seen → Option StepResult → Option CallLog → Option CallLog → ℕ → ℕ → Type 0
 AdvancesIn unclaimed old new None before after faults faults_after = Leaves old new × (after ≡ before) × (faults ≤ faults_after)
 AdvancesIn unclaimed old new (Some stepped) before after faults faults_after =
     TakesNext unclaimed old new stepped.did before after × Counts stepped.did stepped.calls before after faults faults_after
 
 -- The next piece of a step where nothing is at work: a folder is left, or something is done that is reported.
-abbrev pub AdvancesNext : (Route → Type 0) → Seen → Seen → Option CopyStep → Option CallLog → Option CallLog → ℕ → ℕ → Type 0
+abbrev pub AdvancesNext : (Route → Type 0) → Seen → Seen → Option StepResult → Option CallLog → Option CallLog → ℕ → ℕ → Type 0
 AdvancesNext unclaimed old new None before after faults faults_after = Leaves old new × (after ≡ before) × (faults ≤ faults_after)
 AdvancesNext unclaimed old new (Some stepped) before after faults faults_after =
     GoesOn unclaimed old new stepped.did before after × Counts stepped.did stepped.calls before after faults faults_after
 
 -- the same of any piece of a step
-abbrev pub Advances : (Route → Type 0) → Seen → Seen → Option CopyStep → Option CallLog → Option CallLog → ℕ → ℕ → Type 0
-Advances unclaimed old new None before after faults faults_after = (old.item ≡ Next) × Leaves old new × (after ≡ before) × (faults ≤ faults_after)
-Advances unclaimed old new (Some stepped) before after faults faults_after =
-    WorksOn old.item unclaimed old new stepped.did before after × Counts stepped.did stepped.calls before after faults faults_after
+abbrev pub Advances : (Route → Bool) → Seen → Seen → Option StepResult → Option CallLog → Option CallLog → ℕ → ℕ → Type 0
+Advances free old new None before after faults faults_after = (old.item ≡ Next) × Leaves old new × (after ≡ before) × (faults ≤ faults_after)
+Advances free old new (Some stepped) before after faults faults_after =
+    WorksOn old.item (IsPartPlace free old) old new stepped.did before after × Counts stepped.did stepped.calls before after faults faults_after
 
--- A step: folders that owe nothing are left, and then something is done that is reported.
-pub record CopySteps (unclaimed : Route → Type 0) (old new : Seen) (did : CopyDid) (calls : ℕ) (before after : Option CallLog) (faults faults_after : ℕ) : Type 0 where
+-- A step: folders that owe nothing are left, and then something is done that is reported. No job claims the path of a part that is begun, and
+-- no thing has its name that is yet to be met.
+pub record CopySteps (free : Route → Bool) (old new : Seen) (did : Did) (calls : ℕ) (before after : Option CallLog) (faults faults_after : ℕ) : Type 0 where
   pub folders : ℕ
   pub mid : Seen
   pub leaves : LeavesAll folders old mid
-  pub works : WorksOn mid.item unclaimed mid new did before after
+  pub works : WorksOn mid.item (IsPartPlace free mid) mid new did before after
   pub counts : Counts did calls before after faults faults_after

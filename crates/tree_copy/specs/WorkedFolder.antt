@@ -8,7 +8,6 @@ use Rattle.job_reports.specs.Paths.{folder_of}
 use Rattle.tree_copy.specs.declared.copy.Named.{Named}
 use Rattle.tree_copy.specs.declared.item.Item.{Item}
 use Rattle.tree_copy.specs.declared.item.Item.TheVariants.{Next, File, Link, Stays}
-use Rattle.tree_copy.specs.declared.report.CopyDid.{CopyDid}
 use Rattle.tree_copy.specs.Skipping.{Skips, retried}
 use Rattle.tree_copy.specs.Standing.{Seen, begun}
 use Rattle.tree_copy.specs.Steps.{CopySteps}
@@ -26,7 +25,7 @@ IsInWorked c = ItemIn c.levels.inner.copy.target c.item
 -- A copy that begins is so, and each step, skip and retry keeps it.
 pub record WorkedFolderLaw : Type 0 where
   pub begins : (job : ℕ) (source target : Named) → IsInWorked (begun job source target)
-  pub step : (free : Route → Bool) (old new : Seen) (did : CopyDid) (calls : ℕ) (before after : Option CallLog) (faults faults_after : ℕ)
-      → CopySteps (λ path. free path ≡ true) old new did calls before after faults faults_after → IsInWorked old → IsInWorked new
+  pub step : (free : Route → Bool) (old new : Seen) (did : Did) (calls : ℕ) (before after : Option CallLog) (faults faults_after : ℕ)
+      → CopySteps free old new did calls before after faults faults_after → IsInWorked old → IsInWorked new
   pub skip : (cause : Cause) (old new : Seen) (did : Did) → Skips cause old did new → IsInWorked old → IsInWorked new
   pub retry : (old : Seen) → IsInWorked old → IsInWorked (retried old)

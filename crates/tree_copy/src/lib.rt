@@ -8,6 +8,7 @@ mod item;
 mod laws;
 mod looking;
 mod making;
+mod parts;
 mod progress;
 mod report;
 mod skipping;
@@ -25,4 +26,3 @@ pub use laws::{
 };
 pub use looking::Taken;
 pub use progress::Progress;
-pub use report::{CopyDid, CopyStep};

@@ -8,9 +8,9 @@ ghost use Rattle.tree_copy.specs.Taking.{IsInReach};
 use crate::copy::TreeCopy;
 use crate::due::Due;
 use crate::item::Item;
-use crate::report::{CopyDid, CopyStep, stage_after, stopped, told};
+use crate::report::{stage_after, stopped, told};
 use folder_copy::FolderCopy;
-use job_reports::{Did, Ending, Pair, out_of_memory};
+use job_reports::{Did, Ending, Pair, StepResult, out_of_memory};
 use mc_text::Names;
 use std::alloc::Global;
 use subtree_walk::Opened;
@@ -25,7 +25,7 @@ impl TreeCopy {
         pair: Pair,
         names: Names,
         mode: u16,
-    ) -> CopyStep
+    ) -> StepResult
         requires free { self.old.item ≡ Item.Next }
         requires reach { IsInReach self.old.stack.levels.left (Due.Thing pair) }
         requires mode { mode ≤ 0o7777 }
@@ -45,14 +45,14 @@ impl TreeCopy {
         let did = told(stepped.did);
         self.stage = stage_after(&did, self.stage);
         self.stack.enter_made(Opened::new(source, names), copy);
-        CopyStep {
+        StepResult {
             did,
             calls: stepped.calls,
         }
     }
 
     /// The folder around is synced, so that the one that is worked, which was made, is on the disk.
-    pub(crate) fn sync_around<T: Tree>(&mut self, alloc: Global, tree: &mut T) -> CopyStep
+    pub(crate) fn sync_around<T: Tree>(&mut self, alloc: Global, tree: &mut T) -> StepResult
         requires free { self.old.item ≡ Item.Next }
         requires dirty { is_around_dirty self.old.stack.levels.around ≡ true }
         ensures works { SyncsAround (seen self.old) (seen self.new) result.did (T.contents tree.old) (T.contents tree.new) }
@@ -62,14 +62,14 @@ impl TreeCopy {
         let stepped = self.stack.sync_around(alloc, tree);
         let did = told(stepped.did);
         self.stage = stage_after(&did, self.stage);
-        CopyStep {
+        StepResult {
             did,
             calls: stepped.calls,
         }
     }
 
     /// The folder's children are decided: what it owes comes next, or it is left.
-    pub(crate) fn end_folder<T: Tree>(&mut self, alloc: Global, tree: &mut T) -> Option<CopyStep>
+    pub(crate) fn end_folder<T: Tree>(&mut self, alloc: Global, tree: &mut T) -> Option<StepResult>
         requires free { self.old.item ≡ Item.Next }
         requires next { due (seen self.old) ≡ Due.End }
         requires synced { is_around_dirty self.old.stack.levels.around ≡ false }
@@ -86,7 +86,7 @@ impl TreeCopy {
     }
 
     /// The mode or the sync that a folder owes.
-    fn finish_folder<T: Tree>(&mut self, alloc: Global, tree: &mut T) -> CopyStep
+    fn finish_folder<T: Tree>(&mut self, alloc: Global, tree: &mut T) -> StepResult
         requires free { self.old.item ≡ Item.Next }
         requires owes { has_debt (seen self.old) ≡ true }
         ensures works { FolderEnds (seen self.old) (seen self.new) result.did (T.contents tree.old) (T.contents tree.new) }
@@ -96,14 +96,14 @@ impl TreeCopy {
         let stepped = self.stack.step_folder(alloc, tree);
         let did = told(stepped.did);
         self.stage = stage_after(&did, self.stage);
-        CopyStep {
+        StepResult {
             did,
             calls: stepped.calls,
         }
     }
 
     /// The folder around is worked again; the outermost is the last.
-    fn leave_folder(&mut self) -> Option<CopyStep>
+    fn leave_folder(&mut self) -> Option<StepResult>
         requires free { self.old.item ≡ Item.Next }
         ensures left { LeavesOrFinishes (seen self.old) (seen self.new) result }
         ensures workable { IsWorkable self.new.item }
@@ -111,11 +111,11 @@ impl TreeCopy {
         if self.stack.leave() {
             return None;
         }
-        Some(CopyStep {
-            did: CopyDid::Common(Did::Ended {
+        Some(StepResult {
+            did: Did::Ended {
                 ending: Ending::Finished,
                 part: None,
-            }),
+            },
             calls: 0,
         })
     }

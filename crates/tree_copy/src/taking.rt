@@ -4,6 +4,7 @@ ghost use Rattle.tree_trait.specs.Change.{current};
 ghost use Rattle.tree_trait.specs.Answers.{IfKnown};
 ghost use Rattle.file_copy.specs.Copying.{begun as file_begun, places};
 ghost use Rattle.copy_levels.specs.Levels.{is_around_dirty};
+ghost use Rattle.tree_copy.specs.Parts.{IsPartPlace};
 ghost use Rattle.tree_copy.specs.Standing.{due, seen};
 ghost use Rattle.tree_copy.specs.Steps.{AdvancesIn, AdvancesNext, Counts, FileWorks, IsWorkable, LinkWorks, RunsOut, TakesNext, link_begun};
 ghost use Rattle.tree_copy.specs.Taking.{IsInReach, IsSound, IsTaken};
@@ -12,9 +13,10 @@ use crate::copy::TreeCopy;
 use crate::due::Due;
 use crate::item::Item;
 use crate::looking::{Taken, look_at_pair};
-use crate::report::{CopyStep, stopped};
+use crate::parts::{PartPlaces, see_path};
+use crate::report::stopped;
 use file_copy::{FileCopy, Item as Places, PartTest, choose_part};
-use job_reports::{Pair, out_of_memory};
+use job_reports::{Pair, StepResult, out_of_memory};
 use link_copy::LinkCopy;
 use mc_text::{NoMemory, Path};
 use std::alloc::Global;
@@ -27,9 +29,9 @@ impl TreeCopy {
         alloc: Global,
         tree: &mut T,
         parts: &P,
-    ) -> Option<CopyStep>
+    ) -> Option<StepResult>
         requires free { self.old.item ≡ Item.Next }
-        ensures advances { AdvancesNext (λ path. P.is_free parts.now path ≡ true) (seen self.old) (seen self.new) result
+        ensures advances { AdvancesNext (IsPartPlace (P.is_free parts.now) (seen self.old)) (seen self.old) (seen self.new) result
             (T.contents tree.old) (T.contents tree.new) (T.fault_count tree.old) (T.fault_count tree.new) }
         ensures workable { IsWorkable self.new.item }
     {
@@ -46,10 +48,10 @@ impl TreeCopy {
         alloc: Global,
         tree: &mut T,
         parts: &P,
-    ) -> Option<CopyStep>
+    ) -> Option<StepResult>
         requires free { self.old.item ≡ Item.Next }
         requires synced { is_around_dirty self.old.stack.levels.around ≡ false }
-        ensures advances { AdvancesIn (λ path. P.is_free parts.now path ≡ true) (seen self.old) (seen self.new) result
+        ensures advances { AdvancesIn (IsPartPlace (P.is_free parts.now) (seen self.old)) (seen self.old) (seen self.new) result
             (T.contents tree.old) (T.contents tree.new) (T.fault_count tree.old) (T.fault_count tree.new) }
         ensures workable { IsWorkable self.new.item }
     {
@@ -65,12 +67,12 @@ impl TreeCopy {
         tree: &mut T,
         parts: &P,
         next: Due,
-    ) -> Option<CopyStep>
+    ) -> Option<StepResult>
         requires free { self.old.item ≡ Item.Next }
         requires synced { is_around_dirty self.old.stack.levels.around ≡ false }
         requires next { next ≡ due (seen self.old) }
         requires reach { IsInReach self.old.stack.levels.left next }
-        ensures advances { AdvancesIn (λ path. P.is_free parts.now path ≡ true) (seen self.old) (seen self.new) result
+        ensures advances { AdvancesIn (IsPartPlace (P.is_free parts.now) (seen self.old)) (seen self.old) (seen self.new) result
             (T.contents tree.old) (T.contents tree.new) (T.fault_count tree.old) (T.fault_count tree.new) }
         ensures workable { IsWorkable self.new.item }
     {
@@ -87,11 +89,11 @@ impl TreeCopy {
         tree: &mut T,
         parts: &P,
         pair: Pair,
-    ) -> CopyStep
+    ) -> StepResult
         requires free { self.old.item ≡ Item.Next }
         requires next { due (seen self.old) ≡ Due.Thing pair }
         requires reach { IsInReach self.old.stack.levels.left (Due.Thing pair) }
-        ensures works { TakesNext (λ path. P.is_free parts.now path ≡ true) (seen self.old) (seen self.new) result.did (T.contents tree.old) (T.contents tree.new) }
+        ensures works { TakesNext (IsPartPlace (P.is_free parts.now) (seen self.old)) (seen self.old) (seen self.new) result.did (T.contents tree.old) (T.contents tree.new) }
         ensures counts { Counts result.did result.calls (T.contents tree.old) (T.contents tree.new) (T.fault_count tree.old) (T.fault_count tree.new) }
         ensures workable { IsWorkable self.new.item }
     {
@@ -109,13 +111,13 @@ impl TreeCopy {
         parts: &P,
         pair: Pair,
         taken: Taken,
-    ) -> CopyStep
+    ) -> StepResult
         requires free { self.old.item ≡ Item.Next }
         requires next { due (seen self.old) ≡ Due.Thing pair }
         requires reach { IsInReach self.old.stack.levels.left (Due.Thing pair) }
         requires known { IfKnown (T.contents tree.old) (λ log. IsTaken (current log) pair taken) }
         requires sound { IsSound taken }
-        ensures works { TakesNext (λ path. P.is_free parts.now path ≡ true) (seen self.old) (seen self.new) result.did (T.contents tree.old) (T.contents tree.new) }
+        ensures works { TakesNext (IsPartPlace (P.is_free parts.now) (seen self.old)) (seen self.old) (seen self.new) result.did (T.contents tree.old) (T.contents tree.new) }
         ensures counts { Counts result.did result.calls (T.contents tree.old) (T.contents tree.new) (T.fault_count tree.old) (T.fault_count tree.new) }
         ensures workable { IsWorkable self.new.item }
     {
@@ -133,11 +135,11 @@ impl TreeCopy {
         tree: &mut T,
         parts: &P,
         pair: Pair,
-    ) -> CopyStep
+    ) -> StepResult
         requires free { self.old.item ≡ Item.Next }
         requires next { due (seen self.old) ≡ Due.Thing pair }
         ensures works { RunsOut (seen self.old) (seen self.new) result.did (T.contents tree.old) (T.contents tree.new)
-            ⊎ FileWorks (λ path. P.is_free parts.now path ≡ true) (file_begun self.old.job pair.source pair.target) (seen self.old) (seen self.new) result.did (T.contents tree.old) (T.contents tree.new) }
+            ⊎ FileWorks (IsPartPlace (P.is_free parts.now) (seen self.old)) (file_begun self.old.job pair.source pair.target) (seen self.old) (seen self.new) result.did (T.contents tree.old) (T.contents tree.new) }
         ensures counts { Counts result.did result.calls (T.contents tree.old) (T.contents tree.new) (T.fault_count tree.old) (T.fault_count tree.new) }
         ensures workable { IsWorkable self.new.item }
     {
@@ -162,12 +164,12 @@ impl TreeCopy {
         tree: &mut T,
         parts: &P,
         pair: Pair,
-    ) -> CopyStep
+    ) -> StepResult
         requires free { self.old.item ≡ Item.Next }
         requires next { due (seen self.old) ≡ Due.Thing pair }
         requires reach { IsInReach self.old.stack.levels.left (Due.Thing pair) }
         requires taken { IfKnown (T.contents tree.old) (λ log. IsTaken (current log) pair Taken.Link) }
-        ensures works { TakesNext (λ path. P.is_free parts.now path ≡ true) (seen self.old) (seen self.new) result.did (T.contents tree.old) (T.contents tree.new) }
+        ensures works { TakesNext (IsPartPlace (P.is_free parts.now) (seen self.old)) (seen self.old) (seen self.new) result.did (T.contents tree.old) (T.contents tree.new) }
         ensures counts { Counts result.did result.calls (T.contents tree.old) (T.contents tree.new) (T.fault_count tree.old) (T.fault_count tree.new) }
         ensures workable { IsWorkable self.new.item }
     {
@@ -175,8 +177,16 @@ impl TreeCopy {
             Ok(places) => places,
             Err(NoMemory) => return stopped(out_of_memory(false)),
         };
-        match choose_part(alloc, tree, parts, &places) {
-            Ok(part) => self.make_link(alloc, tree, pair, part),
+        let free = PartPlaces {
+            given: parts,
+            top: &self.name,
+            stack: &self.stack,
+        };
+        match choose_part(alloc, tree, &free, &places) {
+            Ok(part) => {
+                see_path(&part);
+                self.make_link(alloc, tree, pair, part)
+            }
             Err(trouble) => stopped(trouble),
         }
     }
@@ -187,7 +197,7 @@ impl TreeCopy {
         tree: &mut T,
         pair: Pair,
         part: Path,
-    ) -> CopyStep
+    ) -> StepResult
         requires free { self.old.item ≡ Item.Next }
         requires next { due (seen self.old) ≡ Due.Thing pair }
         ensures works { RunsOut (seen self.old) (seen self.new) result.did (T.contents tree.old) (T.contents tree.new)

@@ -2,15 +2,18 @@
 ghost use Rattle.std.specs.Prelude.{◌≡◌, None, true};
 ghost use Rattle.file_copy.specs.LastSteps.{left_at};
 ghost use Rattle.link_copy.specs.LinkCopying.{is_ready};
+ghost use Rattle.tree_copy.specs.Parts.{IsPartPlace};
 ghost use Rattle.tree_copy.specs.Standing.{seen};
 ghost use Rattle.tree_copy.specs.Progress.{link_progress, progress};
 ghost use Rattle.tree_copy.specs.Steps.{Advances, CopySteps, Counts, FileWorks, IsWorkable, LinkWorks, noted, settled, stays_ready};
 
 use crate::copy::TreeCopy;
 use crate::item::Item;
+use crate::parts::{PartPlaces, see_part};
 use crate::progress::{Progress, progress_of, progress_of_link};
-use crate::report::{CopyDid, CopyStep, stage_after};
+use crate::report::stage_after;
 use file_copy::{FileCopy, PartTest};
+use job_reports::{Did, StepResult};
 use link_copy::LinkCopy;
 use std::alloc::Global;
 use std::mem;
@@ -18,9 +21,14 @@ use tree_trait::Tree;
 
 impl TreeCopy {
     /// Goes on up to something that is to be reported.
-    pub fn step<T: Tree, P: PartTest>(&mut self, alloc: Global, tree: &mut T, parts: &P) -> CopyStep
+    pub fn step<T: Tree, P: PartTest>(
+        &mut self,
+        alloc: Global,
+        tree: &mut T,
+        parts: &P,
+    ) -> StepResult
         requires workable { IsWorkable self.old.item }
-        ensures steps { CopySteps (λ path. P.is_free parts.now path ≡ true) (seen self.old) (seen self.new) result.did result.calls
+        ensures steps { CopySteps (P.is_free parts.now) (seen self.old) (seen self.new) result.did result.calls
             (T.contents tree.old) (T.contents tree.new) (T.fault_count tree.old) (T.fault_count tree.new) }
         ensures workable { IsWorkable self.new.item }
     {
@@ -37,9 +45,9 @@ impl TreeCopy {
         alloc: Global,
         tree: &mut T,
         parts: &P,
-    ) -> Option<CopyStep>
+    ) -> Option<StepResult>
         requires workable { IsWorkable self.old.item }
-        ensures advances { Advances (λ path. P.is_free parts.now path ≡ true) (seen self.old) (seen self.new) result
+        ensures advances { Advances (P.is_free parts.now) (seen self.old) (seen self.new) result
             (T.contents tree.old) (T.contents tree.new) (T.fault_count tree.old) (T.fault_count tree.new) }
         ensures workable { IsWorkable self.new.item }
     {
@@ -58,22 +66,24 @@ impl TreeCopy {
         tree: &mut T,
         parts: &P,
         copy: FileCopy,
-    ) -> CopyStep
+    ) -> StepResult
         requires free { self.old.item ≡ Item.Next }
         requires ready { left_at copy.stage ≡ None }
-        ensures works { FileWorks (λ path. P.is_free parts.now path ≡ true) copy (seen self.old) (seen self.new) result.did (T.contents tree.old) (T.contents tree.new) }
+        ensures works { FileWorks (IsPartPlace (P.is_free parts.now) (seen self.old)) copy (seen self.old) (seen self.new) result.did (T.contents tree.old) (T.contents tree.new) }
         ensures counts { Counts result.did result.calls (T.contents tree.old) (T.contents tree.new) (T.fault_count tree.old) (T.fault_count tree.new) }
         ensures workable { IsWorkable self.new.item }
     {
         let mut copy = copy;
-        let stepped = copy.step(alloc, tree, parts);
-        let did = CopyDid::Common(stepped.did);
-        self.note(&did, copy.is_dirty());
+        let places = PartPlaces {
+            given: parts,
+            top: &self.name,
+            stack: &self.stack,
+        };
+        let stepped = copy.step(alloc, tree, &places);
+        see_part(&copy);
+        self.note(&stepped.did, copy.is_dirty());
         self.put_file(copy);
-        CopyStep {
-            did,
-            calls: stepped.calls,
-        }
+        stepped
     }
 
     /// A step of a link's copy.
@@ -82,7 +92,7 @@ impl TreeCopy {
         alloc: Global,
         tree: &mut T,
         copy: LinkCopy,
-    ) -> CopyStep
+    ) -> StepResult
         requires free { self.old.item ≡ Item.Next }
         requires ready { is_ready copy.stage copy.folder ≡ true }
         ensures works { LinkWorks copy (seen self.old) (seen self.new) result.did (T.contents tree.old) (T.contents tree.new) }
@@ -91,17 +101,13 @@ impl TreeCopy {
     {
         let mut copy = copy;
         let stepped = copy.step(alloc, tree);
-        let did = CopyDid::Common(stepped.did);
-        self.note(&did, copy.is_dirty());
+        self.note(&stepped.did, copy.is_dirty());
         self.put_link(copy);
-        CopyStep {
-            did,
-            calls: stepped.calls,
-        }
+        stepped
     }
 
     /// Keeps what was reported, and whether a name was changed.
-    pub(crate) fn note(&mut self, did: &CopyDid, changed: bool)
+    pub(crate) fn note(&mut self, did: &Did, changed: bool)
         ensures { seen self.new ≡ noted did.now changed (seen self.old) }
     {
         self.stage = stage_after(did, self.stage);

@@ -1,8 +1,12 @@
 -- Folders with a change of names that no sync has brought onto the disk.
-use Rattle.std.specs.Prelude.{◌≡◌, ◌<◌, ◌≤◌, ℕ, Bool, true, false, ◌||◌, List, [], ◌∷◌, ◌++◌, length, slice_get, Some, if◌then◌else◌}
+use Rattle.std.specs.Prelude.{◌≡◌, ◌<◌, ◌≤◌, ℕ, Bool, true, false, ◌||◌, List, [], ◌∷◌, ◌++◌, length, slice_get, Option, Some, None, if◌then◌else◌}
 use Rattle.std.specs.List.{list_any}
 use Rattle.mc_text.specs.Routes.{Route, same_path, is_prefix}
 use Rattle.tree_trait.specs.CrashImages.{Among}
+use Rattle.tree_trait.specs.declared.calls.TreeError.{TreeError}
+use Rattle.job_reports.specs.declared.report.Did.{Did}
+use Rattle.job_reports.specs.declared.report.Did.TheVariants.{Barrier}
+use Rattle.job_reports.specs.Paths.{without}
 
 -- it is one of these
 abbrev pub is_one_of : Route → List Route → Bool
@@ -11,6 +15,19 @@ is_one_of folder folders = list_any (λ kept. same_path kept folder) folders
 -- one more, unless it is one of them
 abbrev pub joined : Route → List Route → List Route
 joined folder folders = if is_one_of folder folders then folders else folders ++ folder ∷ []
+
+-- a folder joins them with its first change, and leaves them with its sync
+abbrev pub with_change : Bool → Bool → Route → List Route → List Route
+with_change false true folder dirty = joined folder dirty
+with_change true false folder dirty = without folder dirty
+with_change false false folder dirty = dirty
+with_change true true folder dirty = dirty
+
+-- they are so once this one was tried in a last step, if this is the report of that
+abbrev pub after_try : Did → Option TreeError → Route → List Route → List Route
+after_try Barrier None folder dirty = without folder dirty
+after_try Barrier (Some e) folder dirty = dirty
+after_try did left folder dirty = dirty
 
 -- it is this folder, or the top or below that: so a deletion of the top, which lies in the folder, may have changed it
 abbrev pub is_of : Route → Route → Route → Bool

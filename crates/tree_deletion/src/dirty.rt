@@ -1,13 +1,15 @@
 //! Folders with a change of names that no sync has brought onto the disk. The folder of a name joins them before the name is
 //! changed, and leaves them with its sync, or where it is gone itself; that of a job that ended without one stays, until a later
 //! job syncs it. A thing that is given a mode, a file too, stands among them in the same way.
-ghost use Rattle.std.specs.Prelude.{◌≡◌, ◌+◌, ◌<◌, ◌^◌, ◌-◌, ◌||◌, [], length, remove, slice_get, take, true, Some, IfNone, IfOk, IfSome, OnErr, OnOk, if◌then◌else◌};
+ghost use Rattle.std.specs.Prelude.{◌≡◌, ◌+◌, ◌<◌, ◌^◌, ◌-◌, ◌||◌, ◌&&◌, [], length, not, remove, slice_get, take, true, Some, IfNone, IfOk, IfSome, OnErr, OnOk, if◌then◌else◌};
 ghost use Rattle.job_reports.specs.Paths.{without};
-ghost use Rattle.tree_deletion.specs.Folders.{IsOwn, IsOwnAt, NoneBetween, NoneOf, is_of, is_one_of, joined};
+ghost use Rattle.tree_deletion.specs.Folders.{IsOwn, IsOwnAt, NoneBetween, NoneOf, after_try, is_of, is_one_of, joined};
 
+use job_reports::Did;
 use mc_text::{NoMemory, Path};
 use std::alloc::Global;
 use std::marker::Model;
+use tree_trait::TreeError;
 
 /// Some folders, each once, in the order in which they joined.
 #[derive(Debug, Drop)]
@@ -94,6 +96,16 @@ impl Dirty {
         }
     }
 
+    /// The sync of a folder was tried in a last step, if this is the report of it, and may have been refused.
+    pub fn note_try(&mut self, did: &Did, left: Option<TreeError>, folder: &Path)
+        ensures { self.new ≡ after_try did.now left folder.now self.old }
+    {
+        match did {
+            Did::Barrier => self.remove_if(left.is_none(), folder),
+            _ => {}
+        }
+    }
+
     /// The first that is this folder, or the top or below that.
     pub(crate) fn first_of(&self, folder: &Path, top: &Path) -> Option<&Path>
         ensures some { IfSome result (λ kept. IsOwn folder.now top.now self.now kept.now) }
@@ -150,4 +162,11 @@ fn is_of_deletion(kept: &Path, folder: &Path, top: &Path) -> bool
     ensures { result ≡ is_of folder.now top.now kept.now }
 {
     kept.same(folder) || top.is_prefix_of(kept)
+}
+
+/// The one and not the other. (The prover keeps no branch of a call.)
+pub fn but_not(one: bool, other: bool) -> bool
+    ensures { result ≡ (one && not other) }
+{
+    one && !other
 }

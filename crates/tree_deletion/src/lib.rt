@@ -12,6 +12,6 @@ mod skipping;
 mod working;
 
 pub use deletion::{Deletion, Depth, Stage};
-pub use dirty::Dirty;
+pub use dirty::{Dirty, but_not};
 pub use looking::Found;
 pub use meeting::Met;

@@ -3,27 +3,28 @@ use Rattle.std.proofs.Common.{◌≡◌, true, refl, ap, subst, inl, inr}
 use Rattle.tree_trait.specs.Change.{current}
 use Rattle.file_copy.specs.Copying.{Places}
 use Rattle.file_copy.specs.PartNames.{IsChosen, NameStops}
-use Rattle.tree_copy.specs.declared.report.CopyStep.{CopyStep}
+use Rattle.job_reports.specs.declared.report.StepResult.{StepResult}
+use Rattle.tree_copy.specs.Parts.{IsPartPlace}
 use Rattle.tree_copy.specs.Standing.{seen}
 use Rattle.tree_copy.proofs.TakenUp.{stopped_so, took_link}
 use Rattle.tree_copy.proofs.copy.TreeCopy.begin_link.Goals as goal
 
 pub returns-in-Ok-choose_part-clause-works : goal.returns-in-Ok-choose_part-clause-works
 returns-in-Ok-choose_part-clause-works g c =
-    took_link (λ path. g.P.PartTest.is_free c.args.parts.now path ≡ true) (seen c.args.self.now) (seen c.make_link.new.self) c.make_link.result.did (g.T.ReadTree.contents c.args.tree.now) (g.T.ReadTree.contents c.choose_part.new.tree)
-    (g.T.ReadTree.contents c.make_link.new.tree) c.in-Ok-choose_part.ensures.peeks.same c.args.pair c.requires.next c.requires.reach c.in-Ok-choose_part.part c.requires.taken
-    (λ log known. subst (λ (p : Places). IsChosen (current log) (λ path. g.P.PartTest.is_free c.args.parts.now path ≡ true) p c.in-Ok-choose_part.part) c.in-Ok.ensures (c.in-Ok-choose_part.ensures.known log known))
+    took_link (IsPartPlace (g.P.PartTest.is_free c.args.parts.now) (seen c.args.self.now)) (seen c.args.self.now) (seen c.make_link.new.self) c.make_link.result.did (g.T.ReadTree.contents c.args.tree.now) (g.T.ReadTree.contents c.choose_part.new.tree)
+    (g.T.ReadTree.contents c.make_link.new.tree) c.in-Ok-choose_part.ensures.peeks.same c.args.pair c.requires.next c.requires.reach c.in-Ok-choose_part.part c.see_path.ensures c.requires.taken
+    (λ log known. subst (λ (p : Places). IsChosen (current log) (IsPartPlace (g.P.PartTest.is_free c.args.parts.now) (seen c.args.self.now)) p c.in-Ok-choose_part.part) c.in-Ok.ensures (c.in-Ok-choose_part.ensures.known log known))
     c.make_link.ensures.works
 
 pub returns-in-Err-choose_part-clause-works : goal.returns-in-Err-choose_part-clause-works
 returns-in-Err-choose_part-clause-works g c =
     let t = c.in-Err-choose_part.trouble in
-    stopped_so (λ path. g.P.PartTest.is_free c.args.parts.now path ≡ true) (seen c.args.self.now) (seen c.args.self.now) c.stopped-in-Err-choose_part.result.did (g.T.ReadTree.contents c.args.tree.now)
+    stopped_so (IsPartPlace (g.P.PartTest.is_free c.args.parts.now) (seen c.args.self.now)) (seen c.args.self.now) (seen c.args.self.now) c.stopped-in-Err-choose_part.result.did (g.T.ReadTree.contents c.args.tree.now)
     (g.T.ReadTree.contents c.choose_part.new.tree) (g.T.ReadTree.contents c.choose_part.new.tree) c.in-Err-choose_part.ensures.peeks.same t
     (inr (inr (inl (
       c.args.pair,
       c.requires.next,
       c.requires.reach,
-      λ log known. (c.requires.taken log known, subst (λ (p : Places). NameStops (current log) (λ path. g.P.PartTest.is_free c.args.parts.now path ≡ true) p t.cause t.path) c.in-Ok.ensures (c.in-Err-choose_part.ensures.known log known)),
+      λ log known. (c.requires.taken log known, subst (λ (p : Places). NameStops (current log) (IsPartPlace (g.P.PartTest.is_free c.args.parts.now) (seen c.args.self.now)) p t.cause t.path) c.in-Ok.ensures (c.in-Err-choose_part.ensures.known log known)),
     ))))
-    (ap (λ (s : CopyStep). s.did) c.stopped-in-Err-choose_part.ensures) c.in-Err-choose_part.ensures.peeks.apart refl refl
+    (ap (λ (s : StepResult). s.did) c.stopped-in-Err-choose_part.ensures) c.in-Err-choose_part.ensures.peeks.apart refl refl

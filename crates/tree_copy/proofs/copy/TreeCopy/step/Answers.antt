@@ -1,6 +1,7 @@
 -- A folder more was left, or something is done that is reported.
 use Rattle.std.proofs.Common.{◌≡◌, ◌∙◌, true, suc, arith, subst, Option}
 use Rattle.tree_trait.specs.Change.{CallLog}
+use Rattle.tree_copy.specs.Parts.{IsPartPlace}
 use Rattle.tree_copy.specs.Standing.{seen}
 use Rattle.tree_copy.specs.Steps.{WorksOn}
 use Rattle.tree_copy.proofs.Counting.{counts_later}
@@ -14,7 +15,7 @@ returns-in-Some-clause-steps g c =
       folders = before.leaves.0;
       mid = seen c.loop-stepped.self;
       leaves = before.leaves.1;
-      works = subst (λ (x : Option CallLog). WorksOn c.loop-stepped.self.item (λ path. g.P.PartTest.is_free c.args.parts.now path ≡ true) (seen c.loop-stepped.self) (seen c.advance.new.self) c.in-Some.stepped.did x (g.T.ReadTree.contents c.advance.new.tree)) before.same a.0;
+      works = subst (λ (x : Option CallLog). WorksOn c.loop-stepped.self.item (IsPartPlace (g.P.PartTest.is_free c.args.parts.now) (seen c.loop-stepped.self)) (seen c.loop-stepped.self) (seen c.advance.new.self) c.in-Some.stepped.did x (g.T.ReadTree.contents c.advance.new.tree)) before.same a.0;
       counts = counts_later c.in-Some.stepped.did c.in-Some.stepped.calls _ _ _ _ _ _ before.same before.later a.1;
     }
 

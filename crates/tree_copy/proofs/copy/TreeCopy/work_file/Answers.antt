@@ -1,6 +1,6 @@
 -- The file's copy made the step.
 use Rattle.std.proofs.Common.{◌≡◌, refl, true}
-use Rattle.tree_copy.specs.declared.report.CopyDid.TheVariants.{Common}
+use Rattle.tree_copy.specs.Parts.{IsPartPlace}
 use Rattle.tree_copy.specs.Standing.{seen}
 use Rattle.tree_copy.proofs.Counting.{file_counts}
 use Rattle.tree_copy.proofs.Placed.{file_stands}
@@ -9,14 +9,13 @@ use Rattle.tree_copy.proofs.copy.TreeCopy.work_file.Goals as goal
 pub returns-clause-works : goal.returns-clause-works
 returns-clause-works g c = record {
   moved = c.step-stepped.new.self;
-  report = c.step-stepped.result.did;
-  says = refl;
   tells = (let s = c.step-stepped.ensures.steps in s.tells);
   called = (let s = c.step-stepped.ensures.steps in s.called);
   falls = (let s = c.step-stepped.ensures.steps in s.falls);
   sound = c.step-stepped.ensures.sound;
-  stands = file_stands c.step-stepped.new.self (Common c.step-stepped.result.did) c.is_dirty.result (seen c.args.self.now) (seen c.note.new.self) (seen c.put_file.new.self) c.requires.free c.is_dirty.ensures c.note.ensures c.put_file.ensures.settled;
+  short = c.see_part.ensures;
+  stands = file_stands c.step-stepped.new.self c.step-stepped.result.did c.is_dirty.result (seen c.args.self.now) (seen c.note.new.self) (seen c.put_file.new.self) c.requires.free c.is_dirty.ensures c.note.ensures c.put_file.ensures.settled;
 }
 
 pub returns-clause-counts : goal.returns-clause-counts
-returns-clause-counts g c = file_counts (λ path. g.P.PartTest.is_free c.args.parts.now path ≡ true) c.args.copy c.step-stepped.new.self c.step-stepped.result.did _ _ _ _ _ _ refl c.step-stepped.ensures.steps
+returns-clause-counts g c = file_counts (IsPartPlace (g.P.PartTest.is_free c.args.parts.now) (seen c.args.self.now)) c.args.copy c.step-stepped.new.self c.step-stepped.result.did _ _ _ _ _ c.step-stepped.ensures.steps
