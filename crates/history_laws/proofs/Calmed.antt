@@ -15,14 +15,15 @@ use Rattle.session_history.specs.declared.history.Entry.{Entry}
 use Rattle.copy_move.specs.declared.run.Course.{Course}
 use Rattle.copy_move.specs.declared.run.Course.TheVariants.{GoesOn}
 use Rattle.copy_move.specs.declared.work.Work.{Work}
-use Rattle.copy_move.specs.declared.work.Work.TheVariants.{Copy, Delete, Make}
+use Rattle.copy_move.specs.declared.work.Work.TheVariants.{Copy, Delete, Make, SetMode}
 use Rattle.tree_deletion.specs.declared.deletion.Stage.{Stage}
 use Rattle.tree_deletion.specs.declared.deletion.Stage.TheVariants.{Begin, Going, Sync}
 use Rattle.tree_deletion.specs.Standing.{at_barrier, is_fresh as is_fresh_stage}
 use Rattle.copy_move.specs.Makings as makings
+use Rattle.mode_setting.specs.Settings as settings
 use Rattle.copy_move.specs.Jobs.{Running, WorkTells, is_fresh}
 use Rattle.copy_move.specs.Settling.{NoneOwed, changed_folder}
-use Rattle.copy_move.specs.Steps.{SyncsFolder}
+use Rattle.copy_move.specs.Steps.{SyncsOwed}
 use Rattle.history_laws.specs.Calmed.{CalmLaw, HasBegun}
 use Rattle.history_laws.specs.Doubt.{name_waits, node_waits}
 use Rattle.session_history.specs.LiveJobs.{live_jobs, live_item}
@@ -89,6 +90,12 @@ module _ (told : Said) (dirty : List Route) (marks : Marks) (log : CallLog) (cou
   fresh_then (Delete d) (Delete new) (Troubled trouble) t h clean k = absurd (false≢true h)
   fresh_then (Delete d) (Delete new) (Ended ending part) t h clean k = absurd (false≢true h)
   fresh_then (Make m) (Copy new) did t h clean k = absurd t
+  fresh_then (SetMode s) (Copy new) did t h clean k = absurd t
+  fresh_then (SetMode s) (Delete new) did t h clean k = absurd t
+  fresh_then (SetMode s) (Make new) did t h clean k = absurd t
+  fresh_then (Copy c) (SetMode new) did t h clean k = absurd t
+  fresh_then (Delete d) (SetMode new) did t h clean k = absurd t
+  fresh_then (Make m) (SetMode new) did t h clean k = absurd t
   fresh_then (Make m) (Delete new) did t h clean k = absurd t
   fresh_then (Make m) (Make new) (Made path) t h clean (name, none) = (ap makings.is_fresh t.0, none)
   fresh_then (Make m) (Make new) (Began part) t h clean k = absurd t
@@ -102,6 +109,18 @@ module _ (told : Said) (dirty : List Route) (marks : Marks) (log : CallLog) (cou
   fresh_then (Make m) (Make new) Barrier t h clean k = absurd (false≢true h)
   fresh_then (Make m) (Make new) (Troubled trouble) t h clean k = absurd (false≢true h)
   fresh_then (Make m) (Make new) (Ended ending part) t h clean k = absurd (false≢true h)
+  fresh_then (SetMode s) (SetMode new) (Set path) t h clean (name, none) = (ap settings.is_fresh t.0, none)
+  fresh_then (SetMode s) (SetMode new) (Began part) t h clean k = absurd t
+  fresh_then (SetMode s) (SetMode new) (Chunk count) t h clean k = absurd (false≢true h)
+  fresh_then (SetMode s) (SetMode new) (Made path) t h clean k = absurd t
+  fresh_then (SetMode s) (SetMode new) (Placed path) t h clean k = absurd (false≢true h)
+  fresh_then (SetMode s) (SetMode new) (Removed made) t h clean k = absurd t
+  fresh_then (SetMode s) (SetMode new) (Kept kept) t h clean k = absurd (false≢true h)
+  fresh_then (SetMode s) (SetMode new) (Skipped path why) t h clean k = absurd (false≢true h)
+  fresh_then (SetMode s) (SetMode new) (Cleaned part) t h clean k = absurd (false≢true h)
+  fresh_then (SetMode s) (SetMode new) Barrier t h clean k = absurd (false≢true h)
+  fresh_then (SetMode s) (SetMode new) (Troubled trouble) t h clean k = absurd (false≢true h)
+  fresh_then (SetMode s) (SetMode new) (Ended ending part) t h clean k = absurd (false≢true h)
 
 no_route : (part : Option Route) (path : Route) → part ≡ None → part ≡ Some path → ⊥
 no_route part path none some = let f : ⊥ = cc in f
@@ -142,7 +161,7 @@ module _ (opening : CallLog) (tree : IsTree (current opening)) (settled : all_se
   begins : Begins
   begins = by (subst (λ w. EventLeads f.was w f.after f.before f.now) h.reports f.leads)
     where
-      no_sync : (job new : Running) (synced : Route) → SyncsFolder job synced h.did new f.was.dirty f.after.dirty (Some f.before) (Some f.now) → ⊥
+      no_sync : (job new : Running) (synced : Route) → SyncsOwed job synced h.did new f.was.dirty f.after.dirty (Some f.before) (Some f.now) → ⊥
       no_sync job new synced (inl s) = false≢true (sym (ap begins_change s.did_is) ∙ h.begins)
       no_sync job new synced (inr s) = false≢true (sym (ap begins_change s.did_is) ∙ h.begins)
 
@@ -151,7 +170,7 @@ module _ (opening : CallLog) (tree : IsTree (current opening)) (settled : all_se
 
       of_step : (job : Running) (after : Option Running) → Rattle.history_laws.specs.Traces.IsJob h.id f.was.jobs job → StepLeads job h.did after f.was.dirty f.after.dirty f.before f.now → Begins
       of_step job after its (inl (new, inl works, after_is)) = let one = one_of job its in of_works job new one.0 one.1 works
-      of_step job after its (inl (new, inr syncs, after_is)) = absurd (no_sync job new syncs.folder syncs.synced)
+      of_step job after its (inl (new, inr syncs, after_is)) = absurd (no_sync job new syncs.path syncs.synced)
       of_step job after its (inr (gives, after_is)) = absurd (false≢true (sym (ap begins_change gives.did_is) ∙ h.begins))
 
       by : EventLeads f.was (Step h.id h.did) f.after f.before f.now → Begins

@@ -14,7 +14,6 @@ use Rattle.tree_trait.specs.Calls.{RemoveFile, SyncFolder, WriteAt}
 use Rattle.tree_trait.specs.Change.{Nothing, Removes, Writes, CallLog, current, with_change}
 use Rattle.tree_trait.specs.CrashImages.{Among}
 use Rattle.tree_trait.specs.Answers.{Performs}
-use Rattle.tree_trait.proofs.Ending as ending
 use Rattle.crash_law.specs.Guarded.{Marks}
 use Rattle.job_reports.specs.declared.report.Cause.{Cause}
 use Rattle.job_reports.specs.declared.report.Cause.TheVariants as cause
@@ -31,7 +30,7 @@ use Rattle.job_reports.specs.CallRuns.{AllDone, RunStops}
 use Rattle.file_copy.specs.CopyCalls.{BeganOf, CopyCalls, CopyStops, making, next_bytes, placing, writing}
 use Rattle.file_copy.specs.Copying.{Copying, Tells, after_clean, is_dirty, is_fresh, places_of}
 use Rattle.job_reports.specs.Paths.{folder_of}
-use Rattle.job_reports.proofs.CallAnswers.{calm_stops, one_done, some_log}
+use Rattle.job_reports.proofs.CallAnswers.{one_done, some_log}
 use Rattle.tree_trait.proofs.Visible.{same_path-self, same_path-true}
 use Rattle.copy_move.specs.declared.work.Work.{Work}
 use Rattle.copy_move.specs.declared.work.Work.TheVariants.{Copy}
@@ -40,7 +39,7 @@ use Rattle.copy_move.specs.declared.run.Course.TheVariants.{GoesOn, InTrouble}
 use Rattle.copy_move.specs.Jobs.{course_after}
 use Rattle.copy_move.specs.Settling.{with_change as moves_dirty}
 use Rattle.history_laws.specs.Traces.{IsUnclaimed}
-use Rattle.history_laws.proofs.Calming.{written_known}
+use Rattle.history_laws.proofs.Calming.{stopped_is, written_known}
 use Rattle.history_laws.proofs.Changing.{off_itself, removed_known}
 use Rattle.history_laws.proofs.Deleted.{IsRemoval, comes_refused, removal_done, removal_leads}
 use Rattle.history_laws.proofs.DeletionSteps.{Steps, ends, same_dirty, tried}
@@ -110,9 +109,6 @@ module _ (told : Said) (dirty dirty_after : List Route) (marks : Marks) (log now
   abbrev In : Course → Type 0
   In course = Comes told told dirty log now (λ m. WorkKnows told dirty m now course (Copy c))
 
-  quiet_how : (l : CallLog) → ending.IsQuiet log (Some l) → (l ≡ log) ⊎ (l ≡ with_change log Nothing)
-  quiet_how l q = elim q.how [ inl same ↦ inl (some_log l q.after q.tells ∙ same) | inr more ↦ inr (some_log l q.after q.tells ∙ more) ]
-
   -- a write stops, and leaves the part with any bytes
   write_refused : (part : Route) (i done : ℕ) (bytes : List ℕ) (e : TreeError) → HasPart told marks (current log) c.target part i → Performs {A = Unit {0}} log (WriteAt part done bytes) (Err e) (Some now)
       → Comes told told dirty log now (λ m. HasPart told m (current now) c.target part i)
@@ -152,7 +148,7 @@ module _ (told : Said) (dirty dirty_after : List Route) (marks : Marks) (log now
       how : CopyStops IsUnclaimed (places_of c) Begin why path log (Some now) → (now ≡ log) ⊎ (now ≡ with_change log Nothing)
       how (inl look) = inl (some_log now log look.1)
       how (inr (inl name)) = inl (some_log now log name.2)
-      how (inr (inr (k, ready, free, run))) = quiet_how now (calm_stops (making (current log) (places_of c) k) why path log now (λ s left. refl) run)
+      how (inr (inr (k, ready, free, run))) = stopped_is log now (making (current log) (places_of c) k) why path (λ s left. refl) run
   stops why path course off (name, listed, knows) (Fill part said done) is stop =
       comes_map told told dirty log now (λ m. HasPart told m (current now) c.target part i) (λ m. WorkKnows told dirty m now course (Copy c))
       (λ m k has. (name, listed, subst (λ x. StageKnows told m (current now) course c x) (sym is) (at_fill.0, (i, has, λ e. absurd (off e)))))
@@ -170,11 +166,11 @@ module _ (told : Said) (dirty dirty_after : List Route) (marks : Marks) (log now
       how (inr (full, run)) = placing_stops told dirty c.target part i marks log now said.mode why path kept at_fill.1.1 run
   stops why path course off knows (Clean part follows) is stop =
       comes_refused told dirty marks log now course (Copy c) kept (work_course told dirty marks log GoesOn course (Copy c) (λ e. absurd (off e)) knows)
-      (quiet_how now (calm_stops (RemoveFile part) why path log now (λ s left. refl) stop))
+      (stopped_is log now (RemoveFile part) why path (λ s left. refl) stop)
   stops why path course off knows (Left part) is stop = absurd stop
   stops why path course off knows Decided is stop =
       comes_refused told dirty marks log now course (Copy c) kept (work_course told dirty marks log GoesOn course (Copy c) (λ e. absurd (off e)) knows)
-      (quiet_how now (calm_stops (SyncFolder up) why path log now (λ s left. refl) stop))
+      (stopped_is log now (SyncFolder up) why path (λ s left. refl) stop)
 
   with_routes : (did : Did) (course : Course) (new : Work) → dirty_after ≡ dirty → Comes told (said_after now did (Copy c) told) dirty log now (KnowsAfter did (said_after now did (Copy c) told) dirty now course new)
       → Steps told dirty dirty_after marks log now kept did course (Copy c) new

@@ -7,7 +7,7 @@ use Rattle.mc_text.proofs.Prefixes.{same_path-lengths}
 use Rattle.tree_trait.specs.declared.calls.TreeError.{TreeError}
 use Rattle.tree_trait.specs.FileSystem.{find, starts_mount}
 use Rattle.tree_trait.specs.Calls.{RemoveFile, RemoveFolder, SyncFolder}
-use Rattle.tree_trait.specs.Change.{Syncs, CallLog, current, with_change}
+use Rattle.tree_trait.specs.Change.{Syncs, CallLog, current, found, with_change}
 use Rattle.tree_trait.specs.CrashImages.{Among}
 use Rattle.tree_trait.specs.Answers.{Performs}
 use Rattle.tree_trait.proofs.Visible.{same_path-self, same_path-true}
@@ -19,7 +19,9 @@ use Rattle.job_reports.specs.declared.report.Did.{Did}
 use Rattle.job_reports.specs.declared.report.Did.TheVariants.{Began, Chunk, Placed, Removed, Made, Set, Kept, Skipped, Cleaned, Barrier, Troubled, Ended}
 use Rattle.job_reports.specs.Paths.{folder_of, without}
 use Rattle.job_reports.specs.Stops.{sync_answer}
-use Rattle.job_reports.proofs.CallAnswers.{some_log}
+use Rattle.job_reports.proofs.CallAnswers.{done_call, some_log}
+use Rattle.job_reports.proofs.PermittedCalls.{sync_finds}
+use Rattle.mode_setting.specs.SettingSteps.{sync_of}
 use Rattle.tree_deletion.specs.declared.deletion.Stage.{Stage}
 use Rattle.tree_deletion.specs.declared.deletion.Stage.TheVariants.{Begin, Going, Sync}
 use Rattle.tree_deletion.specs.Folders.{is_of, is_one_of, joined}
@@ -32,8 +34,8 @@ use Rattle.copy_move.specs.Deletions.{Deleting, DeletionCalls, DeletionLeaves, I
 use Rattle.copy_move.specs.DeletionSteps.{after_try}
 use Rattle.copy_move.specs.Jobs.{course_after}
 use Rattle.copy_move.specs.Settling.{NoneOwed, is_own, with_change as moves_dirty}
-use Rattle.history_laws.proofs.Calming.{folder_synced, refused_is, still_listed}
-use Rattle.history_laws.proofs.Knowing.{IsCalmIn, IsKept, Said, settled_marks}
+use Rattle.history_laws.proofs.Calming.{cleared_known, refused_is, still_listed, thing_done}
+use Rattle.history_laws.proofs.Knowing.{IsCalmIn, IsKept, IsKnown, Said, settled_marks}
 use Rattle.history_laws.proofs.JobKnows.{HasName, IsIntact, KnowsAfter, KnowsWithin, WorkKnows, work_settled, work_still}
 use Rattle.history_laws.proofs.Stepped.{Comes, comes_none, comes_one, folders_by, said_after}
 use Rattle.history_laws.proofs.Deleted.{IsRemoval, comes_refused, folder_removed, removal_done, removal_leads, removes_thing}
@@ -68,14 +70,29 @@ joined_more up q dirty among = by (is_one_of up dirty)
     by true = among
     by false = among_more up q dirty among
 
+-- the sync of what stands at a path, after which the job stands so
+pub comes_synced_at : (told : Said) (dirty : List Route) (marks : Marks) (log now : CallLog) (up : Route) (course : Course) (work : Work) (f : ℕ) → IsKept told dirty marks log
+    → WorkKnows told (without up dirty) marks log course work → find (current log) up ≡ Some f → now ≡ with_change log (Syncs f)
+    → Comes told told (without up dirty) log now (λ m. WorkKnows told (without up dirty) m now course work)
+comes_synced_at told dirty marks log now up course work f kept knows at is =
+    comes_one told told dirty (without up dirty) marks marks log now (Syncs f) (λ m. WorkKnows told (without up dirty) m now course work) kept is
+    (subst (λ (l : CallLog). IsKnown told (without up dirty) marks l) (sym is) (cleared_known told dirty marks log kept.known up f at))
+    (work_settled now marks told (without up dirty) course work (work_still told (without up dirty) marks log now course work (ap current is ∙ current_more log (Syncs f)) knows))
+
 -- the sync of a folder that was done, after which the job stands so
-pub comes_synced : (told : Said) (dirty : List Route) (marks : Marks) (log now : CallLog) (up : Route) (course : Course) (work : Work) → IsKept told dirty marks log
+comes_synced : (told : Said) (dirty : List Route) (marks : Marks) (log now : CallLog) (up : Route) (course : Course) (work : Work) → IsKept told dirty marks log
     → WorkKnows told (without up dirty) marks log course work → Performs {A = Unit {0}} log (SyncFolder up) (Ok tt) (Some now)
     → Comes told told (without up dirty) log now (λ m. WorkKnows told (without up dirty) m now course work)
 comes_synced told dirty marks log now up course work kept knows done =
-    let s = folder_synced told dirty marks log kept.known up now done in
-    comes_one told told dirty (without up dirty) marks marks log now (Syncs s.0) (λ m. WorkKnows told (without up dirty) m now course work) kept s.1 s.2
-    (work_settled now marks told (without up dirty) course work (work_still told (without up dirty) marks log now course work (ap current s.1 ∙ current_more log (Syncs s.0)) knows))
+    let d = done_call log (SyncFolder up) now done in
+    comes_synced_at told dirty marks log now up course work (found (current log) up) kept knows (sync_finds (current log) up d.permits) d.is
+
+-- the sync of a thing, by its kind
+pub comes_thing_synced : (told : Said) (dirty : List Route) (marks : Marks) (log now : CallLog) (up : Route) (course : Course) (work : Work) → IsKept told dirty marks log
+    → WorkKnows told (without up dirty) marks log course work → Performs {A = Unit {0}} log (sync_of (current log) up) (Ok tt) (Some now)
+    → Comes told told (without up dirty) log now (λ m. WorkKnows told (without up dirty) m now course work)
+comes_thing_synced told dirty marks log now up course work kept knows done =
+    let d = thing_done log now up done in comes_synced_at told dirty marks log now up course work d.0 kept knows d.1 d.2
 
 pub same_dirty : (b : Bool) (up : Route) (dirty : List Route) → moves_dirty b b up dirty ≡ dirty
 same_dirty true up dirty = refl

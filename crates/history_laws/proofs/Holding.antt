@@ -25,14 +25,14 @@ use Rattle.session_history.specs.Named.{IsUnnamedSince, named_parts, names_path}
 use Rattle.job_reports.specs.Paths.{without}
 use Rattle.copy_move.specs.declared.run.Course.{Course}
 use Rattle.copy_move.specs.declared.work.Work.{Work}
-use Rattle.copy_move.specs.declared.work.Work.TheVariants.{Copy, Delete, Make}
+use Rattle.copy_move.specs.declared.work.Work.TheVariants.{Copy, Delete, Make, SetMode}
 use Rattle.copy_move.specs.Jobs.{Running}
 use Rattle.history_laws.specs.Doubt.{is_unsettled, node_waits, way_waits}
 use Rattle.history_laws.specs.Replayed.{log_prefix, replayed_tree}
 use Rattle.history_laws.specs.Traces.{EventLeads, IsTraced, Stand, if_closed}
 use Rattle.history_laws.proofs.Calming.{still_listed}
 use Rattle.history_laws.proofs.Deleted.{put_at, put_off}
-use Rattle.history_laws.proofs.Finished.{not_listed}
+use Rattle.history_laws.proofs.Tidy.{not_listed}
 use Rattle.history_laws.proofs.Going.{Goes, SaidThen, closed_know, closed_live, event_goes}
 use Rattle.history_laws.proofs.Histories.{IsReached, enters, traced_reached}
 use Rattle.history_laws.proofs.JobKnows.{HasPart, StageKnows, WorkKnows}
@@ -98,6 +98,7 @@ module _ (path : Route) (v : Option Value) (told : Said) where
   work_holding dirty marks log course (Copy c) (name, listed, stage) = (name, listed, stage_holding marks (current log) course c c.stage stage)
   work_holding dirty marks log course (Delete d) k = k
   work_holding dirty marks log course (Make w) k = k
+  work_holding dirty marks log course (SetMode s) k = k
 
   jobs_holding : (dirty : List Route) (marks : Marks) (log : CallLog) (jobs : List Running) → JobsKnow told dirty marks log jobs → JobsKnow (holding path v told) dirty marks log jobs
   jobs_holding dirty marks log [] k = k

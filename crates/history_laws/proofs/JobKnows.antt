@@ -29,7 +29,7 @@ use Rattle.job_reports.proofs.PermittedCalls.{stat_missing}
 use Rattle.copy_move.specs.declared.run.Course.{Course}
 use Rattle.copy_move.specs.declared.run.Course.TheVariants.{GoesOn}
 use Rattle.copy_move.specs.declared.work.Work.{Work}
-use Rattle.copy_move.specs.declared.work.Work.TheVariants.{Copy, Delete, Make}
+use Rattle.copy_move.specs.declared.work.Work.TheVariants.{Copy, Delete, Make, SetMode}
 use Rattle.copy_move.specs.Settling.{IsMountOf, LiesApart, NoneOwed, changed_folder}
 use Rattle.tree_deletion.specs.declared.deletion.Stage.TheVariants.{Going}
 use Rattle.tree_deletion.specs.Folders.{is_of}
@@ -94,6 +94,7 @@ WorkKnows told dirty marks log course (Copy c) =
 WorkKnows told dirty marks log course (Delete d) =
     HasName d.path × (told.part ≡ None) × (d.stage ≡ Going → KnowsWithin told marks (current log) d.path)
 WorkKnows told dirty marks log course (Make m) = HasName m.path × (told.part ≡ None)
+WorkKnows told dirty marks log course (SetMode s) = HasName s.path × (told.part ≡ None)
 
 -- a path at which nothing stands, and of whose name nothing waits
 pub untouched_free : (told : Said) (dirty : List Route) (marks : Marks) (log : CallLog) (p : Route) → IsKept told dirty marks log → way_waits log p ≡ false → find (current log) p ≡ None → IsUntouched marks (current log) p
@@ -248,6 +249,7 @@ module _ (log : CallLog) (marks : Marks) where
   work_settled told dirty course (Copy c) (name, listed, stage) = (name, listed, stage_settled told course c c.stage stage)
   work_settled told dirty course (Delete d) (name, none, intact) = (name, none, λ is. let k = intact is in (intact_settled d.path k.0, k.1, k.2))
   work_settled told dirty course (Make w) k = k
+  work_settled told dirty course (SetMode s) k = k
 
 -- a job that goes on only where it went on knows what it knew
 pub stage_course : (told : Said) (marks : Marks) (s : FileSystem) (course other : Course) (c : Copying) (stage : Stage) → (other ≡ GoesOn → course ≡ GoesOn) → StageKnows told marks s course c stage → StageKnows told marks s other c stage
@@ -261,12 +263,14 @@ pub work_course : (told : Said) (dirty : List Route) (marks : Marks) (log : Call
 work_course told dirty marks log course other (Copy c) on (name, listed, stage) = (name, listed, stage_course told marks (current log) course other c c.stage on stage)
 work_course told dirty marks log course other (Delete d) on k = k
 work_course told dirty marks log course other (Make w) on k = k
+work_course told dirty marks log course other (SetMode s) on k = k
 
 -- what is known holds on after a call that leaves the tree as it was
 pub work_still : (told : Said) (dirty : List Route) (marks : Marks) (log now : CallLog) (course : Course) (work : Work) → current now ≡ current log → WorkKnows told dirty marks log course work → WorkKnows told dirty marks now course work
 work_still told dirty marks log now course (Copy c) same (name, listed, stage) = (name, listed, subst (λ (s : FileSystem). StageKnows told marks s course c c.stage) (sym same) stage)
 work_still told dirty marks log now course (Delete d) same (name, none, known) = (name, none, λ is. let k = known is in (subst (λ (s : FileSystem). IsIntact marks s d.path) (sym same) k.0, k.1, k.2))
 work_still told dirty marks log now course (Make m) same k = k
+work_still told dirty marks log now course (SetMode s) same k = k
 
 -- what is known after a report: of a job that has ended no part stands
 abbrev pub KnowsAfter : Did → Said → List Route → CallLog → Course → Work → Marks → Type 0

@@ -28,6 +28,7 @@ pub mod Lasting
 pub mod MakingParts
 pub mod MakingSteps
 pub mod MakingThings
+pub mod ModeSteps
 pub mod ModesStay
 pub mod Moments
 pub mod Owing
@@ -39,8 +40,10 @@ pub mod Quiet
 pub mod Renaming
 pub mod Reports
 pub mod Resting
+pub mod SettingModes
 pub mod Sources
 pub mod Staying
 pub mod Stepped
+pub mod Tidy
 pub mod Unchanged
 pub mod Unnamed

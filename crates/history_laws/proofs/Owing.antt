@@ -14,9 +14,10 @@ use Rattle.job_reports.specs.Paths.{folder_of}
 use Rattle.copy_move.specs.declared.run.Course.{Course}
 use Rattle.copy_move.specs.declared.run.Course.TheVariants.{GoesOn}
 use Rattle.copy_move.specs.declared.work.Work.{Work}
-use Rattle.copy_move.specs.declared.work.Work.TheVariants.{Copy, Delete, Make}
+use Rattle.copy_move.specs.declared.work.Work.TheVariants.{Copy, Delete, Make, SetMode}
 use Rattle.copy_move.specs.Deletions.{DeletionLeaves, Tells}
 use Rattle.copy_move.specs.Makings as makings
+use Rattle.mode_setting.specs.Settings as settings
 use Rattle.copy_move.specs.Jobs.{Running, TellsOn, WorkTells, is_fresh}
 use Rattle.copy_move.specs.Settling.{LiesApart, NoneOwed, WorkLeaves, changed_folder, is_own, with_change}
 use Rattle.file_copy.specs.Copying as copying
@@ -117,7 +118,7 @@ in_joined up q dirty = by (is_one_of up dirty)
     by true among = inr among
     by false among = in_both q dirty up among
 
-changed_or_before : (a b : Bool) (up q : Route) (dirty : List Route) → Among (with_change a b up dirty) q → (q ≡ up) ⊎ Among dirty q
+pub changed_or_before : (a b : Bool) (up q : Route) (dirty : List Route) → Among (with_change a b up dirty) q → (q ≡ up) ⊎ Among dirty q
 changed_or_before false true up q dirty among = in_joined up q dirty among
 changed_or_before true false up q dirty among = inr (in_filter (λ kept. not (same_path kept up)) q dirty among)
 changed_or_before false false up q dirty among = inr among
@@ -129,6 +130,18 @@ own_or_before : (old next new : Work) (did : Did) (q : Route) (dirty dirty_after
 own_or_before (Copy c) next (Delete new) did q dirty dirty_after before after t leaves among = absurd leaves
 own_or_before (Copy c) next (Make new) did q dirty dirty_after before after t leaves among = absurd leaves
 own_or_before (Make m) next (Copy new) did q dirty dirty_after before after t leaves among = absurd leaves
+own_or_before (Make m) next (SetMode new) did q dirty dirty_after before after t leaves among = absurd leaves
+own_or_before (Copy c) next (SetMode new) did q dirty dirty_after before after t leaves among = absurd leaves
+own_or_before (Delete d) (SetMode next) new did q dirty dirty_after before after t leaves among = absurd t
+own_or_before (Delete d) (Delete next) (SetMode new) did q dirty dirty_after before after t leaves among = absurd leaves
+own_or_before (SetMode s) next (Copy new) did q dirty dirty_after before after t leaves among = absurd leaves
+own_or_before (SetMode s) next (Delete new) did q dirty dirty_after before after t leaves among = absurd leaves
+own_or_before (SetMode s) next (Make new) did q dirty dirty_after before after t leaves among = absurd leaves
+own_or_before (SetMode s) next (SetMode new) did q dirty dirty_after before after t leaves among =
+    elim (changed_or_before (settings.is_dirty s.stage) (settings.is_dirty new.stage) s.path q dirty (subst (λ xs. Among xs q) leaves among)) [
+      | inl same ↦ inl (subst (λ p. same_path p s.path ≡ true) (sym same) (same_path-self s.path))
+      | inr old ↦ inr old
+    ]
 own_or_before (Make m) next (Delete new) did q dirty dirty_after before after t leaves among = absurd leaves
 own_or_before (Make m) next (Make new) did q dirty dirty_after before after t leaves among =
     elim (changed_or_before (makings.is_dirty m.stage) (makings.is_dirty new.stage) (folder_of m.path) q dirty (subst (λ xs. Among xs q) leaves among)) [
@@ -200,6 +213,6 @@ step_law job new did calls dirty dirty_after log now faults faults_after (inl ow
 )
 step_law job new did calls dirty dirty_after log now faults faults_after (inr settling) = inl (
   new,
-  inr (record { goes = settling.goes; fresh = settling.fresh; folder = settling.folder; owed = settling.owed; synced = settling.synced }),
+  inr (record { goes = settling.goes; fresh = settling.fresh; path = settling.path; owed = settling.owed; synced = settling.synced }),
   refl,
 )

@@ -22,7 +22,7 @@ use Rattle.session_history.specs.declared.history.Event.TheVariants as event
 use Rattle.session_history.specs.declared.history.Entry.{Entry}
 use Rattle.copy_move.specs.declared.run.Course.{Course}
 use Rattle.copy_move.specs.declared.work.Work.{Work}
-use Rattle.copy_move.specs.declared.work.Work.TheVariants.{Copy, Delete, Make}
+use Rattle.copy_move.specs.declared.work.Work.TheVariants.{Copy, Delete, Make, SetMode}
 use Rattle.copy_move.specs.Jobs.{Running}
 use Rattle.history_laws.specs.Doubt.{name_waits, node_waits}
 use Rattle.session_history.specs.LiveJobs.{IsLivePart, LiveJob, after_event, after_report, live, live_jobs, part_after}
@@ -71,6 +71,7 @@ module _ (told : Said) (log : CallLog) where
   work_doubting dirty marks now course (Copy c) (name, listed, stage) = (name, listed, stage_doubting marks (current now) course c c.stage stage)
   work_doubting dirty marks now course (Delete d) k = k
   work_doubting dirty marks now course (Make w) k = k
+  work_doubting dirty marks now course (SetMode s) k = k
 
   pub kept_doubting : (dirty : List Route) (marks : Marks) → IsKept told dirty marks log → IsKept (doubting told log) dirty marks log
   kept_doubting dirty marks kept = record {
