@@ -9,7 +9,7 @@ use tree_trait::{Meta, Tree, TreeError};
 /// What stands at a path.
 #[derive(Clone, Copy)]
 enum Standing {
-    /// The file as it was put, or an empty folder as it was made.
+    /// The file as it was put, or an empty folder or a link as it was made.
     Whole,
     Missing,
     /// Anything else.
@@ -26,6 +26,7 @@ pub fn left_in<T: Tree>(alloc: Global, image: &mut T, scene: Scene) -> Result<St
         Scene::LeftTarget => left_of_copy(alloc, image),
         Scene::NewFolder => left_of_making(alloc, image),
         Scene::LeftNewFolder => left_of_makings(alloc, image),
+        Scene::NewLink => left_of_link(alloc, image),
         Scene::Mode => left_of_modes(alloc, image),
         Scene::LeftMode => left_of_modes(alloc, image),
     }
@@ -75,6 +76,22 @@ fn left_of_makings<T: Tree>(alloc: Global, image: &mut T) -> Result<String> {
     let first = word_of(what_folder_stands(alloc, image, "/a/n")?, "missing");
     let second = word_of(what_folder_stands(alloc, image, "/a/m")?, "missing");
     Ok(format!(in alloc; "{first}, the second {second}")?)
+}
+
+fn left_of_link<T: Tree>(alloc: Global, image: &mut T) -> Result<String> {
+    let made = word_of(what_link_stands(alloc, image, "/a/l")?, "missing");
+    Ok(String::from_str(alloc, made)?)
+}
+
+/// What stands where a link that says `x` is made.
+fn what_link_stands<T: Tree>(alloc: Global, image: &mut T, path: &str) -> Result<Standing> {
+    let path = Path::parse(alloc, path)?;
+    match image.read_link(alloc, &path) {
+        Err(TreeError::Missing) => Ok(Standing::Missing),
+        Err(_) => Ok(Standing::Torn),
+        Ok(text) if text.as_str() == "x" => Ok(Standing::Whole),
+        Ok(_) => Ok(Standing::Torn),
+    }
 }
 
 fn left_of_modes<T: Tree>(alloc: Global, image: &mut T) -> Result<String> {

@@ -2,6 +2,7 @@
 ghost use Rattle.std.specs.Prelude.{◌≡◌, []};
 
 use crate::images::walk;
+use crate::links::after_link;
 use crate::sessions::after_keys;
 use crate::settings::after_settings;
 use anyhow::{Result, bail};
@@ -27,6 +28,8 @@ pub enum Scene {
     NewFolder,
     /// Two folders are made. The sync after the first is refused, and so is that of its last steps; the second job makes it.
     LeftNewFolder,
+    /// A link is made.
+    NewLink,
     /// A file is given the mode 600.
     Mode,
     /// Two files are given the mode 600. The sync of the first is refused, and so is that of its last steps; the second job makes it.
@@ -44,6 +47,7 @@ impl Scene {
             Scene::LeftTarget => "/s/e is copied and /t not synced, then /s/e is deleted",
             Scene::NewFolder => "/a/n is made",
             Scene::LeftNewFolder => "/a/n is made and /a not synced, then /a/m is made",
+            Scene::NewLink => "/a/l is made, a link that says x",
             Scene::Mode => "/a/x is given the mode 600",
             Scene::LeftMode => "/a/x is given the mode 600 and not synced, then /a/y is",
         }
@@ -59,6 +63,7 @@ impl Scene {
             Scene::LeftTarget => true,
             Scene::NewFolder => false,
             Scene::LeftNewFolder => false,
+            Scene::NewLink => false,
             Scene::Mode => false,
             Scene::LeftMode => false,
         }
@@ -141,6 +146,7 @@ fn played(alloc: Global, scene: Scene) -> Result<MemTree> {
         Scene::LeftTarget => left_target(alloc),
         Scene::NewFolder => new_folder(alloc),
         Scene::LeftNewFolder => left_new_folder(alloc),
+        Scene::NewLink => new_link(alloc),
         Scene::Mode => mode(alloc),
         Scene::LeftMode => left_mode(alloc),
     }
@@ -182,6 +188,11 @@ fn left_new_folder(alloc: Global) -> Result<MemTree> {
     let mut tree = empty_folder(alloc)?;
     tree.fail_calls(alloc, REFUSED_FOLDER_SYNCS)?;
     after_keys(alloc, tree, "/a", "/a", MAKING_BOTH)
+}
+
+fn new_link(alloc: Global) -> Result<MemTree> {
+    let tree = empty_folder(alloc)?;
+    after_link(alloc, tree, "/a/l")
 }
 
 fn mode(alloc: Global) -> Result<MemTree> {

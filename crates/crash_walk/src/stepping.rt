@@ -1,0 +1,36 @@
+//! One job over a tree, step by step.
+use anyhow::{Result, bail};
+use copy_move::{Dirty, PartTest, Run};
+use job_reports::is_end;
+use mc_text::Path;
+use std::alloc::Global;
+use tree_trait::Tree;
+
+/// No other job is live, so no path is claimed.
+struct NoClaims;
+
+impl PartTest for NoClaims {
+    ghost use Rattle.std.specs.Prelude.{true};
+
+    ghost is_free = { λ claims path. true };
+
+    fn free(&self, _path: &Path) -> bool {
+        true
+    }
+}
+
+/// Works a job to its end. One in trouble is aborted.
+pub fn work_off<T: Tree>(alloc: Global, tree: &mut T, dirty: &mut Dirty, run: Run) -> Result<()> {
+    let mut run = run;
+    for _ in 0..8 {
+        if run.waits() {
+            run.abort();
+            continue;
+        }
+        let stepped = run.step(alloc, tree, &NoClaims, dirty);
+        if is_end(&stepped.did) {
+            return Ok(());
+        }
+    }
+    bail!("the job did not end")
+}
