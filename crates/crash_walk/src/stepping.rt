@@ -22,6 +22,17 @@ impl PartTest for NoClaims {
 /// Works a job to its end. One in trouble is aborted.
 pub fn work_off<T: Tree>(alloc: Global, tree: &mut T, dirty: &mut Dirty, run: Run) -> Result<()> {
     let mut run = run;
+    let ended = comes_to_its_end(alloc, tree, dirty, &mut run);
+    done(ended)
+}
+
+/// Whether a job comes to its end in a few steps.
+fn comes_to_its_end<T: Tree>(
+    alloc: Global,
+    tree: &mut T,
+    dirty: &mut Dirty,
+    run: &mut Run,
+) -> bool {
     for _ in 0..8 {
         if run.waits() {
             run.abort();
@@ -29,8 +40,15 @@ pub fn work_off<T: Tree>(alloc: Global, tree: &mut T, dirty: &mut Dirty, run: Ru
         }
         let stepped = run.step(alloc, tree, &NoClaims, dirty);
         if is_end(&stepped.did) {
-            return Ok(());
+            return true;
         }
     }
-    bail!("the job did not end")
+    false
+}
+
+fn done(ended: bool) -> Result<()> {
+    if !ended {
+        bail!("the job did not end");
+    }
+    Ok(())
 }
