@@ -1,5 +1,5 @@
 //! What is left in a crash image, in words.
-use crate::scenes::{COPIED, DELETED, Original, Scene};
+use crate::scenes::{COPIED, DELETED, Original, SET, Scene};
 use anyhow::{Result, bail};
 use mc_text::{Kind, Name, Path};
 use std::alloc::Global;
@@ -26,6 +26,8 @@ pub fn left_in<T: Tree>(alloc: Global, image: &mut T, scene: Scene) -> Result<St
         Scene::LeftTarget => left_of_copy(alloc, image),
         Scene::NewFolder => left_of_making(alloc, image),
         Scene::LeftNewFolder => left_of_makings(alloc, image),
+        Scene::Mode => left_of_modes(alloc, image),
+        Scene::LeftMode => left_of_modes(alloc, image),
     }
 }
 
@@ -73,6 +75,24 @@ fn left_of_makings<T: Tree>(alloc: Global, image: &mut T) -> Result<String> {
     let first = word_of(what_folder_stands(alloc, image, "/a/n")?, "missing");
     let second = word_of(what_folder_stands(alloc, image, "/a/m")?, "missing");
     Ok(format!(in alloc; "{first}, the second {second}")?)
+}
+
+fn left_of_modes<T: Tree>(alloc: Global, image: &mut T) -> Result<String> {
+    let first = mode_left(alloc, image, "/a/x")?;
+    let second = mode_left(alloc, image, "/a/y")?;
+    Ok(format!(in alloc; "{first}, the one beside it {second}")?)
+}
+
+/// With which mode a file stands whose bytes are as they were put.
+fn mode_left<T: Tree>(alloc: Global, image: &mut T, path: &str) -> Result<&'static str> {
+    if let Standing::Whole = what_stands(alloc, image, path, DELETED)? {
+        return Ok("with 644");
+    }
+    match what_stands(alloc, image, path, SET)? {
+        Standing::Whole => Ok("with 600"),
+        Standing::Missing => Ok("missing"),
+        Standing::Torn => Ok("torn"),
+    }
 }
 
 /// What stands where a folder is made.

@@ -1,12 +1,13 @@
-//! Walks through every moment of seven sessions, of which one deletes a file, one a folder, one copies a file, one deletes two files of which
+//! Walks through every moment of nine sessions, of which one deletes a file, one a folder, one copies a file, one deletes two files of which
 //! the first is left unsynced, one copies a file whose target is left so, and deletes the source, one makes a folder, and one makes
-//! two of which the first is left unsynced. It walks through the crash images of each: what is left then? The expected lines stand in `stdout`.
+//! two of which the first is left unsynced, one sets a file's mode, and one those of two files of which the first is left unsynced. It walks through the crash images of each: what is left then? The expected lines stand in `stdout`.
 #![tactic(auto)]
 
 mod images;
 mod judging;
 mod scenes;
 mod sessions;
+mod settings;
 
 use crate::scenes::{Scene, scene_lines};
 use anyhow::Result;
@@ -20,6 +21,8 @@ fn main(rt: HostRuntime) -> Result<()> {
     let left_target = scene_lines(alloc, Scene::LeftTarget)?;
     let new_folder = scene_lines(alloc, Scene::NewFolder)?;
     let left_new_folder = scene_lines(alloc, Scene::LeftNewFolder)?;
+    let mode = scene_lines(alloc, Scene::Mode)?;
+    let left_mode = scene_lines(alloc, Scene::LeftMode)?;
     for line in deletion.iter() {
         println!(rt; "{line}")?;
     }
@@ -39,6 +42,12 @@ fn main(rt: HostRuntime) -> Result<()> {
         println!(rt; "{line}")?;
     }
     for line in left_new_folder.iter() {
+        println!(rt; "{line}")?;
+    }
+    for line in mode.iter() {
+        println!(rt; "{line}")?;
+    }
+    for line in left_mode.iter() {
         println!(rt; "{line}")?;
     }
     Ok(())

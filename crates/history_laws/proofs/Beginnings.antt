@@ -15,10 +15,12 @@ use Rattle.copy_move.specs.declared.work.Work.{Work}
 use Rattle.copy_move.specs.declared.work.Work.TheVariants.{Copy, Delete, Make}
 use Rattle.copy_move.specs.Jobs.{CallsOn, Running, TellsOn, WorkCalls, WorkTells, WorkWinds}
 use Rattle.copy_move.specs.Settling.{changed_folder}
+use Rattle.history_laws.specs.Staying.{may_change}
 use Rattle.history_laws.specs.Traces.{IsUnclaimed, WorkLeads}
 use Rattle.history_laws.proofs.Deleted.{folder_removed, removal_done}
 use Rattle.history_laws.proofs.Intact.{folder_apart}
-use Rattle.history_laws.proofs.Stepped.{folders_by}
+use Rattle.history_laws.proofs.Sources.{item_in}
+use Rattle.history_laws.proofs.Stepped.{calm_by, folders_by}
 
 -- a change begins only in work that goes on
 winds_none : (ending : Ending) (old new : Work) (did : Did) → WorkWinds ending old did new → begins_change did ≡ true → ⊥
@@ -88,3 +90,31 @@ folder_stays job new (Cleaned part) dirty dirty_after log now folders tree works
 folder_stays job new Barrier dirty dirty_after log now folders tree works known = elim known [ inl stands ↦ stands | inr begins ↦ absurd (false≢true begins) ]
 folder_stays job new (Troubled trouble) dirty dirty_after log now folders tree works known = elim known [ inl stands ↦ stands | inr begins ↦ absurd (false≢true begins) ]
 folder_stays job new (Ended ending part) dirty dirty_after log now folders tree works known = elim known [ inl stands ↦ stands | inr begins ↦ absurd (false≢true begins) ]
+
+-- no job that is worked today sets a mode
+sets_none : (old new : Work) (path : Route) → WorkTells old (Set path) new → ⊥
+sets_none (Copy c) (Copy new) path t = t
+sets_none (Copy c) (Delete new) path t = t
+sets_none (Copy c) (Make new) path t = t
+sets_none (Delete d) (Copy new) path t = t
+sets_none (Delete d) (Delete new) path t = t
+sets_none (Delete d) (Make new) path t = t
+sets_none (Make m) (Copy new) path t = t
+sets_none (Make m) (Delete new) path t = t
+sets_none (Make m) (Make new) path t = t
+
+-- and in its folders no mode waits from then on
+pub calm_stays : (job new : Running) (did : Did) (dirty dirty_after : List Route) (log now : CallLog) (calm : Route → Bool) (q : Route) → WorkLeads job did new dirty dirty_after log now → may_change (item_in job.work) q ≡ true
+    → (calm q ≡ true) ⊎ (begins_change did ≡ true) → calm_by did (item_in job.work) calm q ≡ true
+calm_stays job new (Removed path) dirty dirty_after log now calm q works own known = or_left _ _ own
+calm_stays job new (Began part) dirty dirty_after log now calm q works own known = or_left _ _ own
+calm_stays job new (Made path) dirty dirty_after log now calm q works own known = or_left _ _ own
+calm_stays job new (Set path) dirty dirty_after log now calm q works own known = let goes = goes_then job new (Set path) job.course refl works.tells refl in absurd (sets_none job.work goes.1.0 path goes.1.1)
+calm_stays job new (Chunk count) dirty dirty_after log now calm q works own known = elim known [ inl stands ↦ stands | inr begins ↦ absurd (false≢true begins) ]
+calm_stays job new (Placed path) dirty dirty_after log now calm q works own known = elim known [ inl stands ↦ stands | inr begins ↦ absurd (false≢true begins) ]
+calm_stays job new (Kept path) dirty dirty_after log now calm q works own known = elim known [ inl stands ↦ stands | inr begins ↦ absurd (false≢true begins) ]
+calm_stays job new (Skipped path why) dirty dirty_after log now calm q works own known = elim known [ inl stands ↦ stands | inr begins ↦ absurd (false≢true begins) ]
+calm_stays job new (Cleaned part) dirty dirty_after log now calm q works own known = elim known [ inl stands ↦ stands | inr begins ↦ absurd (false≢true begins) ]
+calm_stays job new Barrier dirty dirty_after log now calm q works own known = elim known [ inl stands ↦ stands | inr begins ↦ absurd (false≢true begins) ]
+calm_stays job new (Troubled trouble) dirty dirty_after log now calm q works own known = elim known [ inl stands ↦ stands | inr begins ↦ absurd (false≢true begins) ]
+calm_stays job new (Ended ending part) dirty dirty_after log now calm q works own known = elim known [ inl stands ↦ stands | inr begins ↦ absurd (false≢true begins) ]

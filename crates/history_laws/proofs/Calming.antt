@@ -1,7 +1,7 @@
 -- Calls that change no name, by their answers: a sync, one that was refused, a write to the part, another mode of it.
-use Rattle.std.proofs.Common.{◌≡◌, ◌⊎◌, ℕ, ◌≤◌, ℤ, Bool, true, false, not, List, [], ◌∷◌, ◌++◌, length, refl, sym, ◌∙◌, ap, subst, inl, inr, Option, Some, Ok, Err, arith}
+use Rattle.std.proofs.Common.{◌≡◌, ◌⊎◌, ℕ, ◌≤◌, ℤ, Bool, true, false, not, List, [], ◌∷◌, ◌++◌, length, refl, sym, ◌∙◌, ap, subst, inl, inr, Option, Some, None, Ok, Err, arith}
 use Rattle.std.specs.Prelude.{filter, ◌==◌}
-use Rattle.std.proofs.lemmas.Bool.{true≢false, both_ways, false_from_ne_true, eqb-true}
+use Rattle.std.proofs.lemmas.Bool.{true≢false, false≢true, both_ways, false_from_ne_true, eqb-true}
 use Rattle.std.proofs.lemmas.List.{length-set}
 use Rattle.mc_text.specs.Routes.{Route, same_path}
 use Rattle.tree_trait.specs.declared.file_system.FileSystem.{FileSystem}
@@ -10,7 +10,7 @@ use Rattle.tree_trait.specs.FileSystem.{find}
 use Rattle.tree_trait.specs.Shape.{IsTree}
 use Rattle.tree_trait.specs.Calls.{Call, SyncFolder}
 use Rattle.tree_trait.specs.Change.{Nothing, Sets, Writes, Syncs, CallLog, current, with_change, found, torn_write}
-use Rattle.tree_trait.specs.CrashImages.{Among}
+use Rattle.tree_trait.specs.CrashImages.{Among, is_clean}
 use Rattle.tree_trait.specs.Answers.{Performs}
 use Rattle.tree_trait.proofs.Ending as ending
 use Rattle.tree_trait.proofs.Finding.{find-once}
@@ -19,11 +19,12 @@ use Rattle.tree_trait.proofs.Visible.{same_path-true}
 use Rattle.crash_law.specs.Guarded.{Marks}
 use Rattle.crash_law.proofs.Guarding.{found_at, same_quiet}
 use Rattle.crash_law.proofs.Leading.{current_more}
+use Rattle.crash_law.proofs.Syncing.{firm_law}
 use Rattle.job_reports.proofs.CallAnswers.{some_log, done_call}
 use Rattle.job_reports.proofs.PermittedCalls.{sync_finds}
 use Rattle.history_laws.specs.Doubt.{is_pending}
 use Rattle.history_laws.proofs.Pending.{pending_synced}
-use Rattle.history_laws.proofs.Knowing.{Said, IsKnown}
+use Rattle.history_laws.proofs.Knowing.{Said, HasMode, IsKnown}
 use Rattle.history_laws.proofs.Quiet.{calm_known}
 
 some_route : (p q : Route) → (let o : Option Route = Some p in o) ≡ Some q → q ≡ p
@@ -41,6 +42,7 @@ module _ (said : Said) (dirty : List Route) (marks : Marks) (log : CallLog) (kno
     within = refl;
     still = λ p i other at. refl;
     unborn = λ i past. refl;
+    moded = λ i altered. absurd (false≢true altered);
   })
 
   pub synced_known : (f : ℕ) → IsKnown said dirty marks (with_change log (Syncs f))
@@ -54,10 +56,11 @@ module _ (said : Said) (dirty : List Route) (marks : Marks) (log : CallLog) (kno
     within = refl;
     still = λ p i other at. refl;
     unborn = λ i past. refl;
+    moded = λ i altered. absurd (false≢true altered);
   })
 
   -- the part that stands leads to a node that is loose
-  module _ (part : Route) (i : ℕ) (is : said.part ≡ Some part) (at : find (current log) part ≡ Some i) (loose : marks.loose i ≡ true) where
+  module _ (part : Route) (i : ℕ) (is : said.part ≡ Some part) (at : find (current log) part ≡ Some i) (loose : marks.loose i ≡ true) (no_mode : marks.modes i ≡ None) where
     loose_alone : (j : ℕ) → marks.loose j ≡ false → (b : Bool) → (i == j) ≡ b → b ≡ false
     loose_alone j firm true same = absurd (true≢false (sym loose ∙ (ap marks.loose (eqb-true i j same) ∙ firm)))
     loose_alone j firm false same = refl
@@ -73,6 +76,9 @@ module _ (said : Said) (dirty : List Route) (marks : Marks) (log : CallLog) (kno
         let there = known.guarded.there part i (found_at log part (Some i) at) in
         absurd (omega (arith, past, e, there)))
 
+    moded_alone : (j : ℕ) → (i == j) ≡ true → marks.modes j ≡ None
+    moded_alone j same = subst (λ k. marks.modes k ≡ None) (eqb-true i j same) no_mode
+
     pub written_known : (bytes : List ℕ) (time : ℤ) → IsKnown said dirty marks (with_change log (Writes i bytes time))
     written_known bytes time = calm_known said dirty marks log (Writes i bytes time) known (record {
       quiet = record {
@@ -84,6 +90,7 @@ module _ (said : Said) (dirty : List Route) (marks : Marks) (log : CallLog) (kno
       within = refl;
       still = λ p j other there. part_alone p j other there (i == j) refl;
       unborn = unborn_alone;
+      moded = moded_alone;
     })
 
     pub moded_known : (mode : ℕ) → IsKnown said dirty marks (with_change log (Sets i mode))
@@ -97,6 +104,7 @@ module _ (said : Said) (dirty : List Route) (marks : Marks) (log : CallLog) (kno
       within = refl;
       still = λ p j other there. part_alone p j other there (i == j) refl;
       unborn = unborn_alone;
+      moded = moded_alone;
     })
 
 abbrev without : Route → List Route → List Route
@@ -128,7 +136,8 @@ module _ (said : Said) (dirty : List Route) (marks : Marks) (log : CallLog) (kno
   cleared_known f at = record {
     guarded = k.guarded;
     files = k.files;
-    moded = k.moded;
+    moded = λ i before is unclean. still_moded i before unclean (k.moded i before is unclean);
+    calm = k.calm;
     folders = k.folders;
     aside = k.aside;
     was_there = k.was_there;
@@ -145,6 +154,20 @@ module _ (said : Said) (dirty : List Route) (marks : Marks) (log : CallLog) (kno
     where
       k : IsKnown said dirty marks (with_change log (Syncs f))
       k = synced_known said dirty marks log known f
+
+      -- a mode that waits is of another path
+      still_moded : (i before : ℕ) → is_clean i (log.changes ++ Syncs f ∷ []) ≡ false → HasMode said dirty marks (with_change log (Syncs f)) i before → HasMode said (without up dirty) marks (with_change log (Syncs f)) i before
+      still_moded i before unclean h = record {
+        path = h.path;
+        leads = h.leads;
+        out = h.out;
+        listed = still_listed up h.path dirty h.listed (false_from_ne_true _ (λ same.
+            let here : find (current (with_change log (Syncs f))) h.path ≡ Some f = same_quiet log (Syncs f) (λ g n. refl) h.path ∙ (ap (find (current log)) (same_path-true h.path up same) ∙ at) in
+            let i_is : i ≡ f = (let e = sym h.leads ∙ here in cc) in
+            both_ways _ unclean (subst (λ j. is_clean j (log.changes ++ Syncs f ∷ []) ≡ true) (sym i_is) (firm_law log f))));
+        told = h.told;
+        shown = h.shown;
+      }
 
       off : (g : ℕ) (m : List ℕ) → is_pending g m (log.changes ++ Syncs f ∷ []) ≡ true → (q : Route) → find (current (with_change log (Syncs f))) q ≡ Some g → same_path q up ≡ false
       off g m waits q there = false_from_ne_true _ (λ same.

@@ -42,12 +42,12 @@ use Rattle.copy_move.specs.Settling.{with_change as moves_dirty}
 use Rattle.history_laws.specs.Traces.{IsUnclaimed}
 use Rattle.history_laws.proofs.Calming.{written_known}
 use Rattle.history_laws.proofs.Changing.{off_itself, removed_known}
-use Rattle.history_laws.proofs.Deleted.{IsRemoval, comes_refused, removal_done}
+use Rattle.history_laws.proofs.Deleted.{IsRemoval, comes_refused, removal_done, removal_leads}
 use Rattle.history_laws.proofs.DeletionSteps.{Steps, ends, same_dirty, tried}
 use Rattle.history_laws.proofs.Resting.{folder_at}
-use Rattle.history_laws.proofs.Filling.{begun, filled_more, folder_firm, listed_now, making_stands, target_free}
+use Rattle.history_laws.proofs.Filling.{begun, filled_more, folder_calm, folder_firm, listed_now, making_stands, target_free}
 use Rattle.history_laws.proofs.Knowing.{Said, IsKnown, IsKept, settled_marks}
-use Rattle.history_laws.proofs.JobKnows.{NoneOn, HasPart, IsUntouched, KnowsAfter, StageKnows, WorkKnows, part_settled, untouched_settled, work_course}
+use Rattle.history_laws.proofs.JobKnows.{NoneOn, HasPart, IsUntouched, KnowsAfter, StageKnows, WorkKnows, none_of_part, part_settled, untouched_settled, work_course}
 use Rattle.history_laws.proofs.PartNodes.{part_on, part_there, written_node}
 use Rattle.history_laws.proofs.PlacingSteps.{part_placed, part_refused, placing_stops}
 use Rattle.history_laws.proofs.Stepped.{Comes, comes_map, comes_one, said_after}
@@ -89,8 +89,10 @@ part_cleaned told dirty marks log now work target part i kept has listed done = 
           part = refl;
           doubts = λ p h. or_left _ _ h;
           folders = λ p there. (no_file p (kept.known.stand p there).stands, inl there);
+          modes = λ p h. h;
+          calm = λ p h. inl h;
           doubted = or_right _ _ (same_path-self part);
-        }) (λ out. absurd (both_ways _ out aside)) (subst (λ q. Among dirty q) (sym folder_is ∙ ap folder_of it.r.path_is) listed) (λ q among off. among) in
+        }) (λ out. absurd (both_ways _ out aside)) (none_of_part told dirty marks log kept part it.r.i (removal_leads log now part it) aside) (subst (λ q. Among dirty q) (sym folder_is ∙ ap folder_of it.r.path_is) listed) (λ q among off. among) in
         let after = with_change log (Removes it.r.f it.r.name it.k) in
         let shown = known.shows target (λ is. let e : (let o : Option Route = None in o) ≡ Some target = is in absurd (let f : ⊥ = cc in f)) in
         let before = kept.known.shows target (λ is. has.apart (some_route part target (sym has.part_is ∙ is))) in
@@ -118,7 +120,7 @@ module _ (told : Said) (dirty dirty_after : List Route) (marks : Marks) (log now
       let is : now ≡ with_change log (Writes i stop.1.0 (pos 0)) = some_log now _ stop.1.1 ∙ ap (λ j. with_change log (Writes j stop.1.0 (pos 0))) (ap (λ o. unwrap_or o 0) has.leads) in
       let node_is = written_node log i stop.1.0 (pos 0) (part_there told dirty marks log kept.known c.target part i has) in
       comes_one told told dirty dirty marks marks log now (Writes i stop.1.0 (pos 0)) (λ m. HasPart told m (current now) c.target part i) kept is
-      (subst (λ (l : CallLog). IsKnown told dirty marks l) (sym is) (written_known told dirty marks log kept.known part i has.part_is has.leads has.loose stop.1.0 (pos 0)))
+      (subst (λ (l : CallLog). IsKnown told dirty marks l) (sym is) (written_known told dirty marks log kept.known part i has.part_is has.leads has.loose (none_of_part told dirty marks log kept part i has.leads (kept.known.part part has.part_is).0) stop.1.0 (pos 0)))
       (subst (λ (l : CallLog). HasPart told (settled_marks l marks) (current l) c.target part i) (sym is)
       (part_settled (with_change log (Writes i stop.1.0 (pos 0))) marks told c.target part i
       (part_on told dirty marks log kept.known c.target part i has (Writes i stop.1.0 (pos 0)) (λ g m. refl) (ap (λ (x : Node). x.kind) node_is) (ap (λ (x : Node). x.unnamed) node_is))))
@@ -198,10 +200,11 @@ module _ (told : Said) (dirty dirty_after : List Route) (marks : Marks) (log now
       let on_list = listed_now told dirty dirty_after marks log now kept c (λ e. (listed e).0) (leaves ∙ ap (λ (x : Copying). moves_dirty (is_dirty c.folder) (is_dirty x.folder) up dirty) new_is) c.folder refl in
       let stands = making_stands log now c k (one_done log (making (current log) (places_of c) k) now rows) in
       let firm = folder_firm told dirty dirty_after marks log now kept c stands (λ e. (listed e).1) (λ e. settled (ap (λ x. is_fresh x c.folder) stage ∙ e)) c.folder refl in
+      let calm = folder_calm told dirty dirty_after marks log now kept c (λ e. (listed e).2) (λ e. settled (ap (λ x. is_fresh x c.folder) stage ∙ e)) c.folder refl in
       let untouched = target_free told dirty dirty_after marks log now kept c name firm ready at_begin.1 (λ e. settled (ap (λ x. is_fresh x c.folder) stage ∙ e)) c.folder refl in
       subst (λ (x : Copying). Steps told dirty dirty_after marks log now kept (Began part) GoesOn (Copy c) (Copy x)) (sym new_is)
       (subst (λ q. Steps told dirty dirty_after marks log now kept (Began q) GoesOn (Copy c) (Copy (record c { stage = Fill q said 0; folder = Dirty }))) (sym part_is)
-      (begun told dirty dirty_after marks log now kept c said k name ready is_said free at_begin.0 untouched (one_done log (making (current log) (places_of c) k) now rows) firm on_list.0 on_list.1))
+      (begun told dirty dirty_after marks log now kept c said k name ready is_said free at_begin.0 untouched (one_done log (making (current log) (places_of c) k) now rows) firm calm on_list.0 on_list.1))
   copy_tells new (Chunk count) (name, listed, knows) (part, said, done, stage, least, most, fits, new_is) (other_part, other_said, other_done, other_stage, count_is, rows) settled leaves =
       let e : (let o : Stage = Fill other_part other_said other_done in o) ≡ Fill part said done = sym other_stage ∙ stage in
       let p_is : other_part ≡ part = cc in

@@ -1,10 +1,11 @@
 -- Each step of a deletion keeps what is known.
-use Rattle.std.proofs.Common.{◌≡◌, ◌⊎◌, Bool, true, false, List, [], ◌∷◌, ◌++◌, refl, sym, ◌∙◌, ap, subst, inl, inr, Option, Some, None, Ok, arith, ◌||◌, not}
+use Rattle.std.proofs.Common.{◌≡◌, ◌⊎◌, ℕ, Bool, true, false, List, [], ◌∷◌, ◌++◌, refl, sym, ◌∙◌, ap, subst, inl, inr, Option, Some, None, Ok, arith, ◌||◌, not}
 use Rattle.std.specs.Prelude.{if◌then◌else◌}
-use Rattle.std.proofs.lemmas.Bool.{and_from, false≢true, or_cases, or_left}
+use Rattle.std.proofs.lemmas.Bool.{and_from, both_ways, false≢true, or_cases, or_left}
 use Rattle.mc_text.specs.Routes.{Route, is_prefix, same_path}
 use Rattle.mc_text.proofs.Prefixes.{same_path-lengths}
 use Rattle.tree_trait.specs.declared.calls.TreeError.{TreeError}
+use Rattle.tree_trait.specs.FileSystem.{find, starts_mount}
 use Rattle.tree_trait.specs.Calls.{RemoveFile, RemoveFolder, SyncFolder}
 use Rattle.tree_trait.specs.Change.{Syncs, CallLog, current, with_change}
 use Rattle.tree_trait.specs.CrashImages.{Among}
@@ -21,7 +22,7 @@ use Rattle.job_reports.specs.Stops.{sync_answer}
 use Rattle.job_reports.proofs.CallAnswers.{some_log}
 use Rattle.tree_deletion.specs.declared.deletion.Stage.{Stage}
 use Rattle.tree_deletion.specs.declared.deletion.Stage.TheVariants.{Begin, Going, Sync}
-use Rattle.tree_deletion.specs.Folders.{is_one_of, joined}
+use Rattle.tree_deletion.specs.Folders.{is_of, is_one_of, joined}
 use Rattle.tree_deletion.specs.Standing.{after_item, at_barrier, is_fresh}
 use Rattle.copy_move.specs.declared.work.Work.{Work}
 use Rattle.copy_move.specs.declared.work.Work.TheVariants.{Delete}
@@ -30,13 +31,13 @@ use Rattle.copy_move.specs.declared.run.Course.TheVariants.{GoesOn, Ends}
 use Rattle.copy_move.specs.Deletions.{Deleting, DeletionCalls, DeletionLeaves, IsAtStage, IsRefused, LastCalls, RefusedFile, RefusedFolder, RefusedSync, Tells, TellsTried, Winds}
 use Rattle.copy_move.specs.DeletionSteps.{after_try}
 use Rattle.copy_move.specs.Jobs.{course_after}
-use Rattle.copy_move.specs.Settling.{NoneOwed, with_change as moves_dirty}
+use Rattle.copy_move.specs.Settling.{NoneOwed, is_own, with_change as moves_dirty}
 use Rattle.history_laws.proofs.Calming.{folder_synced, refused_is, still_listed}
-use Rattle.history_laws.proofs.Knowing.{Said, IsKept, settled_marks}
-use Rattle.history_laws.proofs.JobKnows.{HasName, IsIntact, KnowsAfter, WorkKnows, work_settled, work_still}
+use Rattle.history_laws.proofs.Knowing.{IsCalmIn, IsKept, Said, settled_marks}
+use Rattle.history_laws.proofs.JobKnows.{HasName, IsIntact, KnowsAfter, KnowsWithin, WorkKnows, work_settled, work_still}
 use Rattle.history_laws.proofs.Stepped.{Comes, comes_none, comes_one, folders_by, said_after}
 use Rattle.history_laws.proofs.Deleted.{IsRemoval, comes_refused, folder_removed, removal_done, removal_leads, removes_thing}
-use Rattle.history_laws.proofs.Intact.{folder_apart, folder_firm, intact_after, intact_begins, intact_was, removed_in}
+use Rattle.history_laws.proofs.Intact.{calm_begins, folder_apart, folder_firm, intact_after, intact_begins, intact_was, own_folder, removed_in}
 use Rattle.history_laws.proofs.Resting.{IsSureFolder}
 
 last_among : (up : Route) (dirty : List Route) → Among (dirty ++ up ∷ []) up
@@ -109,8 +110,8 @@ module _ (told : Said) (dirty dirty_after : List Route) (marks : Marks) (log now
       (comes_none told told dirty log now (λ m. (let o : Option Route = None in o) ≡ None) marks is kept refl))
 
   -- what a deletion knows that goes on, of the same path
-  moved : (d new : Deleting) → new.path ≡ d.path → IsIntact marks (current log) d.path × (told.folders (folder_of d.path) ≡ true) → IsIntact marks (current log) new.path × (told.folders (folder_of new.path) ≡ true)
-  moved d new path_is (intact, stands) = (subst (IsIntact marks (current log)) (sym path_is) intact, subst (λ q. told.folders (folder_of q) ≡ true) (sym path_is) stands)
+  moved : (d new : Deleting) → new.path ≡ d.path → KnowsWithin told marks (current log) d.path → KnowsWithin told marks (current log) new.path
+  moved d new path_is known = subst (KnowsWithin told marks (current log)) (sym path_is) known
 
   -- a deletion that stands at this stage, wherever its walk is
   pub stays : (course other : Course) (d new : Deleting) (stage : Stage) → WorkKnows told dirty marks log course (Delete d) → IsAtStage d stage new → (stage ≡ Going → d.stage ≡ Going) → (routes : List Route)
@@ -137,6 +138,22 @@ module _ (told : Said) (dirty dirty_after : List Route) (marks : Marks) (log now
       by Going is = (known is).0
       by Sync is = absurd (false≢true (sym going ∙ ap at_barrier is))
 
+  -- no mode waits in its folders
+  calm_now : (d : Deleting) → WorkKnows told dirty marks log GoesOn (Delete d) → at_barrier d.stage ≡ false → (is_fresh d.stage ≡ true → NoneOwed (current log) (Delete d) dirty) → (q : Route) → is_own (Delete d) q ≡ true
+      → IsCalmIn marks (current log) q
+  calm_now d (name, none, known) going settled q own = by d.stage refl
+    where
+      by : (stage : Stage) → d.stage ≡ stage → IsCalmIn marks (current log) q
+      by Begin is = calm_begins told dirty marks log kept d name (settled (ap is_fresh is)) q own
+      by Going is = kept.known.calm q ((known is).2 q own)
+      by Sync is = absurd (false≢true (sym going ∙ ap at_barrier is))
+
+  -- nor of what is removed, at which no mount begins
+  no_mode_now : (d : Deleting) (path : Route) → ((q : Route) → is_own (Delete d) q ≡ true → IsCalmIn marks (current log) q) → is_prefix d.path path ≡ true → IsRemoval log now path
+      → (i : ℕ) → find (current log) path ≡ Some i → starts_mount (current log) i ≡ false → marks.modes i ≡ None
+  no_mode_now d path calm within it i at inside =
+      elim (calm it.r.up (own_folder d path it.r.up within (sym (ap folder_of it.r.path_is))) it.r.name i (ap (find (current log)) (sym it.r.path_is) ∙ at)) [ inl none ↦ none | inr begins ↦ absurd (both_ways _ inside begins) ]
+
   -- the folder that holds the thing is on the disk then
   firm_now : (d : Deleting) (path : Route) → WorkKnows told dirty marks log GoesOn (Delete d) → at_barrier d.stage ≡ false → (is_fresh d.stage ≡ true → NoneOwed (current log) (Delete d) dirty)
       → is_prefix d.path path ≡ true → IsRemoval log now path → IsSureFolder log (folder_of d.path)
@@ -150,16 +167,17 @@ module _ (told : Said) (dirty dirty_after : List Route) (marks : Marks) (log now
   above_it : (path : Route) → IsRemoval log now path → same_path (folder_of path) path ≡ false
   above_it path it = subst (λ q. same_path (folder_of q) q ≡ false) (sym it.r.path_is) (same_path-lengths it.r.up (it.r.name ∷ it.r.up) (λ e. let n : ⊥ = absurd (omega (arith, e)) in n))
 
-  removes : (d new : Deleting) (path : Route) (stage : Stage) → WorkKnows told dirty marks log GoesOn (Delete d) → IsIntact marks (current log) d.path → IsSureFolder log (folder_of d.path) → is_prefix d.path path ≡ true
+  removes : (d new : Deleting) (path : Route) (stage : Stage) → WorkKnows told dirty marks log GoesOn (Delete d) → IsIntact marks (current log) d.path → IsSureFolder log (folder_of d.path) → ((q : Route) → is_own (Delete d) q ≡ true → IsCalmIn marks (current log) q) → is_prefix d.path path ≡ true
       → IsAtStage d stage new → Among dirty_after (folder_of path) → ((q : Route) → Among dirty q → same_path q path ≡ false → Among dirty_after q) → IsRemoval log now path → Steps (Removed path) GoesOn (Delete d) (Delete new)
-  removes d new path stage (name, none, known) intact firm within at listed more it =
+  removes d new path stage (name, none, known) intact firm calm within at listed more it =
       removes_thing told dirty dirty_after marks log now path (Delete d) (KnowsAfter (Removed path) (said_after now (Removed path) (Delete d) told) dirty_after now GoesOn (Delete new)) kept none
-      (λ out. intact_was marks (current log) d.path path it.r.i intact within (removal_leads log now path it) out) firm listed more it (
+      (λ out. intact_was marks (current log) d.path path it.r.i intact within (removal_leads log now path it) out) firm calm (no_mode_now d path calm within it) listed more it (
         subst HasName (sym at.path_is) name,
         none,
         λ is. (
           subst (IsIntact (settled_marks now marks) (current now)) (sym at.path_is) (intact_after told dirty marks log now path d.path kept.known it intact),
           subst (λ q. folders_by (Removed path) (folder_of d.path) told.folders (folder_of q) ≡ true) (sym at.path_is) there,
+          λ q own. or_left _ _ (subst (λ (p : Route). is_of (folder_of p) p q ≡ true) at.path_is own),
         ),
       )
     where
@@ -176,11 +194,11 @@ module _ (told : Said) (dirty dirty_after : List Route) (marks : Marks) (log now
       → (is_fresh d.stage ≡ true → NoneOwed (current log) (Delete d) dirty) → DeletionLeaves d did dirty dirty_after (Some log) (Some now) → Steps did (course_after did) (Delete d) (Delete new)
   deletion_tells d new (Removed path) knows (going, within, at) done settled (inl (leaves, called)) =
       let it = removal_done log now path kept.known.guarded.tree (called log refl) in
-      removes d new path _ knows (intact_now d knows going settled) (firm_now d path knows going settled within it) within at (subst (λ xs. Among xs (folder_of path)) (sym leaves) (joined_holds (folder_of path) dirty))
+      removes d new path _ knows (intact_now d knows going settled) (firm_now d path knows going settled within it) (calm_now d knows going settled) within at (subst (λ xs. Among xs (folder_of path)) (sym leaves) (joined_holds (folder_of path) dirty))
       (λ q among off. subst (λ xs. Among xs q) (sym leaves) (joined_more (folder_of path) q dirty among)) it
   deletion_tells d new (Removed path) knows (going, within, at) done settled (inr (leaves, called)) =
       let it = folder_removed log now path kept.known.guarded.tree (called log refl) in
-      removes d new path _ knows (intact_now d knows going settled) (firm_now d path knows going settled within it) within at
+      removes d new path _ knows (intact_now d knows going settled) (firm_now d path knows going settled within it) (calm_now d knows going settled) within at
       (subst (λ xs. Among xs (folder_of path)) (sym leaves) (still_listed path (folder_of path) (joined (folder_of path) dirty) (joined_holds (folder_of path) dirty) (above_it path it)))
       (λ q among off. subst (λ xs. Among xs q) (sym leaves) (still_listed path q (joined (folder_of path) dirty) (joined_more (folder_of path) q dirty among) off)) it
   deletion_tells d new (Kept path) knows (going, at) done settled leaves = stands GoesOn (Delete new) (stays GoesOn GoesOn d new _ knows at (still_going path d) dirty) leaves (some_log now log done)

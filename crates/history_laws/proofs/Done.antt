@@ -19,7 +19,7 @@ use Rattle.copy_move.specs.declared.work.Work.{Work}
 use Rattle.copy_move.specs.declared.work.Work.TheVariants.{Copy, Delete, Make}
 use Rattle.copy_move.specs.Settling.{is_own}
 use Rattle.copy_move.specs.Steps.{SyncsFolder}
-use Rattle.history_laws.specs.Doubt.{is_unsettled}
+use Rattle.history_laws.specs.Doubt.{IsMountInDoubt, is_unsettled}
 use Rattle.session_history.specs.LiveJobs.{LiveJob, live_item, live_jobs}
 use Rattle.session_history.specs.Named.{has_changed, named_after, named_parts, IsUnnamedSince, names_path}
 use Rattle.history_laws.specs.Replayed.{log_prefix, replayed_tree}
@@ -160,7 +160,7 @@ module _ (opening : CallLog) (tree : IsTree (current opening)) (settled : all_se
       by s = of_step s.job s.new s.its s.leads
 
 module _ (opening now : CallLog) (newest : List Entry) (stand : Stand) (tree : IsTree (current opening)) (settled : all_settled opening.changes ≡ true) (traced : IsTraced opening newest stand now)
-    (e : Entry) (older standing coming : List Entry) (calls : ℕ) (path : Route) (image : FileSystem) (h : HasFinished e older (folder_of path)) (bare : names_path e.what path ≡ false)
+    (e : Entry) (older standing coming : List Entry) (calls : ℕ) (path : Route) (image : FileSystem) (h : HasFinished e older (folder_of path)) (bare : names_path e.what path ≡ false) (no_mount : IsMountInDoubt (log_prefix opening (calls_in older) now) path → ⊥)
     (moment : IsMoment newest standing coming calls) (since : IsUnnamedSince (e ∷ older) path standing) (later : IsUnnamedSince (e ∷ older) path coming) (left : IsCrashImage now (length opening.changes + calls) image) where
   abbrev Holds : Type 0
   Holds = value_at image path ≡ (replayed_tree opening now older path).value
@@ -178,7 +178,7 @@ module _ (opening now : CallLog) (newest : List Entry) (stand : Stand) (tree : I
       finished_stays_law opening now f.now newest older standing coming f.was stand (let a : Stand = f.after in a.dirty) by.job by.new h.part calls path image tree settled traced
       (subst (λ (l : CallLog). IsTraced opening older f.was l) (sym at_start) f.traced)
       by.jobs_is (subst (λ (l : CallLog). WorkLeads by.job (Ended Finished h.part) by.new (let w : Stand = f.was in w.dirty) (let a : Stand = f.after in a.dirty) l f.now) (sym at_start) by.works)
-      (subst (λ i. has_changed i older ≡ true) (sym by.id_is) h.changed) by.within unnamed moment (since_before e older standing path bare since) (since_before e older coming path bare later) left
+      (subst (λ i. has_changed i older ≡ true) (sym by.id_is) h.changed) by.within unnamed no_mount moment (since_before e older standing path bare since) (since_before e older coming path bare later) left
 
   told_same : (replayed_tree opening now (e ∷ older) path) ≡ replayed_tree opening now older path
   told_same = replayed_since opening now older (e ∷ older) path (inr (bare, since_self older))
@@ -203,6 +203,6 @@ module _ (opening now : CallLog) (newest : List Entry) (stand : Stand) (tree : I
   by_part no_part false false stands_is waits_is = of_gone stands_is waits_is
 
 pub done_law : DoneLaw
-done_law opening now newest stand tree settled traced e older standing coming calls path image h no_part bare moment since later left =
-    by_part opening now newest stand tree settled traced e older standing coming calls path image h bare moment since later left no_part (is_some (find (current (log_prefix opening e.calls now)) path)) (is_unsettled (log_prefix opening e.calls now) path)
+done_law opening now newest stand tree settled traced e older standing coming calls path image h no_part bare no_mount moment since later left =
+    by_part opening now newest stand tree settled traced e older standing coming calls path image h bare no_mount moment since later left no_part (is_some (find (current (log_prefix opening e.calls now)) path)) (is_unsettled (log_prefix opening e.calls now) path)
     refl refl

@@ -14,7 +14,7 @@ use Rattle.job_reports.specs.declared.report.Cause.{Cause}
 use Rattle.job_reports.specs.declared.report.Did.{Did}
 use Rattle.job_reports.specs.declared.report.Did.TheVariants.{Began, Chunk, Placed, Removed, Made, Set, Kept, Skipped, Cleaned, Barrier, Troubled, Ended}
 use Rattle.job_reports.specs.Stops.{cause_of, trouble_at}
-use Rattle.job_reports.specs.Jobs.{folder_changed}
+use Rattle.job_reports.specs.Jobs.{Item, folder_changed}
 use Rattle.file_copy.specs.Copying.{Copying}
 use Rattle.file_copy.specs.Copying as copying
 use Rattle.job_reports.specs.declared.answer.Answer.{Answer}
@@ -40,22 +40,24 @@ use Rattle.copy_move.proofs.FolderSteps.{copy_stays}
 use Rattle.copy_move.proofs.MakingFolders.{making_stays}
 use Rattle.job_reports.specs.Paths.{folder_of, without}
 use Rattle.copy_move.specs.Steps.{LeavesDirty, SyncsFolder}
-use Rattle.history_laws.specs.Doubt.{is_unsettled, name_waits}
+use Rattle.history_laws.specs.Doubt.{IsMountInDoubt, name_waits, node_waits, way_waits}
 use Rattle.history_laws.specs.Owed.{FinishedLaw}
-use Rattle.session_history.specs.Named.{begins_change, changed_after, has_changed}
+use Rattle.history_laws.specs.Staying.{may_change}
+use Rattle.session_history.specs.Named.{begins_change, changed_after, has_changed, named_parts}
 use Rattle.session_history.specs.LiveJobs.{live_item, live_jobs}
 use Rattle.session_history.specs.Entries.{is_closed}
 use Rattle.copy_move.specs.Told.{running}
 use Rattle.history_laws.specs.Traces.{EventLeads, IsTraced, Stand, SyncLeads, WorkLeads, before_others, if_closed, ordered, with_job}
-use Rattle.history_laws.proofs.Beginnings.{folder_stays}
+use Rattle.history_laws.proofs.Beginnings.{calm_stays, folder_stays}
 use Rattle.history_laws.proofs.Going.{only_job}
 use Rattle.history_laws.proofs.Histories.{IsReached, traced_reached}
-use Rattle.history_laws.proofs.Owing.{in_filter, own_folder, owed_law}
+use Rattle.history_laws.proofs.Owing.{calm_there, in_filter, owed_names}
+use Rattle.history_laws.proofs.Intact.{own_folder}
 use Rattle.history_laws.proofs.Reports.{HasLive, with_one}
 use Rattle.history_laws.proofs.Resting.{sure_path}
 use Rattle.history_laws.proofs.Sources.{folder_is, folder_same, item_in, tells_same}
-use Rattle.history_laws.proofs.Prefixes.{folders_event, folders_told, told_of}
-use Rattle.history_laws.proofs.Stepped.{folders_by}
+use Rattle.history_laws.proofs.Prefixes.{calm_event, calm_told, folders_event, folders_told, told_of}
+use Rattle.history_laws.proofs.Stepped.{calm_by, folders_by}
 use Rattle.history_laws.proofs.Unchanged.{first_clean, has_begun, step_clean}
 
 -- a copy that begins a change is dirty then
@@ -187,6 +189,7 @@ pub record IsTidyJob (opening : CallLog) (g : List Entry) (dirty : List Route) (
   pub aborted : (ending : Ending) → job.course ≡ Ends ending → ending ≡ Aborted
   pub clean : has_changed job.id g ≡ false → has_begun job.work ≡ false
   pub stands : has_changed job.id g ≡ true → folders_told opening g (changed_folder job.work) ≡ true
+  pub calm : has_changed job.id g ≡ true → (q : Route) → may_change (item_in job.work) q ≡ true → calm_told g q ≡ true
 
 abbrev pub AreTidy : CallLog → List Entry → List Route → List Running → Type 0
 AreTidy opening g dirty [] = Unit {0}
@@ -219,19 +222,20 @@ tells_aborted job new did (Skips why) is (inr (did_is, new_is)) old ending e = n
 tells_aborted job new did (Ends first) is (work, winds, new_is) old ending e = old ending (sym (ap (λ (x : Running). x.course) new_is) ∙ e)
 
 -- a job with the same work and number, that goes on only where it went on
-kept_tidy : (opening : CallLog) (g : List Entry) (dirty : List Route) (job new : Running) → new.id ≡ job.id → has_begun new.work ≡ has_begun job.work → changed_folder new.work ≡ changed_folder job.work → (TidyFolder job.work dirty → TidyFolder new.work dirty)
+kept_tidy : (opening : CallLog) (g : List Entry) (dirty : List Route) (job new : Running) → new.id ≡ job.id → has_begun new.work ≡ has_begun job.work → (changed_folder new.work ≡ changed_folder job.work) × (item_in new.work ≡ item_in job.work) → (TidyFolder job.work dirty → TidyFolder new.work dirty)
     → (IsGoing new.course → IsGoing job.course) → ((ending : Ending) → new.course ≡ Ends ending → ending ≡ Aborted) → IsTidyJob opening g dirty job → IsTidyJob opening g dirty new
-kept_tidy opening g dirty job new id_is begun_is folder_is tidy_is on aborted old = record {
+kept_tidy opening g dirty job new id_is begun_is (folder_is, item_is) tidy_is on aborted old = record {
   tidy = λ changed going. tidy_is (old.tidy (ap (λ n. has_changed n g) (sym id_is) ∙ changed) (on going));
   aborted = aborted;
   clean = λ unchanged. begun_is ∙ old.clean (ap (λ n. has_changed n g) (sym id_is) ∙ unchanged);
   stands = λ changed. ap (folders_told opening g) folder_is ∙ old.stands (ap (λ n. has_changed n g) (sym id_is) ∙ changed);
+  calm = λ changed q own. old.calm (ap (λ n. has_changed n g) (sym id_is) ∙ changed) q (subst (λ i. may_change i q ≡ true) item_is own);
 }
 
-anew_dirty : (work : Work) → (has_begun (taken_anew work) ≡ has_begun work) × (changed_folder (taken_anew work) ≡ changed_folder work)
-anew_dirty (Copy c) = (refl, refl)
-anew_dirty (Delete d) = (refl, refl)
-anew_dirty (Make m) = (refl, refl)
+anew_dirty : (work : Work) → (has_begun (taken_anew work) ≡ has_begun work) × ((changed_folder (taken_anew work) ≡ changed_folder work) × (item_in (taken_anew work) ≡ item_in work))
+anew_dirty (Copy c) = (refl, (refl, refl))
+anew_dirty (Delete d) = (refl, (refl, refl))
+anew_dirty (Make m) = (refl, (refl, refl))
 
 anew_tidy : (work : Work) (dirty : List Route) → TidyFolder work dirty → TidyFolder (taken_anew work) dirty
 anew_tidy (Copy c) dirty t = t
@@ -239,10 +243,10 @@ anew_tidy (Delete d) dirty t = tt
 anew_tidy (Make m) dirty t = t
 
 -- nor does it once a kind of trouble is passed over
-skips_dirty : (why : Cause) (work : Work) → (has_begun (with_skips why work) ≡ has_begun work) × (changed_folder (with_skips why work) ≡ changed_folder work)
-skips_dirty why (Copy c) = (refl, refl)
-skips_dirty why (Delete d) = (refl, refl)
-skips_dirty why (Make m) = (refl, refl)
+skips_dirty : (why : Cause) (work : Work) → (has_begun (with_skips why work) ≡ has_begun work) × ((changed_folder (with_skips why work) ≡ changed_folder work) × (item_in (with_skips why work) ≡ item_in work))
+skips_dirty why (Copy c) = (refl, (refl, refl))
+skips_dirty why (Delete d) = (refl, (refl, refl))
+skips_dirty why (Make m) = (refl, (refl, refl))
 
 skips_tidy : (why : Cause) (work : Work) (dirty : List Route) → TidyFolder work dirty → TidyFolder (with_skips why work) dirty
 skips_tidy why (Copy c) dirty t = t
@@ -255,25 +259,25 @@ some_end a b h = cc
 answer_tidy : (opening : CallLog) (g : List Entry) (dirty : List Route) (job : Running) (course : Course) → job.course ≡ course → (answer : Answer) → IsTidyJob opening g dirty job → IsTidyJob opening g dirty (answered_on course answer job)
 answer_tidy opening g dirty job (InTrouble why) is Retry t =
     let a = anew_dirty job.work in kept_tidy opening g dirty job (record job { work = taken_anew job.work; course = GoesOn }) refl a.0 a.1 (anew_tidy job.work dirty) (λ going. subst IsGoing (sym is) tt) (λ ending e. no_end GoesOn ending tt e) t
-answer_tidy opening g dirty job (InTrouble why) is Skip t = kept_tidy opening g dirty job (record job { course = Skips why }) refl refl refl (λ t. t) (λ going. subst IsGoing (sym is) tt) (λ ending e. no_end (Skips why) ending tt e) t
+answer_tidy opening g dirty job (InTrouble why) is Skip t = kept_tidy opening g dirty job (record job { course = Skips why }) refl refl (refl, refl) (λ t. t) (λ going. subst IsGoing (sym is) tt) (λ ending e. no_end (Skips why) ending tt e) t
 answer_tidy opening g dirty job (InTrouble why) is SkipAll t =
     let a = skips_dirty why job.work in kept_tidy opening g dirty job (record job { work = with_skips why job.work; course = Skips why }) refl a.0 a.1 (skips_tidy why job.work dirty) (λ going. subst IsGoing (sym is) tt) (λ ending e. no_end (Skips why) ending tt e) t
-answer_tidy opening g dirty job (InTrouble why) is Abort t = kept_tidy opening g dirty job (record job { course = Ends Aborted }) refl refl refl (λ t. t) (λ going. absurd going) (λ ending e. some_end Aborted ending e) t
+answer_tidy opening g dirty job (InTrouble why) is Abort t = kept_tidy opening g dirty job (record job { course = Ends Aborted }) refl refl (refl, refl) (λ t. t) (λ going. absurd going) (λ ending e. some_end Aborted ending e) t
 answer_tidy opening g dirty job (OwedSyncFailed why) is Retry t =
     let a = anew_dirty job.work in kept_tidy opening g dirty job (record job { work = taken_anew job.work; course = GoesOn }) refl a.0 a.1 (anew_tidy job.work dirty) (λ going. subst IsGoing (sym is) tt) (λ ending e. no_end GoesOn ending tt e) t
 answer_tidy opening g dirty job (OwedSyncFailed why) is Skip t = t
 answer_tidy opening g dirty job (OwedSyncFailed why) is SkipAll t = t
-answer_tidy opening g dirty job (OwedSyncFailed why) is Abort t = kept_tidy opening g dirty job (record job { course = Ends Aborted }) refl refl refl (λ t. t) (λ going. absurd going) (λ ending e. some_end Aborted ending e) t
+answer_tidy opening g dirty job (OwedSyncFailed why) is Abort t = kept_tidy opening g dirty job (record job { course = Ends Aborted }) refl refl (refl, refl) (λ t. t) (λ going. absurd going) (λ ending e. some_end Aborted ending e) t
 answer_tidy opening g dirty job GoesOn is answer t = t
 answer_tidy opening g dirty job (Skips why) is answer t = t
 answer_tidy opening g dirty job (Ends ending) is answer t = t
 
 close_tidy : (opening : CallLog) (g : List Entry) (dirty : List Route) (job : Running) (course : Course) → job.course ≡ course → IsTidyJob opening g dirty job → IsTidyJob opening g dirty (record job { course = closed_course course })
-close_tidy opening g dirty job GoesOn is t = kept_tidy opening g dirty job (record job { course = GoesOn }) refl refl refl (λ t. t) (λ going. subst IsGoing (sym is) tt) (λ ending e. no_end GoesOn ending tt e) t
-close_tidy opening g dirty job (InTrouble why) is t = kept_tidy opening g dirty job (record job { course = Ends Aborted }) refl refl refl (λ t. t) (λ going. absurd going) (λ ending e. some_end Aborted ending e) t
-close_tidy opening g dirty job (OwedSyncFailed why) is t = kept_tidy opening g dirty job (record job { course = Ends Aborted }) refl refl refl (λ t. t) (λ going. absurd going) (λ ending e. some_end Aborted ending e) t
-close_tidy opening g dirty job (Skips why) is t = kept_tidy opening g dirty job (record job { course = Skips why }) refl refl refl (λ t. t) (λ going. subst IsGoing (sym is) tt) (λ ending e. no_end (Skips why) ending tt e) t
-close_tidy opening g dirty job (Ends first) is t = kept_tidy opening g dirty job (record job { course = Ends first }) refl refl refl (λ t. t) (λ going. absurd going) (λ ending e. t.aborted ending (is ∙ e)) t
+close_tidy opening g dirty job GoesOn is t = kept_tidy opening g dirty job (record job { course = GoesOn }) refl refl (refl, refl) (λ t. t) (λ going. subst IsGoing (sym is) tt) (λ ending e. no_end GoesOn ending tt e) t
+close_tidy opening g dirty job (InTrouble why) is t = kept_tidy opening g dirty job (record job { course = Ends Aborted }) refl refl (refl, refl) (λ t. t) (λ going. absurd going) (λ ending e. some_end Aborted ending e) t
+close_tidy opening g dirty job (OwedSyncFailed why) is t = kept_tidy opening g dirty job (record job { course = Ends Aborted }) refl refl (refl, refl) (λ t. t) (λ going. absurd going) (λ ending e. some_end Aborted ending e) t
+close_tidy opening g dirty job (Skips why) is t = kept_tidy opening g dirty job (record job { course = Skips why }) refl refl (refl, refl) (λ t. t) (λ going. subst IsGoing (sym is) tt) (λ ending e. no_end (Skips why) ending tt e) t
+close_tidy opening g dirty job (Ends first) is t = kept_tidy opening g dirty job (record job { course = Ends first }) refl refl (refl, refl) (λ t. t) (λ going. absurd going) (λ ending e. t.aborted ending (is ∙ e)) t
 
 module _ (opening : CallLog) (tree : IsTree (current opening)) (settled : all_settled opening.changes ≡ true) where
   order_tidy : (g : List Entry) (dirty : List Route) (id : ℕ) (order : JobOrder) (jobs : List Running) → AreTidy opening g dirty jobs → AreTidy opening g dirty (map (ordered id order) jobs)
@@ -294,13 +298,14 @@ module _ (opening : CallLog) (tree : IsTree (current opening)) (settled : all_se
 
   -- an event that says nothing of steps
   same_tidy : (e : Entry) (older : List Entry) (dirty : List Route) (jobs : List Running) → ((id : ℕ) → has_changed id (e ∷ older) ≡ has_changed id older) → folders_told opening (e ∷ older) ≡ folders_told opening older
-      → AreTidy opening older dirty jobs → AreTidy opening (e ∷ older) dirty jobs
-  same_tidy e older dirty [] same still t = tt
-  same_tidy e older dirty (job ∷ jobs) same still t = record {
+      → calm_told (e ∷ older) ≡ calm_told older → AreTidy opening older dirty jobs → AreTidy opening (e ∷ older) dirty jobs
+  same_tidy e older dirty [] same still calm t = tt
+  same_tidy e older dirty (job ∷ jobs) same still calm t = record {
     tidy = λ changed going. t.tidy (sym (same job.id) ∙ changed) going;
     aborted = t.aborted;
     clean = λ unchanged. t.clean (sym (same job.id) ∙ unchanged);
     stands = λ changed. ap (λ (f : Route → Bool). f (changed_folder job.work)) still ∙ t.stands (sym (same job.id) ∙ changed);
+    calm = λ changed q own. ap (λ (f : Route → Bool). f q) calm ∙ t.calm (sym (same job.id) ∙ changed) q own;
   }
 
   begun_tidy : (g : List Entry) (dirty : List Route) (id : ℕ) (o : Option Work) → ((w : Work) → o ≡ Some w → has_begun w ≡ false) → has_changed id g ≡ false → AreTidy opening g dirty (option_map_or (λ w. running id w ∷ []) o [])
@@ -310,6 +315,7 @@ module _ (opening : CallLog) (tree : IsTree (current opening)) (settled : all_se
     aborted = λ ending e. no_end GoesOn ending tt e;
     clean = λ none. clean w refl;
     stands = λ changed. absurd (both_ways _ unchanged changed);
+    calm = λ changed q own. absurd (both_ways _ unchanged changed);
   }
 
   changed_same : (number id : ℕ) (before begins : Bool) → number ≡ id → (before || ((number == id) && begins)) ≡ (before || begins)
@@ -322,6 +328,12 @@ module _ (opening : CallLog) (tree : IsTree (current opening)) (settled : all_se
       ap (λ w. folders_event w (live_jobs older) (folders_told opening older) p) what_is
       ∙ (ap (λ o. option_map_or (λ item. folders_by did (folder_changed item) (folders_told opening older)) o (folders_told opening older) p) item_is
       ∙ ap (λ f. folders_by did f (folders_told opening older) p) (folder_is work))
+
+  -- and those in which no mode waits
+  step_calm : (e : Entry) (older : List Entry) (id : ℕ) (did : Did) (work : Work) → live_item id (live_jobs older) ≡ Some (item_in work) → e.what ≡ Step id did → (p : Route)
+      → calm_told (e ∷ older) p ≡ calm_by did (item_in work) (calm_told older) p
+  step_calm e older id did work item_is what_is p =
+      ap (λ w. calm_event w (live_jobs older) (calm_told older) p) what_is ∙ ap (λ o. option_map_or (λ item. calm_by did item (calm_told older)) o (calm_told older) p) item_is
 
   -- after a step of a job
   step_tidy : (e : Entry) (older : List Entry) (id : ℕ) (did : Did) (job new : Running) (dirty dirty_after : List Route) (before now : CallLog) → IsTree (current before) → live_item id (live_jobs older) ≡ Some (item_in job.work)
@@ -341,6 +353,10 @@ module _ (opening : CallLog) (tree : IsTree (current opening)) (settled : all_se
               | inl b ↦ inl (t.stands b)
               | inr h ↦ inr h
             ]));
+        calm = λ changed q own.
+            let here = subst (λ i. may_change i q ≡ true) same.1 own in
+            step_calm e older id did job.work item_is what_is q
+            ∙ calm_stays job new did dirty dirty_after before now (calm_told older) q works here (elim (changed_by (has_changed job.id older) (begins_change did) (changed_is ∙ changed)) [ inl b ↦ inl (t.calm b q here) | inr h ↦ inr h ]);
       }
   step_tidy e older id did job new dirty dirty_after before now shape item_is what_is id_is on t (inr syncs) = by syncs.synced
     where
@@ -359,6 +375,11 @@ module _ (opening : CallLog) (tree : IsTree (current opening)) (settled : all_se
           ∙ (ap (λ x. folders_by x (changed_folder job.work) (folders_told opening older) (changed_folder job.work)) did_is
           ∙ ap (λ (f : Route → Bool). f (changed_folder job.work)) (same (changed_folder job.work) (folders_told opening older)))
 
+      still_calm : (d : Did) → did ≡ d → (q : Route) → ((item : Item) (before : Route → Bool) → calm_by d item before ≡ before) → calm_told (e ∷ older) q ≡ calm_told older q
+      still_calm d did_is q same =
+          step_calm e older id did job.work item_is what_is q
+          ∙ (ap (λ x. calm_by x (item_in job.work) (calm_told older) q) did_is ∙ ap (λ (f : Route → Bool). f q) (same (item_in job.work) (calm_told older)))
+
       fewer_tidy : (work : Work) → TidyFolder work dirty → TidyFolder work (without syncs.folder dirty)
       fewer_tidy (Copy c) tidy = λ clean among. tidy clean (in_filter (λ kept. not (same_path kept syncs.folder)) (folder_of c.target) dirty among)
       fewer_tidy (Delete d) tidy = tt
@@ -370,12 +391,14 @@ module _ (opening : CallLog) (tree : IsTree (current opening)) (settled : all_se
         aborted = t.aborted;
         clean = clean;
         stands = λ changed. still Barrier s.did_is (λ f b. refl) ∙ t.stands (unchanged job.id (ap begins_change s.did_is) changed);
+        calm = λ changed q own. still_calm Barrier s.did_is q (λ i b. refl) ∙ t.calm (unchanged job.id (ap begins_change s.did_is) changed) q own;
       })
       by (inr s) = subst (λ (x : Running). IsTidyJob opening (e ∷ older) dirty_after x) (sym s.new_is) (record {
         tidy = λ changed going. subst (λ xs. TidyFolder job.work xs) (sym s.dirty_is) (t.tidy (unchanged job.id (ap begins_change s.did_is) changed) (subst IsGoing (sym syncs.goes) tt));
         aborted = λ ending x. no_end (OwedSyncFailed (cause_of s.error)) ending tt x;
         clean = clean;
         stands = λ changed. still (Troubled (trouble_at s.error syncs.folder true)) s.did_is (λ f b. refl) ∙ t.stands (unchanged job.id (ap begins_change s.did_is) changed);
+        calm = λ changed q own. still_calm (Troubled (trouble_at s.error syncs.folder true)) s.did_is q (λ i b. refl) ∙ t.calm (unchanged job.id (ap begins_change s.did_is) changed) q own;
       })
 
   after_tidy : (g : List Entry) (dirty : List Route) (new : Running) (b : Bool) → (b ≡ false → IsTidyJob opening g dirty new) → AreTidy opening g dirty (before_others (if◌then◌else◌ b None (Some new)) [])
@@ -407,15 +430,15 @@ module _ (opening : CallLog) (tree : IsTree (current opening)) (settled : all_se
           (begun_tidy (e ∷ older) was.dirty id (first_work id plan) (first_clean id plan) (ap (λ w. changed_after id w (has_changed id older)) is ∙ ap (λ b. if◌then◌else◌ b false (has_changed id older)) (eq-eqb id id refl)))
       by (Order id order) is s t r =
           subst (λ (x : Stand). AreTidy opening (e ∷ older) x.dirty x.jobs) (sym s.after_is)
-          (order_tidy (e ∷ older) was.dirty id order was.jobs (same_tidy e older was.dirty was.jobs (λ n. ap (λ w. changed_after n w (has_changed n older)) is) (ap (λ w. folders_event w (live_jobs older) (folders_told opening older)) is) t))
+          (order_tidy (e ∷ older) was.dirty id order was.jobs (same_tidy e older was.dirty was.jobs (λ n. ap (λ w. changed_after n w (has_changed n older)) is) (ap (λ w. folders_event w (live_jobs older) (folders_told opening older)) is) (ap (λ w. calm_event w (live_jobs older) (calm_told older)) is) t))
       by (Key key time refusals lost) is s t r =
-          subst (λ (x : Stand). AreTidy opening (e ∷ older) x.dirty x.jobs) (sym s.after_is) (same_tidy e older was.dirty was.jobs (λ n. ap (λ w. changed_after n w (has_changed n older)) is) (ap (λ w. folders_event w (live_jobs older) (folders_told opening older)) is) t)
+          subst (λ (x : Stand). AreTidy opening (e ∷ older) x.dirty x.jobs) (sym s.after_is) (same_tidy e older was.dirty was.jobs (λ n. ap (λ w. changed_after n w (has_changed n older)) is) (ap (λ w. folders_event w (live_jobs older) (folders_told opening older)) is) (ap (λ w. calm_event w (live_jobs older) (calm_told older)) is) t)
       by (Look refusals) is s t r =
-          subst (λ (x : Stand). AreTidy opening (e ∷ older) x.dirty x.jobs) (sym s.after_is) (same_tidy e older was.dirty was.jobs (λ n. ap (λ w. changed_after n w (has_changed n older)) is) (ap (λ w. folders_event w (live_jobs older) (folders_told opening older)) is) t)
+          subst (λ (x : Stand). AreTidy opening (e ∷ older) x.dirty x.jobs) (sym s.after_is) (same_tidy e older was.dirty was.jobs (λ n. ap (λ w. changed_after n w (has_changed n older)) is) (ap (λ w. folders_event w (live_jobs older) (folders_told opening older)) is) (ap (λ w. calm_event w (live_jobs older) (calm_told older)) is) t)
       by Sought is s t r =
-          subst (λ (x : Stand). AreTidy opening (e ∷ older) x.dirty x.jobs) (sym s.after_is) (same_tidy e older was.dirty was.jobs (λ n. ap (λ w. changed_after n w (has_changed n older)) is) (ap (λ w. folders_event w (live_jobs older) (folders_told opening older)) is) t)
+          subst (λ (x : Stand). AreTidy opening (e ∷ older) x.dirty x.jobs) (sym s.after_is) (same_tidy e older was.dirty was.jobs (λ n. ap (λ w. changed_after n w (has_changed n older)) is) (ap (λ w. folders_event w (live_jobs older) (folders_told opening older)) is) (ap (λ w. calm_event w (live_jobs older) (calm_told older)) is) t)
       by Closed is s t r =
-          subst (λ (x : Stand). AreTidy opening (e ∷ older) x.dirty x.jobs) (sym s.after_is) (same_tidy e older was.dirty was.jobs (λ n. ap (λ w. changed_after n w (has_changed n older)) is) (ap (λ w. folders_event w (live_jobs older) (folders_told opening older)) is) t)
+          subst (λ (x : Stand). AreTidy opening (e ∷ older) x.dirty x.jobs) (sym s.after_is) (same_tidy e older was.dirty was.jobs (λ n. ap (λ w. changed_after n w (has_changed n older)) is) (ap (λ w. folders_event w (live_jobs older) (folders_told opening older)) is) (ap (λ w. calm_event w (live_jobs older) (calm_told older)) is) t)
 
 -- a job whose step is that it is finished owes no sync
 done_making : (stage : MakingStage) → makings.is_done stage ≡ true → makings.is_dirty stage ≡ false
@@ -478,20 +501,36 @@ own_above (Delete d) up own = elim (or_cases (same_path up (folder_of d.path)) (
   | inr within ↦ inr (own_folder d up (folder_of up) within refl)
 ]
 
+-- and its item tells of it
+own_may : (work : Work) (up : Route) → is_own work up ≡ true → may_change (item_in work) up ≡ true
+own_may (Copy c) up own = own
+own_may (Delete d) up own = own
+own_may (Make m) up own = own
+
 -- so where that one isn't in doubt, and nothing waits in one of its own, nothing there is
-own_settled : (log : CallLog) (work : Work) → is_unsettled log (changed_folder work) ≡ false → ((p : Route) → is_own work (folder_of p) ≡ true → name_waits log p ≡ false) → (path : Route) → is_own work (folder_of path) ≡ true
-    → is_unsettled log path ≡ false
+own_settled : (log : CallLog) (work : Work) → way_waits log (changed_folder work) ≡ false → ((p : Route) → is_own work (folder_of p) ≡ true → name_waits log p ≡ false) → (path : Route) → is_own work (folder_of path) ≡ true
+    → way_waits log path ≡ false
 own_settled log work firm calm [] own = refl
 own_settled log work firm calm (name ∷ up) own = by (own_settled log work firm calm up) (own_above work up own)
   where
-    by : (is_own work (folder_of up) ≡ true → is_unsettled log up ≡ false) → (up ≡ changed_folder work) ⊎ (is_own work (folder_of up) ≡ true) → is_unsettled log (name ∷ up) ≡ false
-    by above (inl here) = sure_path log (name ∷ up) (subst (λ q. is_unsettled log q ≡ false) (sym here) firm) (calm (name ∷ up) own)
+    by : (is_own work (folder_of up) ≡ true → way_waits log up ≡ false) → (up ≡ changed_folder work) ⊎ (is_own work (folder_of up) ≡ true) → way_waits log (name ∷ up) ≡ false
+    by above (inl here) = sure_path log (name ∷ up) (subst (λ q. way_waits log q ≡ false) (sym here) firm) (calm (name ∷ up) own)
     by above (inr within) = sure_path log (name ∷ up) (above within) (calm (name ∷ up) own)
+
+-- nor does a mode, parts aside, but where another mount begins
+own_calm : (opening now : CallLog) (newest : List Entry) (stand : Stand) (path : Route) → IsTree (current opening) → all_settled opening.changes ≡ true → IsTraced opening newest stand now
+    → (Among (named_parts newest) path → ⊥) → (IsMountInDoubt now path → ⊥) → calm_told newest (folder_of path) ≡ true → node_waits now path ≡ false
+own_calm opening now newest stand path tree settled traced unnamed no_mount calm = false_from_ne_true (node_waits now path) (λ waits.
+    both_ways _ (calm_there opening now newest stand path tree settled traced unnamed calm (false_from_ne_true _ (λ begins. no_mount (record { begins = begins; waits = waits })))) waits)
 
 pub finished_law : FinishedLaw
 finished_law opening now after newest stand dirty job new part path tree settled traced jobs_is works changed own =
     let r = traced_reached opening tree settled newest stand now traced in
     let firm = r.kept.known.stand (changed_folder job.work) (finished_folder opening tree settled newest stand now job traced jobs_is changed) in
     let tidy : IsTidyJob opening newest stand.dirty job = subst (λ js. AreTidy opening newest stand.dirty js) jobs_is (traced_tidy opening tree settled newest stand now traced) in
-    own_settled now job.work firm.sure (λ p within. false_from_ne_true (name_waits now p) (λ waits.
-    finished_tidy opening newest stand.dirty dirty job new part (Some now) (Some after) job.course refl works.tells works.leaves tidy changed (folder_of p) within (owed_law opening now newest stand p tree settled traced waits))) path own
+    let sure = own_settled now job.work firm.sure (λ p within. false_from_ne_true (name_waits now p) (λ waits.
+    finished_tidy opening newest stand.dirty dirty job new part (Some now) (Some after) job.course refl works.tells works.leaves tidy changed (folder_of p) within (owed_names opening now newest stand p tree settled traced waits))) path own in (
+      sure,
+      λ unnamed no_mount.
+          ap (λ b. b || node_waits now path) sure ∙ own_calm opening now newest stand path tree settled traced unnamed no_mount (tidy.calm changed (folder_of path) (own_may job.work (folder_of path) own)),
+    )

@@ -69,7 +69,8 @@ module _ (told : Said) (dirty dirty_after : List Route) (marks : Marks) (log now
         known = record {
           guarded = kept.known.guarded;
           files = kept.known.files;
-          moded = kept.known.moded;
+          moded = λ j before is unclean. let h = kept.known.moded j before is unclean in record { path = h.path; leads = h.leads; out = h.out; listed = h.listed; told = h.told; shown = h.shown };
+          calm = kept.known.calm;
           folders = kept.known.folders;
           aside = kept.known.aside;
           was_there = kept.known.was_there;
@@ -82,6 +83,7 @@ module _ (told : Said) (dirty dirty_after : List Route) (marks : Marks) (log now
         };
         aside = kept.aside;
         was = kept.was;
+        modes = kept.modes;
       })) refl)
     where
       mountless : option_map_or (starts_mount (current log)) (find (current log) part) false ≡ false

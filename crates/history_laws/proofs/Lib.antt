@@ -28,6 +28,7 @@ pub mod Lasting
 pub mod MakingFolders
 pub mod MakingParts
 pub mod MakingSteps
+pub mod ModesStay
 pub mod Moments
 pub mod Owing
 pub mod PartNodes

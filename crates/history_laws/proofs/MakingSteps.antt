@@ -1,5 +1,5 @@
 -- Each step of the making of a folder keeps what is known.
-use Rattle.std.proofs.Common.{◌≡◌, ◌⊎◌, true, false, List, [], ◌∷◌, ◌++◌, refl, sym, ◌∙◌, ap, subst, inl, inr, Option, Some, None, Ok, Err, pos}
+use Rattle.std.proofs.Common.{◌≡◌, ◌⊎◌, true, false, List, [], ◌∷◌, ◌++◌, refl, sym, ◌∙◌, ap, subst, inl, inr, Option, Some, None, Ok, Err, arith, pos}
 use Rattle.std.specs.Prelude.{option_and_then}
 use Rattle.std.proofs.lemmas.Bool.{both_ways, false_from_ne_true, or_left, or_right}
 use Rattle.mc_text.specs.declared.kind.Kind.TheVariants.{Folder}
@@ -34,13 +34,14 @@ use Rattle.copy_move.specs.Makings as makings
 use Rattle.copy_move.specs.Jobs.{course_after}
 use Rattle.copy_move.specs.Settling.{with_change as moves_dirty}
 use Rattle.history_laws.specs.Replayed.{new_folder}
+use Rattle.history_laws.specs.Staying.{may_change}
 use Rattle.history_laws.proofs.Calming.{refused_is, still_listed}
 use Rattle.history_laws.proofs.Changing.{seen_nowhere}
 use Rattle.history_laws.proofs.Deleted.{comes_refused, either, put_at, put_off}
 use Rattle.history_laws.proofs.DeletionSteps.{Steps, ends, joined_holds, joined_more, same_dirty, tried}
 use Rattle.tree_deletion.specs.Folders.{joined}
-use Rattle.history_laws.proofs.JobKnows.{HasName, IsUntouched, KnowsAfter, NoneOn, WorkKnows, none_waits, untouched_free, way_sure}
-use Rattle.history_laws.proofs.Knowing.{IsKept, IsKnown, Said, nowhere, settled_marks}
+use Rattle.history_laws.proofs.JobKnows.{HasName, IsUntouched, KnowsAfter, NoneOn, WorkKnows, calm_in, none_waits, untouched_free, way_sure}
+use Rattle.history_laws.proofs.Knowing.{IsCalmIn, IsKept, IsKnown, Said, nowhere, settled_marks}
 use Rattle.history_laws.proofs.MakingFolders.{folder_made_known, marks_born, new_node}
 use Rattle.history_laws.proofs.Resting.{IsSureFolder, folder_at_of, sure_path}
 use Rattle.history_laws.proofs.Sources.{item_in}
@@ -52,7 +53,7 @@ new_folder_node = record { kind = Folder; bytes = []; mode = new_folder_mode; mt
 
 -- a folder is made
 module _ (told : Said) (dirty dirty_after : List Route) (marks : Marks) (log now : CallLog) (name : List Rattle.std.proofs.Common.ℕ) (up : Route) (work : Work) (kept : IsKept told dirty marks log) (none : told.part ≡ None)
-    (owed : NoneOn (current log) up dirty) (within : folder_changed (item_in work) ≡ up) (listed : Among dirty_after up) (more : (q : Route) → Among dirty q → Among dirty_after q)
+    (owed : NoneOn (current log) up dirty) (within : folder_changed (item_in work) ≡ up) (own : (p : Route) → may_change (item_in work) p ≡ true → p ≡ up) (listed : Among dirty_after up) (more : (q : Route) → Among dirty q → Among dirty_after q)
     (done : Performs {A = Unit {0}} log (MakeFolder (name ∷ up) new_folder_mode) (Ok tt) (Some now)) where
   abbrev made_path : Route
   made_path = name ∷ up
@@ -71,6 +72,9 @@ module _ (told : Said) (dirty dirty_after : List Route) (marks : Marks) (log now
     stands = folder_at_of (current log) up (found (current log) up) passes.folder passes.holds;
     sure = way_sure told dirty marks log up (found (current log) up) kept.known passes.folder owed;
   }
+
+  calm : (p : Route) → may_change (item_in work) p ≡ true → IsCalmIn marks (current log) p
+  calm p here = subst (IsCalmIn marks (current log)) (sym (own p here)) (calm_in told dirty marks log kept up owed)
 
   was_free : find (current log) made_path ≡ None
   was_free = ap (option_and_then (λ g. lookup (current log).names g name)) passes.folder ∙ passes.none
@@ -105,6 +109,9 @@ module _ (told : Said) (dirty dirty_after : List Route) (marks : Marks) (log now
     no_part = none;
     doubts = λ p h. or_left _ _ h;
     doubted = or_right _ _ (same_path-self made_path);
+    modes = λ p h. h;
+    calm = λ p there. elim (either (may_change (item_in work) p) (told.calm p) there) [ inl here ↦ inr (calm p here) | inr before ↦ inl before ];
+    new_mode = kept.modes (new_node log) (kept.known.files.unborn (new_node log) (omega arith));
     folders = λ p there. elim (either (same_path p (folder_changed (item_in work))) (told.folders p) there) [
       | inl same ↦ inr (same_path-true p (folder_changed (item_in work)) same ∙ within)
       | inr before ↦ inl before
@@ -126,7 +133,7 @@ module _ (told : Said) (dirty dirty_after : List Route) (marks : Marks) (log now
   made_at w new name none new_is owed routes done =
       let up = folder_of w.path in
       subst (λ q. Comes told (said_after now (Made q) (Make w) told) dirty_after log now (KnowsAfter (Made q) (said_after now (Made q) (Make w) told) dirty_after now GoesOn (Make new))) (sym name.is)
-      (folder_made told dirty dirty_after marks log now name.name up (Make w) kept none owed refl
+      (folder_made told dirty dirty_after marks log now name.name up (Make w) kept none owed refl (λ p own. same_path-true p (folder_of w.path) own)
       (subst (λ xs. Among xs up) (sym routes) (joined_holds up dirty)) (λ q among. subst (λ xs. Among xs q) (sym routes) (joined_more up q dirty among))
       (subst (λ q. Performs {A = Unit {0}} log (MakeFolder q new_folder_mode) (Ok tt) (Some now)) name.is done)
       (KnowsAfter (Made (name.name ∷ up)) (said_after now (Made (name.name ∷ up)) (Make w) told) dirty_after now GoesOn (Make new))

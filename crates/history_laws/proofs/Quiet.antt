@@ -10,15 +10,15 @@ use Rattle.tree_trait.specs.declared.file_system.Mount.{Mount}
 use Rattle.tree_trait.specs.FileSystem.{Spot, find, node, value, value_at, starts_mount, visible_tree}
 use Rattle.tree_trait.specs.Refusals.{is_folder}
 use Rattle.tree_trait.specs.Change.{Change, Nothing, Makes, Moves, Removes, Sets, Writes, Syncs, CallLog, current, with_change, after_change}
-use Rattle.tree_trait.specs.CrashImages.{says, alters}
+use Rattle.tree_trait.specs.CrashImages.{says, alters, is_clean}
 use Rattle.tree_trait.proofs.Kept.{folder_there}
-use Rattle.crash_law.specs.Guarded.{Marks, IsQuiet}
+use Rattle.crash_law.specs.Guarded.{Marks, IsQuiet, with_mode}
 use Rattle.crash_law.proofs.Guarding.{quiet_law, same_quiet, folder_kept, found_at}
-use Rattle.crash_law.proofs.Leading.{current_more}
+use Rattle.crash_law.proofs.Leading.{clean_more, current_more}
 use Rattle.crash_law.proofs.Syncing.{unaltered_law}
-use Rattle.history_laws.specs.Doubt.{is_pending, is_unsettled, name_waits}
+use Rattle.history_laws.specs.Doubt.{is_pending, way_waits, name_waits}
 use Rattle.history_laws.proofs.Pending.{is_within, within_more, pending_less, says_at}
-use Rattle.history_laws.proofs.Knowing.{Said, IsKnown, held}
+use Rattle.history_laws.proofs.Knowing.{Said, HasMode, IsKnown, held}
 use Rattle.history_laws.proofs.Resting.{IsSureFolder, folder_at, mounted, stands_at, sure_still, unborn_more}
 
 mounts_after : (s : FileSystem) (c : Change) → (after_change s c).mounts ≡ s.mounts
@@ -73,6 +73,13 @@ module _ (log : CallLog) (c : Change) where
       ∙ (ap (λ v. (let s : Spot = record { value = v; is_mount = option_map_or (starts_mount (current (with_change log c))) (find (current log) p) false } in s)) e.0
       ∙ ap (λ m. (let s : Spot = record { value = value_at (current log) p; is_mount = m } in s)) e.1)
 
+  pub starts_same : (i : ℕ) → starts_mount (current (with_change log c)) i ≡ starts_mount (current log) i
+  starts_same i = ap (λ (ms : List Mount). list_any (λ (m : Mount). m.folder == i) ms) mounts_same
+
+  -- what isn't clean wasn't before, where the call doesn't alter it
+  pub unclean_before : (i : ℕ) → alters i c ≡ false → is_clean i (with_change log c).changes ≡ false → is_clean i log.changes ≡ false
+  unclean_before i same unclean = false_from_ne_true _ (λ clean. both_ways _ unclean (clean_more i log.changes c same clean))
+
   mount_by : (o : Option ℕ) → option_map_or (starts_mount (current (with_change log c))) o false ≡ option_map_or (starts_mount (current log)) o false
   mount_by None = refl
   mount_by (Some i) = ap (λ (ms : List Mount). list_any (λ (m : Mount). m.folder == i) ms) mounts_same
@@ -90,6 +97,8 @@ pub record IsCalm (said : Said) (marks : Marks) (log : CallLog) (c : Change) : T
   pub within : is_within c ≡ true
   pub still : (p : Route) (i : ℕ) → (said.part ≡ Some p → ⊥) → find (current log) p ≡ Some i → alters i c ≡ false
   pub unborn : (i : ℕ) → length (current log).nodes ≤ i → alters i c ≡ false
+  -- no mode of it waits
+  pub moded : (i : ℕ) → alters i c ≡ true → marks.modes i ≡ None
 
 module _ (said : Said) (dirty : List Route) (marks : Marks) (log : CallLog) (c : Change) (known : IsKnown said dirty marks log) (calm : IsCalm said marks log c) where
   abbrev now : CallLog
@@ -130,7 +139,7 @@ module _ (said : Said) (dirty : List Route) (marks : Marks) (log : CallLog) (c :
       by (Some f) is = ap (λ x. option_map_or (λ g. is_pending g name log.changes) x false) is ∙ waited f name (in_now (Some f) is)
 
   -- what isn't in doubt stays so
-  calm_sure : (p : Route) (j : ℕ) → find (current log) p ≡ Some j → is_folder (node (current log) j) ≡ true → is_unsettled log p ≡ false → is_unsettled now p ≡ false
+  calm_sure : (p : Route) (j : ℕ) → find (current log) p ≡ Some j → is_folder (node (current log) j) ≡ true → way_waits log p ≡ false → way_waits now p ≡ false
   calm_sure p j at folder sure = sure_still log c known.guarded.tree
       (λ q g h before holds then. let e : (let o : Option ℕ = Some g in o) ≡ Some h = sym before ∙ (sym (same_quiet log c quiet_of.names q) ∙ then) in cc)
       (λ g m k said before then holds. said_none g m said) p j at folder (same_quiet log c quiet_of.names p ∙ at) sure
@@ -143,11 +152,28 @@ module _ (said : Said) (dirty : List Route) (marks : Marks) (log : CallLog) (c :
         sure = calm_sure p there.i there.at there.folder firm.sure;
       }
 
-  calm_mounts : (p : Route) → (visible_tree (current now) p).is_mount ≡ true → is_unsettled now p ≡ false
+  calm_mounts : (p : Route) → (visible_tree (current now) p).is_mount ≡ true → way_waits now p ≡ false
   calm_mounts p on =
       let before = sym (mount_same log c p (same_quiet log c quiet_of.names p)) ∙ on in
       let there = mounted (current log) known.guarded.tree p before in
       calm_sure p there.i there.at there.folder (known.files.mounts p before)
+
+  moded_still : (i before : ℕ) → marks.modes i ≡ Some before → is_clean i now.changes ≡ false → HasMode said dirty marks now i before
+  moded_still i before is unclean = by (alters i c) refl
+    where
+      by : (b : Bool) → alters i c ≡ b → HasMode said dirty marks now i before
+      by true altered = absurd (let none = calm.moded i altered in let e : (let o : Option ℕ = None in o) ≡ Some before = sym none ∙ is in let f : ⊥ = cc in f)
+      by false same =
+          let h = known.moded i before is (unclean_before log c i same unclean) in
+          let there = known.guarded.there h.path i (found_at log h.path (Some i) h.leads) in
+          record {
+            path = h.path;
+            leads = same_quiet log c quiet_of.names h.path ∙ h.leads;
+            out = h.out;
+            listed = h.listed;
+            told = h.told;
+            shown = h.shown ∙ ap (λ n. Some (value (with_mode before n))) (sym (unaltered i same there));
+          }
 
   pub calm_known : IsKnown said dirty marks now
   calm_known = record {
@@ -158,13 +184,14 @@ module _ (said : Said) (dirty : List Route) (marks : Marks) (log : CallLog) (c :
       unborn = unborn_more log c calm.unborn (let same = quiet_of.count in omega (arith, same)) known.files.unborn;
       mounts = calm_mounts;
     };
-    moded = known.moded;
+    moded = moded_still;
+    calm = λ p there name i at. elim (known.calm p there name i (sym (same_quiet log c quiet_of.names (name ∷ p)) ∙ at)) [ inl none ↦ inl none | inr begins ↦ inr (starts_same log c i ∙ begins) ];
     folders = λ i folder. known.folders i (was_folder i folder);
     aside = known.aside;
     was_there = λ p i out is. let t = known.was_there p i out is in (subst (λ n. i < n) (sym quiet_of.count) t.0, t.1);
     was_shown = λ p out. elim (known.was_shown p out) [
       | inl same ↦ inl (same ∙ sym (same_quiet log c quiet_of.names p))
-      | inr shown ↦ inr (held_same log c (marks.was p) (λ i is. let t = known.was_there p i out is in unaltered i (quiet_of.others i t.1) t.0) ∙ shown)
+      | inr shown ↦ inr (held_same log c (marks.was p) (λ i is. let t = known.was_there p i out is in unaltered i (quiet_of.others i t.1) t.0) ∙ shown.0, shown.1)
     ];
     shows = λ p other. shows_same log c p (same_quiet log c quiet_of.names p) (λ i is. unaltered i (calm.still p i other is) (known.guarded.there p i (found_at log p (Some i) is))) ∙ known.shows p other;
     part = λ p is. let k = known.part p is in (k.0, k.1, ap is_some (same_quiet log c quiet_of.names p) ∙ k.2);

@@ -15,7 +15,7 @@ use Rattle.session_history.specs.declared.history.Entry.{Entry}
 use Rattle.job_reports.specs.Jobs.{Item, Copies, Removes, Makes}
 use Rattle.copy_move.specs.Jobs.{Running}
 use Rattle.copy_move.specs.Settling.{is_own}
-use Rattle.history_laws.specs.Doubt.{name_waits}
+use Rattle.history_laws.specs.Doubt.{IsMountInDoubt, name_waits, node_waits}
 use Rattle.session_history.specs.LiveJobs.{IsLivePart, live_jobs, live_item}
 use Rattle.session_history.specs.Named.{has_changed, named_parts, names_path, IsUnnamedSince}
 use Rattle.history_laws.specs.Replayed.{log_prefix, replayed_tree}
@@ -23,22 +23,27 @@ use Rattle.session_history.specs.Entries.{IsMoment, calls_in}
 use Rattle.history_laws.specs.Safe.{IsPart}
 use Rattle.history_laws.specs.Traces.{IsTraced, Stand, WorkLeads}
 
--- A path of whose name no change waited for a sync where the older entries ended, and that was no live job's part, waits for none
--- at any later moment, inside a call too, until an entry names it.
-abbrev pub StaysLaw : Type 0
-StaysLaw = (opening now : CallLog) (newest older standing coming : List Entry) (stand : Stand) (calls : ℕ) (path : Route)
+-- What holds of a path where the older entries ended holds at each later moment, inside a call too, until an entry names it.
+abbrev pub Stays : (CallLog → Route → Bool) → (List Entry → Route → Type 0) → Type 0
+Stays waits excepted = (opening now : CallLog) (newest older standing coming : List Entry) (stand : Stand) (calls : ℕ) (path : Route)
     → IsTree (current opening) → all_settled opening.changes ≡ true → IsTraced opening newest stand now → IsMoment newest standing coming calls
     → IsUnnamedSince older path standing → IsUnnamedSince older path coming
-    → name_waits (log_prefix opening (calls_in older) now) path ≡ false → (IsLivePart (live_jobs older) path → ⊥)
-    → name_waits (log_prefix opening calls now) path ≡ false
+    → waits (log_prefix opening (calls_in older) now) path ≡ false → (excepted older path → ⊥)
+    → waits (log_prefix opening calls now) path ≡ false
+
+pub record StaysLaw : Type 0 where
+  -- A path of whose name no change waits for a sync, and that is no live job's part, waits for none.
+  pub names : Stays name_waits (λ older path. IsLivePart (live_jobs older) path)
+  -- Of a path at which no mode waits, and that was named as no part, none does.
+  pub modes : Stays node_waits (λ older path. Among (named_parts older) path)
 
 -- Where the older entries ended a job has changed something, and its step is that it is finished. From then on, at each
 -- moment, inside a call too, each path in a folder of its own holds after any crash what the history said then, until an entry names
--- it, also where its folder goes; but for paths that were named as parts.
+-- it, also where its folder goes; but for paths that were named as parts, and one at which another mount begins whose folder's mode waits.
 abbrev pub FinishedStaysLaw : Type 0
 FinishedStaysLaw = (opening now after : CallLog) (newest older standing coming : List Entry) (was stand : Stand) (dirty : List Route) (job new : Running) (part : Option Route) (calls : ℕ) (path : Route) (image : FileSystem)
     → IsTree (current opening) → all_settled opening.changes ≡ true → IsTraced opening newest stand now → IsTraced opening older was (log_prefix opening (calls_in older) now)
-    → was.jobs ≡ job ∷ [] → WorkLeads job (Ended Finished part) new was.dirty dirty (log_prefix opening (calls_in older) now) after → has_changed job.id older ≡ true → is_own job.work (folder_of path) ≡ true → (Among (named_parts older) path → ⊥)
+    → was.jobs ≡ job ∷ [] → WorkLeads job (Ended Finished part) new was.dirty dirty (log_prefix opening (calls_in older) now) after → has_changed job.id older ≡ true → is_own job.work (folder_of path) ≡ true → (Among (named_parts older) path → ⊥) → (IsMountInDoubt (log_prefix opening (calls_in older) now) path → ⊥)
     → IsMoment newest standing coming calls → IsUnnamedSince older path standing → IsUnnamedSince older path coming → IsCrashImage now (length opening.changes + calls) image
     → value_at image path ≡ (replayed_tree opening now older path).value
 
@@ -64,11 +69,11 @@ pub record HasFinished (e : Entry) (older : List Entry) (folder : Route) : Type 
 -- path in a folder of its own holds after a crash at any later moment, inside a call too, what the history said then, until an entry
 -- names it; but for a part that still stood there then or whose last change wasn't on the disk, and a part that its end names. So a
 -- finished copy leaves none of the parts that it made, and nothing that a finished deletion removed comes back, also where its folder
--- goes later; what stays in a folder that was kept, stays.
+-- goes later; what stays in a folder that was kept, stays. Excepted is one more path, where another mount begins and the mode of its folder waits.
 abbrev pub StaysDone : CallLog → CallLog → List Entry → Type 0
 StaysDone opening now newest =
     (e : Entry) (older standing coming : List Entry) (calls : ℕ) (path : Route) (image : FileSystem)
-    → HasFinished e older (folder_of path) → (IsPart (e ∷ older) (log_prefix opening e.calls now) path → ⊥) → names_path e.what path ≡ false
+    → HasFinished e older (folder_of path) → (IsPart (e ∷ older) (log_prefix opening e.calls now) path → ⊥) → names_path e.what path ≡ false → (IsMountInDoubt (log_prefix opening (calls_in older) now) path → ⊥)
     → IsMoment newest standing coming calls → IsUnnamedSince (e ∷ older) path standing → IsUnnamedSince (e ∷ older) path coming
     → IsCrashImage now (length opening.changes + calls) image → value_at image path ≡ (replayed_tree opening now older path).value
 
