@@ -1,4 +1,4 @@
-mod Deleting
+mod Untold
 mod FindFollowing
 mod FindLemmas
 mod FindReadings
