@@ -56,9 +56,11 @@ pub thing_look : (box : Opens) (contents : Option CallLog) (wanted path : Route)
     → IfKnown contents (λ log. Reads log (Stat path) (let r : Result Meta TreeError = Ok meta in r) (IsMeta (current log) path)) → may_open box meta.kind ≡ true
     → MayAsk box (sight contents) wanted true × HasMode (sight contents) wanted meta.mode × (path ≡ wanted)
 thing_look box contents wanted path meta same close reads kind =
-    let near : length (spelled path) ≤ 4096 = subst (λ (q : Route). length (spelled q) ≤ 4096) (sym same) close in
-    (subst (λ q. MayAsk box (sight contents) q true) same (may_ask box contents path meta true near reads kind),
-    (subst (λ q. HasMode (sight contents) q meta.mode) same (has_mode contents path meta reads), same))
+    let near : length (spelled path) ≤ 4096 = subst (λ (q : Route). length (spelled q) ≤ 4096) (sym same) close in (
+      subst (λ q. MayAsk box (sight contents) q true) same (may_ask box contents path meta true near reads kind),
+      subst (λ q. HasMode (sight contents) q meta.mode) same (has_mode contents path meta reads),
+      same,
+    )
 
 -- something stands where a look was answered
 pub taken : (contents : Option CallLog) (path : Route) (result : Result Meta TreeError)
