@@ -1,5 +1,5 @@
--- What the viewer was refused has its cause in the tree, and tells of a fault only where the tree's count has risen.
-use Rattle.std.proofs.Common.{◌≡◌, ◌≢◌, inr, ℕ, Bool, true, false, List, [], ◌∷◌, refl, sym, ap, subst, Option, Some, None, Result, Ok, Err}
+-- What the viewer, or a command of the panels, was refused has its cause in the tree, and tells of a fault only where the tree's count has risen.
+use Rattle.std.proofs.Common.{◌≡◌, ◌≢◌, inl, inr, ℕ, Bool, true, false, List, [], ◌∷◌, refl, sym, ap, subst, Option, Some, None, Result, Ok, Err}
 use Rattle.std.specs.Prelude.{◌||◌, is_some, IfOk, MatchBool}
 use Rattle.std.proofs.lemmas.Bool.{false≢true}
 use Rattle.mc_text.specs.declared.error.NoMemory.{NoMemory}
@@ -8,6 +8,7 @@ use Rattle.tree_trait.specs.declared.calls.TreeError.{TreeError}
 use Rattle.tree_trait.specs.declared.calls.TreeError.TheVariants.{Missing, NotFolder, Denied, Exists, IsFolder, NotEmpty, IntoItself, Mounted, CrossMount, NoSpace, Special, Fault, Memory}
 use Rattle.tree_trait.specs.Change.{CallLog}
 use Rattle.tree_trait.specs.Answers.{IfKnown, HasRisen}
+use Rattle.resolving.specs.declared.error.ResolveError.{ResolveError}
 use Rattle.resolving.specs.declared.error.ResolveError.TheVariants as resolve
 use Rattle.key_screen.specs.declared.keys.Key.{Key}
 use Rattle.mc_dialogs.specs.InputKeys.{InputState, input_after, input_shut}
@@ -15,9 +16,12 @@ use Rattle.box_words.specs.declared.replies.LineReply.{LineReply}
 use Rattle.box_words.specs.declared.replies.LineReply.TheVariants as line
 use Rattle.box_words.specs.BoxKeys.{line_reply}
 use Rattle.session_history.specs.declared.refusal.Refusal.{Refusal}
-use Rattle.session_history.specs.declared.refusal.Refusal.TheVariants.{Read}
-use Rattle.session_history.specs.Refusals.{AreRefused, IsReadRefused}
-use Rattle.job_plans.specs.Refused.{has_fault, is_fault}
+use Rattle.session_history.specs.declared.refusal.Refusal.TheVariants.{Read, Resolve}
+use Rattle.session_history.specs.Refusals.{AreRefused, IsListRefused, IsReadRefused, IsResolveRefused}
+use Rattle.mc_panels.specs.Readings.{ListsFolder}
+use Rattle.panel_pair.specs.Readings.{HasReadCause}
+use Rattle.panel_pair.specs.Readings as pair
+use Rattle.job_plans.specs.Refused.{has_fault, is_fault, is_resolve_fault}
 use Rattle.job_plans.specs.Reading.{ReadsTree}
 use Rattle.mc_viewer.specs.declared.error.ViewError.TheVariants as error
 use Rattle.mc_viewer.specs.declared.subject.Subject.{Subject}
@@ -38,6 +42,8 @@ use Rattle.viewer_mode.specs.Openings.{OpensThing, ReadsToOpen}
 use Rattle.viewer_mode.specs.ViewerKeys.{viewer_command}
 use Rattle.viewer_mode.specs.ViewerScreens.{AnswerLeads, ByAsking, CommandLeads, KeyLeads, LineLeads, ViewerScreen, after_message}
 use Rattle.viewer_mode.specs.ViewerScreens as screens
+use Rattle.mc_ui.specs.declared.asks.Ask.TheVariants.{Nothing}
+use Rattle.mc_ui.specs.declared.asks.KeyAct.{KeyAct}
 use Rattle.mc_ui.specs.Viewings.{opening_refusals, told_by, viewed_path}
 use Rattle.mc_ui.proofs.NoWays.{leads_nowhere}
 
@@ -193,4 +199,40 @@ reads_on told told_on x y before after f0 f1 is reads = record {
   later = reads.later;
   called = λ log known. subst (λ told. AreRefused log told) (sym is) (reads.called log known);
   fault = λ h. reads.fault (subst (λ told. has_fault told ≡ true) is h);
+}
+
+-- COMMANDS OF THE PANELS
+
+is_way_fault : (e : ResolveError) → (is_resolve_fault e || false) ≡ true → e ≡ resolve.Fault
+is_way_fault resolve.Fault h = refl
+is_way_fault (resolve.Tree path e) h = absurd (false≢true h)
+is_way_fault resolve.TooManyLinks h = absurd (false≢true h)
+is_way_fault resolve.TooLong h = absurd (false≢true h)
+is_way_fault resolve.BadName h = absurd (false≢true h)
+is_way_fault resolve.Memory h = absurd (false≢true h)
+
+list_refused : (log : CallLog) (folder : Route) (e : ResolveError) → ListsFolder log folder (Err e) → IsListRefused log folder e
+list_refused log folder (resolve.Tree path e) h = h
+list_refused log folder resolve.Fault h = tt
+list_refused log folder resolve.Memory h = tt
+list_refused log folder resolve.TooManyLinks h = h
+list_refused log folder resolve.TooLong h = h
+list_refused log folder resolve.BadName h = h
+
+way_refused : (log : CallLog) (e : ResolveError) → HasReadCause log e → IsResolveRefused log e
+way_refused log e (inl at) = inl (at.0, list_refused log at.0 e at.1)
+way_refused log e (inr way) = inr way
+
+abbrev refused_act : ResolveError → KeyAct
+refused_act e = record { ask = Nothing; refusals = Resolve e ∷ [] }
+
+-- what a refused command read is what the key that asked for it did
+pub command_reads : (error : ResolveError) (contents after : Option CallLog) (f0 f1 : ℕ) (told : Result KeyAct NoMemory)
+    → pair.ReadsTree (error ∷ []) contents after f0 f1 → IfOk told (λ act. act ≡ refused_act error) → ReadsTree (λ (act : KeyAct). act.refusals) told contents after f0 f1
+command_reads error contents after f0 f1 (Err e) reads is = record { same = reads.same; later = reads.later; called = λ log known. tt; fault = tt }
+command_reads error contents after f0 f1 (Ok act) reads is = record {
+  same = reads.same;
+  later = reads.later;
+  called = λ log known. subst (λ (act : KeyAct). AreRefused log act.refusals) (sym is) (way_refused log error (reads.causes log known).0, tt);
+  fault = λ h. reads.fault.0 (is_way_fault error (subst (λ (act : KeyAct). has_fault act.refusals ≡ true) is h));
 }

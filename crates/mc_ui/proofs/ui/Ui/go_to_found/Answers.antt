@@ -6,6 +6,7 @@ use Rattle.panel_pair.specs.declared.command.PanelCommand.TheVariants.{GoTo}
 use Rattle.panel_pair.specs.Commands.{CommandReads}
 use Rattle.mc_ui.specs.Screens.{Screen}
 use Rattle.mc_ui.proofs.FindFollowing.{listed_is, lost_on, refused_goes}
+use Rattle.mc_ui.proofs.Readings.{command_reads}
 use Rattle.mc_ui.proofs.ui.Ui.go_to_found.Goals as goal
 
 pub returns-in-Err-clause-leads : goal.returns-in-Err-clause-leads
@@ -21,3 +22,8 @@ pub returns-in-Err-clause-lost : goal.returns-in-Err-clause-lost
 returns-in-Err-clause-lost g c =
     lost_on c.refuse.result c.refuse.new.self _ _
     (c.show_box-in-Err.ensures ∙ listed_is c.work.new.self c.args.find _ c.args.self.now c.in-Err.ensures.refused c.self.view_is) c.refuse.ensures.lost
+
+pub returns-in-Err-clause-reads : goal.returns-in-Err-clause-reads
+returns-in-Err-clause-reads g c =
+    command_reads c.in-Err.error (g.T.ReadTree.contents c.args.tree.now) (g.T.ReadTree.contents c.work.new.tree)
+    (g.T.ReadTree.fault_count c.args.tree.now) (g.T.ReadTree.fault_count c.work.new.tree) c.refuse.result c.in-Err.ensures.reads c.refuse.ensures.act
