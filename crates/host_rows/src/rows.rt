@@ -165,6 +165,10 @@ stat p
 list f
 list b
 
+# Names stand in the order of their bytes
+sh : >photo-12é; : >photo-120; : >photo-12-b; : >photo-12-a; : >photo-12; : >photo-1; : >q; : >Q
+list
+
 # A link is no folder
 sh : >b; mkdir -p f/g; ln -s f l; mkfifo -m 640 p
 stat f/g/x

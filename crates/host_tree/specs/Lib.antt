@@ -2,3 +2,4 @@ pub mod Causes
 pub mod Kept
 pub mod Kinds
 pub mod Listing
+pub mod Ranks

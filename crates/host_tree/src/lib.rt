@@ -11,6 +11,7 @@ mod listing;
 mod looking;
 mod machine;
 mod naming;
+mod ranked;
 mod read;
 mod reading;
 mod real_path;

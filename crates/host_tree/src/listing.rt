@@ -5,9 +5,10 @@ ghost use Rattle.tree_trait.specs.Answers.{IsAscending};
 ghost use Rattle.host_tree.specs.Listing.{IsNamed, IsCounted};
 
 use crate::cause::{answer_of, cause_of};
+use crate::ranked::RankedName;
 use crate::read::{TURNS, read_once};
 use mc_text::{Name, NameError, Names};
-use std::alloc::Global;
+use std::alloc::{AllocError, Global};
 use std::io::Read;
 use std::rt::Files;
 use tree_trait::{Children, TreeError};
@@ -19,7 +20,7 @@ pub fn children_of<R: Files>(rt: &R, alloc: Global, text: &str) -> Result<Childr
     // This opens no link, and nothing but a folder.
     let mut folder = answer_of(rt.open_dir(text))?;
     let Children { names, unnamed } = read_names(alloc, &mut folder)?;
-    let names = Names(in_order(names.0));
+    let names = Names(in_order(alloc, names.0)?);
     Ok(Children { names, unnamed })
 }
 
@@ -80,7 +81,18 @@ fn add_name(alloc: Global, bytes: &[u8], found: &mut Children) -> Result<(), Tre
 }
 
 /// The names in the order of their bytes, each once.
-fn in_order(mut names: Vec<Name>) -> Vec<Name>
+fn in_order(alloc: Global, names: Vec<Name>) -> Result<Vec<Name>, TreeError>
+    ensures ascending { IfOk result (λ sorted. IsAscending sorted.items) }
+    ensures keeps { IfOk result (λ sorted. (name : List ℕ) → Contains names.items name → Contains sorted.items name) }
+    ensures adds_none { IfOk result (λ sorted. (name : List ℕ) → Contains sorted.items name → Contains names.items name) }
+{
+    let sorted = sorted_once(ranked(alloc, names)?);
+    let names = unranked(alloc, sorted)?;
+    Ok(names)
+}
+
+/// The names in the order of their bytes, each once.
+fn sorted_once(mut names: Vec<RankedName>) -> Vec<RankedName>
     ensures ascending { IsAscending result.items }
     ensures keeps { (name : List ℕ) → Contains names.items name → Contains result.items name }
     ensures adds_none { (name : List ℕ) → Contains result.items name → Contains names.items name }
@@ -88,4 +100,27 @@ fn in_order(mut names: Vec<Name>) -> Vec<Name>
     names.sort_unstable_by(|one, other| one.order(other));
     names.dedup_by(|later, earlier| later.same(earlier));
     names
+}
+
+/// The names with their numbers.
+fn ranked(alloc: Global, names: Vec<Name>) -> Result<Vec<RankedName>, TreeError>
+    ensures { IfOk result (λ ranked. ranked.items ≡ names.items) }
+{
+    let mut ranked = Vec::with_capacity(alloc, names.len())?;
+    for name in names {
+        let named = RankedName::of(name);
+        ranked.push(named).map_err(AllocError::from)?;
+    }
+    Ok(ranked)
+}
+
+/// The names without their numbers.
+fn unranked(alloc: Global, ranked: Vec<RankedName>) -> Result<Vec<Name>, TreeError>
+    ensures { IfOk result (λ names. names.items ≡ ranked.items) }
+{
+    let mut names = Vec::with_capacity(alloc, ranked.len())?;
+    for name in ranked {
+        names.push(name.into_name()).map_err(AllocError::from)?;
+    }
+    Ok(names)
 }
