@@ -26,9 +26,16 @@ UP, DOWN, HOME, END, TAB, INSERT = b"\x1b[A", b"\x1b[B", b"\x1b[H", b"\x1b[F", b
 BACK, FORWARD, AGAIN, SWAP = b"\x1by", b"\x1bu", b"\x12", b"\x15"
 F1, F3, F5, F7, F8, F9, F10, ENTER, ESCAPE = b"\x1bOP", b"\x1bOR", b"\x1b[15~", b"\x1b[18~", b"\x1b[19~", b"\x1b[20~", b"\x1b[21~", b"\r", b"\x1b\x1b"
 EMPTY, HIDDEN, FIND = b"\x15", b"\x1b.", b"\x1b?"
+LINK = [b"\x18", b"s"]
 COPY = [DOWN, F5, ENTER, ENTER]
 USAGE = b"usage: mc [-b] [-V] [-h] [-P FILE] [-v FILE | -e FILE | --drill N | DIR1 [DIR2]]"
 KEYS = b"F1 help  F2 menu  F3 view  F4 edit  F5 copy  F6 move  F7 mkdir  F8 delete  F9 options  F10 quit"
+HELP = [
+    "usage: mc [-b] [-V] [-h] [-P FILE]",
+    "       [-v FILE | -e FILE | --drill N | DIR1 [DIR2]]",
+    "F1 help  F2 menu  F3 view  F4 edit  F5 copy",
+    "F6 move  F7 mkdir  F8 delete  F9 options  F10 quit",
+]
 PATIENCE = 20.0
 SOMEBODY = 65534
 
@@ -262,6 +269,10 @@ def check_frames(program, base, check):
     for surroundings, size in [({"LINES": "9", "COLUMNS": "80"}, (24, 80)), ({"LINES": "10", "COLUMNS": "40"}, (10, 40))]:
         _, screens, _ = screens_of(program, [], [], size, inside=folder, surroundings=surroundings)
         check(f"{surroundings} is {size[0]} lines", screens[0].rows() == wanted(size, ".."))
+
+    _, told, _ = run(program, [folder], [F1, ENTER, F10])
+    opening, help_shown, shut = (screen.rows() for screen in told.screens[:3])
+    check("F1 shows the help, each line whole", help_shown == with_box(opening, HELP) and shut == opening)
 
     check_cursor(program, base, check)
 
@@ -586,7 +597,7 @@ def check_new_folders(program, base, check):
     status, _, _ = run(program, [folder, other], [TAB, F7, b"below", ENTER, F7, os.fsencode(os.path.join(folder, "new", "in")), ENTER, F10])
     check("it is made in the current panel's folder, or where the path leads", status == 0 and os.listdir(other) == ["below"] and os.listdir(os.path.join(folder, "new")) == ["in"])
 
-    for typed, words in [(b"a", b"already there"), (b"new", b"already there"), (b"no/such", b"no such file or folder"), (b"a/in", b"not a folder"), (b"~/in", b"bad mask"), (b"in/", b"bad mask")]:
+    for typed, words in [(b"a", b"already there"), (b"new", b"already there"), (b"no/such", b"no such file or folder"), (b"a/in", b"not a folder"), (b"~/in", b"bad name"), (b"in/", b"bad name")]:
         status, told, _ = run(program, [folder, other], [F7, typed, ENTER, ENTER, F10, F10], surroundings={"HOME": "no/home"})
         check(f"{typed.decode()} is refused", status == 0 and words in told and sorted(os.listdir(folder)) == ["a", "new"] and facts(os.path.join(folder, "a"))[1] == 0o644)
 
@@ -596,6 +607,37 @@ def check_new_folders(program, base, check):
     status, _, _ = run(program, [folder, other], keys, surroundings={"HOME": home})
     copied = facts(os.path.join(home, "a")) == facts(os.path.join(folder, "a"))
     check("a tilde stands for HOME in what is made and copied", status == 0 and copied and sorted(os.listdir(home)) == ["a", "in"] and sorted(os.listdir(folder)) == ["a", "new"])
+
+
+def check_links(program, base, check):
+    """Links that are made by keys, what they say, and what is refused."""
+    folder, other = os.path.join(base, "linked"), os.path.join(base, "other linked")
+    os.mkdir(folder)
+    os.mkdir(other)
+    path = os.path.join(folder, "a")
+    make_file(path, 3, 0o644)
+    status, told, same = run(program, [folder, other], [DOWN] + LINK + [ENTER, b"l", ENTER, F10])
+    before, _, says, asks, typed, made = told.screens[1:7]
+    check("C-x s asks what a link is to say", says.rows() == with_box(before.rows(), ["Link text", path]))
+    check("and then for its name", asks.rows() == with_box(before.rows(), ["Link name", ""]) and typed.rows() == with_box(before.rows(), ["Link name", "l"]))
+    check("C-x s makes a link", status == 0 and same and os.readlink(os.path.join(folder, "l")) == path and os.listdir(other) == [])
+    check("the panel shows it, with the cursor where it was", [row[:4].rstrip() for row in left_panel(made)[1]] == ["/..", " a", "@l"] and left_panel(made)[2] == "a")
+
+    keys = LINK + [ENTER, b"../other linked/up", ENTER] + LINK + [EMPTY + b"~/nowhere", ENTER, os.fsencode(os.path.join(other, "n")), ENTER, F10]
+    status, _, _ = run(program, [folder, other], keys)
+    texts = {name: os.readlink(os.path.join(other, name)) for name in os.listdir(other)}
+    check("a link says what was typed, on `..` at first the folder's path, and is made where its name leads", status == 0 and texts == {"up": folder, "n": "~/nowhere"})
+
+    refused = [(b"", [b"n"], b"bad link text"), (b"t" * 4096, [b"n"], b"bad link text"), (b"t", [b"a"], b"already there"), (b"t", [], b"bad name")]
+    refused += [(b"t", [b"no/such"], b"no such file or folder"), (b"t", [b"a/in"], b"not a folder"), (b"t", [b"~/in"], b"bad name")]
+    for text, name, words in refused:
+        keys = LINK + [EMPTY + text, ENTER] + name + [ENTER, ENTER, F10, F10]
+        status, told, _ = run(program, [folder, other], keys, surroundings={"HOME": "no/home"})
+        check(f"a link is refused: {words.decode()}", status == 0 and words in told and sorted(os.listdir(folder)) == ["a", "l"])
+
+    for keys in [LINK + [ESCAPE], LINK + [ENTER, b"n", ESCAPE], LINK + [F10]]:
+        status, told, _ = run(program, [folder, other], keys + [F10])
+        check("each line is shut without a link", status == 0 and told.screens[len(keys)].rows() == told.screens[0].rows() and sorted(os.listdir(folder)) == ["a", "l"])
 
 
 def check_closed_folder(program, base, check):
@@ -792,11 +834,13 @@ def check_list_of_jobs(program, base, check):
             os.chown(path, user, user)
     os.chmod(target, 0o500)
     listed = [b"\x18", b"j"]
-    keys = listed + [ENTER] + COPY + [ESCAPE, F5, F7, F8] + listed + [ENTER, b"b"] + listed + [F10, F10]
+    tried = [F5, ENTER, ENTER, ENTER, F10, F7, b"n", ENTER, ENTER, F10, F8, ENTER, ENTER, F10]
+    keys = listed + [ENTER] + COPY + [ESCAPE] + tried + listed + [ENTER, b"b"] + listed + [F10, F10]
     status, told, same = run(program, [source, target], keys, user=user)
-    empty, plain, asked, shut, jobs, again, aborted, none = (told.screens[at].rows() for at in (2, 3, 7, 8, 13, 14, 15, 17))
+    empty, plain, asked, shut, jobs, again, aborted, none = (told.screens[at].rows() for at in (2, 3, 7, 8, 24, 25, 26, 28))
     check("where no job is live the list is empty", empty == with_box(plain, ["Jobs"]) and none == with_box(aborted, ["Jobs"]))
-    check("while one is live no other is asked for", all(screen.rows() == shut for screen in told.screens[9:12]))
+    check("while one is live no other is begun", all(any("too many jobs" in row for row in told.screens[at].rows()) for at in (11, 16, 20)))
+    check("and what was typed can be left", all(told.screens[at].rows() == shut for at in (13, 18, 22)))
     check("a live job is listed", jobs == with_box(shut, ["Jobs", f"1 trouble copy {file}"]))
     check("Enter opens its trouble again", any("permission denied" in row for row in asked) and again == asked)
     check("and that is answered", status == 0 and same and os.listdir(target) == [] and not any("in trouble" in row for row in aborted))
@@ -881,6 +925,7 @@ def main():
         check_panel_boxes(program, base, check)
         check_big_home(program, base, check)
         check_new_folders(program, base, check)
+        check_links(program, base, check)
         check_closed_folder(program, base, check)
         check_long_path(program, base, check)
         check_dirty_folder(program, base, check)

@@ -6,7 +6,7 @@ use Rattle.job_reports.specs.declared.report.Trouble.{Trouble}
 use Rattle.resolving.specs.declared.error.ResolveError.{ResolveError}
 use Rattle.resolving.specs.declared.error.ResolveError.TheVariants as resolve
 use Rattle.session_history.specs.declared.refusal.PlanError.{PlanError}
-use Rattle.session_history.specs.declared.refusal.PlanError.TheVariants.{NoSelection, Source, BadMask, Target, TargetThere, SameFile, IntoItself}
+use Rattle.session_history.specs.declared.refusal.PlanError.TheVariants.{NoSelection, Source, BadMask, Target, TargetThere, SameFile, IntoItself, BadLinkText}
 use Rattle.session_history.specs.declared.refusal.Refusal.{Refusal}
 use Rattle.session_history.specs.declared.refusal.Refusal.TheVariants.{Tree, Read, Resolve, Plan, Begin, Typed}
 use Rattle.mc_dialogs.specs.InputKeys.{InputState}
@@ -32,6 +32,7 @@ plan_path (Target e) = resolve_path e
 plan_path (TargetThere path) = Some path
 plan_path (SameFile path) = Some path
 plan_path (IntoItself source target) = Some source
+plan_path BadLinkText = None
 
 -- the path that a refusal speaks of, if it speaks of one
 abbrev pub refusal_path : Refusal → Option Route
@@ -58,8 +59,10 @@ message_lines (Refused refusal) = refusal_words refusal ∷ path_lines (refusal_
 message_lines (PartLeft path) = part_lines (Some path)
 message_lines (OutOfMemory part) = codes "job ended: out of memory" ∷ part_lines part
 message_lines Help =
-    codes "usage: mc [-b] [-V] [-h] [-P FILE] [-v FILE | -e FILE | --drill N | DIR1 [DIR2]]"
-    ∷ codes "F1 help  F2 menu  F3 view  F4 edit  F5 copy  F6 move  F7 mkdir  F8 delete  F9 options  F10 quit"
+    codes "usage: mc [-b] [-V] [-h] [-P FILE]"
+    ∷ codes "       [-v FILE | -e FILE | --drill N | DIR1 [DIR2]]"
+    ∷ codes "F1 help  F2 menu  F3 view  F4 edit  F5 copy"
+    ∷ codes "F6 move  F7 mkdir  F8 delete  F9 options  F10 quit"
     ∷ []
 
 -- the lines of the box that asks whether to delete one thing
@@ -83,6 +86,13 @@ mask_line = record { title = codes "Source mask"; before = codes "*"; behind = [
 abbrev pub folder_line : InputState
 folder_line = record { title = codes "Make folder"; before = []; behind = [] }
 
+-- the lines that ask what a link is to say, and then for its path, as they open
+abbrev pub link_text_line : List ℕ → InputState
+link_text_line text = record { title = codes "Link text"; before = text; behind = [] }
+
+abbrev pub link_name_line : InputState
+link_name_line = record { title = codes "Link name"; before = []; behind = [] }
+
 -- what a copy's destination is at first: the other panel's folder and a slash
 abbrev pub target_text : Route → List ℕ
 target_text folder = spelled folder ++ codes "/"
@@ -90,3 +100,7 @@ target_text folder = spelled folder ++ codes "/"
 -- the line that asks for the destination, as it opens
 abbrev pub target_line : Route → InputState
 target_line folder = record { title = codes "Copy to"; before = target_text folder; behind = [] }
+
+-- the path of a thing in a folder, however long it is
+abbrev pub thing_text : Route → List ℕ → List ℕ
+thing_text folder name = target_text folder ++ name

@@ -10,9 +10,9 @@ use Rattle.job_reports.specs.declared.report.Cause.TheVariants as cause
 use Rattle.session_history.specs.declared.refusal.PlanError.{PlanError}
 use Rattle.session_history.specs.declared.refusal.PlanError.TheVariants as plan
 use Rattle.session_history.specs.declared.refusal.BeginError.{BeginError}
-use Rattle.session_history.specs.declared.refusal.BeginError.TheVariants.{NoMoreIds}
+use Rattle.session_history.specs.declared.refusal.BeginError.TheVariants.{Full, NoMoreIds}
 use Rattle.session_history.specs.declared.refusal.TypedError.{TypedError}
-use Rattle.session_history.specs.declared.refusal.TypedError.TheVariants.{BadPattern, BadFormat}
+use Rattle.session_history.specs.declared.refusal.TypedError.TheVariants.{BadPattern, BadFormat, BadName}
 use Rattle.session_history.specs.declared.refusal.Refusal.{Refusal}
 use Rattle.session_history.specs.declared.refusal.Refusal.TheVariants.{Tree, Read, Resolve, Plan, Begin, Typed}
 
@@ -50,15 +50,18 @@ plan_words (plan.Target e) = resolve_words e
 plan_words (plan.TargetThere path) = codes "already there"
 plan_words (plan.SameFile path) = codes "same file"
 plan_words (plan.IntoItself source target) = codes "inside itself"
+plan_words plan.BadLinkText = codes "bad link text"
 
 -- what is said of a job that can't be begun
 abbrev pub begin_words : BeginError → List ℕ
+begin_words Full = codes "too many jobs"
 begin_words NoMoreIds = codes "too many jobs"
 
 -- what is said of what was typed and can't be taken
 abbrev pub typed_words : TypedError → List ℕ
 typed_words BadPattern = codes "bad pattern"
 typed_words (BadFormat at) = codes "position " ++ (decimal at ++ codes " is wrong")
+typed_words BadName = codes "bad name"
 
 -- what is said of a refusal
 abbrev pub refusal_words : Refusal → List ℕ

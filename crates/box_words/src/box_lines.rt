@@ -2,25 +2,27 @@
 ghost use Rattle.std.specs.Prelude.{◌≡◌, ◌∷◌, ◌++◌, [], IfOk};
 ghost use Rattle.std.specs.Option.{option_map_or};
 ghost use Rattle.mc_text.specs.Routes.{path_text as path_text_of};
-ghost use Rattle.box_words.specs.BoxLines.{delete_lines as lines_of_deletion, folder_line as line_of_folder, mask_line as line_of_mask, message_lines as lines_of_message, path_lines, plan_path, resolve_path, target_line as line_of_target, target_text as text_of_target, trouble_letter_words, trouble_lines as lines_of_trouble};
+ghost use Rattle.box_words.specs.BoxLines.{delete_lines as lines_of_deletion, folder_line as line_of_folder, link_name_line as line_of_link_name, link_text_line as line_of_link_text, mask_line as line_of_mask, message_lines as lines_of_message, path_lines, plan_path, resolve_path, target_line as line_of_target, target_text as text_of_target, thing_text as text_of_thing, trouble_letter_words, trouble_lines as lines_of_trouble};
 
 use crate::causes::{refusal_text, trouble_text};
 use crate::message::Message;
 use job_reports::Trouble;
 use mc_dialogs::InputLine;
-use mc_text::{NoMemory, Path, Rows, Text};
+use mc_text::{Name, NoMemory, Path, Rows, Text};
 use resolving::ResolveError;
 use session_history::{PlanError, Refusal};
 use std::alloc::Global;
 use std::convert::AsStr;
 
-/// What the program is called with.
-const USAGE: &str =
-    "usage: mc [-b] [-V] [-h] [-P FILE] [-v FILE | -e FILE | --drill N | DIR1 [DIR2]]";
+/// What the program is called with, in lines that a box on 80 columns shows whole.
+const USAGE: &str = "usage: mc [-b] [-V] [-h] [-P FILE]";
+
+const MORE_USAGE: &str = "       [-v FILE | -e FILE | --drill N | DIR1 [DIR2]]";
 
 /// What the function keys do.
-const KEYS: &str =
-    "F1 help  F2 menu  F3 view  F4 edit  F5 copy  F6 move  F7 mkdir  F8 delete  F9 options  F10 quit";
+const KEYS: &str = "F1 help  F2 menu  F3 view  F4 edit  F5 copy";
+
+const MORE_KEYS: &str = "F6 move  F7 mkdir  F8 delete  F9 options  F10 quit";
 
 /// The lines of the box that asks whether to delete one thing.
 pub fn delete_lines(alloc: Global) -> Result<Rows, NoMemory>
@@ -103,6 +105,7 @@ fn plan_lines(alloc: Global, words: Text, error: &PlanError) -> Result<Rows, NoM
         PlanError::TargetThere(path) => words_and_path(alloc, words, path),
         PlanError::SameFile(path) => words_and_path(alloc, words, path),
         PlanError::IntoItself(source, _) => words_and_path(alloc, words, source),
+        PlanError::BadLinkText => words_alone(alloc, words),
     }
 }
 
@@ -161,7 +164,9 @@ fn help_lines(alloc: Global) -> Result<Rows, NoMemory>
 {
     let mut lines = Rows::new(alloc);
     lines.push(Text::from_str(alloc, USAGE)?)?;
+    lines.push(Text::from_str(alloc, MORE_USAGE)?)?;
     lines.push(Text::from_str(alloc, KEYS)?)?;
+    lines.push(Text::from_str(alloc, MORE_KEYS)?)?;
     Ok(lines)
 }
 
@@ -185,6 +190,29 @@ pub fn folder_line(alloc: Global) -> Result<InputLine, NoMemory>
     ensures { IfOk result (λ line. line ≡ line_of_folder) }
 {
     InputLine::new(alloc, "Make folder", "")
+}
+
+/// The line that asks what a link is to say.
+pub fn link_text_line(alloc: Global, text: &str) -> Result<InputLine, NoMemory>
+    ensures { IfOk result (λ line. line ≡ line_of_link_text text.now) }
+{
+    InputLine::new(alloc, "Link text", text)
+}
+
+/// The line that asks for a link's path.
+pub fn link_name_line(alloc: Global) -> Result<InputLine, NoMemory>
+    ensures { IfOk result (λ line. line ≡ line_of_link_name) }
+{
+    InputLine::new(alloc, "Link name", "")
+}
+
+/// The path of a thing in a folder, however long it is.
+pub fn thing_text(alloc: Global, folder: &Path, name: &Name) -> Result<Text, NoMemory>
+    ensures { IfOk result (λ text. text ≡ text_of_thing folder.now name.now) }
+{
+    let Text(mut text) = target_text(alloc, folder)?;
+    text.push_str(name.text())?;
+    Ok(Text(text))
 }
 
 /// A folder's path and a slash, for the root a slash alone.

@@ -56,6 +56,7 @@ fn plan_text(error: &PlanError) -> &'static str
         PlanError::TargetThere(_) => "already there",
         PlanError::SameFile(_) => "same file",
         PlanError::IntoItself(_, _) => "inside itself",
+        PlanError::BadLinkText => "bad link text",
     }
 }
 
@@ -64,6 +65,7 @@ fn begin_text(error: BeginError) -> &'static str
     ensures { result.now ≡ begin_words error }
 {
     match error {
+        BeginError::Full => "too many jobs",
         BeginError::NoMoreIds => "too many jobs",
     }
 }
@@ -75,6 +77,7 @@ fn typed_text(alloc: Global, error: TypedError) -> Result<Text, NoMemory>
     match error {
         TypedError::BadPattern => Text::from_str(alloc, "bad pattern"),
         TypedError::BadFormat(at) => position_text(alloc, at),
+        TypedError::BadName => Text::from_str(alloc, "bad name"),
     }
 }
 

@@ -8,7 +8,8 @@ mod message;
 mod replies;
 
 pub use box_lines::{
-    delete_lines, folder_line, mask_line, message_lines, target_line, trouble_lines,
+    delete_lines, folder_line, link_name_line, link_text_line, mask_line, message_lines,
+    target_line, thing_text, trouble_lines,
 };
 pub use causes::{cause_text, resolve_text};
 pub use chosen::Chosen;

@@ -1,5 +1,5 @@
 -- What is painted over a screen while things are sought: the line that asks, or the list of the found paths. Own.
-use Rattle.std.specs.Prelude.{ℕ, Bool, ◌==◌, if◌then◌else◌, List, [], ◌∷◌, ◌++◌, length, map, take, drop, Option, Some, None, codes}
+use Rattle.std.specs.Prelude.{ℕ, Bool, ◌==◌, if◌then◌else◌, List, [], ◌∷◌, ◌++◌, length, map, take, drop, Option, Some, None, is_some, codes}
 use Rattle.std.specs.Fmt.{decimal}
 use Rattle.mc_text.specs.Routes.{path_text}
 use Rattle.key_screen.specs.declared.cells.Attr.TheVariants.{Plain}
@@ -21,14 +21,22 @@ more_mark has_more = if has_more then codes "+" else []
 abbrev pub skipped_words : ℕ → List ℕ
 skipped_words skipped = if skipped == 0 then [] else codes ", skipped " ++ decimal skipped
 
--- the title of the list
+-- what was found so far
 abbrev pub found_title : FindingsState → List ℕ
 found_title f = ((codes "Found " ++ decimal (length f.found)) ++ more_mark f.has_more) ++ skipped_words f.skipped
+
+-- behind that, while the search goes on
+abbrev pub searching_words : Bool → List ℕ
+searching_words searching = if searching then codes ", searching" else []
+
+-- the title of the list
+abbrev pub list_title : ListingState → List ℕ
+list_title l = found_title l.findings ++ searching_words (is_some l.search)
 
 -- its lines: the title, and so many paths from the first one shown on, the current one in reverse
 abbrev pub found_lines : ℕ → ListingState → List Line
 found_lines page l =
-    record { text = found_title l.findings; attr = Plain } ∷ rows_shown l.first l.current (map path_text (take page (drop l.first l.findings.found)))
+    record { text = list_title l; attr = Plain } ∷ rows_shown l.first l.current (map path_text (take page (drop l.first l.findings.found)))
 
 -- over a screen
 abbrev pub painted : Option Asking → ℕ → ListingState → CellGrid → CellGrid

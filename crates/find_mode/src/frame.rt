@@ -8,7 +8,7 @@ ghost use Rattle.find_mode.specs.FindFrames.{found_lines as lines_of_list, paint
 use crate::asking::Asking;
 use crate::listing::Listing;
 use crate::mode::{FindMode, page_of};
-use crate::title::found_title;
+use crate::title::list_title;
 use key_screen::{Attr, Grid};
 use mc_dialogs::{Line, paint_box};
 use mc_text::{NoMemory, Path};
@@ -70,7 +70,7 @@ fn found_lines(alloc: Global, page: usize, listing: &Listing) -> Result<Vec<Line
 {
     let mut lines = Vec::new(alloc);
     lines.push(Line {
-        text: found_title(alloc, listing.findings())?,
+        text: list_title(alloc, listing)?,
         attr: Attr::Plain,
     })?;
     let shown = paths_from(listing.findings().found(), listing.first(), page);

@@ -12,7 +12,7 @@ use crate::listing::Listing;
 use find_file::Finder;
 use home_paths::with_home;
 use mc_text::{Bytes, Path, Text};
-use resolving::{ResolveError, resolve_thing};
+use resolving::{ResolveError, Wanted, resolve};
 use std::alloc::Global;
 use std::convert::AsStr;
 use tagging::Pattern;
@@ -34,7 +34,7 @@ pub fn start_at<T: ReadTree>(
     ensures carried { IfErr result CarriesCause }
 {
     match with_home(alloc, home, typed) {
-        Ok(text) => resolve_thing(alloc, tree, folder, text.as_str()),
+        Ok(text) => resolve(alloc, tree, Wanted::AnyThing, folder, text.as_str()),
         Err(_error) => Err(ResolveError::Memory),
     }
 }

@@ -1,14 +1,24 @@
 //! The title of the list.
 ghost use Rattle.std.specs.Prelude.{◌≡◌, ◌++◌, string_bytes, IfOk, OnOk};
 ghost use Rattle.std.specs.Fmt.{decimal};
-ghost use Rattle.find_mode.specs.FindFrames.{found_title as title_of, more_mark, skipped_words};
+ghost use Rattle.find_mode.specs.FindFrames.{found_title as title_of, list_title as title_of_list, more_mark, searching_words, skipped_words};
 
 use crate::findings::Findings;
+use crate::listing::Listing;
 use mc_text::{NoMemory, Text};
 use std::alloc::{AllocError, Global};
 
+/// What was found so far, and that the search goes on, while it does.
+pub fn list_title(alloc: Global, listing: &Listing) -> Result<Text, NoMemory>
+    ensures { IfOk result (λ title. title ≡ title_of_list listing.now) }
+{
+    let Text(mut title) = found_title(alloc, listing.findings())?;
+    push_searching(&mut title, listing.is_searching())?;
+    Ok(Text(title))
+}
+
 /// How many paths were found, with a `+` where there are more than are listed, and how many were skipped, where any were.
-pub fn found_title(alloc: Global, findings: &Findings) -> Result<Text, NoMemory>
+fn found_title(alloc: Global, findings: &Findings) -> Result<Text, NoMemory>
     ensures { IfOk result (λ title. title ≡ title_of findings.now) }
 {
     let mut title = String::from_str(alloc, "Found ")?;
@@ -30,6 +40,15 @@ fn push_mark(title: &mut String, has_more: bool) -> Result<(), AllocError>
 {
     if has_more {
         return title.push_str("+");
+    }
+    Ok(())
+}
+
+fn push_searching(title: &mut String, searching: bool) -> Result<(), AllocError>
+    ensures { OnOk result (string_bytes title.new ≡ string_bytes title.old ++ searching_words searching) }
+{
+    if searching {
+        return title.push_str(", searching");
     }
     Ok(())
 }

@@ -9,7 +9,7 @@ use Rattle.tree_trait.specs.FileSystem.{value_at}
 use Rattle.tree_trait.specs.Calls.{RemoveFile, SyncFolder}
 use Rattle.tree_trait.specs.Answers.{Performs}
 use Rattle.tree_trait.specs.Shape.{IsTree}
-use Rattle.tree_trait.specs.Change.{Change, Nothing, Makes, Removes, Syncs, CallLog, after_change}
+use Rattle.tree_trait.specs.Change.{Change, Nothing, Makes, Removes, Syncs, CallLog, after_change, current}
 use Rattle.tree_trait.specs.CrashImages.{IsCrashImage}
 use Rattle.tree_trait.proofs.BareRoot.{bare, bare_tree}
 use Rattle.tree_trait.proofs.Kept.{tree_made}
@@ -33,6 +33,7 @@ use Rattle.copy_move.specs.declared.run.Course.TheVariants.{GoesOn, InTrouble, E
 use Rattle.job_reports.specs.Jobs as jobs
 use Rattle.job_reports.specs.Stops.{trouble_at, cause_of}
 use Rattle.copy_move.specs.Jobs.{Running}
+use Rattle.mode_setting.specs.SettingSteps.{sync_of}
 use Rattle.history_laws.specs.Calmed.{HasBegun}
 use Rattle.history_laws.specs.Doubt.{is_unsettled, name_waits}
 use Rattle.history_laws.specs.Owed.{IsApart}
@@ -285,13 +286,13 @@ settled_traced = (
         inr (record {
           goes = refl;
           fresh = refl;
-          folder = [];
+          path = [];
           owed = inl refl;
           synced = inl (record {
             did_is = refl;
             new_is = refl;
             dirty_is = refl;
-            called = λ known is. subst (λ (l : CallLog). Performs {A = Unit {0}} l (SyncFolder []) (Ok tt) (Some settled_log)) (some_log aborted_log known is) (refl, (pos 0, refl));
+            called = known_is aborted_log (λ l. Performs {A = Unit {0}} l (sync_of (current l) []) (Ok tt) (Some settled_log)) (refl, (pos 0, refl));
           });
         }),
         refl,

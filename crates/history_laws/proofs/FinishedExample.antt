@@ -124,7 +124,7 @@ still_settled =
     since = inr (refl, inr (refl, inr (refl, inr (refl, inl refl))))
 
 -- and the second stays gone
-has_finished : HasFinished end synced_entries another
+abbrev has_finished : HasFinished end synced_entries another
 has_finished = record {
   id = 2;
   part = None;

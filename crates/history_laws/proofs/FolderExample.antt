@@ -396,7 +396,7 @@ ended_entries = entry 3 Closed ∷ finished_entries
 ended_traced : IsTraced (log []) ended_entries (stand [] []) synced_log
 ended_traced = (stand [] [], synced_log, finished_traced, record { after = stand [] []; leads = record { after_is = refl; now_is = refl }; stand_is = refl; counts = refl })
 
-has_finished : (path : Route) → may_change_path (jobs.Removes top) path ≡ true → HasFinished end synced_entries path
+abbrev has_finished : (path : Route) → may_change_path (jobs.Removes top) path ≡ true → HasFinished end synced_entries path
 has_finished path within = record { id = 1; part = None; item = jobs.Removes top; ended = refl; changed = refl; its = refl; within = within }
 
 stays_gone : (image : FileSystem) → IsCrashImage synced_log 3 image → value_at image first ≡ None

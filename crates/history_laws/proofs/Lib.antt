@@ -28,6 +28,7 @@ pub mod Lasting
 pub mod MakingParts
 pub mod MakingSteps
 pub mod MakingThings
+pub mod ModeExample
 pub mod ModeSteps
 pub mod ModesStay
 pub mod Moments

@@ -1,5 +1,5 @@
 mod Refusing
-mod NewFolders
+mod NewPlaces
 mod CopyCauses
 mod OneCopies
 mod Sights

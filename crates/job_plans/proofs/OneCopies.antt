@@ -24,7 +24,7 @@ use Rattle.job_plans.specs.declared.copying.JobPlan.{JobPlan}
 use Rattle.job_plans.specs.declared.copying.JobPlan.TheVariants.{Begins, Refuses}
 use Rattle.job_plans.specs.Choices.{PlanLeads, plan_refusals}
 use Rattle.job_plans.specs.CopyPlans.{CopyLeads, IsOneCopy, IsPlanned, copy_request, only_copy, source_of}
-use Rattle.job_plans.specs.Folders.{is_below_home}
+use Rattle.job_plans.specs.Places.{is_below_home}
 use Rattle.job_plans.specs.Reading.{ReadsTree, sight}
 use Rattle.job_plans.specs.Told.{IsToldAs}
 use Rattle.job_plans.proofs.CopyCauses.{chosen_one}

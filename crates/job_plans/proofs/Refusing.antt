@@ -70,7 +70,7 @@ told_called log error (Begins plan) cause told = absurd told
 told_called log error (Refuses refusal) cause told = (told_cause log error refusal cause told, tt)
 
 -- what is told of a plan that no fault refused is no fault
-no_fault : (error : PlanError) (refusal other : Refusal) → has_fault (refusal ∷ []) ≡ false → has_fault (other ∷ []) ≡ true → refusal ≡ other → is_fault error ≡ true
+pub no_fault : (error : PlanError) (refusal other : Refusal) → has_fault (refusal ∷ []) ≡ false → has_fault (other ∷ []) ≡ true → refusal ≡ other → is_fault error ≡ true
 no_fault error refusal other none h is = absurd (false≢true (sym (subst (λ r. has_fault (r ∷ []) ≡ false) is none) ∙ h))
 
 source_fault : (path : Route) (e : TreeError) → has_fault (Plan (Source path e) ∷ []) ≡ true → is_fault (place.Source path e) ≡ true
@@ -88,7 +88,7 @@ source_fault path tree.NoSpace h = absurd cc
 source_fault path tree.Special h = absurd cc
 source_fault path tree.Memory h = absurd cc
 
-target_fault : (e : ResolveError) → has_fault (Plan (Target e) ∷ []) ≡ true → is_fault (place.Target e) ≡ true
+pub target_fault : (e : ResolveError) → has_fault (Plan (Target e) ∷ []) ≡ true → is_fault (place.Target e) ≡ true
 target_fault resolve.Fault h = refl
 target_fault (resolve.Tree path e) h = absurd cc
 target_fault resolve.TooManyLinks h = absurd cc

@@ -16,13 +16,13 @@ use Rattle.op_plan.specs.Checks.{pair}
 use Rattle.op_plan.specs.Planning.{plan_of}
 use Rattle.op_plan.specs.Soundness.{IsSound}
 use Rattle.job_reports.specs.Jobs.{is_workable}
-use Rattle.session_history.specs.declared.refusal.PlanError.TheVariants.{NoSelection, Source, BadMask, Target, TargetThere, SameFile, IntoItself}
+use Rattle.session_history.specs.declared.refusal.PlanError.TheVariants.{NoSelection, Source, BadMask, Target, TargetThere, SameFile, IntoItself, BadLinkText}
 use Rattle.session_history.specs.declared.refusal.Refusal.{Refusal}
 use Rattle.session_history.specs.declared.refusal.Refusal.TheVariants.{Tree, Read, Resolve, Plan, Begin, Typed}
 use Rattle.job_plans.specs.declared.copying.JobPlan.{JobPlan}
 use Rattle.job_plans.specs.declared.copying.JobPlan.TheVariants.{Begins, Refuses}
 use Rattle.job_plans.specs.Copies.{IsTaken, IsVacant, copy_plan}
-use Rattle.job_plans.specs.Folders.{is_below_home}
+use Rattle.job_plans.specs.Places.{is_below_home}
 use Rattle.job_plans.specs.Reading.{sight}
 use Rattle.job_plans.specs.Told.{told_as}
 
@@ -66,6 +66,7 @@ IsBlocked tree target (Plan BadMask) = ⊥
 IsBlocked tree target (Plan (Target e)) = ⊥
 IsBlocked tree target (Plan (SameFile path)) = ⊥
 IsBlocked tree target (Plan (IntoItself source place)) = ⊥
+IsBlocked tree target (Plan BadLinkText) = ⊥
 IsBlocked tree target (Tree path e) = (path ≡ target) × (e ≢ Missing)
 IsBlocked tree target (Read path e) = ⊥
 IsBlocked tree target (Resolve e) = ⊥

@@ -2,6 +2,8 @@ pub mod Choices
 pub mod Copies
 pub mod CopyPlans
 pub mod Folders
+pub mod Links
+pub mod Places
 pub mod Reading
 pub mod Refused
 pub mod Told

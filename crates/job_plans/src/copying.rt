@@ -8,7 +8,7 @@ ghost use Rattle.job_reports.specs.Jobs.{is_workable};
 ghost use Rattle.job_plans.specs.Copies.{IsTaken, IsVacant, copy_plan, delete_plan};
 ghost use Rattle.job_plans.specs.CopyPlans.{CopyLeads, IsOneCopy, copy_request, only_copy, source_of};
 ghost use Rattle.job_plans.specs.Choices.{AfterLook, PlanLeads, plan_refusals};
-ghost use Rattle.job_plans.specs.Folders.{is_below_home};
+ghost use Rattle.job_plans.specs.Places.{is_below_home};
 ghost use Rattle.job_plans.specs.Reading.{ReadsTree, sight};
 
 use crate::home::is_below_home;

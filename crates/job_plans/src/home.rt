@@ -1,6 +1,6 @@
 //! Typed texts that begin at HOME.
 ghost use Rattle.std.specs.Prelude.{◌≡◌};
-ghost use Rattle.job_plans.specs.Folders.{is_below_home};
+ghost use Rattle.job_plans.specs.Places.{is_below_home};
 
 use text_scan::behind_word;
 

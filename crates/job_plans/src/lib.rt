@@ -5,8 +5,11 @@ mod choosing;
 mod copying;
 mod home;
 mod new_folder;
+mod new_link;
+mod new_place;
 mod refused;
 
 pub use choosing::{Choice, Opens, choose};
 pub use copying::{JobPlan, deletion_of, plan_copy};
 pub use new_folder::plan_folder;
+pub use new_link::plan_link;

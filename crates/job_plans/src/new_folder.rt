@@ -1,22 +1,18 @@
 //! The plan of a new folder.
 ghost use Rattle.std.specs.Prelude.{◌≡◌, true, IfOk};
 ghost use Rattle.job_plans.specs.Choices.{plan_refusals};
-ghost use Rattle.job_plans.specs.Folders.{FolderLeads, is_below_home};
+ghost use Rattle.job_plans.specs.Folders.{FolderLeads};
+ghost use Rattle.job_plans.specs.Places.{is_below_home};
 ghost use Rattle.job_plans.specs.Reading.{ReadsTree};
 
 use crate::copying::JobPlan;
-use crate::home::is_below_home;
-use crate::refused::{refuse, refused};
+use crate::new_place::{NewPlace, new_place};
 use job_reports::Job;
 use mc_text::{NoMemory, Path};
-use op_plan::plan_place;
-use session_history::PlanError;
 use std::alloc::Global;
 use tree_trait::ReadTree;
 
-/// Plans a new folder where a typed text leads from a folder: what stands before its last slash leads to the folder in which it is
-/// made, and the last part is its name. It is refused where something stands there. What begins at HOME, which isn't known here, is
-/// refused too, without a look.
+/// Plans a new folder at the path of a new thing to which a typed text leads from a folder.
 pub fn plan_folder<T: ReadTree>(
     alloc: Global,
     tree: &mut T,
@@ -28,11 +24,8 @@ pub fn plan_folder<T: ReadTree>(
     ensures reads { ReadsTree plan_refusals result (T.contents tree.old) (T.contents tree.new)
         (T.fault_count tree.old) (T.fault_count tree.new) }
 {
-    if is_below_home(typed) {
-        return refuse(PlanError::BadMask);
-    }
-    match plan_place(alloc, tree, from, typed) {
-        Ok(path) => Ok(JobPlan::Begins(Job::MakeFolder(path))),
-        Err(error) => refused(error),
+    match new_place(alloc, tree, from, typed)? {
+        NewPlace::At(path) => Ok(JobPlan::Begins(Job::MakeFolder(path))),
+        NewPlace::Refused(refusal) => Ok(JobPlan::Refuses(refusal)),
     }
 }

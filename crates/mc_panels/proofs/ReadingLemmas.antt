@@ -22,7 +22,7 @@ use Rattle.mc_panels.specs.Readings.{ListsFolder}
 -- a refusal of `list` is told as it is
 pub list_refused : (log : CallLog) (folder : Route) (e : TreeError) → Reads {A = Listed} log (ListFolder folder) (Err e) (IsListingOf (current log) folder)
     → ListsFolder log folder (Err (refused_by folder e))
-list_refused log folder tree.Fault h = tt
+list_refused log folder tree.Fault h = h
 list_refused log folder tree.Memory h = tt
 list_refused log folder tree.Missing h = (refl, h)
 list_refused log folder tree.NotFolder h = (refl, h)

@@ -4,6 +4,7 @@ use Rattle.mc_text.specs.Routes.{Route, last_of}
 use Rattle.tree_trait.specs.Refusals.{holder}
 use Rattle.tree_trait.specs.Change.{CallLog, current}
 use Rattle.resolving.specs.declared.error.ResolveError.{ResolveError}
+use Rattle.resolving.specs.declared.error.ResolveError.TheVariants.{Fault}
 use Rattle.resolving.specs.declared.walking.Wanted.TheVariants.{FolderAlone}
 use Rattle.resolving.specs.Errors.{Answers}
 use Rattle.resolving.specs.Resolution.{resolved}
@@ -14,7 +15,9 @@ use Rattle.mc_panels.specs.declared.going.Going.TheVariants.{Went, NoFolder}
 use Rattle.mc_panels.specs.declared.going.Way.{Way}
 use Rattle.mc_panels.specs.declared.going.Way.TheVariants.{Nowhere, Up, Into}
 use Rattle.mc_panels.specs.Panels.{PanelState, current_item, current_text, row_count}
-use Rattle.mc_panels.specs.Readings.{ShowsFolder, went_to, gone_to, went_back, went_forward}
+use Rattle.mc_panels.specs.declared.visits.Turn.{Turn}
+use Rattle.mc_panels.specs.Visits.{folders_on}
+use Rattle.mc_panels.specs.Readings.{ListsFolder, ShowsFolder, went_to, gone_to, turned_to}
 
 -- where Enter on a row leads, if it is one: `..` has no item and leads to the folder above
 abbrev pub way_on : Bool → Option Item → Way
@@ -30,9 +33,15 @@ Enters Nowhere page p new going = (going ≡ NoFolder) × (new ≡ p)
 Enters Up page p new going = (going ≡ Went) × (new ≡ went_to page (holder p.folder) new.listing (last_of p.folder) p)
 Enters Into page p new going = (going ≡ Went) × (new ≡ gone_to page new.folder new.listing p)
 
+-- a folder at the end of a way is refused; a device may fail on the way, too
+abbrev pub RefusesAtEnd : CallLog → Route → ResolveError → Type 0
+RefusesAtEnd log folder Fault = ⊤
+RefusesAtEnd log folder e = ListsFolder log folder (Err e)
+
 -- the folder of a text is shown, or the text leads to none
 abbrev pub ShowsResolved : CallLog → Result Route ResolveError → Result PanelState ResolveError → Type 0
-ShowsResolved log (Ok folder) result = ShowsFolder log folder result
+ShowsResolved log (Ok folder) (Ok p) = ShowsFolder log folder (Ok p)
+ShowsResolved log (Ok folder) (Err e) = RefusesAtEnd log folder e
 ShowsResolved log (Err e) result = Answers (Err e) result
 
 -- what Enter reads of the tree, and what that refuses; where it leads nowhere nothing is read, and nothing refused
@@ -47,11 +56,8 @@ abbrev pub GoesTo : List Route → (Route → PanelState) → PanelState → Pan
 GoesTo [] there p new going = (going ≡ NoFolder) × (new ≡ p)
 GoesTo (folder ∷ folders) there p new going = (going ≡ Went) × (new ≡ there folder)
 
-abbrev pub GoesBack : ℕ → PanelState → PanelState → Going → Type 0
-GoesBack page p new = GoesTo p.visits.behind (λ folder. went_back page folder new.listing p) p new
-
-abbrev pub GoesForward : ℕ → PanelState → PanelState → Going → Type 0
-GoesForward page p new = GoesTo p.visits.ahead (λ folder. went_forward page folder new.listing p) p new
+abbrev pub Turns : Turn → ℕ → PanelState → PanelState → Going → Type 0
+Turns turn page p new = GoesTo (folders_on turn p.visits) (λ folder. turned_to turn page folder new.listing p) p new
 
 -- the first of some folders is shown; where there is none nothing is read, and nothing refused
 abbrev pub ShowsNext : CallLog → List Route → Result PanelState ResolveError → Type 0

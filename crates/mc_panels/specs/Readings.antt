@@ -11,15 +11,17 @@ use Rattle.panel_listing.specs.declared.wish.Order.TheVariants.{Name}
 use Rattle.panel_listing.specs.declared.wish.Wish.{Wish}
 use Rattle.panel_listing.specs.Listings.{Listed, IsListingOf}
 use Rattle.mc_panels.specs.declared.format.Layout.TheVariants.{Columns}
-use Rattle.mc_panels.specs.Visits.{FoldersShown, visited, gone_back, gone_forward}
+use Rattle.mc_panels.specs.declared.visits.Turn.{Turn}
+use Rattle.mc_panels.specs.Visits.{FoldersShown, visited, turned}
 use Rattle.mc_panels.specs.Panels.{PanelState, no_tags, tag_set, with_tags, untagged, with_cursor, row_from, row_among, with_cursor_on}
 use Rattle.mc_panels.specs.Wanted.{kept_tags}
 
--- reading a folder gives its listing, or is refused as `list` of it is; a device may fail, and memory run out
+-- Reading a folder gives its listing, or is refused as `list` of it is. Memory may run out, and where nothing refuses `list` a device may
+-- fail.
 abbrev pub ListsFolder : CallLog → Route → Result Listed ResolveError → Type 0
 ListsFolder log folder (Ok listing) = (refusal_of (current log) (ListFolder folder) ≡ None) × IsListingOf (current log) folder listing
 ListsFolder log folder (Err (Tree path e)) = (path ≡ folder) × (refusal_of (current log) (ListFolder folder) ≡ Some e)
-ListsFolder log folder (Err Fault) = ⊤
+ListsFolder log folder (Err Fault) = refusal_of (current log) (ListFolder folder) ≡ None
 ListsFolder log folder (Err Memory) = ⊤
 ListsFolder log folder (Err TooManyLinks) = ⊥
 ListsFolder log folder (Err TooLong) = ⊥
@@ -80,8 +82,5 @@ gone_to_path page path listing p =
     else went_to page (holder path) listing (last_of path) p
 
 -- the panel that went back to the folder shown before, or forward again
-abbrev pub went_back : ℕ → Route → Listed → PanelState → PanelState
-went_back page folder listing p = shown_anew page folder listing None (gone_back p.folder p.visits) p
-
-abbrev pub went_forward : ℕ → Route → Listed → PanelState → PanelState
-went_forward page folder listing p = shown_anew page folder listing None (gone_forward p.folder p.visits) p
+abbrev pub turned_to : Turn → ℕ → Route → Listed → PanelState → PanelState
+turned_to turn page folder listing p = shown_anew page folder listing None (turned turn p.folder p.visits) p

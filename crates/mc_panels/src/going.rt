@@ -8,15 +8,17 @@ ghost use Rattle.panel_listing.specs.Orders.{AreArranged};
 ghost use Rattle.panel_listing.specs.Listings.{rows_in};
 ghost use Rattle.mc_panels.specs.Panels.{with_cursor_on};
 ghost use Rattle.mc_panels.specs.Readings.{ShowsFolder, outcome, read_again, went_to, gone_to, gone_to_path, shown_anew};
-ghost use Rattle.mc_panels.specs.Goings.{way_of, Enters, Reads, GoesBack, GoesForward, ShowsNext};
+ghost use Rattle.mc_panels.specs.Goings.{way_of, Enters, Reads, Turns, ShowsNext};
+ghost use Rattle.mc_panels.specs.Visits.{folders_on};
 
 use crate::panel::Panel;
 use crate::reading::read_folder;
 use crate::scrolling::{rows_shown, scrolled};
 use crate::searching::row_from;
+use crate::visits::Turn;
 use mc_text::{Name, NoMemory, Path};
 use panel_listing::Listing;
-use resolving::{ResolveError, resolve_folder};
+use resolving::{ResolveError, Wanted, resolve};
 use std::alloc::Global;
 use std::convert::AsStr;
 use tree_trait::ReadTree;
@@ -111,54 +113,29 @@ impl Panel {
         self.change_to(alloc, tree, page, folder, name)
     }
 
-    /// Goes back to the folder that was shown before this one, if there is one.
-    pub fn back<T: ReadTree>(
+    /// Goes along the folders that were shown, to the one before this one or to the one that was gone back from last, if there is one.
+    pub fn turn<T: ReadTree>(
         &mut self,
         alloc: Global,
         tree: &mut T,
         page: usize,
+        turn: Turn,
     ) -> Result<Going, ResolveError>
         requires { page < 2 ^ 16 }
-        ensures done { IfOk result (GoesBack page self.old self.new) }
+        ensures done { IfOk result (Turns turn page self.old self.new) }
         ensures refused { OnErr result (self.new ≡ self.old) }
-        ensures answer { IfKnown (T.contents tree.old) (λ log. ShowsNext log self.old.visits.behind (outcome result self.new)) }
+        ensures answer { IfKnown (T.contents tree.old) (λ log. ShowsNext log (folders_on turn self.old.visits) (outcome result self.new)) }
         ensures same { T.contents tree.new ≡ T.contents tree.old }
         ensures cause { HasCause ResolveError.Fault (T.fault_count tree.old) (T.fault_count tree.new) result }
         ensures counts { T.fault_count tree.new ≡ count_told (T.fault_count tree.old) result }
         ensures carried { IfErr result CarriesCause }
     {
-        let Some(folder) = self.visits.behind() else {
+        let Some(folder) = self.visits.next(turn) else {
             return Ok(Going::NoFolder);
         };
         let folder = folder.copy(alloc)?;
         let listing = read_folder(alloc, tree, &folder, &self.wish)?;
-        self.visits.go_back(alloc, &self.folder)?;
-        self.show(page, folder, listing, None);
-        Ok(Going::Went)
-    }
-
-    /// Goes forward to the folder that was gone back from last, if there is one.
-    pub fn forward<T: ReadTree>(
-        &mut self,
-        alloc: Global,
-        tree: &mut T,
-        page: usize,
-    ) -> Result<Going, ResolveError>
-        requires { page < 2 ^ 16 }
-        ensures done { IfOk result (GoesForward page self.old self.new) }
-        ensures refused { OnErr result (self.new ≡ self.old) }
-        ensures answer { IfKnown (T.contents tree.old) (λ log. ShowsNext log self.old.visits.ahead (outcome result self.new)) }
-        ensures same { T.contents tree.new ≡ T.contents tree.old }
-        ensures cause { HasCause ResolveError.Fault (T.fault_count tree.old) (T.fault_count tree.new) result }
-        ensures counts { T.fault_count tree.new ≡ count_told (T.fault_count tree.old) result }
-        ensures carried { IfErr result CarriesCause }
-    {
-        let Some(folder) = self.visits.ahead() else {
-            return Ok(Going::NoFolder);
-        };
-        let folder = folder.copy(alloc)?;
-        let listing = read_folder(alloc, tree, &folder, &self.wish)?;
-        self.visits.go_forward(alloc, &self.folder)?;
+        self.visits.turn(alloc, turn, &self.folder)?;
         self.show(page, folder, listing, None);
         Ok(Going::Went)
     }
@@ -214,7 +191,13 @@ impl Panel {
         ensures carried { IfErr result CarriesCause }
     {
         let name = self.current_text(alloc)?;
-        let folder = resolve_folder(alloc, tree, &self.folder, name.as_str())?;
+        let folder = resolve(
+            alloc,
+            tree,
+            Wanted::FolderAlone,
+            &self.folder,
+            name.as_str(),
+        )?;
         self.go_to(alloc, tree, page, folder)?;
         Ok(Going::Went)
     }

@@ -26,4 +26,5 @@ pub use going::Going;
 pub use hiding::HiddenPlan;
 pub use panel::Panel;
 pub use rereading::Attempt;
+pub use visits::Turn;
 pub use window::{Mark, View};

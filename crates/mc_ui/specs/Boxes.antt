@@ -16,14 +16,16 @@ use Rattle.mc_ui.specs.declared.dialog.Dialog.{Dialog}
 use Rattle.mc_ui.specs.declared.dialog.Dialog.TheVariants as dialog
 
 -- What stands over the panels: nothing, or a box that asks whether to delete a file, asks for the source mask of a copy or, with that
--- mask, for its destination, or for a new folder, tells of a job's trouble, asks what the panels are to do, seeks things and lists what
--- was found, or lists the live jobs.
+-- mask, for its destination, for a new folder, for what a new link is to say or, with that, for its name, tells of a job's trouble, asks
+-- what the panels are to do, seeks things and lists what was found, or lists the live jobs.
 pub data Box : Type 0 where
   NoBox : Box
   DeleteBox : (path : Route) → Box
   MaskBox : (path : Route) → (typed : InputState) → Box
   TargetBox : (path : Route) → (mask : List ℕ) → (typed : InputState) → Box
   FolderBox : (typed : InputState) → Box
+  LinkTextBox : (typed : InputState) → Box
+  LinkNameBox : (text : List ℕ) → (typed : InputState) → Box
   TroubleBox : (trouble : Trouble) → Box
   PanelsBox : (asks : PanelBox) → Box
   FindBox : (find : FindScreen) → Box
@@ -36,6 +38,8 @@ seen_box (dialog.Delete chosen) = DeleteBox chosen.path
 seen_box (dialog.SourceMask chosen typed) = MaskBox chosen.path typed
 seen_box (dialog.CopyTo chosen mask typed) = TargetBox chosen.path mask typed
 seen_box (dialog.MakeFolder typed) = FolderBox typed
+seen_box (dialog.LinkText typed) = LinkTextBox typed
+seen_box (dialog.LinkName text typed) = LinkNameBox text typed
 seen_box (dialog.Trouble trouble) = TroubleBox trouble
 seen_box (dialog.Panel asks) = PanelsBox asks
 seen_box (dialog.Find find) = FindBox find

@@ -18,7 +18,7 @@ use Rattle.panel_boxes.specs.Paintings.{with_panel_box}
 use Rattle.panel_pair.specs.Frames.{panes_of}
 use Rattle.viewer_mode.specs.ViewerFrames.{frame_of as viewer_frame}
 use Rattle.mc_ui.specs.declared.viewing.ViewedFile.{ViewedFile}
-use Rattle.mc_ui.specs.Boxes.{Box, NoBox, DeleteBox, MaskBox, TargetBox, FolderBox, TroubleBox, PanelsBox, FindBox, JobsBox}
+use Rattle.mc_ui.specs.Boxes.{Box, NoBox, DeleteBox, MaskBox, TargetBox, FolderBox, LinkTextBox, LinkNameBox, TroubleBox, PanelsBox, FindBox, JobsBox}
 use Rattle.mc_ui.specs.Screens.{Screen, frame_size}
 
 -- one job more in this state
@@ -40,6 +40,8 @@ with_over (DeleteBox path) rows grid = with_box grid (plain_lines delete_lines)
 with_over (MaskBox path typed) rows grid = with_input grid typed
 with_over (TargetBox path mask typed) rows grid = with_input grid typed
 with_over (FolderBox typed) rows grid = with_input grid typed
+with_over (LinkTextBox typed) rows grid = with_input grid typed
+with_over (LinkNameBox text typed) rows grid = with_input grid typed
 with_over (TroubleBox trouble) rows grid = with_box grid (plain_lines (trouble_lines trouble))
 with_over (PanelsBox asks) rows grid = with_panel_box asks grid
 with_over (FindBox find) rows grid = with_find find grid

@@ -1,7 +1,7 @@
 -- What a key or a look makes of the screen: the two panels, the box that stands over them, a message over these, and a file that is viewed
 -- over all.
-use Rattle.std.specs.Prelude.{◌≡◌, ◌≢◌, ℕ, Bool, true, false, is_some, MatchBool, ⊤, if◌then◌else◌, List, [], ◌∷◌, Option, Some, None, Ok, Err}
-use Rattle.mc_text.specs.Routes.{Route}
+use Rattle.std.specs.Prelude.{◌≡◌, ◌≢◌, ◌⊎◌, ℕ, Bool, true, false, is_some, MatchBool, ⊤, if◌then◌else◌, List, [], ◌∷◌, Option, Some, None, Ok, Err}
+use Rattle.mc_text.specs.Routes.{Route, path_text}
 use Rattle.home_paths.specs.Homes.{with_home}
 use Rattle.tree_trait.specs.declared.calls.TreeError.{TreeError}
 use Rattle.tree_trait.specs.FileSystem.{View as TreeView}
@@ -16,9 +16,10 @@ use Rattle.job_reports.specs.declared.answer.Answer.{Answer}
 use Rattle.job_reports.specs.declared.job.Job.{Job}
 use Rattle.job_reports.specs.declared.row.JobRow.{JobRow}
 use Rattle.job_reports.specs.Jobs.{is_workable}
+use Rattle.session_history.specs.declared.refusal.BeginError.TheVariants.{Full}
 use Rattle.session_history.specs.declared.refusal.PlanError.TheVariants.{NoSelection}
 use Rattle.session_history.specs.declared.refusal.Refusal.{Refusal}
-use Rattle.session_history.specs.declared.refusal.Refusal.TheVariants.{Tree, Read, Resolve, Plan, Typed}
+use Rattle.session_history.specs.declared.refusal.Refusal.TheVariants.{Tree, Read, Resolve, Plan, Begin, Typed}
 use Rattle.mc_dialogs.specs.InputKeys.{InputState, input_after, input_shut}
 use Rattle.mc_ui.specs.declared.asks.Ask.{Ask}
 use Rattle.mc_ui.specs.declared.asks.Ask.TheVariants as ask
@@ -40,7 +41,7 @@ use Rattle.find_mode.specs.declared.act.FindAct.TheVariants as found
 use Rattle.find_mode.specs.FindScreens.{FindScreen, KeyLeads as FindKeyLeads, opened as opened_find}
 use Rattle.job_list.specs.JobLists.{opened_list}
 use Rattle.mc_panels.specs.Goings.{way_of}
-use Rattle.mc_panels.specs.Panels.{current_name}
+use Rattle.mc_panels.specs.Panels.{PanelState, current_name}
 use Rattle.mc_panels.specs.Selections.{selection}
 use Rattle.panel_boxes.specs.declared.panel_box.PanelBox.{PanelBox}
 use Rattle.panel_boxes.specs.declared.panel_box.PanelReply.{PanelReply}
@@ -54,12 +55,14 @@ use Rattle.panel_pair.specs.Commands.{CommandDone, CommandReads}
 use Rattle.panel_pair.specs.Frames.{page_of as page_of_lines}
 use Rattle.panel_pair.specs.Pairs.{PairState, untagged_pair}
 use Rattle.box_words.specs.BoxKeys.{closes_message, delete_reply_to, line_reply, trouble_reply_to}
-use Rattle.box_words.specs.BoxLines.{folder_line, target_line}
+use Rattle.box_words.specs.BoxLines.{folder_line, link_name_line, link_text_line, target_line, thing_text}
 use Rattle.job_plans.specs.Reading.{sight}
 use Rattle.job_plans.specs.Copies.{MayAsk, copy_plan, delete_plan}
 use Rattle.job_plans.specs.CopyPlans.{CopyRefused, IsNewCopy}
-use Rattle.job_plans.specs.Folders.{FolderRefused, IsNewFolder, folder_plan}
-use Rattle.mc_ui.specs.Boxes.{Box, NoBox, DeleteBox, MaskBox, TargetBox, FolderBox, TroubleBox, PanelsBox, FindBox, JobsBox, box_of, first_refusal, with_news, with_refusal, with_trouble}
+use Rattle.job_plans.specs.Folders.{folder_plan}
+use Rattle.job_plans.specs.Links.{IsNewLink, LinkRefused, link_plan}
+use Rattle.job_plans.specs.Places.{IsNewPlace, PlaceRefused}
+use Rattle.mc_ui.specs.Boxes.{Box, NoBox, DeleteBox, MaskBox, TargetBox, FolderBox, LinkTextBox, LinkNameBox, TroubleBox, PanelsBox, FindBox, JobsBox, box_of, first_refusal, with_news, with_refusal, with_trouble}
 use Rattle.mc_ui.specs.Findings.{find_refusal}
 use Rattle.mc_ui.specs.JobBoxes.{left_by_jobs}
 use Rattle.mc_ui.specs.LiveJobs.{can_answer, none_live, shown_trouble}
@@ -123,6 +126,14 @@ frame_size s = record { lines = s.lines; columns = s.columns; now = s.second }
 abbrev pub told_refusal : Refusal → Screen → Screen
 told_refusal refusal before = record before { message = Some (Refused refusal) }
 
+-- a job is confirmed while another one is live: as many are as may be, and a message says so
+abbrev pub RefusesFull : List Refusal → Screen → Screen → Type 0
+RefusesFull refusals before after = (refusals ≡ Begin Full ∷ []) × (after ≡ told_refusal (Begin Full) before)
+
+-- such a key is refused nothing else
+abbrev pub IsFullAtMost : List Refusal → Type 0
+IsFullAtMost refusals = (refusals ≡ []) ⊎ (refusals ≡ Begin Full ∷ [])
+
 -- THE PANELS
 
 -- a command of the panels is done, as the folders that it reads are; nothing else changes
@@ -150,17 +161,20 @@ AsksOf box tree path [] before after = (asks : Bool) × MayAsk box tree path ask
 AsksOf box tree path (refusal ∷ more) before after =
     (e : TreeError) × (refusal ∷ more ≡ Tree path e ∷ []) × (after ≡ told_refusal (Tree path e) before)
 
--- The key that asks of what is selected in a folder opens its box on it, where it is one thing and no job is live. Where nothing is
--- selected a message says so; of several things no box can ask yet.
-abbrev pub Chooses : Opens → Option TreeView → List JobRow → Route → List (List ℕ) → List Refusal → Screen → Screen → Type 0
-Chooses box tree (row ∷ rows) folder names refusals before after = (refusals ≡ []) × (after ≡ before)
-Chooses box tree [] folder [] refusals before after = (refusals ≡ Plan NoSelection ∷ []) × (after ≡ told_refusal (Plan NoSelection) before)
-Chooses box tree [] folder (name ∷ []) refusals before after = AsksOf box tree (name ∷ folder) refusals before after
-Chooses box tree [] folder (name ∷ other ∷ more) refusals before after = (refusals ≡ []) × (after ≡ before)
+-- The key that asks of what is selected in a folder opens its box on it, where it is one thing. Where nothing is selected a message says
+-- so; of several things no box can ask yet.
+abbrev pub Chooses : Opens → Option TreeView → Route → List (List ℕ) → List Refusal → Screen → Screen → Type 0
+Chooses box tree folder [] refusals before after = (refusals ≡ Plan NoSelection ∷ []) × (after ≡ told_refusal (Plan NoSelection) before)
+Chooses box tree folder (name ∷ []) refusals before after = AsksOf box tree (name ∷ folder) refusals before after
+Chooses box tree folder (name ∷ other ∷ more) refusals before after = (refusals ≡ []) × (after ≡ before)
 
--- the key that asks for a new folder opens its box, where no job is live
-abbrev pub after_ask_folder : List JobRow → Screen → Screen
-after_ask_folder rows before = if none_live rows then record before { over = FolderBox folder_line } else before
+-- what a link says at first that is asked for in a panel: the path of the thing under the cursor, or of the folder, where that is on `..`
+abbrev pub text_within : Option (List ℕ) → Route → List ℕ
+text_within (Some name) folder = thing_text folder name
+text_within None folder = path_text folder
+
+abbrev pub link_asked : PanelState → InputState
+link_asked p = link_text_line (text_within (current_name p) p.folder)
 
 -- things are sought from the current panel's folder on, hidden names as that panel has them, patterns as they are read
 abbrev pub find_asked : Screen → FindScreen
@@ -200,8 +214,8 @@ CommandLeads (Work command) contents rows refusals before after = Works command 
 CommandLeads ShowHelp contents rows refusals before after = (refusals ≡ []) × (after ≡ record before { message = Some Help })
 CommandLeads View contents rows refusals before after = Views contents refusals before after
 CommandLeads (Open opens) contents rows refusals before after =
-    Chooses opens (sight contents) rows before.panels.current.folder (selection before.panels.current) refusals before after
-CommandLeads AskFolder contents rows refusals before after = (refusals ≡ []) × (after ≡ after_ask_folder rows before)
+    Chooses opens (sight contents) before.panels.current.folder (selection before.panels.current) refusals before after
+CommandLeads AskFolder contents rows refusals before after = (refusals ≡ []) × (after ≡ record before { over = FolderBox folder_line })
 CommandLeads (OpenPanelBox opening) contents rows refusals before after =
     (refusals ≡ []) × (after ≡ record before { over = PanelsBox (opened before.lines opening) })
 CommandLeads Find contents rows refusals before after = (refusals ≡ []) × (after ≡ record before { over = FindBox (find_asked before) })
@@ -217,11 +231,12 @@ without_box before = record before { over = NoBox }
 abbrev pub begun : Job → Screen → Screen
 begun plan before = record before { panels = untagged_pair before.panels; over = NoBox; planned = Some (Begins plan false) }
 
--- the delete box's answer: a job is confirmed only while none is live
-abbrev pub after_delete : DeleteReply → List JobRow → Route → Screen → Screen
-after_delete delete.Stays rows path before = before
-after_delete delete.Shuts rows path before = without_box before
-after_delete delete.Deletes rows path before = if none_live rows then begun (delete_plan path) before else before
+-- the delete box's answer: the deletion is planned while no job is live
+abbrev pub DeleteLeads : DeleteReply → List JobRow → Route → List Refusal → Screen → Screen → Type 0
+DeleteLeads delete.Stays rows path refusals before after = (refusals ≡ []) × (after ≡ before)
+DeleteLeads delete.Shuts rows path refusals before after = (refusals ≡ []) × (after ≡ without_box before)
+DeleteLeads delete.Deletes rows path refusals before after =
+    MatchBool (none_live rows) ((refusals ≡ []) × (after ≡ begun (delete_plan path) before)) (RefusesFull refusals before after)
 
 -- the source mask's answer: with any mask that is typed the destination is asked for
 abbrev pub MaskLeads : LineReply → Route → InputState → List Refusal → Screen → Screen → Type 0
@@ -244,21 +259,45 @@ TargetLeads line.Stays contents rows path mask typed refusals before after =
     (refusals ≡ []) × (after ≡ record before { over = TargetBox path mask typed })
 TargetLeads line.Shuts contents rows path mask typed refusals before after = (refusals ≡ []) × (after ≡ without_box before)
 TargetLeads (line.Takes text) contents rows path mask typed refusals before after =
-    MatchBool (none_live rows) (PlansCopy contents path mask before.panels.current.folder (with_home before.home text) refusals before after) ((refusals ≡ []) × (after ≡ before))
+    MatchBool (none_live rows) (PlansCopy contents path mask before.panels.current.folder (with_home before.home text) refusals before after)
+    (RefusesFull refusals before after)
 
 -- a new folder is planned in the folder of the current panel, where nothing stands at the path that was typed; or it is refused, and
 -- then the box stays
 abbrev pub PlansFolder : Option CallLog → Route → List ℕ → List Refusal → Screen → Screen → Type 0
-PlansFolder contents folder text [] before after = (path : Route) × IsNewFolder contents folder text path × (after ≡ begun (folder_plan path) before)
+PlansFolder contents folder text [] before after = (path : Route) × IsNewPlace contents folder text path × (after ≡ begun (folder_plan path) before)
 PlansFolder contents folder text (refusal ∷ more) before after =
-    FolderRefused contents folder text refusal × (more ≡ []) × (after ≡ told_refusal refusal before)
+    PlaceRefused contents folder text refusal × (more ≡ []) × (after ≡ told_refusal refusal before)
 
 -- the answer of the box that asks for a new folder: it is planned while no job is live
 abbrev pub MakeFolderLeads : LineReply → Option CallLog → List JobRow → InputState → List Refusal → Screen → Screen → Type 0
 MakeFolderLeads line.Stays contents rows typed refusals before after = (refusals ≡ []) × (after ≡ record before { over = FolderBox typed })
 MakeFolderLeads line.Shuts contents rows typed refusals before after = (refusals ≡ []) × (after ≡ without_box before)
 MakeFolderLeads (line.Takes text) contents rows typed refusals before after =
-    MatchBool (none_live rows) (PlansFolder contents before.panels.current.folder (with_home before.home text) refusals before after) ((refusals ≡ []) × (after ≡ before))
+    MatchBool (none_live rows) (PlansFolder contents before.panels.current.folder (with_home before.home text) refusals before after)
+    (RefusesFull refusals before after)
+
+-- the line that asks what a link is to say: with any text that is typed its name is asked for
+abbrev pub LinkTextLeads : LineReply → InputState → List Refusal → Screen → Screen → Type 0
+LinkTextLeads line.Stays typed refusals before after = (refusals ≡ []) × (after ≡ record before { over = LinkTextBox typed })
+LinkTextLeads line.Shuts typed refusals before after = (refusals ≡ []) × (after ≡ without_box before)
+LinkTextLeads (line.Takes text) typed refusals before after = (refusals ≡ []) × (after ≡ record before { over = LinkNameBox text link_name_line })
+
+-- a new link that says a text is planned in the folder of the current panel, where nothing stands at the path that was typed; or it is
+-- refused, and then the box stays
+abbrev pub PlansLink : Option CallLog → Route → List ℕ → List ℕ → List Refusal → Screen → Screen → Type 0
+PlansLink contents folder typed text [] before after =
+    (path : Route) × IsNewLink contents folder typed text path × (after ≡ begun (link_plan path text) before)
+PlansLink contents folder typed text (refusal ∷ more) before after =
+    LinkRefused contents folder typed text refusal × (more ≡ []) × (after ≡ told_refusal refusal before)
+
+-- the answer of the line that asks for its name: the link is planned while no job is live
+abbrev pub LinkNameLeads : LineReply → Option CallLog → List JobRow → List ℕ → InputState → List Refusal → Screen → Screen → Type 0
+LinkNameLeads line.Stays contents rows text typed refusals before after = (refusals ≡ []) × (after ≡ record before { over = LinkNameBox text typed })
+LinkNameLeads line.Shuts contents rows text typed refusals before after = (refusals ≡ []) × (after ≡ without_box before)
+LinkNameLeads (line.Takes name) contents rows text typed refusals before after =
+    MatchBool (none_live rows) (PlansLink contents before.panels.current.folder (with_home before.home name) text refusals before after)
+    (RefusesFull refusals before after)
 
 -- a trouble's answer, where the live job can be answered so; without one the job stays as it is
 abbrev pub after_trouble : TroubleReply → List JobRow → Screen → Screen
@@ -267,13 +306,16 @@ after_trouble trouble.Shuts rows before = without_box before
 after_trouble (trouble.Gives answer) rows before = if can_answer rows answer then record before { over = NoBox; planned = Some (Answers answer) } else before
 
 -- The answer of a box of the panels, over the screen without it: it stays, is shut, or another one stands in its place; or it is shut, and
--- what it asked for is done to the panels, or the live jobs are listed; or what was typed is refused, and it stays under a message.
+-- what it asked for is done to the panels, the live jobs are listed, or a new link is asked for; or what was typed is refused, and it
+-- stays under a message.
 abbrev pub PanelLeads : PanelReply → PanelBox → Option CallLog → List Refusal → Screen → Screen → Type 0
 PanelLeads panel.Stays asks contents refusals cleared after = (refusals ≡ []) × (after ≡ record cleared { over = PanelsBox asks })
 PanelLeads panel.Shuts asks contents refusals cleared after = (refusals ≡ []) × (after ≡ cleared)
 PanelLeads (panel.Opens next) asks contents refusals cleared after = (refusals ≡ []) × (after ≡ record cleared { over = PanelsBox next })
 PanelLeads (panel.Does command) asks contents refusals cleared after = Works command contents refusals cleared after
 PanelLeads panel.ListsJobs asks contents refusals cleared after = (refusals ≡ []) × (after ≡ record cleared { over = JobsBox (opened_list cleared.lines) })
+PanelLeads panel.AsksLink asks contents refusals cleared after =
+    (refusals ≡ []) × (after ≡ record cleared { over = LinkTextBox (link_asked cleared.panels.current) })
 PanelLeads (panel.Refuses error) asks contents refusals cleared after =
     (refusals ≡ Typed error ∷ []) × (after ≡ told_refusal (Typed error) (record cleared { over = PanelsBox asks }))
 
@@ -329,13 +371,17 @@ pub record ViewerLeads (viewed : ViewedFile) (contents : Option CallLog) (key : 
 -- what a key makes of the screen, by the box that is open, while these jobs are live
 abbrev pub ByBox : Box → Option CallLog → List JobRow → Key → List Refusal → Screen → Screen → Type 0
 ByBox NoBox contents rows key refusals before after = CommandLeads (panel_command_of key) contents rows refusals before after
-ByBox (DeleteBox path) contents rows key refusals before after = (refusals ≡ []) × (after ≡ after_delete (delete_reply_to key) rows path before)
+ByBox (DeleteBox path) contents rows key refusals before after = DeleteLeads (delete_reply_to key) rows path refusals before after
 ByBox (MaskBox path typed) contents rows key refusals before after =
     MaskLeads (line_reply (input_shut typed key)) path (input_after typed key) refusals before after
 ByBox (TargetBox path mask typed) contents rows key refusals before after =
     TargetLeads (line_reply (input_shut typed key)) contents rows path mask (input_after typed key) refusals before after
 ByBox (FolderBox typed) contents rows key refusals before after =
     MakeFolderLeads (line_reply (input_shut typed key)) contents rows (input_after typed key) refusals before after
+ByBox (LinkTextBox typed) contents rows key refusals before after =
+    LinkTextLeads (line_reply (input_shut typed key)) (input_after typed key) refusals before after
+ByBox (LinkNameBox text typed) contents rows key refusals before after =
+    LinkNameLeads (line_reply (input_shut typed key)) contents rows text (input_after typed key) refusals before after
 ByBox (TroubleBox trouble) contents rows key refusals before after =
     (refusals ≡ []) × (after ≡ after_trouble (trouble_reply_to trouble.barrier key) rows before)
 ByBox (PanelsBox asks) contents rows key refusals before after =

@@ -19,6 +19,10 @@ pub enum Dialog {
     CopyTo(Chosen, Text, InputLine),
     /// Asks where a new folder is to be made, and under which name.
     MakeFolder(InputLine),
+    /// Asks what a new link is to say.
+    LinkText(InputLine),
+    /// Asks where a new link that says this is to be made, and under which name.
+    LinkName(Text, InputLine),
     /// Tells of a job's trouble, and takes an answer.
     Trouble(Trouble),
     /// Asks what the panels are to do.

@@ -99,6 +99,14 @@ fn paint_box_of(
             line.paint(alloc, grid)?;
             Ok(())
         }
+        Dialog::LinkText(line) => {
+            line.paint(alloc, grid)?;
+            Ok(())
+        }
+        Dialog::LinkName(_, line) => {
+            line.paint(alloc, grid)?;
+            Ok(())
+        }
         Dialog::Trouble(trouble) => {
             let lines = trouble_lines(alloc, trouble)?;
             paint_lines(grid, alloc, lines)?;

@@ -12,6 +12,7 @@ mod copy_boxes;
 mod find_box;
 mod folder_box;
 mod jobs_box;
+mod link_boxes;
 mod look;
 mod panel_keys;
 mod panel_questions;
@@ -237,6 +238,10 @@ impl Ui {
                 alloc, tree, chosen, mask, line, rows, key,
             ),
             Dialog::MakeFolder(line) => self.key_in_folder(alloc, tree, line, rows, key),
+            Dialog::LinkText(line) => self.key_in_link_text(alloc, line, key),
+            Dialog::LinkName(text, line) => {
+                self.key_in_link_name(alloc, tree, text, line, rows, key)
+            }
             Dialog::Trouble(trouble) => Ok(self.key_in_trouble(alloc, trouble, rows, key)),
             Dialog::Panel(asks) => self.key_in_panel_box(alloc, tree, asks, key),
             Dialog::Find(find) => self.key_in_find(alloc, tree, find, key),

@@ -7,7 +7,7 @@ ghost use Rattle.op_plan.specs.Answering.{Plans, HasPlanCause, IsPlaceError};
 
 use crate::error::PlanError;
 use mc_text::Path;
-use resolving::{ResolveError, resolve_folder};
+use resolving::{ResolveError, Wanted, resolve};
 use std::alloc::Global;
 use text_scan::split_at_last_mark;
 use tree_trait::ReadTree;
@@ -40,7 +40,7 @@ pub fn folder_there<T: ReadTree>(
     ensures same { T.contents tree.new ≡ T.contents tree.old }
     ensures cause { HasPlanCause (T.fault_count tree.old) (T.fault_count tree.new) result }
 {
-    match resolve_folder(alloc, tree, from, to) {
+    match resolve(alloc, tree, Wanted::FolderAlone, from, to) {
         Ok(folder) => Ok(Some(folder)),
         Err(ResolveError::Fault) => Err(PlanError::Target(ResolveError::Fault)),
         Err(ResolveError::Memory) => Err(PlanError::Memory),
@@ -60,7 +60,7 @@ pub fn folder_at<T: ReadTree>(
     ensures cause { HasPlanCause (T.fault_count tree.old) (T.fault_count tree.new) result }
     ensures only { IfErr result IsPlaceError }
 {
-    match resolve_folder(alloc, tree, from, front) {
+    match resolve(alloc, tree, Wanted::FolderAlone, from, front) {
         Ok(folder) => Ok(folder),
         Err(ResolveError::Memory) => Err(PlanError::Memory),
         Err(error) => Err(PlanError::Target(error)),

@@ -19,5 +19,5 @@ pub use claiming::{claims, clash};
 pub use error::PlanError;
 pub use job::{Job, Pair, Pairs};
 pub use mask::MaskPiece;
-pub use plan::{make_plan, plan_place};
+pub use plan::{is_link_text, make_plan, plan_place};
 pub use request::Request;

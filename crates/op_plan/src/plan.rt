@@ -49,55 +49,25 @@ pub fn make_plan<T: ReadTree>(
             mask,
             from,
             to,
-        } => plan_copy(alloc, tree, sources, mask.as_str(), &from, to.as_str()),
+        } => {
+            let pairs = plan_pairs(alloc, tree, sources, mask.as_str(), &from, to.as_str())?;
+            Ok(Job::Copy(pairs))
+        }
         Request::Move {
             sources,
             mask,
             from,
             to,
-        } => plan_move(alloc, tree, sources, mask.as_str(), &from, to.as_str()),
+        } => {
+            let pairs = plan_pairs(alloc, tree, sources, mask.as_str(), &from, to.as_str())?;
+            Ok(Job::Move(pairs))
+        }
         Request::Delete { sources } => plan_deletion(alloc, tree, sources),
         Request::MakeFolder { from, to } => plan_folder(alloc, tree, &from, to.as_str()),
         Request::SetMode { sources, mode } => plan_mode(alloc, tree, sources, mode),
         Request::MakeLink { from, to, text } => plan_link(alloc, tree, &from, to.as_str(), text),
         Request::Save { path, bytes } => Ok(Job::Save(path, bytes)),
     }
-}
-
-/// The copy of sources.
-fn plan_copy<T: ReadTree>(
-    alloc: Global,
-    tree: &mut T,
-    sources: Paths,
-    mask: &str,
-    from: &Path,
-    to: &str,
-) -> Result<Job, PlanError>
-    ensures answer { IfKnown (T.contents tree.old) (λ log. Plans (and_then (pairs_of (current log) sources mask.now from.now to.now) (λ pairs. Ok (Job.Copy pairs))) result) }
-    ensures same { T.contents tree.new ≡ T.contents tree.old }
-    ensures cause { HasPlanCause (T.fault_count tree.old) (T.fault_count tree.new) result }
-    ensures sound { IfOk result IsSound }
-    ensures asked { IfOk result (IsJobFor (Request.Copy sources mask.now from.now to.now)) }
-{
-    Ok(Job::Copy(plan_pairs(alloc, tree, sources, mask, from, to)?))
-}
-
-/// The move of sources.
-fn plan_move<T: ReadTree>(
-    alloc: Global,
-    tree: &mut T,
-    sources: Paths,
-    mask: &str,
-    from: &Path,
-    to: &str,
-) -> Result<Job, PlanError>
-    ensures answer { IfKnown (T.contents tree.old) (λ log. Plans (and_then (pairs_of (current log) sources mask.now from.now to.now) (λ pairs. Ok (Job.Move pairs))) result) }
-    ensures same { T.contents tree.new ≡ T.contents tree.old }
-    ensures cause { HasPlanCause (T.fault_count tree.old) (T.fault_count tree.new) result }
-    ensures sound { IfOk result IsSound }
-    ensures asked { IfOk result (IsJobFor (Request.Move sources mask.now from.now to.now)) }
-{
-    Ok(Job::Move(plan_pairs(alloc, tree, sources, mask, from, to)?))
 }
 
 /// The deletion of sources.
@@ -313,7 +283,7 @@ fn plan_link<T: ReadTree>(
 }
 
 /// Whether a link may say this: 1 to 4,095 bytes and no NUL.
-fn is_link_text(text: &str) -> bool
+pub fn is_link_text(text: &str) -> bool
     ensures test { result ≡ is_link_text text.now }
     ensures allowed { OnTrue result (IsLinkText text.now) }
 {

@@ -57,6 +57,7 @@ fn pending_reply(key: Key) -> PanelReply
     match key.base {
         Base::Char('d') => PanelReply::Does(PanelCommand::Compare),
         Base::Char('j') => PanelReply::ListsJobs,
+        Base::Char('s') => PanelReply::AsksLink,
         _ => PanelReply::Shuts,
     }
 }

@@ -38,6 +38,8 @@ pub enum PanelReply {
     Does(PanelCommand),
     /// It is shut, and the live jobs are to be listed.
     ListsJobs,
+    /// It is shut, and a new link is to be asked for.
+    AsksLink,
     /// What was typed can't be taken. The box stays.
     Refuses(TypedError),
 }

@@ -1,6 +1,5 @@
 //! Why a text is no format.
 use mc_text::NoMemory;
-use std::alloc::{AllocError, AllocFailed};
 use thiserror::Error;
 
 /// Why a text is no format, with the byte where the fault stands: `NoSize` always the first, `UnknownField` the first of
@@ -17,17 +16,6 @@ pub enum FormatError {
     Memory,
 }
 
-impl From<AllocError> for FormatError {
-    ghost use Rattle.std.specs.Prelude.{◌≡◌};
-    ghost use Rattle.panel_listing.specs.declared.error.FormatError.TheVariants.{Memory};
-
-    ghost from_gives = { λ _ error. error ≡ Memory };
-
-    fn from(_error: AllocError) -> FormatError {
-        FormatError::Memory
-    }
-}
-
 impl From<NoMemory> for FormatError {
     ghost use Rattle.std.specs.Prelude.{◌≡◌};
     ghost use Rattle.panel_listing.specs.declared.error.FormatError.TheVariants.{Memory};
@@ -35,17 +23,6 @@ impl From<NoMemory> for FormatError {
     ghost from_gives = { λ _ error. error ≡ Memory };
 
     fn from(_error: NoMemory) -> FormatError {
-        FormatError::Memory
-    }
-}
-
-impl<T: Drop> From<AllocFailed<T>> for FormatError {
-    ghost use Rattle.std.specs.Prelude.{◌≡◌};
-    ghost use Rattle.panel_listing.specs.declared.error.FormatError.TheVariants.{Memory};
-
-    ghost from_gives = { λ _ error. error ≡ Memory };
-
-    fn from(_error: AllocFailed<T>) -> FormatError {
         FormatError::Memory
     }
 }

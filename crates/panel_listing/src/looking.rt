@@ -8,7 +8,7 @@ ghost use Rattle.panel_listing.specs.Items.{child_item, child_seen, item_of, uns
 
 use crate::item::{Item, LinkKind};
 use mc_text::{Kind, Name, Path, PathError};
-use resolving::{ResolveError, resolve_thing};
+use resolving::{ResolveError, Wanted, resolve};
 use std::alloc::Global;
 use tree_trait::{ReadTree, TreeError};
 
@@ -152,7 +152,7 @@ fn follow<T: ReadTree>(
     ensures cause { HasCause TreeError.Fault (T.fault_count tree.old) (T.fault_count tree.new) result }
     ensures counts { T.fault_count tree.new ≡ count_after (T.fault_count tree.old) result }
 {
-    match resolve_thing(alloc, tree, folder, name.text()) {
+    match resolve(alloc, tree, Wanted::AnyThing, folder, name.text()) {
         Ok(target) => Ok(link_to(seen_at(alloc, tree, &target)?)),
         Err(ResolveError::Fault) => Err(TreeError::Fault),
         Err(ResolveError::Memory) => Err(TreeError::Memory),

@@ -8,6 +8,7 @@ ghost use Rattle.panel_listing.specs.Words.{word_in};
 use crate::error::FormatError;
 use crate::format::{Column, Field, Format};
 use crate::words::{Word, next_word};
+use mc_text::NoMemory;
 use std::alloc::Global;
 
 impl Format {
@@ -52,7 +53,8 @@ fn columns_of(alloc: Global, at: usize, text: &[u8]) -> Result<Vec<Column>, Form
     let mut from = at;
     let mut rest = text;
     while let Some((word, behind)) = next_word(from, rest) {
-        columns.push(column_of(word)?)?;
+        let column = column_of(word)?;
+        columns.push(column).map_err(NoMemory::from)?;
         from = word.at + word.text.len();
         rest = behind;
     }

@@ -38,7 +38,12 @@ answers_any why Memory is = tt
 -- that of Enter
 resolved_cause : (log : CallLog) (from : Route) (typed : List ℕ) (r : Result Route ResolveError) (e : ResolveError)
     → resolved (current log) FolderAlone from typed ≡ r → ShowsResolved log r (Err e) → HasReadCause log e
-resolved_cause log from typed (Ok folder) e is shows = inl (folder, shows)
+resolved_cause log from typed (Ok folder) Fault is shows = inr (from, (typed, tt))
+resolved_cause log from typed (Ok folder) (Tree path e) is shows = inl (folder, shows)
+resolved_cause log from typed (Ok folder) TooManyLinks is shows = absurd shows
+resolved_cause log from typed (Ok folder) TooLong is shows = absurd shows
+resolved_cause log from typed (Ok folder) BadName is shows = absurd shows
+resolved_cause log from typed (Ok folder) Memory is shows = inl (folder, shows)
 resolved_cause log from typed (Err why) e is answers =
     inr (from, (typed, subst (λ (r : Result Route ResolveError). Answers r (Err e)) (sym is) (answers_any why e answers)))
 

@@ -9,7 +9,8 @@ use Rattle.mc_panels.specs.declared.arranging.Arrangement.TheVariants.{Hidden}
 use Rattle.mc_panels.specs.declared.going.Going.{Going}
 use Rattle.mc_panels.specs.Panels.{PanelState, moved_by, with_format, with_brief}
 use Rattle.mc_panels.specs.Readings.{ShowsFolder, read_again, gone_to_path}
-use Rattle.mc_panels.specs.Goings.{way_of, Enters, Reads, GoesBack, GoesForward, ShowsNext}
+use Rattle.mc_panels.specs.Goings.{way_of, Enters, Reads, Turns, ShowsNext}
+use Rattle.mc_panels.specs.declared.visits.Turn.TheVariants.{Earlier, Later}
 use Rattle.mc_panels.specs.Selections.{toggled_current, selected, unselected, inverted_files}
 use Rattle.mc_panels.specs.Arrangements.{arranged_again, HasSameItems}
 use Rattle.mc_panels.specs.Comparisons.{compared}
@@ -49,8 +50,8 @@ CommandDone SwitchPanel page before after = after ≡ switched before
 CommandDone SwapPanels page before after = after ≡ swapped before
 CommandDone Enter page before after = Goes (Enters (way_of before.current) page before.current) before after
 CommandDone ReadAgain page before after = after ≡ with_current (read_again page after.current.listing before.current) before
-CommandDone Back page before after = Goes (GoesBack page before.current) before after
-CommandDone Forward page before after = Goes (GoesForward page before.current) before after
+CommandDone Back page before after = Goes (Turns Earlier page before.current) before after
+CommandDone Forward page before after = Goes (Turns Later page before.current) before after
 CommandDone (GoTo path) page before after = after ≡ with_current (gone_to_path page path after.current.listing before.current) before
 CommandDone Toggle page before after = after ≡ with_current (toggled_current page before.current) before
 CommandDone Invert page before after = after ≡ with_current (inverted_files before.current) before

@@ -12,7 +12,7 @@ use crate::panels::Panels;
 use crate::side::Side;
 use mc_panels::Panel;
 use mc_text::{NoMemory, Path};
-use resolving::{ResolveError, resolve_folder};
+use resolving::{ResolveError, Wanted, resolve};
 use std::alloc::Global;
 use std::convert::AsStr;
 use tagging::PatternKind;
@@ -79,7 +79,13 @@ fn opened<T: ReadTree>(alloc: Global, tree: &mut T, path: &Path) -> Result<Panel
     ensures carried { IfErr result CarriesCause }
 {
     let text = path.text(alloc)?;
-    let folder = resolve_folder(alloc, tree, &Path::root(alloc), text.as_str())?;
+    let folder = resolve(
+        alloc,
+        tree,
+        Wanted::FolderAlone,
+        &Path::root(alloc),
+        text.as_str(),
+    )?;
     Panel::open(alloc, tree, folder)
 }
 

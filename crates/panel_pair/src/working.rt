@@ -11,7 +11,7 @@ ghost use Rattle.panel_pair.specs.Readings.{ReadsTree, refused_in};
 
 use crate::command::PanelCommand;
 use crate::panels::Panels;
-use mc_panels::{Panel, compare_panels};
+use mc_panels::{Panel, Turn, compare_panels};
 use mc_text::NoMemory;
 use resolving::ResolveError;
 use std::alloc::Global;
@@ -87,11 +87,11 @@ impl Panels {
                 Ok(())
             }
             PanelCommand::Back => {
-                self.current.back(alloc, tree, page)?;
+                self.current.turn(alloc, tree, page, Turn::Earlier)?;
                 Ok(())
             }
             PanelCommand::Forward => {
-                self.current.forward(alloc, tree, page)?;
+                self.current.turn(alloc, tree, page, Turn::Later)?;
                 Ok(())
             }
             PanelCommand::GoTo(path) => {

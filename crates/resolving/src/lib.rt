@@ -8,4 +8,4 @@ mod looking;
 mod walking;
 
 pub use error::ResolveError;
-pub use walking::{resolve_folder, resolve_thing};
+pub use walking::{Wanted, resolve};

@@ -25,40 +25,23 @@ pub enum Wanted {
     AnyThing,
 }
 
-/// The folder that a text leads to, from a folder on. Links are followed, the last one too.
-pub fn resolve_folder<T: ReadTree>(
+/// The folder or the thing that a text leads to, from a folder on. Links are followed, the last one too, so it is none.
+pub fn resolve<T: ReadTree>(
     alloc: Global,
     tree: &mut T,
+    wanted: Wanted,
     from: &Path,
     typed: &str,
 ) -> Result<Path, ResolveError>
     ensures answer { IfKnown (T.contents tree.old) (λ log.
-        Answers (resolved (current log) Wanted.FolderAlone from.now typed.now) result) }
+        Answers (resolved (current log) wanted from.now typed.now) result) }
     ensures same { T.contents tree.new ≡ T.contents tree.old }
     ensures cause { HasCause ResolveError.Fault (T.fault_count tree.old) (T.fault_count tree.new) result }
     ensures counts { T.fault_count tree.new ≡ count_told (T.fault_count tree.old) result }
     ensures carried { IfErr result CarriesCause }
 {
     let start = begin(alloc, from.copy(alloc)?, typed);
-    walk(alloc, tree, Wanted::FolderAlone, start, typed)
-}
-
-/// The thing that a text leads to, from a folder on. Links are followed, the last one too, so it is none.
-pub fn resolve_thing<T: ReadTree>(
-    alloc: Global,
-    tree: &mut T,
-    from: &Path,
-    typed: &str,
-) -> Result<Path, ResolveError>
-    ensures answer { IfKnown (T.contents tree.old) (λ log.
-        Answers (resolved (current log) Wanted.AnyThing from.now typed.now) result) }
-    ensures same { T.contents tree.new ≡ T.contents tree.old }
-    ensures cause { HasCause ResolveError.Fault (T.fault_count tree.old) (T.fault_count tree.new) result }
-    ensures counts { T.fault_count tree.new ≡ count_told (T.fault_count tree.old) result }
-    ensures carried { IfErr result CarriesCause }
-{
-    let start = begin(alloc, from.copy(alloc)?, typed);
-    walk(alloc, tree, Wanted::AnyThing, start, typed)
+    walk(alloc, tree, wanted, start, typed)
 }
 
 /// Where a text begins.

@@ -6,7 +6,7 @@ mod planted;
 use crate::planted::plant_tree;
 use mc_text::{NoMemory, Path, Text};
 use mem_tree::MemTree;
-use resolving::{ResolveError, resolve_folder, resolve_thing};
+use resolving::{ResolveError, Wanted, resolve};
 use row_page::{Page, repeated, two_fields};
 use std::convert::AsStr;
 use tree_trait::Tree;
@@ -39,17 +39,13 @@ fn tell_row<T: Tree>(page: &mut Page, tree: &mut T, row: &str) {
 }
 
 fn tell_both<T: Tree>(page: &mut Page, tree: &mut T, from: &Path, typed: &str) {
-    tell_folder(page, tree, from, typed);
+    tell_end(page, tree, Wanted::FolderAlone, from, typed);
     page.put("; ");
-    tell_thing(page, tree, from, typed);
+    tell_end(page, tree, Wanted::AnyThing, from, typed);
 }
 
-fn tell_folder<T: Tree>(page: &mut Page, tree: &mut T, from: &Path, typed: &str) {
-    tell_resolved(page, resolve_folder(page.alloc(), tree, from, typed));
-}
-
-fn tell_thing<T: Tree>(page: &mut Page, tree: &mut T, from: &Path, typed: &str) {
-    tell_resolved(page, resolve_thing(page.alloc(), tree, from, typed));
+fn tell_end<T: Tree>(page: &mut Page, tree: &mut T, wanted: Wanted, from: &Path, typed: &str) {
+    tell_resolved(page, resolve(page.alloc(), tree, wanted, from, typed));
 }
 
 /// The path, or the refusal with the path where the tree refused.
@@ -77,13 +73,13 @@ fn tell_limits<T: Tree>(page: &mut Page, tree: &mut T) {
     let root = Path::root(page.alloc());
     let long = repeated(page.alloc(), "a", 256);
     page.put("limits: ");
-    tell_thing(page, tree, &root, long.text());
+    tell_end(page, tree, Wanted::AnyThing, &root, long.text());
     page.put("; ");
-    tell_folder(page, tree, &root, "a\0");
+    tell_end(page, tree, Wanted::FolderAlone, &root, "a\0");
     page.put("; ");
     let deep = repeated(page.alloc(), "/a", 2048);
     match Path::parse(page.alloc(), deep.text()) {
-        Ok(deep) => tell_folder(page, tree, &deep, "a"),
+        Ok(deep) => tell_end(page, tree, Wanted::FolderAlone, &deep, "a"),
         Err(_error) => page.fail(),
     }
     page.put("\n");

@@ -24,6 +24,8 @@ pub enum PlanError {
     SameFile(Path),
     /// The source lies in its target, or the target in it.
     IntoItself(Path, Path),
+    /// A link can't say this.
+    BadLinkText,
 }
 
 impl PlanError {
@@ -41,6 +43,7 @@ impl PlanError {
             PlanError::IntoItself(source, target) => {
                 Ok(PlanError::IntoItself(source.copy(alloc)?, target.copy(alloc)?))
             }
+            PlanError::BadLinkText => Ok(PlanError::BadLinkText),
         }
     }
 }
@@ -48,6 +51,8 @@ impl PlanError {
 /// Why a job could not be begun.
 #[derive(Clone, Copy, Debug, Drop, PartialEq, Eq)]
 pub enum BeginError {
+    /// As many jobs are live as may be: today one.
+    Full,
     /// All numbers of jobs were given: there are 2^32 - 1, and none is given twice.
     NoMoreIds,
 }
@@ -59,6 +64,8 @@ pub enum TypedError {
     BadPattern,
     /// It is no format: this byte of it is at fault.
     BadFormat(usize),
+    /// It ends in no name.
+    BadName,
 }
 
 /// What a key or a look wanted and was refused.

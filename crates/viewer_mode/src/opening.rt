@@ -5,7 +5,7 @@ ghost use Rattle.viewer_mode.specs.Openings.{LeadsTo, OpensPath, OpensThing, Rea
 use crate::mode::ViewerMode;
 use mc_text::{NoMemory, Path};
 use mc_viewer::ViewError;
-use resolving::{ResolveError, resolve_thing};
+use resolving::{ResolveError, Wanted, resolve};
 use std::alloc::Global;
 use tree_trait::{ReadTree, TreeError};
 
@@ -32,7 +32,7 @@ pub fn open_thing<T: ReadTree>(
     ensures opens { IfOk result (OpensThing (T.contents tree.old) folder.now name.now lines columns) }
     ensures reads { ReadsToOpen result (T.contents tree.old) (T.contents tree.new) (T.fault_count tree.old) (T.fault_count tree.new) }
 {
-    match resolve_thing(alloc, tree, folder, name) {
+    match resolve(alloc, tree, Wanted::AnyThing, folder, name) {
         Ok(path) => open_path(alloc, tree, path, lines, columns),
         Err(ResolveError::Memory) => Err(NoMemory),
         Err(error) => Ok(Opening::NoWay(error)),

@@ -4,7 +4,7 @@ ghost use Rattle.job_reports.specs.Reports.{passes_over};
 ghost use Rattle.box_words.specs.BoxKeys.{delete_reply_to as deletes_by, trouble_reply_to as answers_by};
 ghost use Rattle.mc_ui.specs.LiveJobs.{can_answer as may_answer, none_live as is_idle, takes_answer as may_take};
 ghost use Rattle.mc_ui.specs.Boxes.{DeleteBox, NoBox, TroubleBox, seen_box};
-ghost use Rattle.mc_ui.specs.Screens.{WellAsked, after_delete, after_trouble, is_request, with_ask};
+ghost use Rattle.mc_ui.specs.Screens.{DeleteLeads, IsFullAtMost, WellAsked, after_trouble, is_request, with_ask};
 
 use super::Ui;
 use super::panel_keys::{asking, asking_nothing};
@@ -27,12 +27,13 @@ impl Ui {
         key: Key,
     ) -> Result<KeyAct, NoMemory>
         requires clear { self.old.over ≡ NoBox }
-        ensures leads { IfOk result (λ act. with_ask act.ask self.new
-            ≡ after_delete (deletes_by key) rows.now chosen.path (record self.old { over = DeleteBox chosen.path })) }
-        ensures refusals { IfOk result (λ act. act.refusals ≡ []) }
+        ensures leads { IfOk result (λ act. DeleteLeads (deletes_by key) rows.now chosen.path act.refusals
+            (record self.old { over = DeleteBox chosen.path }) (with_ask act.ask self.new)) }
         ensures asked { IfOk result (λ act. WellAsked rows.now act.ask) }
+        ensures untold { IfOk result (λ act. IsFullAtMost act.refusals) }
         ensures stays { IfOk result (λ act. is_request act.ask ≡ true → self.new ≡ record self.old { over = DeleteBox chosen.path }) }
-        ensures rest { record self.new { over = NoBox } ≡ self.old }
+        ensures alone { IfOk result (λ act. is_request act.ask ≡ true → act.refusals ≡ []) }
+        ensures rest { record self.new { over = NoBox; message = self.old.message } ≡ self.old }
         ensures lost { OnErr result (self.new ≡ record self.old { over = DeleteBox chosen.path }) }
     {
         match delete_reply_to(key) {
@@ -53,16 +54,19 @@ impl Ui {
         rows: &JobRows,
     ) -> Result<KeyAct, NoMemory>
         requires clear { self.old.over ≡ NoBox }
-        ensures leads { IfOk result (λ act. with_ask act.ask self.new
-            ≡ after_delete DeleteReply.Deletes rows.now chosen.path (record self.old { over = DeleteBox chosen.path })) }
-        ensures refusals { IfOk result (λ act. act.refusals ≡ []) }
+        ensures leads { IfOk result (λ act. DeleteLeads DeleteReply.Deletes rows.now chosen.path act.refusals
+            (record self.old { over = DeleteBox chosen.path }) (with_ask act.ask self.new)) }
         ensures asked { IfOk result (λ act. WellAsked rows.now act.ask) }
-        ensures stays { self.new ≡ record self.old { over = DeleteBox chosen.path } }
+        ensures untold { IfOk result (λ act. IsFullAtMost act.refusals) }
+        ensures stays { IfOk result (λ act. is_request act.ask ≡ true → self.new ≡ record self.old { over = DeleteBox chosen.path }) }
+        ensures alone { IfOk result (λ act. is_request act.ask ≡ true → act.refusals ≡ []) }
+        ensures rest { record self.new { over = NoBox; message = self.old.message } ≡ self.old }
+        ensures lost { OnErr result (self.new ≡ record self.old { over = DeleteBox chosen.path }) }
     {
         let planned = deletion_of(alloc, &chosen);
         self.show_box(Dialog::Delete(chosen));
         if !none_live(rows) {
-            return Ok(asking_nothing(alloc));
+            return self.refuse_full(alloc);
         }
         Ok(asking(alloc, begin(planned?)))
     }

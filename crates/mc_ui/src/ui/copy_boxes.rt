@@ -153,7 +153,7 @@ impl Ui {
     {
         if !none_live(rows) {
             self.show_box(Dialog::CopyTo(chosen, mask, line));
-            return Ok(asking_nothing(alloc));
+            return self.refuse_full(alloc);
         }
         self.confirm_copy(alloc, tree, chosen, mask, line, text)
     }

@@ -1,12 +1,13 @@
 //! The box that asks for a new folder: how it opens, and its keys. Its dialog was taken out, and is put back where the box stays.
-ghost use Rattle.std.specs.Prelude.{◌≡◌, [], true, None, OnErr, IfOk};
+ghost use Rattle.std.specs.Prelude.{◌≡◌, [], true, OnErr, OnOk, IfOk};
 ghost use Rattle.mc_dialogs.specs.InputKeys.{input_after, input_shut};
 ghost use Rattle.box_words.specs.BoxKeys.{line_reply as line_reply_of};
+ghost use Rattle.box_words.specs.BoxLines.{folder_line};
 ghost use Rattle.home_paths.specs.Homes.{with_home as with_home_of};
 ghost use Rattle.job_plans.specs.Reading.{ReadsTree};
 ghost use Rattle.mc_ui.specs.declared.asks.KeyAct.{KeyAct as KeyActType};
 ghost use Rattle.mc_ui.specs.Boxes.{FolderBox, NoBox, seen_box};
-ghost use Rattle.mc_ui.specs.Screens.{HasSameSize, MakeFolderLeads, PlansFolder, WellAsked, after_ask_folder, is_request, with_ask};
+ghost use Rattle.mc_ui.specs.Screens.{MakeFolderLeads, PlansFolder, WellAsked, is_request, with_ask};
 
 use super::Ui;
 use super::boxes::{begin, none_live};
@@ -26,20 +27,14 @@ use std::convert::AsStr;
 use tree_trait::ReadTree;
 
 impl Ui {
-    /// Opens the box, if no job is live.
-    pub(super) fn ask_folder(&mut self, alloc: Global, rows: &JobRows) -> Result<KeyAct, NoMemory>
-        ensures leads { IfOk result (λ _act. self.new ≡ after_ask_folder rows.now self.old) }
-        ensures act { IfOk result (λ act. act ≡ record { ask = Ask.Nothing; refusals = [] }) }
-        ensures size { HasSameSize self.old self.new }
-        ensures settled { self.new.planned ≡ None }
+    /// Opens the box.
+    pub(super) fn ask_folder(&mut self, alloc: Global) -> Result<(), NoMemory>
+        ensures opened { OnOk result (self.new ≡ record self.old { over = FolderBox folder_line }) }
         ensures lost { OnErr result (self.new ≡ self.old) }
     {
-        let _lines = &self.lines;
-        if !none_live(rows) {
-            return Ok(asking_nothing(alloc));
-        }
-        self.show_box(Dialog::MakeFolder(folder_line(alloc)?));
-        Ok(asking_nothing(alloc))
+        let line = folder_line(alloc)?;
+        self.show_box(Dialog::MakeFolder(line));
+        Ok(())
     }
 
     /// A key while a new folder is asked for.
@@ -100,7 +95,7 @@ impl Ui {
     {
         self.show_box(Dialog::MakeFolder(line));
         if !none_live(rows) {
-            return Ok(asking_nothing(alloc));
+            return self.refuse_full(alloc);
         }
         self.confirm_folder(alloc, tree, text)
     }

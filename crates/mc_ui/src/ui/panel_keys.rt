@@ -5,7 +5,7 @@ ghost use Rattle.mc_ui.specs.declared.asks.KeyAct.{KeyAct as KeyActType};
 ghost use Rattle.mc_ui.specs.PanelKeys.{panel_command_of};
 ghost use Rattle.job_plans.specs.Reading.{ReadsTree, sight};
 ghost use Rattle.mc_ui.specs.Boxes.{NoBox, box_of, seen_box};
-ghost use Rattle.mc_ui.specs.Screens.{Chooses, CommandLeads, HasSameSize, WellAsked, Works, is_request, told_refusal, with_ask};
+ghost use Rattle.mc_ui.specs.Screens.{Chooses, CommandLeads, HasSameSize, RefusesFull, WellAsked, Works, is_request, told_refusal, with_ask};
 
 use super::Ui;
 use crate::asks::{Ask, KeyAct};
@@ -18,7 +18,7 @@ use key_screen::Key;
 use mc_text::NoMemory;
 use panel_pair::PanelCommand;
 use resolving::ResolveError;
-use session_history::{PlanError, Refusal, Refusals};
+use session_history::{BeginError, PlanError, Refusal, Refusals};
 use std::alloc::Global;
 use tree_trait::ReadTree;
 
@@ -50,8 +50,11 @@ impl Ui {
                 Ok(asking_nothing(alloc))
             }
             KeyCommand::View => self.view_current(alloc, tree),
-            KeyCommand::Open(opens) => self.open_box(alloc, tree, rows, opens),
-            KeyCommand::AskFolder => self.ask_folder(alloc, rows),
+            KeyCommand::Open(opens) => self.open_box(alloc, tree, opens),
+            KeyCommand::AskFolder => {
+                self.ask_folder(alloc)?;
+                Ok(asking_nothing(alloc))
+            }
             KeyCommand::OpenPanelBox(opening) => {
                 self.open_panel_box(alloc, opening)?;
                 Ok(asking_nothing(alloc))
@@ -96,17 +99,16 @@ impl Ui {
         self.message = Some(Message::Help);
     }
 
-    /// Opens a box on the thing that is selected, if the box may ask of that and no job is live. Where nothing is selected a
-    /// message says so; of several things no box can ask yet.
+    /// Opens a box on the thing that is selected, if the box may ask of that. Where nothing is selected a message says so; of
+    /// several things no box can ask yet.
     fn open_box<T: ReadTree>(
         &mut self,
         alloc: Global,
         tree: &mut T,
-        rows: &JobRows,
         opens: Opens,
     ) -> Result<KeyAct, NoMemory>
         requires clear { self.old.over ≡ NoBox }
-        ensures leads { IfOk result (λ act. Chooses opens (sight (T.contents tree.old)) rows.now
+        ensures leads { IfOk result (λ act. Chooses opens (sight (T.contents tree.old))
             self.old.panels.current.folder (selection self.old.panels.current) act.refusals self.old self.new) }
         ensures asks { IfOk result (λ act. act.ask ≡ Ask.Nothing) }
         ensures size { HasSameSize self.old self.new }
@@ -116,9 +118,6 @@ impl Ui {
             (T.fault_count tree.old) (T.fault_count tree.new) }
     {
         let _lines = &self.lines;
-        if !rows.0.is_empty() {
-            return Ok(asking_nothing(alloc));
-        }
         match choose(alloc, tree, self.panels().current(), opens)? {
             Choice::NoSelection => self.refuse(alloc, Refusal::Plan(PlanError::NoSelection)),
             Choice::Nothing => Ok(asking_nothing(alloc)),
@@ -128,6 +127,15 @@ impl Ui {
             }
             Choice::Refused(path, error) => self.refuse(alloc, Refusal::Tree(path, error)),
         }
+    }
+
+    /// Tells that no job is begun beside a live one.
+    pub(super) fn refuse_full(&mut self, alloc: Global) -> Result<KeyAct, NoMemory>
+        ensures told { IfOk result (λ act. RefusesFull act.refusals self.old self.new) }
+        ensures asks { IfOk result (λ act. act.ask ≡ Ask.Nothing) }
+        ensures lost { OnErr result (self.new ≡ self.old) }
+    {
+        self.refuse(alloc, Refusal::Begin(BeginError::Full))
     }
 
     /// Tells of a refusal, in a message and in what the key comes to.

@@ -74,6 +74,13 @@ impl Ui {
                 self.show_box(Dialog::Jobs(list));
                 Ok(asking_nothing(alloc))
             }
+            Ok(PanelReply::AsksLink) => match self.ask_link(alloc) {
+                Ok(()) => Ok(asking_nothing(alloc)),
+                Err(error) => {
+                    self.show_box(Dialog::Panel(asks));
+                    Err(error)
+                }
+            },
             Ok(PanelReply::Refuses(error)) => {
                 self.show_box(Dialog::Panel(asks));
                 self.refuse(alloc, Refusal::Typed(error))

@@ -23,6 +23,14 @@ pub returns-in_ok-paint-in-MakeFolder : goal.returns-in_ok-paint-in-MakeFolder
 returns-in_ok-paint-in-MakeFolder c =
     subst (λ d. c.paint-in-MakeFolder.new.grid ≡ with_over (seen_box d) c.args.rows.now c.args.grid.now) (sym c.in-MakeFolder.is) c.in_ok-paint-in-MakeFolder.ensures
 
+pub returns-in_ok-paint-in-LinkText : goal.returns-in_ok-paint-in-LinkText
+returns-in_ok-paint-in-LinkText c =
+    subst (λ d. c.paint-in-LinkText.new.grid ≡ with_over (seen_box d) c.args.rows.now c.args.grid.now) (sym c.in-LinkText.is) c.in_ok-paint-in-LinkText.ensures
+
+pub returns-in_ok-paint-in-LinkName : goal.returns-in_ok-paint-in-LinkName
+returns-in_ok-paint-in-LinkName c =
+    subst (λ d. c.paint-in-LinkName.new.grid ≡ with_over (seen_box d) c.args.rows.now c.args.grid.now) (sym c.in-LinkName.is) c.in_ok-paint-in-LinkName.ensures
+
 pub returns-in_ok-paint_lines-in-Trouble : goal.returns-in_ok-paint_lines-in-Trouble
 returns-in_ok-paint_lines-in-Trouble c =
     subst (λ d. c.paint_lines-in-Trouble.new.grid ≡ with_over (seen_box d) c.args.rows.now c.args.grid.now) (sym c.in-Trouble.is)

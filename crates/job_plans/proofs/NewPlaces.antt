@@ -10,7 +10,7 @@ use Rattle.tree_trait.specs.Calls.{Stat}
 use Rattle.tree_trait.specs.FileSystem.{node, value, View, visible_tree}
 use Rattle.tree_trait.specs.Refusals.{refusal_of}
 use Rattle.tree_trait.specs.Change.{CallLog, current}
-use Rattle.tree_trait.specs.Answers.{IfKnown}
+use Rattle.tree_trait.specs.Answers.{IfKnown, HasRisen}
 use Rattle.resolving.specs.declared.error.ResolveError.{ResolveError}
 use Rattle.resolving.specs.declared.error.ResolveError.TheVariants as resolve
 use Rattle.resolving.specs.declared.walking.Wanted.TheVariants.{FolderAlone}
@@ -19,21 +19,23 @@ use Rattle.resolving.specs.Resolution.{resolved}
 use Rattle.job_reports.proofs.PermittedCalls.{stat_missing}
 use Rattle.op_plan.specs.declared.error.PlanError.{PlanError}
 use Rattle.op_plan.specs.declared.error.PlanError.TheVariants as place
-use Rattle.op_plan.specs.Answering.{IsPlaceError, Plans, and_then, or_bad_mask}
+use Rattle.op_plan.specs.Answering.{HasPlanCause, IsPlaceError, Plans, and_then, is_fault, or_bad_mask}
 use Rattle.op_plan.specs.Checks.{is_too_long, target_in}
 use Rattle.op_plan.specs.Destinations.{folder_at, front_of, in_target, last_part}
 use Rattle.op_plan.specs.Naming.{checked_name}
 use Rattle.op_plan.specs.Planning.{nothing_there, place_of}
-use Rattle.session_history.specs.declared.refusal.Refusal.TheVariants.{Plan}
-use Rattle.session_history.specs.declared.refusal.PlanError.TheVariants.{TargetThere, Target, BadMask}
-use Rattle.session_history.specs.Refusals.{IsTargetRefused}
-use Rattle.job_plans.specs.declared.copying.JobPlan.{JobPlan}
-use Rattle.job_plans.specs.declared.copying.JobPlan.TheVariants.{Begins, Refuses}
+use Rattle.session_history.specs.declared.refusal.Refusal.{Refusal}
+use Rattle.session_history.specs.declared.refusal.Refusal.TheVariants.{Plan, Typed}
+use Rattle.session_history.specs.declared.refusal.PlanError.TheVariants.{TargetThere, Target}
+use Rattle.session_history.specs.declared.refusal.TypedError.TheVariants.{BadName}
+use Rattle.session_history.specs.Refusals.{AreRefused, HasCause, IsTargetRefused}
+use Rattle.job_plans.specs.declared.new_place.NewPlace.{NewPlace}
+use Rattle.job_plans.specs.declared.new_place.NewPlace.TheVariants.{At, Refused}
 use Rattle.job_plans.specs.Copies.{IsVacant}
-use Rattle.job_plans.specs.Folders.{FolderLeads, FolderRefused, IsNewFolder, IsPlace, folder_plan, is_below_home}
-use Rattle.job_plans.specs.Reading.{sight}
-use Rattle.job_plans.specs.Told.{IsToldAs}
-use Rattle.job_plans.proofs.Refusing.{HasTreeCause, after, refused_in}
+use Rattle.job_plans.specs.Places.{IsPlace, IsToldOfPlace, PlaceLeads, PlaceRefused, is_below_home, place_refusals, told_of_place}
+use Rattle.job_plans.specs.Reading.{ReadsTree, sight}
+use Rattle.job_plans.specs.Refused.{has_fault}
+use Rattle.job_plans.proofs.Refusing.{HasTreeCause, after, no_fault, refused_in, target_fault}
 
 abbrev in_folder : CallLog → List ℕ → Route → Result Route PlanError
 in_folder log name folder = and_then (target_in folder name) (λ target. nothing_there (refusal_of (current log) (Stat target)) target)
@@ -118,7 +120,7 @@ module _ (log : CallLog) (from : Route) (typed : List ℕ) where
       (λ target is h. not_there (refusal_of (current log) (Stat target)) target e refl h)))
 
 -- a path with a name has a folder
-has_folder : (path : Route) (name : List ℕ) → last_of path ≡ Some name → is_some (parent_of path) ≡ true
+pub has_folder : (path : Route) (name : List ℕ) → last_of path ≡ Some name → is_some (parent_of path) ≡ true
 has_folder [] name h = absurd cc
 has_folder (name ∷ folder) other h = refl
 
@@ -130,35 +132,33 @@ is_vacant (Some log) from typed path place = λ view is.
     (ap (option_map (λ i. value (node (current log) i))) (stat_missing (current log) path (seen_missing log from typed path (place log refl))))
 
 module _ (contents : Option CallLog) (from : Route) (typed : List ℕ) where
-  pub begins : (path : Route) → is_below_home typed ≡ false → last_of path ≡ Some (last_part typed) → IsPlace contents from typed (Ok path)
-      → FolderLeads contents from typed (Begins (folder_plan path))
-  begins path not_home named place =
-      let new : IsNewFolder contents from typed path = record { not_home = not_home; named = named; place = place; vacant = is_vacant contents from typed path place } in
-      (path, new, refl, has_folder path (last_part typed) named)
+  pub stands : (path : Route) → is_below_home typed ≡ false → last_of path ≡ Some (last_part typed) → IsPlace contents from typed (Ok path)
+      → PlaceLeads contents from typed (At path)
+  stands path not_home named place = record { not_home = not_home; named = named; place = place; vacant = is_vacant contents from typed path place }
 
-  refuses : (error : PlanError) (plan : JobPlan) → is_below_home typed ≡ false → IsPlaceError error → IsPlace contents from typed (Err error)
-      → IsToldAs error plan → FolderLeads contents from typed plan
-  refuses error (Begins plan) not_home allowed known told = absurd told
-  refuses (place.TargetThere path) (Refuses refusal) not_home allowed known told =
-      let is : Plan (TargetThere path) ≡ refusal = cc in subst (λ r. FolderRefused contents from typed r) is (not_home, known)
-  refuses (place.Target e) (Refuses refusal) not_home allowed known told =
-      let is : Plan (Target e) ≡ refusal = cc in subst (λ r. FolderRefused contents from typed r) is (not_home, known)
-  refuses place.BadMask (Refuses refusal) not_home allowed known told =
-      let is : Plan BadMask ≡ refusal = cc in subst (λ r. FolderRefused contents from typed r) is (inr known)
-  refuses place.NoSelection (Refuses refusal) not_home allowed known told = absurd allowed
-  refuses (place.Nested one second) (Refuses refusal) not_home allowed known told = absurd allowed
-  refuses (place.Source path e) (Refuses refusal) not_home allowed known told = absurd allowed
-  refuses (place.SameFile path) (Refuses refusal) not_home allowed known told = absurd allowed
-  refuses (place.IntoItself source target) (Refuses refusal) not_home allowed known told = absurd allowed
-  refuses (place.TwoToOne one second) (Refuses refusal) not_home allowed known told = absurd allowed
-  refuses place.BadLinkText (Refuses refusal) not_home allowed known told = absurd allowed
-  refuses place.Memory (Refuses refusal) not_home allowed known told = absurd cc
+  refuses : (error : PlanError) (found : NewPlace) → is_below_home typed ≡ false → IsPlaceError error → IsPlace contents from typed (Err error)
+      → IsToldOfPlace error found → PlaceLeads contents from typed found
+  refuses error (At path) not_home allowed known told = absurd told
+  refuses (place.TargetThere path) (Refused refusal) not_home allowed known told =
+      let is : Plan (TargetThere path) ≡ refusal = cc in subst (λ r. PlaceRefused contents from typed r) is (not_home, known)
+  refuses (place.Target e) (Refused refusal) not_home allowed known told =
+      let is : Plan (Target e) ≡ refusal = cc in subst (λ r. PlaceRefused contents from typed r) is (not_home, known)
+  refuses place.BadMask (Refused refusal) not_home allowed known told =
+      let is : Typed BadName ≡ refusal = cc in subst (λ r. PlaceRefused contents from typed r) is (inr known)
+  refuses place.NoSelection (Refused refusal) not_home allowed known told = absurd allowed
+  refuses (place.Nested one second) (Refused refusal) not_home allowed known told = absurd allowed
+  refuses (place.Source path e) (Refused refusal) not_home allowed known told = absurd allowed
+  refuses (place.SameFile path) (Refused refusal) not_home allowed known told = absurd allowed
+  refuses (place.IntoItself source target) (Refused refusal) not_home allowed known told = absurd allowed
+  refuses (place.TwoToOne one second) (Refused refusal) not_home allowed known told = absurd allowed
+  refuses place.BadLinkText (Refused refusal) not_home allowed known told = absurd allowed
+  refuses place.Memory (Refused refusal) not_home allowed known told = absurd cc
 
   -- what a refused path comes to
-  pub refused_leads : (error : PlanError) (result : Result JobPlan NoMemory) → is_below_home typed ≡ false → IsPlaceError error
-      → IsPlace contents from typed (Err error) → IfOk result (IsToldAs error) → IfOk result (FolderLeads contents from typed)
+  pub refused_leads : (error : PlanError) (result : Result NewPlace NoMemory) → is_below_home typed ≡ false → IsPlaceError error
+      → IsPlace contents from typed (Err error) → IfOk result (IsToldOfPlace error) → IfOk result (PlaceLeads contents from typed)
   refused_leads error (Err e) not_home allowed known told = tt
-  refused_leads error (Ok plan) not_home allowed known told = refuses error plan not_home allowed known told
+  refused_leads error (Ok found) not_home allowed known told = refuses error found not_home allowed known told
 
   target_cause : (log : CallLog) (e : ResolveError) → Plans {A = Route} (place_of (current log) from typed) (Err (place.Target e)) → IsTargetRefused log e
   target_cause log resolve.Fault known = inl (from, (typed, tt))
@@ -168,21 +168,70 @@ module _ (contents : Option CallLog) (from : Route) (typed : List ℕ) where
   target_cause log resolve.BadName known = place_cause log from typed (place.Target resolve.BadName) (known refl)
   target_cause log resolve.Memory known = place_cause log from typed (place.Target resolve.Memory) (known refl)
 
-  folder_cause : (log : CallLog) (error : PlanError) → IsPlaceError error → Plans {A = Route} (place_of (current log) from typed) (Err error)
+  place_error_cause : (log : CallLog) (error : PlanError) → IsPlaceError error → Plans {A = Route} (place_of (current log) from typed) (Err error)
       → HasTreeCause log error
-  folder_cause log (place.TargetThere path) allowed known = place_cause log from typed (place.TargetThere path) (known refl)
-  folder_cause log (place.Target e) allowed known = target_cause log e known
-  folder_cause log place.BadMask allowed known = tt
-  folder_cause log place.Memory allowed known = tt
-  folder_cause log place.NoSelection allowed known = absurd allowed
-  folder_cause log (place.Nested one second) allowed known = absurd allowed
-  folder_cause log (place.Source path e) allowed known = absurd allowed
-  folder_cause log (place.SameFile path) allowed known = absurd allowed
-  folder_cause log (place.IntoItself source target) allowed known = absurd allowed
-  folder_cause log (place.TwoToOne one second) allowed known = absurd allowed
-  folder_cause log place.BadLinkText allowed known = absurd allowed
+  place_error_cause log (place.TargetThere path) allowed known = place_cause log from typed (place.TargetThere path) (known refl)
+  place_error_cause log (place.Target e) allowed known = target_cause log e known
+  place_error_cause log place.BadMask allowed known = tt
+  place_error_cause log place.Memory allowed known = tt
+  place_error_cause log place.NoSelection allowed known = absurd allowed
+  place_error_cause log (place.Nested one second) allowed known = absurd allowed
+  place_error_cause log (place.Source path e) allowed known = absurd allowed
+  place_error_cause log (place.SameFile path) allowed known = absurd allowed
+  place_error_cause log (place.IntoItself source target) allowed known = absurd allowed
+  place_error_cause log (place.TwoToOne one second) allowed known = absurd allowed
+  place_error_cause log place.BadLinkText allowed known = absurd allowed
 
   -- what was refused has its cause in the tree
-  pub folder_causes : (error : PlanError) → IsPlaceError error → IsPlace contents from typed (Err error)
+  pub place_causes : (error : PlanError) → IsPlaceError error → IsPlace contents from typed (Err error)
       → IfKnown contents (λ log. HasTreeCause log error)
-  folder_causes error allowed known = λ log is. folder_cause log error allowed (known log is)
+  place_causes error allowed known = λ log is. place_error_cause log error allowed (known log is)
+
+-- what a refused path tells of the tree
+told_cause : (log : CallLog) (error : PlanError) (refusal : Refusal) → HasTreeCause log error → told_of_place error ≡ Some refusal → HasCause log refusal
+told_cause log place.BadMask refusal cause told = let is : Typed BadName ≡ refusal = cc in subst (HasCause log) is tt
+told_cause log (place.Target e) refusal cause told = let is : Plan (Target e) ≡ refusal = cc in subst (HasCause log) is cause
+told_cause log (place.TargetThere path) refusal cause told = let is : Plan (TargetThere path) ≡ refusal = cc in subst (HasCause log) is cause
+told_cause log place.NoSelection refusal cause told = absurd cc
+told_cause log (place.Nested one second) refusal cause told = absurd cc
+told_cause log (place.Source path e) refusal cause told = absurd cc
+told_cause log (place.SameFile path) refusal cause told = absurd cc
+told_cause log (place.IntoItself source target) refusal cause told = absurd cc
+told_cause log (place.TwoToOne one second) refusal cause told = absurd cc
+told_cause log place.BadLinkText refusal cause told = absurd cc
+told_cause log place.Memory refusal cause told = absurd cc
+
+told_called : (log : CallLog) (error : PlanError) (found : NewPlace) → HasTreeCause log error → IsToldOfPlace error found → AreRefused log (place_refusals found)
+told_called log error (At path) cause told = absurd told
+told_called log error (Refused refusal) cause told = (told_cause log error refusal cause told, tt)
+
+told_fault : (error : PlanError) (refusal : Refusal) → told_of_place error ≡ Some refusal → has_fault (refusal ∷ []) ≡ true → is_fault error ≡ true
+told_fault place.BadMask refusal told h =
+    let none : has_fault (Typed BadName ∷ []) ≡ false = refl in no_fault place.BadMask (Typed BadName) refusal none h cc
+told_fault (place.Target e) refusal told h = let is : refusal ≡ Plan (Target e) = cc in target_fault e (subst (λ r. has_fault (r ∷ []) ≡ true) is h)
+told_fault (place.TargetThere path) refusal told h =
+    let none : has_fault (Plan (TargetThere path) ∷ []) ≡ false = refl in no_fault (place.TargetThere path) (Plan (TargetThere path)) refusal none h cc
+told_fault place.NoSelection refusal told h = absurd cc
+told_fault (place.Nested one second) refusal told h = absurd cc
+told_fault (place.Source path e) refusal told h = absurd cc
+told_fault (place.SameFile path) refusal told h = absurd cc
+told_fault (place.IntoItself source target) refusal told h = absurd cc
+told_fault (place.TwoToOne one second) refusal told h = absurd cc
+told_fault place.BadLinkText refusal told h = absurd cc
+told_fault place.Memory refusal told h = absurd cc
+
+risen : {A : Type 0} (f0 f1 : ℕ) (error : PlanError) (found : NewPlace) → HasPlanCause {A = A} f0 f1 (Err error) → IsToldOfPlace error found
+    → has_fault (place_refusals found) ≡ true → HasRisen f0 f1
+risen f0 f1 error (At path) cause told h = absurd told
+risen f0 f1 error (Refused refusal) cause told h = cause.risen (told_fault error refusal told h)
+
+pub refused_reads : {A : Type 0} (contents after : Option CallLog) (f0 f1 : ℕ) (error : PlanError) (result : Result NewPlace NoMemory) → after ≡ contents
+    → IfKnown contents (λ log. HasTreeCause log error) → HasPlanCause {A = A} f0 f1 (Err error) → IfOk result (IsToldOfPlace error)
+    → ReadsTree place_refusals result contents after f0 f1
+refused_reads contents after f0 f1 error (Err e) same known cause told = record { same = same; later = cause.later; called = λ log is. tt; fault = tt }
+refused_reads contents after f0 f1 error (Ok found) same known cause told = record {
+  same = same;
+  later = cause.later;
+  called = λ log is. told_called log error found (known log is) told;
+  fault = risen f0 f1 error found cause told;
+}
