@@ -17,12 +17,14 @@ use Rattle.file_copy.specs.LastSteps.{GoesDown, Winds, last_steps}
 use Rattle.copy_move.specs.declared.making.MakingStage.{MakingStage}
 use Rattle.copy_move.specs.declared.making.MakingStage.TheVariants as making
 use Rattle.copy_move.specs.declared.work.Work.{Work}
-use Rattle.copy_move.specs.declared.work.Work.TheVariants.{Copy, Delete, Make}
+use Rattle.copy_move.specs.declared.work.Work.TheVariants.{Copy, Delete, Make, SetMode}
 use Rattle.copy_move.specs.Makings.{Making}
 use Rattle.copy_move.specs.Makings as makings
 use Rattle.copy_move.specs.Jobs.{course_after}
 use Rattle.job_reports.specs.Reports.{ends}
-use Rattle.copy_move.specs.Ranks.{copy_rank, last_making_steps, last_rank, making_rank, rank_on, skip_rank, work_rank}
+use Rattle.copy_move.specs.Ranks.{copy_rank, last_making_steps, last_rank, last_setting_steps, making_rank, rank_on, setting_rank, skip_rank, work_rank}
+use Rattle.mode_setting.specs.declared.setting.Stage.{Stage as SettingStage}
+use Rattle.mode_setting.specs.declared.setting.Stage.TheVariants as setting
 
 begins_below : (most size : ℕ) → size ≤ most → (size - 0) + 7 < most + 8
 begins_below most size fits = omega (arith, fits)
@@ -105,11 +107,17 @@ tried_low making.Sync = omega arith
 tried_low making.Finish = omega arith
 tried_low making.PassedOver = omega arith
 
+pub setting_tried_low : (stage : SettingStage) → last_setting_steps stage < setting_rank stage
+setting_tried_low setting.Give = omega arith
+setting_tried_low setting.Sync = omega arith
+setting_tried_low setting.Done = omega arith
+
 -- a job in trouble has fewer steps left than one that goes on
 pub trouble_falls : (work : Work) → last_rank work < work_rank work
 trouble_falls (Copy c) = let few = few_last c.stage c.folder in let more = more_left c.stage c.folder in omega (arith, few, more)
 trouble_falls (Delete d) = omega arith
 trouble_falls (Make m) = tried_low m.stage
+trouble_falls (SetMode s) = setting_tried_low s.stage
 
 pub making_falls : (old new : Making) (did : Did) → makings.Tells old did new → ends did ≡ false → rank_on (course_after did) (Make new) < work_rank (Make old)
 making_falls old new (Made path) (at, path_is, is) h =
@@ -176,9 +184,16 @@ unmade_falls making.Sync = omega arith
 unmade_falls making.Finish = omega arith
 unmade_falls making.PassedOver = omega arith
 
+-- the last steps of a setting are few
+setting_low : (stage : SettingStage) → last_setting_steps stage < 10
+setting_low setting.Give = omega arith
+setting_low setting.Sync = omega arith
+setting_low setting.Done = omega arith
+
 pub waiting_falls : (work : Work) → last_rank work < skip_rank work
 waiting_falls (Copy c) = let few = few_last c.stage c.folder in omega (arith, few)
 waiting_falls (Delete d) = omega arith
+waiting_falls (SetMode s) = setting_low s.stage
 waiting_falls (Make m) = by m.stage
   where
     by : (stage : MakingStage) → last_making_steps stage < 10

@@ -1,15 +1,13 @@
 -- What the steps of a job make of the dirty folders.
-use Rattle.std.proofs.Common.{◌≡◌, ◌⊎◌, ℕ, ◌+◌, ◌-◌, ◌*◌, ◌<◌, ◌≤◌, ◌&&◌, not, Bool, true, false, List, [], ◌∷◌, ◌++◌, length, take, refl, sym, ◌∙◌, ap, subst, inl, inr, Option, Some, None, Result, Ok, Err, arith}
+use Rattle.std.proofs.Common.{◌≡◌, ◌⊎◌, ℕ, ◌+◌, ◌-◌, ◌*◌, ◌<◌, ◌≤◌, ◌&&◌, not, Bool, true, false, List, [], ◌∷◌, ◌++◌, length, take, refl, sym, ◌∙◌, ap, subst, inl, inr, Option, Some, None, Result, Err, arith}
 use Rattle.std.proofs.lemmas.Bool.{true≢false, false≢true}
 use Rattle.std.proofs.lemmas.List.{length-append}
 use Rattle.std.specs.Prelude.{if◌then◌else◌}
 use Rattle.mc_text.specs.Routes.{Route}
 use Rattle.tree_trait.specs.declared.calls.TreeError.{TreeError}
 use Rattle.tree_trait.specs.declared.calls.TreeError.TheVariants as refused
-use Rattle.tree_trait.specs.Calls.{SyncFolder}
 use Rattle.tree_trait.specs.Change.{CallLog, current}
-use Rattle.tree_trait.specs.Answers.{IfKnown, HasRisen, Performs}
-use Rattle.tree_trait.specs.CrashImages.{Among}
+use Rattle.tree_trait.specs.Answers.{IfKnown}
 use Rattle.tree_trait.proofs.Visible.{same_path-self}
 use Rattle.job_reports.specs.declared.report.Cause.{Cause}
 use Rattle.job_reports.specs.declared.report.Cause.TheVariants.{Memory, Tree}
@@ -29,11 +27,11 @@ use Rattle.job_reports.specs.Paths.{folder_of, without}
 use Rattle.file_copy.specs.Copying as copying
 use Rattle.file_copy.specs.CopySteps.{StepsOn as CopyStepsOn}
 use Rattle.file_copy.specs.LastSteps.{Winds, WindsOn}
-use Rattle.job_reports.specs.Stops.{out_of_memory_at, calls_made_for, cause_of, trouble_at}
+use Rattle.job_reports.specs.Stops.{out_of_memory_at, cause_of}
 use Rattle.tree_deletion.specs.Folders.{is_one_of, joined}
 use Rattle.tree_deletion.specs.Standing.{at_barrier as deletion_barrier}
 use Rattle.copy_move.specs.declared.work.Work.{Work}
-use Rattle.copy_move.specs.declared.work.Work.TheVariants.{Copy, Delete, Make}
+use Rattle.copy_move.specs.declared.work.Work.TheVariants.{Copy, Delete, Make, SetMode}
 use Rattle.copy_move.specs.declared.run.Course.{Course}
 use Rattle.copy_move.specs.declared.run.Course.TheVariants.{GoesOn, InTrouble, OwedSyncFailed, Skips, Ends}
 use Rattle.copy_move.specs.Deletions.{Deleting, left_in}
@@ -44,7 +42,6 @@ use Rattle.copy_move.specs.Ranks.{copy_rank, rank_at, rank_on, tries_left}
 use Rattle.copy_move.specs.Settling.{NoneOwed, with_change}
 use Rattle.copy_move.specs.Steps.{LastWalks, LeavesDirty, OwnStep, OwedSyncStep, SkipSteps, SkipWalks, Walks, WalksOn, WindingStep, WorkSkips, WorkSteps, WorkWindsUp, step_made}
 use Rattle.job_reports.proofs.Runs.{risen_before}
-use Rattle.job_reports.proofs.Tried.{counts_try, tries_few}
 use Rattle.copy_move.specs.Faults.{MeetsFault}
 use Rattle.copy_move.proofs.DeletionRuns.{fewer, met_by, one_fewer}
 use Rattle.copy_move.proofs.Falling.{copy_falls, last_copy_falls, passing_falls, trouble_falls, waiting_falls}
@@ -441,48 +438,14 @@ pub winding_step : (ending : Ending) (id : ℕ) (old work : Work) (course : Cour
 winding_step ending id old work course job did calls left dirty dirty_after before after f0 f1 is winds =
     subst (λ j. WindingStep ending (step_made j (record { id = id; work = work; course = course }) did calls dirty dirty_after before after f0 f1)) is record { left = left; winds = winds; new_is = refl }
 
--- The sync of a folder that an ended job left.
-module _ (folder : Route) (dirty dirty_after : List Route) (job : Running) (goes : job.course ≡ GoesOn) (fresh : is_fresh job.work ≡ true) (owed : Among dirty folder) (before after : Option CallLog) (f0 f1 : ℕ)
-    (unknown : before ≡ None → after ≡ None) (later : f0 ≤ f1) where
-  counted : (answer : Result (Unit {0}) TreeError) (calls : ℕ) → calls ≡ calls_made_for answer → IfKnown before (λ log. Performs {A = Unit {0}} log (SyncFolder folder) answer after) → IfKnown before (λ log. IfKnown after (HasMore log calls))
-  counted answer calls is called log known now has = subst (λ n. HasMore log n now) (sym is) (counts_try (SyncFolder folder) answer log now after (called log known) has)
-
-  pub settled_folder : (did : Did) (calls : ℕ) → did ≡ Barrier → calls ≡ 1 → dirty_after ≡ without folder dirty → IfKnown before (λ log. Performs {A = Unit {0}} log (SyncFolder folder) (Ok tt) after)
-      → OwedSyncStep (step_made job job did calls dirty dirty_after before after f0 f1)
-  settled_folder did calls is count after_is called = record {
-    goes = goes;
-    fresh = fresh;
-    folder = folder;
-    owed = owed;
-    synced = inl (record { did_is = is; new_is = refl; dirty_is = after_is; called = called });
-    counted = counted (Ok tt) calls count called;
-    few = omega (arith, count);
-    unknown = unknown;
-    later = later;
-    fault = λ h. absurd (subst (MeetsFault job.course) is h);
-  }
-
-  pub refused_folder : (e : TreeError) (did : Did) (calls : ℕ) (new : Running) → did ≡ Troubled (trouble_at e folder true) → calls ≡ calls_made_for (Err e) → new ≡ record job { course = OwedSyncFailed (cause_of e) } → dirty_after ≡ dirty
-      → IfKnown before (λ log. Performs {A = Unit {0}} log (SyncFolder folder) (Err e) after) → (e ≡ refused.Fault → HasRisen f0 f1) → OwedSyncStep (step_made job new did calls dirty dirty_after before after f0 f1)
-  refused_folder e did calls new is count new_is after_is called risen = record {
-    goes = goes;
-    fresh = fresh;
-    folder = folder;
-    owed = owed;
-    synced = inr (record { error = e; did_is = is; new_is = new_is; dirty_is = after_is; called = called });
-    counted = counted (Err e) calls count called;
-    few = let most = tries_few (Err e) in omega (arith, count, most);
-    unknown = unknown;
-    later = later;
-    fault = λ h. risen (fault-cause e (subst (MeetsFault job.course) is h));
-  }
-
 -- a step after looks at the tree, which may have met faults
 walks_later : (old new : Work) (did : Did) (calls : ℕ) (dirty dirty_after : List Route) (before after : Option CallLog) (f0 f1 f2 : ℕ) → f0 ≤ f1 → Walks old new did calls dirty dirty_after before after f1 f2 → Walks old new did calls dirty dirty_after before after f0 f2
 walks_later (Copy c) new did calls dirty dirty_after before after f0 f1 f2 later w = tt
 walks_later (Make m) new did calls dirty dirty_after before after f0 f1 f2 later w = tt
+walks_later (SetMode s) new did calls dirty dirty_after before after f0 f1 f2 later w = tt
 walks_later (Delete d) (Copy new) did calls dirty dirty_after before after f0 f1 f2 later w = absurd w
 walks_later (Delete d) (Make new) did calls dirty dirty_after before after f0 f1 f2 later w = absurd w
+walks_later (Delete d) (SetMode new) did calls dirty dirty_after before after f0 f1 f2 later w = absurd w
 walks_later (Delete d) (Delete new) did calls dirty dirty_after before after f0 f1 f2 later (inl (worked, mid, spare, spare_after, s, passed)) = inl (
   worked,
   mid,
@@ -524,8 +487,10 @@ last_walks_later : (ending : Ending) (old new : Work) (did : Did) (calls : ℕ) 
     → LastWalks ending old new did calls left dirty dirty_after before after f1 f2 → LastWalks ending old new did calls left dirty dirty_after before after f0 f2
 last_walks_later ending (Copy c) new did calls left dirty dirty_after before after f0 f1 f2 later w = tt
 last_walks_later ending (Make m) new did calls left dirty dirty_after before after f0 f1 f2 later w = tt
+last_walks_later ending (SetMode s) new did calls left dirty dirty_after before after f0 f1 f2 later w = tt
 last_walks_later ending (Delete d) (Copy new) did calls left dirty dirty_after before after f0 f1 f2 later w = absurd w
 last_walks_later ending (Delete d) (Make new) did calls left dirty dirty_after before after f0 f1 f2 later w = absurd w
+last_walks_later ending (Delete d) (SetMode new) did calls left dirty dirty_after before after f0 f1 f2 later w = absurd w
 last_walks_later ending (Delete d) (Delete new) did calls left dirty dirty_after before after f0 f1 f2 later ((spare, s), same) = (
   (
     spare,
@@ -595,7 +560,7 @@ pub settling_later : (job new : Running) (did : Did) (calls : ℕ) (dirty dirty_
 settling_later job new did calls dirty dirty_after first before after f0 f1 f2 same later s = subst (λ b. OwedSyncStep (step_made job new did calls dirty dirty_after b after f0 f2)) same record {
   goes = s.goes;
   fresh = s.fresh;
-  folder = s.folder;
+  path = s.path;
   owed = s.owed;
   synced = s.synced;
   counted = s.counted;

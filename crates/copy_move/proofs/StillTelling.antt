@@ -4,6 +4,7 @@ use Rattle.mc_text.specs.Routes.{Route}
 use Rattle.tree_trait.specs.declared.calls.TreeError.{TreeError}
 use Rattle.tree_trait.specs.declared.calls.TreeError.TheVariants as refused
 use Rattle.tree_trait.specs.Calls.{Call, RemoveFile, RemoveFolder, SyncFolder}
+use Rattle.tree_trait.specs.Calls as calls
 use Rattle.tree_trait.specs.Change.{CallLog, current}
 use Rattle.tree_trait.specs.Answers.{Performs}
 use Rattle.job_reports.specs.declared.report.Cause.{Cause}
@@ -19,7 +20,7 @@ use Rattle.file_copy.specs.CopyCalls.{CopyCalls, CopyStops, making, placing, wri
 use Rattle.file_copy.specs.LastSteps.{SyncTried, WindCalls, removable}
 use Rattle.job_reports.proofs.Runs.{all_some}
 use Rattle.copy_move.specs.declared.work.Work.{Work}
-use Rattle.copy_move.specs.declared.work.Work.TheVariants.{Copy, Delete, Make}
+use Rattle.copy_move.specs.declared.work.Work.TheVariants.{Copy, Delete, Make, SetMode}
 use Rattle.copy_move.specs.declared.run.Course.{Course}
 use Rattle.copy_move.specs.declared.run.Course.TheVariants.{GoesOn, InTrouble, OwedSyncFailed, Skips, Ends}
 use Rattle.copy_move.specs.Deletions.{DeletionCalls, IsRefused, LastCalls}
@@ -27,6 +28,11 @@ use Rattle.copy_move.specs.Deletions as deletions
 use Rattle.copy_move.specs.Makings.{Answers, LastMakingCalls, Making, MakingCalls}
 use Rattle.copy_move.specs.Makings as makings
 use Rattle.copy_move.specs.NewThings.{making_call}
+use Rattle.copy_move.specs.ModeSettings.{LastSettingCalls}
+use Rattle.mode_setting.specs.declared.setting.Stage.{Stage as SettingStage}
+use Rattle.mode_setting.specs.declared.setting.Stage.TheVariants as setting
+use Rattle.mode_setting.specs.Settings.{Setting}
+use Rattle.mode_setting.specs.SettingSteps.{SettingCalls, SettingStops, SyncStops, TellsTried, sync_of}
 use Rattle.copy_move.specs.Jobs.{CallsOn, JobCalls, Running, WorkCalls, WorkLastCalls}
 
 abbrev pub StillTells : Option CallLog → Type 0
@@ -125,6 +131,49 @@ run_tells calls PartTaken path log after h = absurd h
 run_tells calls TooLong path log after h = absurd h
 run_tells calls (Changed said got) path log after h = absurd h
 
+-- a setting
+pub sync_stop_tells : (path : Route) (cause : Cause) (named : Option Route) (log : CallLog) (after : Option CallLog) → SyncStops path cause named log after → StillTells after
+sync_stop_tells path cause named log after (inl look) = (log, look.1)
+sync_stop_tells path cause named log after (inr sync) = run_tells (sync_of (current log) path ∷ []) cause named log after sync
+
+setting_stop_tells : (s : Setting) (stage : SettingStage) (cause : Cause) (named : Option Route) (log : CallLog) (after : Option CallLog) → SettingStops s stage cause named log after → StillTells after
+setting_stop_tells s setting.Give cause named log after h = run_tells (calls.SetMode s.path s.mode ∷ []) cause named log after h
+setting_stop_tells s setting.Sync cause named log after h = sync_stop_tells s.path cause named log after h
+setting_stop_tells s setting.Done cause named log after h = absurd h
+
+setting_tells : (s : Setting) (did : Did) (log : CallLog) (after : Option CallLog) → SettingCalls s did log after → StillTells after
+setting_tells s (Set path) log after h = all_some (calls.SetMode s.path s.mode ∷ []) log after h
+setting_tells s Barrier log after h = all_some (sync_of (current log) s.path ∷ []) log after h
+setting_tells s (Troubled trouble) log after h = setting_stop_tells s s.stage trouble.cause trouble.path log after h
+setting_tells s (Ended ending part) log after h = (log, h)
+setting_tells s (Began part) log after h = absurd h
+setting_tells s (Chunk count) log after h = absurd h
+setting_tells s (Placed path) log after h = absurd h
+setting_tells s (Removed path) log after h = absurd h
+setting_tells s (Made path) log after h = absurd h
+setting_tells s (Kept path) log after h = absurd h
+setting_tells s (Skipped path cause) log after h = absurd h
+setting_tells s (Cleaned part) log after h = absurd h
+
+try_tells : (path : Route) (left : Option TreeError) (log : CallLog) (after : Option CallLog) → TellsTried path left log after → StillTells after
+try_tells path None log after h = performs_tells log (sync_of (current log) path) (Ok tt) after h
+try_tells path (Some e) log after (inl look) = (log, look.0)
+try_tells path (Some e) log after (inr h) = performs_tells log (sync_of (current log) path) (Err e) after h
+
+last_setting_tells : (s : Setting) (did : Did) (log : CallLog) (after : Option CallLog) → LastSettingCalls s did log after → StillTells after
+last_setting_tells s Barrier log after (left, h) = try_tells s.path left log after h
+last_setting_tells s (Ended ending part) log after h = (log, h)
+last_setting_tells s (Began part) log after h = absurd h
+last_setting_tells s (Chunk count) log after h = absurd h
+last_setting_tells s (Set path) log after h = absurd h
+last_setting_tells s (Placed path) log after h = absurd h
+last_setting_tells s (Removed path) log after h = absurd h
+last_setting_tells s (Made path) log after h = absurd h
+last_setting_tells s (Kept path) log after h = absurd h
+last_setting_tells s (Skipped path cause) log after h = absurd h
+last_setting_tells s (Cleaned part) log after h = absurd h
+last_setting_tells s (Troubled trouble) log after h = absurd h
+
 -- a copy
 trouble_tells : (unclaimed : Route → Type 0) (p : Places) (stage : Stage) (cause : Cause) (path : Option Route) (log : CallLog) (after : Option CallLog) → CopyStops unclaimed p stage cause path log after
     → StillTells after
@@ -175,13 +224,16 @@ work_tells : (unclaimed : Route → Type 0) (work : Work) (did : Did) (new : Wor
 work_tells unclaimed (Copy c) did (Copy new) log after h = copy_tells unclaimed c did new log after h
 work_tells unclaimed (Copy c) did (Delete new) log after h = absurd h
 work_tells unclaimed (Copy c) did (Make new) log after h = absurd h
+work_tells unclaimed (Copy c) did (SetMode new) log after h = absurd h
 work_tells unclaimed (Delete d) did new log after h = deletion_tells did log after h
 work_tells unclaimed (Make m) did new log after h = making_tells m did log after h
+work_tells unclaimed (SetMode s) did new log after h = setting_tells s did log after h
 
 last_work_tells : (work : Work) (did : Did) (log : CallLog) (after : Option CallLog) → WorkLastCalls work did log after → StillTells after
 last_work_tells (Copy c) did log after h = wind_tells c did log after h
 last_work_tells (Delete d) did log after h = last_tells did log after h
 last_work_tells (Make m) did log after h = last_making_tells m did log after h
+last_work_tells (SetMode s) did log after h = last_setting_tells s did log after h
 
 calls_tell : (unclaimed : Route → Type 0) (course : Course) (job : Running) (did : Did) (new : Running) (log : CallLog) (after : Option CallLog) → CallsOn unclaimed course job did new log after → StillTells after
 calls_tell unclaimed GoesOn job did new log after h = work_tells unclaimed job.work did new.work log after h

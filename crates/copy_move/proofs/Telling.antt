@@ -1,9 +1,8 @@
 -- What a history tells of a job follows each thing that the job does.
 use Rattle.std.proofs.Common.{◌≡◌, ℕ, Bool, true, false, [], ◌∷◌, refl, sym, ap, ◌∙◌, ◌⊎◌, inl, inr, Option, Some, None}
-use Rattle.std.specs.Prelude.{is_some, ◌&&◌, if◌then◌else◌}
+use Rattle.std.specs.Prelude.{is_some, ◌&&◌, nat_le, if◌then◌else◌}
 use Rattle.std.specs.Option.{option_map}
 use Rattle.mc_text.specs.Routes.{Route, parent_of}
-use Rattle.tree_trait.specs.declared.calls.TreeError.{TreeError}
 use Rattle.std.proofs.lemmas.Bool.{false≢true}
 use Rattle.job_reports.specs.declared.report.Cause.{Cause}
 use Rattle.job_reports.specs.declared.report.Cause.TheVariants.{Memory}
@@ -21,13 +20,13 @@ use Rattle.file_copy.specs.declared.stage.FolderState.TheVariants.{Synced, Dirty
 use Rattle.file_copy.specs.Copying.{Copying, Tells, after_clean}
 use Rattle.file_copy.specs.Copying as copying
 use Rattle.file_copy.specs.LastSteps.{Winds, given_up}
-use Rattle.job_reports.specs.Stops.{out_of_memory_at, cause_of, trouble_at}
+use Rattle.job_reports.specs.Stops.{out_of_memory_at}
 use Rattle.job_reports.specs.declared.job.Job.{Job}
 use Rattle.job_reports.specs.declared.job.Job.TheVariants as plan
 use Rattle.job_reports.specs.declared.answer.Answer.{Answer}
 use Rattle.job_reports.specs.declared.answer.Answer.TheVariants.{Retry, Skip, SkipAll, Abort}
 use Rattle.copy_move.specs.declared.work.Work.{Work}
-use Rattle.copy_move.specs.declared.work.Work.TheVariants.{Copy, Delete, Make}
+use Rattle.copy_move.specs.declared.work.Work.TheVariants.{Copy, Delete, Make, SetMode}
 use Rattle.copy_move.specs.declared.run.Course.{Course}
 use Rattle.copy_move.specs.declared.run.Course.TheVariants.{GoesOn, InTrouble, OwedSyncFailed, Skips, Ends}
 use Rattle.subtree_walk.specs.Places.{unopened}
@@ -44,7 +43,12 @@ use Rattle.copy_move.specs.Deletions.{Deleting, IsAtStage}
 use Rattle.copy_move.specs.Deletions as deletions
 use Rattle.copy_move.specs.Makings.{Making}
 use Rattle.copy_move.specs.Makings as makings
-use Rattle.copy_move.specs.Jobs.{Running, JobTells, TellsOn, WorkTells, WorkWinds, answered, answered_on, at_barrier, copies, course_after, deletes, first_work, is_fresh, makes, PassesOver, taken_anew, with_skips}
+use Rattle.copy_move.specs.ModeSettings as modes
+use Rattle.mode_setting.specs.declared.setting.Stage.{Stage as SettingStage}
+use Rattle.mode_setting.specs.declared.setting.Stage.TheVariants as setting
+use Rattle.mode_setting.specs.Settings.{Setting}
+use Rattle.mode_setting.specs.Settings as settings
+use Rattle.copy_move.specs.Jobs.{Running, JobTells, TellsOn, WorkTells, WorkWinds, answered, answered_on, at_barrier, copies, course_after, deletes, first_work, is_fresh, makes, sets, PassesOver, taken_anew, with_skips}
 use Rattle.job_reports.specs.Reports.{ends}
 use Rattle.copy_move.specs.Told.{after_step, course_told, if_closed, running, skipped, stage_told, synced, told, work_told}
 
@@ -89,6 +93,13 @@ skipped_told (Delete d) (Make new) path h = absurd h
 skipped_told (Make m) (Copy new) path h = absurd h
 skipped_told (Make m) (Delete new) path h = absurd h
 skipped_told (Make m) (Make new) path (path_is, new_is) = ap Make (sym new_is)
+skipped_told (Copy c) (SetMode new) path h = absurd h
+skipped_told (Delete d) (SetMode new) path h = absurd h
+skipped_told (Make m) (SetMode new) path h = absurd h
+skipped_told (SetMode s) (Copy new) path h = absurd h
+skipped_told (SetMode s) (Delete new) path h = absurd h
+skipped_told (SetMode s) (Make new) path h = absurd h
+skipped_told (SetMode s) (SetMode new) path (path_is, new_is) = ap SetMode (sym new_is)
 
 anew_stage_told : (stage : Stage) → copying.taken_anew (stage_told stage) ≡ stage_told (copying.taken_anew stage)
 anew_stage_told (at.Fill part facts done) = refl
@@ -101,6 +112,7 @@ anew_told : (work : Work) → taken_anew (work_told work) ≡ work_told (taken_a
 anew_told (Copy c) = ap (λ stage. Copy (record c { stage = stage })) (anew_stage_told c.stage)
 anew_told (Delete d) = refl
 anew_told (Make m) = refl
+anew_told (SetMode s) = refl
 
 -- before the first change no trouble of the work is at a barrier
 copy_bars : (stage : Stage) (folder : FolderState) (barrier : Bool) → barrier ≡ copying.at_barrier stage → (copying.is_fresh stage folder && barrier) ≡ false
@@ -122,6 +134,11 @@ making_bars making.Sync barrier h = refl
 making_bars making.Finish barrier h = refl
 making_bars making.PassedOver barrier h = refl
 
+setting_bars : (stage : SettingStage) (barrier : Bool) → barrier ≡ settings.at_barrier stage → (settings.is_fresh stage && barrier) ≡ false
+setting_bars setting.Give barrier h = h
+setting_bars setting.Sync barrier h = refl
+setting_bars setting.Done barrier h = refl
+
 -- the trouble of a making is at a barrier where its next call is
 making_trouble_bars : (stage : MakingStage) (path : Route) (trouble : Trouble) → makings.IsTroubleAt stage path trouble → trouble.barrier ≡ makings.at_barrier stage
 making_trouble_bars making.Make path trouble (e, is) = ap (λ (t : Trouble). t.barrier) is
@@ -141,6 +158,7 @@ pub fresh_told : (work : Work) → is_fresh (work_told work) ≡ is_fresh work
 fresh_told (Copy c) = fresh_stage_told c.stage c.folder
 fresh_told (Delete d) = refl
 fresh_told (Make m) = refl
+fresh_told (SetMode s) = refl
 
 -- then the job is in trouble, as its history tells it
 in_trouble : (work : Work) (trouble : Trouble) → (is_fresh work && trouble.barrier) ≡ false → course_told (work_told work) trouble ≡ InTrouble trouble.cause
@@ -154,6 +172,7 @@ skip_bars : (work : Work) → (is_fresh work && at_barrier work) ≡ false
 skip_bars (Copy c) = copy_bars c.stage c.folder (copying.at_barrier c.stage) refl
 skip_bars (Delete d) = deletion_bars d.stage (standing.at_barrier d.stage) refl
 skip_bars (Make m) = making_bars m.stage (makings.at_barrier m.stage) refl
+skip_bars (SetMode s) = setting_bars s.stage (settings.at_barrier s.stage) refl
 
 pub skip_in_trouble : (work : Work) → course_told (work_told work) (out_of_memory_at (at_barrier work)) ≡ InTrouble Memory
 skip_in_trouble work = in_trouble work (out_of_memory_at (at_barrier work)) (skip_bars work)
@@ -223,6 +242,23 @@ making_told id old new (Kept kept) t h = absurd t
 making_told id old new (Skipped path cause) t h = absurd t
 making_told id old new (Cleaned part) t h = absurd t
 
+-- a setting that goes on
+setting_told : (id : ℕ) (old new : Setting) (did : Did) → settings.Tells old did new → ends did ≡ false
+    → after_step did (told (job_of id (SetMode old) GoesOn)) ≡ Some (told (job_of id (SetMode new) (course_after did)))
+setting_told id old new (Set path) (from, path_is, is) h = rw is refl
+setting_told id old new Barrier (from, is) h = rw is (ap (λ stage. Some (job_of id (SetMode (record old { stage = modes.after_sync stage })) GoesOn)) from)
+setting_told id old new (Troubled trouble) (barrier, is) h =
+    rw is (ap (λ course. Some (job_of id (SetMode old) course)) (in_trouble (SetMode old) trouble (setting_bars old.stage trouble.barrier barrier)))
+setting_told id old new (Ended ending part) t h = absurd cc
+setting_told id old new (Began part) t h = absurd t
+setting_told id old new (Chunk count) t h = absurd t
+setting_told id old new (Placed path) t h = absurd t
+setting_told id old new (Removed path) t h = absurd t
+setting_told id old new (Made path) t h = absurd t
+setting_told id old new (Kept path) t h = absurd t
+setting_told id old new (Skipped path cause) t h = absurd t
+setting_told id old new (Cleaned part) t h = absurd t
+
 -- the last steps
 copy_winds : (id : ℕ) (ending : Ending) (old new : Copying) (did : Did) → Winds ending old did new → ends did ≡ false
     → after_step did (told (job_of id (Copy old) (Ends ending))) ≡ Some (told (job_of id (Copy new) (Ends ending)))
@@ -269,6 +305,21 @@ making_winds id ending old new (Skipped path cause) t h = absurd t
 making_winds id ending old new (Cleaned part) t h = absurd t
 making_winds id ending old new (Troubled trouble) t h = absurd t
 
+setting_winds : (id : ℕ) (ending : Ending) (old new : Setting) (did : Did) → modes.Winds ending old did new → ends did ≡ false
+    → after_step did (told (job_of id (SetMode old) (Ends ending))) ≡ Some (told (job_of id (SetMode new) (Ends ending)))
+setting_winds id ending old new Barrier (from, is) h = rw is (ap (λ stage. Some (job_of id (SetMode (record old { stage = modes.after_sync stage })) (Ends ending))) from)
+setting_winds id ending old new (Ended how part) t h = absurd cc
+setting_winds id ending old new (Began part) t h = absurd t
+setting_winds id ending old new (Chunk count) t h = absurd t
+setting_winds id ending old new (Set path) t h = absurd t
+setting_winds id ending old new (Placed path) t h = absurd t
+setting_winds id ending old new (Removed path) t h = absurd t
+setting_winds id ending old new (Made path) t h = absurd t
+setting_winds id ending old new (Kept path) t h = absurd t
+setting_winds id ending old new (Skipped path cause) t h = absurd t
+setting_winds id ending old new (Cleaned part) t h = absurd t
+setting_winds id ending old new (Troubled trouble) t h = absurd t
+
 goes_told : (id : ℕ) (old new : Work) (did : Did) → WorkTells old did new → ends did ≡ false
     → after_step did (told (job_of id old GoesOn)) ≡ Some (told (job_of id new (course_after did)))
 goes_told id (Copy c) (Copy new) did t h = copy_told id c new did t h
@@ -280,6 +331,13 @@ goes_told id (Make m) (Copy new) did t h = absurd t
 goes_told id (Make m) (Delete new) did t h = absurd t
 goes_told id (Delete d) (Delete new) did t h = deletion_told id d new did t h
 goes_told id (Make m) (Make new) did t h = making_told id m new did t h
+goes_told id (Copy c) (SetMode new) did t h = absurd t
+goes_told id (Delete d) (SetMode new) did t h = absurd t
+goes_told id (Make m) (SetMode new) did t h = absurd t
+goes_told id (SetMode s) (Copy new) did t h = absurd t
+goes_told id (SetMode s) (Delete new) did t h = absurd t
+goes_told id (SetMode s) (Make new) did t h = absurd t
+goes_told id (SetMode s) (SetMode new) did t h = setting_told id s new did t h
 
 winds_told : (id : ℕ) (ending : Ending) (old new : Work) (did : Did) → WorkWinds ending old did new → ends did ≡ false
     → after_step did (told (job_of id old (Ends ending))) ≡ Some (told (job_of id new (Ends ending)))
@@ -292,6 +350,13 @@ winds_told id ending (Make m) (Copy new) did t h = absurd t
 winds_told id ending (Make m) (Delete new) did t h = absurd t
 winds_told id ending (Delete d) (Delete new) did t h = deletion_winds id ending d new did t h
 winds_told id ending (Make m) (Make new) did t h = making_winds id ending m new did t h
+winds_told id ending (Copy c) (SetMode new) did t h = absurd t
+winds_told id ending (Delete d) (SetMode new) did t h = absurd t
+winds_told id ending (Make m) (SetMode new) did t h = absurd t
+winds_told id ending (SetMode s) (Copy new) did t h = absurd t
+winds_told id ending (SetMode s) (Delete new) did t h = absurd t
+winds_told id ending (SetMode s) (Make new) did t h = absurd t
+winds_told id ending (SetMode s) (SetMode new) did t h = setting_winds id ending s new did t h
 
 told_on : (course : Course) (id : ℕ) (work : Work) (new : Running) (did : Did) → TellsOn course (job_of id work course) did new → ends did ≡ false
     → after_step did (told (job_of id work course)) ≡ Some (told new)
@@ -325,6 +390,7 @@ skips_told : (cause : Cause) (work : Work) → work_told (with_skips cause work)
 skips_told cause (Copy c) = refl
 skips_told cause (Delete d) = refl
 skips_told cause (Make m) = refl
+skips_told cause (SetMode s) = refl
 
 -- an answer, and the beginning of a job, are told whole
 pub answered_told : (answer : Answer) (job : Running) → told (answered answer job) ≡ answered answer (told job)
@@ -356,9 +422,11 @@ began_told id (plan.Copy (pair ∷ [])) = began_if id (is_some (parent_of pair.s
 began_told id (plan.Copy (pair ∷ more ∷ pairs)) = refl
 began_told id (plan.MakeFolder path) = began_if id (is_some (parent_of path)) (makes thing.Folder path) refl
 began_told id (plan.MakeLink path text) = began_if id (is_some (parent_of path) && is_link_text text) (makes (thing.Link text) path) refl
-began_told id (plan.SetMode paths mode) = refl
+began_told id (plan.SetMode [] mode) = refl
+began_told id (plan.SetMode (path ∷ []) mode) = began_if id (is_some (parent_of path) && nat_le mode 0o7777) (sets path mode) refl
+began_told id (plan.SetMode (path ∷ more ∷ paths) mode) = refl
 
--- the sync of a folder that an ended job left comes before the first change, and leaves the work as it is
+-- the sync of what an ended job left dirty comes before the first change, and leaves the work as it is
 synced_copy : (c : Copying) (stage : Stage) (folder : FolderState) → copying.is_fresh stage folder ≡ true → synced (work_told (Copy (record c { stage = stage; folder = folder }))) ≡ work_told (Copy (record c { stage = stage; folder = folder }))
 synced_copy c at.Begin Synced h = refl
 synced_copy c at.Begin Dirty h = absurd (false≢true h)
@@ -373,22 +441,29 @@ synced_making m making.Sync h = absurd (false≢true h)
 synced_making m making.Finish h = absurd (false≢true h)
 synced_making m making.PassedOver h = absurd (false≢true h)
 
+synced_setting : (s : Setting) (stage : SettingStage) → settings.is_fresh stage ≡ true → synced (SetMode (record s { stage = stage })) ≡ SetMode (record s { stage = stage })
+synced_setting s setting.Give h = refl
+synced_setting s setting.Sync h = absurd (false≢true h)
+synced_setting s setting.Done h = absurd (false≢true h)
+
 fresh_synced : (work : Work) → is_fresh work ≡ true → synced (work_told work) ≡ work_told work
 fresh_synced (Copy c) h = synced_copy c c.stage c.folder h
 fresh_synced (Delete d) h = refl
 fresh_synced (Make m) h = synced_making m m.stage h
+fresh_synced (SetMode s) h = synced_setting s s.stage h
 
 fresh_unsettled : (work : Work) (trouble : Trouble) → is_fresh work ≡ true → trouble.barrier ≡ true → course_told (work_told work) trouble ≡ OwedSyncFailed trouble.cause
 fresh_unsettled work trouble fresh barrier =
     ap (λ b. if b && trouble.barrier then OwedSyncFailed trouble.cause else InTrouble trouble.cause) (fresh_told work ∙ fresh)
     ∙ ap (λ b. if b then OwedSyncFailed trouble.cause else InTrouble trouble.cause) barrier
 
--- what is told of a job follows the sync of a folder that an ended job left, or its refusal
-pub sync_told : (job : Running) (folder : Route) (did : Did) (after : Option Running) → is_fresh job.work ≡ true
-    → ((did ≡ Barrier) × (after ≡ Some job)) ⊎ ((e : TreeError) × (did ≡ Troubled (trouble_at e folder true)) × (after ≡ Some (record job { course = OwedSyncFailed (cause_of e) })))
+-- what is told of a job follows the sync of what an ended job left dirty, or its trouble
+pub sync_told : (job : Running) (did : Did) (after : Option Running) → is_fresh job.work ≡ true
+    → ((did ≡ Barrier) × (after ≡ Some job)) ⊎ ((trouble : Trouble) × (did ≡ Troubled trouble) × (trouble.barrier ≡ true) × (after ≡ Some (record job { course = OwedSyncFailed trouble.cause })))
     → option_map told after ≡ after_step did (told job)
-sync_told job folder did after fresh (inl h) = rw (h.0, h.1) (ap (λ w. Some (job_of job.id w job.course)) (sym (fresh_synced job.work fresh)))
-sync_told job folder did after fresh (inr h) = rw (h.1, h.2) (ap (λ course. Some (job_of job.id (work_told job.work) course)) (sym (fresh_unsettled job.work (trouble_at h.0 folder true) fresh refl)))
+sync_told job did after fresh (inl h) = rw (h.0, h.1) (ap (λ w. Some (job_of job.id w job.course)) (sym (fresh_synced job.work fresh)))
+sync_told job did after fresh (inr (trouble, did_is, barred, after_is)) =
+    rw (did_is, after_is) (ap (λ course. Some (job_of job.id (work_told job.work) course)) (sym (fresh_unsettled job.work trouble fresh barred)))
 
 pub closed_told : (closed : Bool) (job : Option Running) → option_map told (if_closed closed job) ≡ if_closed closed (option_map told job)
 closed_told true None = refl

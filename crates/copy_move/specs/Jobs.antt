@@ -1,6 +1,6 @@
 -- A live job: what it does, how far it is, and whether it goes on; what a step of it may report, and what that says of the
 -- tree's calls.
-use Rattle.std.specs.Prelude.{◌≡◌, ◌⊎◌, ℕ, ⊤, Bool, true, false, ◌&&◌, is_some, [], ◌∷◌, Option, Some, None, if◌then◌else◌}
+use Rattle.std.specs.Prelude.{◌≡◌, ◌⊎◌, ℕ, ⊤, Bool, true, false, ◌&&◌, nat_le, is_some, [], ◌∷◌, Option, Some, None, if◌then◌else◌}
 use Rattle.mc_text.specs.Routes.{Route, parent_of}
 use Rattle.tree_trait.specs.Change.{CallLog}
 use Rattle.job_reports.specs.declared.report.Cause.{Cause}
@@ -27,7 +27,7 @@ use Rattle.copy_move.specs.declared.making.MakingStage.TheVariants as making
 use Rattle.copy_move.specs.declared.new_thing.NewThing.{NewThing}
 use Rattle.copy_move.specs.declared.new_thing.NewThing.TheVariants as thing
 use Rattle.copy_move.specs.declared.work.Work.{Work}
-use Rattle.copy_move.specs.declared.work.Work.TheVariants.{Copy, Delete, Make}
+use Rattle.copy_move.specs.declared.work.Work.TheVariants.{Copy, Delete, Make, SetMode}
 use Rattle.copy_move.specs.declared.run.Course.{Course}
 use Rattle.copy_move.specs.declared.run.Course.TheVariants.{GoesOn, InTrouble, OwedSyncFailed, Skips, Ends}
 use Rattle.tree_deletion.specs.Standing.{after_item}
@@ -37,6 +37,12 @@ use Rattle.copy_move.specs.Deletions as deletions
 use Rattle.copy_move.specs.Makings.{LastMakingCalls, MakingCalls}
 use Rattle.copy_move.specs.Makings as makings
 use Rattle.copy_move.specs.NewThings.{making_kind}
+use Rattle.copy_move.specs.ModeSettings.{LastSettingCalls}
+use Rattle.copy_move.specs.ModeSettings as modes
+use Rattle.mode_setting.specs.declared.setting.Stage.TheVariants.{Give}
+use Rattle.mode_setting.specs.Settings.{setting}
+use Rattle.mode_setting.specs.Settings as settings
+use Rattle.mode_setting.specs.SettingSteps.{SettingCalls}
 
 -- a live job: its number, what it does, and whether it goes on
 pub record Running : Type 0 where
@@ -56,8 +62,12 @@ deletes path = Delete (started path)
 abbrev pub makes : NewThing → Route → Work
 makes new path = Make (record { path = path; thing = new; stage = making.Make })
 
--- The work of a job of one item. Other plans aren't worked yet, nor any that sets modes; and the root, which no folder holds, is neither
--- copied, deleted nor made.
+-- the setting of a thing's mode, just begun
+abbrev pub sets : Route → ℕ → Work
+sets path mode = SetMode (setting path mode Give)
+
+-- The work of a job of one item. Other plans aren't worked yet; and the root, which no folder holds, is neither copied, deleted, made
+-- nor given a mode. A mode has twelve bits.
 abbrev pub first_work : ℕ → Job → Option Work
 first_work id (plan.Delete []) = None
 first_work id (plan.Delete (path ∷ [])) = if is_some (parent_of path) then Some (deletes path) else None
@@ -68,30 +78,36 @@ first_work id (plan.Copy (pair ∷ [])) =
 first_work id (plan.Copy (pair ∷ more ∷ pairs)) = None
 first_work id (plan.MakeFolder path) = if is_some (parent_of path) then Some (makes thing.Folder path) else None
 first_work id (plan.MakeLink path text) = if is_some (parent_of path) && is_link_text text then Some (makes (thing.Link text) path) else None
-first_work id (plan.SetMode paths mode) = None
+first_work id (plan.SetMode [] mode) = None
+first_work id (plan.SetMode (path ∷ []) mode) = if is_some (parent_of path) && nat_le mode 0o7777 then Some (sets path mode) else None
+first_work id (plan.SetMode (path ∷ more ∷ paths) mode) = None
 
 -- what the work does, and to what
 abbrev pub kind_of : Work → JobKind
 kind_of (Copy c) = kind.Copy
 kind_of (Delete d) = kind.Delete
 kind_of (Make m) = making_kind m.thing
+kind_of (SetMode s) = kind.SetMode
 
 abbrev pub path_of : Work → Route
 path_of (Copy c) = c.source
 path_of (Delete d) = d.path
 path_of (Make m) = m.path
+path_of (SetMode s) = s.path
 
 -- the next call is at a barrier, where nothing can be skipped
 abbrev pub at_barrier : Work → Bool
 at_barrier (Copy c) = copying.at_barrier c.stage
 at_barrier (Delete d) = standing.at_barrier d.stage
 at_barrier (Make m) = makings.at_barrier m.stage
+at_barrier (SetMode s) = settings.at_barrier s.stage
 
 -- the work of a job that has changed nothing yet
 abbrev pub is_fresh : Work → Bool
 is_fresh (Copy c) = copying.is_fresh c.stage c.folder
 is_fresh (Delete d) = standing.is_fresh d.stage
 is_fresh (Make m) = makings.is_fresh m.stage
+is_fresh (SetMode s) = settings.is_fresh s.stage
 
 -- nothing can be skipped: the next call is at a barrier, or the trouble is a folder that an ended job left
 abbrev pub is_barred : Course → Work → Bool
@@ -101,42 +117,43 @@ is_barred (InTrouble cause) work = at_barrier work
 is_barred (Skips cause) work = at_barrier work
 is_barred (Ends ending) work = at_barrier work
 
--- the work once what stands at this path was left as it is: the file that is copied, something that is deleted, or the thing that
--- is not made
+-- the work once what stands at this path was left as it is: the file that is copied, something that is deleted, the thing that
+-- is not made, or the one that keeps its mode
 abbrev pub PassesOver : Work → Route → Work → Type 0
 PassesOver (Copy c) path (Copy new) = (path ≡ c.source) × (new ≡ record c { stage = copying.skipped c.stage })
-PassesOver (Copy c) path (Delete new) = ⊥
-PassesOver (Copy c) path (Make new) = ⊥
-PassesOver (Delete d) path (Copy new) = ⊥
 PassesOver (Delete d) path (Delete new) = IsAtStage d (after_item d.path path d.stage) new
-PassesOver (Delete d) path (Make new) = ⊥
-PassesOver (Make m) path (Copy new) = ⊥
-PassesOver (Make m) path (Delete new) = ⊥
 PassesOver (Make m) path (Make new) = (path ≡ m.path) × (new ≡ record m { stage = makings.skipped m.stage })
+PassesOver (SetMode s) path (SetMode new) = (path ≡ s.path) × (new ≡ record s { stage = settings.skipped s.stage })
+PassesOver old path new = ⊥
 
--- the work taken up once more after a trouble; a deletion and a making try their call again
+-- the work taken up once more after a trouble; a deletion, a making and the setting of a mode try their call again
 abbrev pub taken_anew : Work → Work
 taken_anew (Copy c) = Copy (record c { stage = copying.taken_anew c.stage })
 taken_anew (Delete d) = Delete d
 taken_anew (Make m) = Make m
+taken_anew (SetMode s) = SetMode s
 
--- The work once troubles of this kind are passed over without a question. One that copies or makes one thing comes to no later one.
+-- The work once troubles of this kind are passed over without a question. One that copies or makes one thing, or sets its mode, comes to
+-- no later one.
 abbrev pub with_skips : Cause → Work → Work
 with_skips cause (Copy c) = Copy c
 with_skips cause (Delete d) = Delete (record d { skips = with_kind (kind_in cause) d.skips })
 with_skips cause (Make m) = Make m
+with_skips cause (SetMode s) = SetMode s
 
 -- the part that stands
 abbrev pub part_of : Work → Option Route
 part_of (Copy c) = copying.part_at c.stage
 part_of (Delete d) = None
 part_of (Make m) = None
+part_of (SetMode s) = None
 
 -- work that goes on: no part of it was left in last steps
 abbrev pub IsGoing : Work → Type 0
 IsGoing (Copy c) = last.left_at c.stage ≡ None
 IsGoing (Delete d) = ⊤
 IsGoing (Make m) = ⊤
+IsGoing (SetMode s) = ⊤
 
 -- only a job that makes its last steps leaves a part
 abbrev pub IsSound : Course → Work → Type 0
@@ -149,26 +166,18 @@ IsSound (Ends ending) work = ⊤
 -- what a step of the work may report that goes on, and where the work stands then
 abbrev pub WorkTells : Work → Did → Work → Type 0
 WorkTells (Copy c) did (Copy new) = copying.Tells c did new
-WorkTells (Copy c) did (Delete new) = ⊥
-WorkTells (Copy c) did (Make new) = ⊥
-WorkTells (Delete d) did (Copy new) = ⊥
 WorkTells (Delete d) did (Delete new) = deletions.Tells d did new
-WorkTells (Delete d) did (Make new) = ⊥
-WorkTells (Make m) did (Copy new) = ⊥
-WorkTells (Make m) did (Delete new) = ⊥
 WorkTells (Make m) did (Make new) = makings.Tells m did new
+WorkTells (SetMode s) did (SetMode new) = settings.Tells s did new
+WorkTells old did new = ⊥
 
 -- the same of a last step
 abbrev pub WorkWinds : Ending → Work → Did → Work → Type 0
 WorkWinds ending (Copy c) did (Copy new) = last.Winds ending c did new
-WorkWinds ending (Copy c) did (Delete new) = ⊥
-WorkWinds ending (Copy c) did (Make new) = ⊥
-WorkWinds ending (Delete d) did (Copy new) = ⊥
 WorkWinds ending (Delete d) did (Delete new) = deletions.Winds ending d did new
-WorkWinds ending (Delete d) did (Make new) = ⊥
-WorkWinds ending (Make m) did (Copy new) = ⊥
-WorkWinds ending (Make m) did (Delete new) = ⊥
 WorkWinds ending (Make m) did (Make new) = makings.Winds ending m did new
+WorkWinds ending (SetMode s) did (SetMode new) = modes.Winds ending s did new
+WorkWinds ending old did new = ⊥
 
 -- a job whose call was refused waits for an answer, else it goes on
 abbrev pub course_after : Did → Course
@@ -204,14 +213,17 @@ abbrev pub WorkCalls : (Route → Type 0) → Work → Did → Work → CallLog 
 WorkCalls unclaimed (Copy c) did (Copy new) log after = CopyCalls unclaimed c did new log after
 WorkCalls unclaimed (Copy c) did (Delete new) log after = ⊥
 WorkCalls unclaimed (Copy c) did (Make new) log after = ⊥
+WorkCalls unclaimed (Copy c) did (SetMode new) log after = ⊥
 WorkCalls unclaimed (Delete d) did new log after = DeletionCalls did log after
 WorkCalls unclaimed (Make m) did new log after = MakingCalls m did log after
+WorkCalls unclaimed (SetMode s) did new log after = SettingCalls s did log after
 
 -- the same of a last step
 abbrev pub WorkLastCalls : Work → Did → CallLog → Option CallLog → Type 0
 WorkLastCalls (Copy c) did log after = last.WindCalls c did log after
 WorkLastCalls (Delete d) did log after = LastCalls did log after
 WorkLastCalls (Make m) did log after = LastMakingCalls m did log after
+WorkLastCalls (SetMode s) did log after = LastSettingCalls s did log after
 
 -- What a step of a job says of the tree's calls. The report of a skip makes none.
 abbrev pub CallsOn : (Route → Type 0) → Course → Running → Did → Running → CallLog → Option CallLog → Type 0

@@ -4,6 +4,7 @@ pub mod Deletions
 pub mod Makings
 pub mod MakingSteps
 pub mod NewThings
+pub mod ModeSettings
 pub mod Jobs
 pub mod Ranks
 pub mod Settling

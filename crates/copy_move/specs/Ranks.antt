@@ -11,10 +11,12 @@ use Rattle.copy_move.specs.declared.making.MakingStage.{MakingStage}
 use Rattle.copy_move.specs.declared.making.MakingStage.TheVariants as making
 use Rattle.copy_move.specs.Deletions.{Deleting, left_in}
 use Rattle.copy_move.specs.declared.work.Work.{Work}
-use Rattle.copy_move.specs.declared.work.Work.TheVariants.{Copy, Delete, Make}
+use Rattle.copy_move.specs.declared.work.Work.TheVariants.{Copy, Delete, Make, SetMode}
 use Rattle.copy_move.specs.declared.run.Course.{Course}
 use Rattle.copy_move.specs.declared.run.Course.TheVariants.{GoesOn, InTrouble, OwedSyncFailed, Skips, Ends}
 use Rattle.copy_move.specs.Jobs.{Running}
+use Rattle.mode_setting.specs.declared.setting.Stage.{Stage as SettingStage}
+use Rattle.mode_setting.specs.declared.setting.Stage.TheVariants as setting
 
 -- of a copy that goes on: a file has at most 2^63 bytes, and each chunk at least one; at last three steps more, if it is
 -- aborted
@@ -45,21 +47,36 @@ last_making_steps making.Sync = 2
 last_making_steps making.Finish = 1
 last_making_steps making.PassedOver = 1
 
+-- of the setting of a mode that goes on
+abbrev pub setting_rank : SettingStage → ℕ
+setting_rank setting.Give = 6
+setting_rank setting.Sync = 5
+setting_rank setting.Done = 4
+
+-- its last steps
+abbrev pub last_setting_steps : SettingStage → ℕ
+last_setting_steps setting.Give = 1
+last_setting_steps setting.Sync = 2
+last_setting_steps setting.Done = 1
+
 abbrev pub work_rank : Work → ℕ
 work_rank (Copy c) = copy_rank c.stage c.folder
 work_rank (Delete d) = deletion_rank d
 work_rank (Make m) = making_rank m.stage
+work_rank (SetMode s) = setting_rank s.stage
 
 abbrev pub last_rank : Work → ℕ
 last_rank (Copy c) = last_steps c.stage c.folder
 last_rank (Delete d) = 1
 last_rank (Make m) = last_making_steps m.stage
+last_rank (SetMode s) = last_setting_steps s.stage
 
 -- where something is to be skipped
 abbrev pub skip_rank : Work → ℕ
 skip_rank (Copy c) = 10
 skip_rank (Delete d) = deletion_rank d + 1
 skip_rank (Make m) = 10
+skip_rank (SetMode s) = 10
 
 -- a job that waits counts as one that is aborted
 abbrev pub rank_on : Course → Work → ℕ
@@ -74,6 +91,7 @@ abbrev pub tries_left : Course → Work → List Route → ℕ
 tries_left (Ends ending) (Delete d) dirty = length dirty - d.tried
 tries_left (Ends ending) (Copy c) dirty = length dirty
 tries_left (Ends ending) (Make m) dirty = length dirty
+tries_left (Ends ending) (SetMode s) dirty = length dirty
 tries_left GoesOn work dirty = length dirty
 tries_left (InTrouble cause) work dirty = length dirty
 tries_left (OwedSyncFailed cause) work dirty = length dirty

@@ -1,5 +1,5 @@
--- Folders in which jobs changed names and that no sync has brought onto the disk yet: what jobs leave there, and how a later
--- job syncs them before it changes anything on that mount.
+-- Folders in which jobs changed names, and things that were given a mode, which no sync has brought onto the disk yet: what jobs leave
+-- there, and how a later job syncs them before it changes anything on that mount.
 use Rattle.std.specs.Prelude.{◌≡◌, ◌⊎◌, ℕ, Bool, true, false, List, Option, Some}
 use Rattle.mc_text.specs.Routes.{Route, is_prefix, same_path}
 use Rattle.tree_trait.specs.declared.file_system.FileSystem.{FileSystem}
@@ -15,31 +15,39 @@ use Rattle.job_reports.specs.Paths.{folder_of, without}
 use Rattle.file_copy.specs.Copying as copying
 use Rattle.file_copy.specs.LastSteps as last
 use Rattle.copy_move.specs.declared.work.Work.{Work}
-use Rattle.copy_move.specs.declared.work.Work.TheVariants.{Copy, Delete, Make}
+use Rattle.copy_move.specs.declared.work.Work.TheVariants.{Copy, Delete, Make, SetMode}
 use Rattle.tree_deletion.specs.Folders.{is_of, joined}
 use Rattle.copy_move.specs.Deletions.{DeletionLeaves, TellsTried}
 use Rattle.copy_move.specs.Makings.{MakingLeaves}
 use Rattle.copy_move.specs.Makings as makings
+use Rattle.copy_move.specs.ModeSettings.{SettingLeaves}
+use Rattle.mode_setting.specs.Settings as settings
 
--- the folder that holds what a job places or removes
+-- the folder that holds what a job places, removes, or gives a mode
 abbrev pub changed_folder : Work → Route
 changed_folder (Copy c) = folder_of c.target
 changed_folder (Delete d) = folder_of d.path
 changed_folder (Make m) = folder_of m.path
+changed_folder (SetMode s) = folder_of s.path
 
--- a folder in which a job may change names: of a deletion also the thing itself, and what lies in it
+-- a folder in which a job may change names: of a deletion also the thing itself, and what lies in it; or the thing to which it gives a
+-- mode
 abbrev pub is_own : Work → Route → Bool
 is_own (Copy c) kept = same_path kept (folder_of c.target)
 is_own (Delete d) kept = is_of (folder_of d.path) d.path kept
 is_own (Make m) kept = same_path kept (folder_of m.path)
+is_own (SetMode s) kept = same_path kept s.path
 
--- the thing that is deleted, or what lies in it
-abbrev pub is_within : Work → Route → Bool
-is_within (Copy c) kept = false
-is_within (Delete d) kept = is_prefix d.path kept
-is_within (Make m) kept = false
+-- What is dirty here is owed on whatever mount it lies: at the thing that is deleted, or in it; and before a mode is set all is, since the
+-- mode of a folder may bar the way to what lies in it.
+abbrev pub is_owed_anywhere : Work → Route → Bool
+is_owed_anywhere (Copy c) kept = false
+is_owed_anywhere (Delete d) kept = is_prefix d.path kept
+is_owed_anywhere (Make m) kept = false
+is_owed_anywhere (SetMode s) kept = true
 
--- the folder of a copy, or of a new thing, joins the dirty ones with its first change, and leaves them with its sync
+-- the folder of a copy, or of a new thing, or a thing that is given a mode, joins the dirty ones with its first change, and leaves them
+-- with its sync
 abbrev pub with_change : Bool → Bool → Route → List Route → List Route
 with_change false true folder dirty = joined folder dirty
 with_change true false folder dirty = without folder dirty
@@ -50,21 +58,19 @@ with_change true true folder dirty = dirty
 abbrev pub WorkLeaves : Work → Did → Work → List Route → List Route → Option CallLog → Option CallLog → Type 0
 WorkLeaves (Copy c) did (Copy new) dirty dirty_after before after =
     dirty_after ≡ with_change (copying.is_dirty c.folder) (copying.is_dirty new.folder) (folder_of c.target) dirty
-WorkLeaves (Copy c) did (Delete new) dirty dirty_after before after = ⊥
-WorkLeaves (Copy c) did (Make new) dirty dirty_after before after = ⊥
-WorkLeaves (Delete d) did (Copy new) dirty dirty_after before after = ⊥
 WorkLeaves (Delete d) did (Delete new) dirty dirty_after before after = DeletionLeaves d did dirty dirty_after before after
-WorkLeaves (Delete d) did (Make new) dirty dirty_after before after = ⊥
-WorkLeaves (Make m) did (Copy new) dirty dirty_after before after = ⊥
-WorkLeaves (Make m) did (Delete new) dirty dirty_after before after = ⊥
 WorkLeaves (Make m) did (Make new) dirty dirty_after before after =
     dirty_after ≡ with_change (makings.is_dirty m.stage) (makings.is_dirty new.stage) (folder_of m.path) dirty
+WorkLeaves (SetMode s) did (SetMode new) dirty dirty_after before after =
+    dirty_after ≡ with_change (settings.is_dirty s.stage) (settings.is_dirty new.stage) s.path dirty
+WorkLeaves old did new dirty dirty_after before after = ⊥
 
--- what a last step tells of the folder that it tried: the refusal of its sync, if that was in vain
+-- what a last step tells of the folder, or the thing, that it tried: the refusal of its sync, if that was in vain
 abbrev pub TellsFolder : Work → Did → Option TreeError → Route → CallLog → Option CallLog → Type 0
 TellsFolder (Copy c) did left folder log after = last.TellsFolder c did left log after
 TellsFolder (Delete d) did left folder log after = TellsTried did left folder log after
 TellsFolder (Make m) did left folder log after = MakingLeaves m did left log after
+TellsFolder (SetMode s) did left folder log after = SettingLeaves s did left log after
 
 -- the number of the mount on which a folder lies
 abbrev pub IsMountOf : FileSystem → Route → ℕ → Type 0
@@ -74,13 +80,13 @@ IsMountOf s folder number = number ≡ mount_number s.mounts (mount_of s folder)
 abbrev pub LiesApart : FileSystem → Route → Route → Type 0
 LiesApart s folder kept = (number : ℕ) × IsMountOf s folder number × (IsMountOf s kept number → ⊥)
 
--- a folder was removed, or a job that changes something on this mount, if that is known, has nothing to do with it
+-- what is dirty was removed, or a job that changes something on this mount, if that is known, has nothing to do with it
 abbrev pub IsElsewhere : FileSystem → Work → Route → Option ℕ → Type 0
 IsElsewhere s work folder mount =
-    (refusal_of s (Stat folder) ≡ Some Missing) ⊎ ((is_within work folder ≡ false) × ((number : ℕ) × (mount ≡ Some number) × (IsMountOf s folder number → ⊥)))
+    (refusal_of s (Stat folder) ≡ Some Missing) ⊎ ((is_owed_anywhere work folder ≡ false) × ((number : ℕ) × (mount ≡ Some number) × (IsMountOf s folder number → ⊥)))
 
--- None of the dirty folders is owed by a job before its first change: each lies on another mount than the folder that holds what the
--- job places or removes, and not in what it deletes; or it was removed.
+-- Nothing that is dirty is owed by a job before its first change: each lies on another mount than the folder that holds what the job
+-- places or removes, and isn't owed on any; or it was removed.
 abbrev pub NoneOwed : FileSystem → Work → List Route → Type 0
 NoneOwed s work dirty = (kept : Route) → Among dirty kept
-    → (refusal_of s (Stat kept) ≡ Some Missing) ⊎ ((is_within work kept ≡ false) × LiesApart s (changed_folder work) kept)
+    → (refusal_of s (Stat kept) ≡ Some Missing) ⊎ ((is_owed_anywhere work kept ≡ false) × LiesApart s (changed_folder work) kept)

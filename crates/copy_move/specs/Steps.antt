@@ -1,9 +1,8 @@
 -- What a step of a job does: its report, the job after it, its calls of the tree, and how many changing calls that was.
-use Rattle.std.specs.Prelude.{◌≡◌, ◌⊎◌, ℕ, ⊤, ◌<◌, ◌≤◌, true, false, List, Option, Some, None, Ok, Err}
+use Rattle.std.specs.Prelude.{◌≡◌, ◌⊎◌, ℕ, ⊤, ◌<◌, ◌≤◌, true, false, List, Option, Some, None, Ok}
 use Rattle.mc_text.specs.Routes.{Route}
 use Rattle.tree_trait.specs.declared.calls.TreeError.{TreeError}
 use Rattle.tree_trait.specs.declared.calls.TreeError.TheVariants.{Fault}
-use Rattle.tree_trait.specs.Calls.{SyncFolder}
 use Rattle.tree_trait.specs.Change.{CallLog, current}
 use Rattle.tree_trait.specs.Answers.{IfKnown, HasRisen, Performs}
 use Rattle.tree_trait.specs.CrashImages.{Among}
@@ -12,11 +11,12 @@ use Rattle.job_reports.specs.declared.report.Ending.{Ending}
 use Rattle.job_reports.specs.CallRuns.{HasMore}
 use Rattle.job_reports.specs.Reports.{ends}
 use Rattle.job_reports.specs.declared.report.Cause.{Cause}
+use Rattle.job_reports.specs.declared.report.Trouble.{Trouble}
 use Rattle.job_reports.specs.declared.report.Did.TheVariants.{Barrier, Skipped, Troubled}
-use Rattle.job_reports.specs.Stops.{out_of_memory_at, cause_of, trouble_at}
+use Rattle.job_reports.specs.Stops.{out_of_memory_at}
 use Rattle.copy_move.specs.declared.work.Work.{Work}
 use Rattle.copy_move.specs.declared.run.Course.{Course}
-use Rattle.copy_move.specs.declared.work.Work.TheVariants.{Copy, Delete, Make}
+use Rattle.copy_move.specs.declared.work.Work.TheVariants.{Copy, Delete, Make, SetMode}
 use Rattle.copy_move.specs.declared.run.Course.TheVariants.{GoesOn, InTrouble, OwedSyncFailed, Skips, Ends}
 use Rattle.copy_move.specs.Faults.{MeetsFault}
 use Rattle.copy_move.specs.DeletionSteps.{Goes, Passes, TriesNext, after_try}
@@ -24,6 +24,7 @@ use Rattle.copy_move.specs.Jobs.{Running, JobTells, JobCalls, PassesOver, WorkTe
 use Rattle.copy_move.specs.Settling.{NoneOwed, TellsFolder, WorkLeaves, is_own}
 use Rattle.job_reports.specs.Paths.{without}
 use Rattle.copy_move.specs.Ranks.{rank_at, rank_on, rank_with}
+use Rattle.mode_setting.specs.SettingSteps.{SyncStops, sync_of}
 
 -- A step of a job: what it reports is allowed, the job is then as it says, it made the calls of the tree that it says, at
 -- most three of which change the tree, and it reports a fault, or passes something over for one, only where the tree's count has risen.
@@ -36,7 +37,8 @@ pub record StepsOn (unclaimed : Route → Type 0) (old new : Running) (did : Did
   pub later : faults ≤ faults_after
   pub fault : MeetsFault old.course did → HasRisen faults faults_after
 
--- A last step tries one folder that the job may have changed, and leaves it dirty where that one try of its sync was refused.
+-- A last step tries one folder that the job may have changed, or the thing to which it gave a mode, and leaves it dirty where that one try
+-- of its sync was refused.
 pub record LastLeaves (old : Work) (did : Did) (dirty dirty_after : List Route) (before after : Option CallLog) : Type 0 where
   pub refusal : Option TreeError
   pub folder : Route
@@ -44,8 +46,8 @@ pub record LastLeaves (old : Work) (did : Did) (dirty dirty_after : List Route) 
   pub dirty_is : dirty_after ≡ after_try did refusal folder dirty
   pub tried : IfKnown before (λ log. TellsFolder old did refusal folder log after)
 
--- What a step of a job's own makes of the dirty folders. A folder joins them before a change of names there and leaves them with its
--- sync. In last steps it leaves them only where the one try of its sync wasn't refused.
+-- What a step of a job's own makes of the dirty folders. A folder joins them before a change of names there, and a thing before it is given
+-- a mode; it leaves them with its sync. In last steps it leaves them only where the one try of its sync wasn't refused.
 abbrev pub LeavesDirty : Course → Work → Did → Work → List Route → List Route → Option CallLog → Option CallLog → Type 0
 LeavesDirty GoesOn old did new dirty dirty_after before after = WorkLeaves old did new dirty dirty_after before after
 LeavesDirty (InTrouble cause) old did new dirty dirty_after before after = ⊥
@@ -74,27 +76,27 @@ step_made old new did calls dirty dirty_after before after faults faults_after =
 -- what the machine of a deletion does in a step of the work
 abbrev pub Walks : Work → Work → Did → ℕ → List Route → List Route → Option CallLog → Option CallLog → ℕ → ℕ → Type 0
 Walks (Copy c) new did calls dirty dirty_after before after faults faults_after = ⊤
-Walks (Delete d) (Copy new) did calls dirty dirty_after before after faults faults_after = ⊥
-Walks (Delete d) (Make new) did calls dirty dirty_after before after faults faults_after = ⊥
 Walks (Make m) new did calls dirty dirty_after before after faults faults_after = ⊤
+Walks (SetMode s) new did calls dirty dirty_after before after faults faults_after = ⊤
 Walks (Delete d) (Delete new) did calls dirty dirty_after before after faults faults_after = Goes d new did calls dirty dirty_after before after faults faults_after
+Walks (Delete d) new did calls dirty dirty_after before after faults faults_after = ⊥
 
 -- what it does where something is passed over
 abbrev pub SkipWalks : Cause → Work → Did → Work → Type 0
 SkipWalks cause (Copy c) did new = ⊤
-SkipWalks cause (Delete d) did (Copy new) = ⊥
-SkipWalks cause (Delete d) did (Make new) = ⊥
-SkipWalks cause (Delete d) did (Delete new) = Passes cause d did new
 SkipWalks cause (Make m) did new = ⊤
+SkipWalks cause (SetMode s) did new = ⊤
+SkipWalks cause (Delete d) did (Delete new) = Passes cause d did new
+SkipWalks cause (Delete d) did new = ⊥
 
 -- what it does in a last step
 abbrev pub LastWalks : Ending → Work → Work → Did → ℕ → Option TreeError → List Route → List Route → Option CallLog → Option CallLog → ℕ → ℕ → Type 0
 LastWalks ending (Copy c) new did calls left dirty dirty_after before after faults faults_after = ⊤
-LastWalks ending (Delete d) (Copy new) did calls left dirty dirty_after before after faults faults_after = ⊥
-LastWalks ending (Delete d) (Make new) did calls left dirty dirty_after before after faults faults_after = ⊥
 LastWalks ending (Delete d) (Delete new) did calls left dirty dirty_after before after faults faults_after =
     TriesNext ending d new did calls left dirty dirty_after before after faults faults_after
+LastWalks ending (Delete d) new did calls left dirty dirty_after before after faults faults_after = ⊥
 LastWalks ending (Make m) new did calls left dirty dirty_after before after faults faults_after = ⊤
+LastWalks ending (SetMode s) new did calls left dirty dirty_after before after faults faults_after = ⊤
 
 -- what it does in a step of a job that goes so
 abbrev pub WalksOn : Course → Work → Work → Did → ℕ → List Route → List Route → Option CallLog → Option CallLog → ℕ → ℕ → Type 0
@@ -154,7 +156,7 @@ pub record WindingStep (ending : Ending) (step : StepMade) : Type 0 where
   pub winds : WorkWindsUp ending step.old.work step.new.work step.did step.calls left step.dirty step.dirty_after step.before step.after step.faults step.faults_after
   pub new_is : step.new ≡ record step.old { work = step.new.work }
 
--- A step of the job's own: one that may make its first change is made only where no dirty folder is owed, a deletion does what its
+-- A step of the job's own: one that may make its first change is made only where nothing dirty is owed, a deletion does what its
 -- machine does, and a job that is to end makes one of its last steps. But for an end fewer steps are left.
 pub record OwnStep (unclaimed : Route → Type 0) (step : StepMade) : Type 0 where
   pub own : StepsOn unclaimed step.old step.new step.did step.calls step.before step.after step.faults step.faults_after
@@ -164,38 +166,39 @@ pub record OwnStep (unclaimed : Route → Type 0) (step : StepMade) : Type 0 whe
   pub winds : (ending : Ending) → step.old.course ≡ Ends ending → WindingStep ending step
   pub falls : ends step.did ≡ false → rank_with step.dirty_after (Some step.new) < rank_with step.dirty (Some step.old)
 
--- a dirty folder was synced, and the job stands where it stood
-pub record FolderSynced (old : Running) (folder : Route) (did : Did) (new : Running) (dirty dirty_after : List Route) (before after : Option CallLog) : Type 0 where
+-- what stands at a dirty path was synced, and the job stands where it stood
+pub record OwedSynced (old : Running) (path : Route) (did : Did) (new : Running) (dirty dirty_after : List Route) (before after : Option CallLog) : Type 0 where
   pub did_is : did ≡ Barrier
   pub new_is : new ≡ old
-  pub dirty_is : dirty_after ≡ without folder dirty
-  pub called : IfKnown before (λ log. Performs {A = Unit {0}} log (SyncFolder folder) (Ok tt) after)
+  pub dirty_is : dirty_after ≡ without path dirty
+  pub called : IfKnown before (λ log. Performs {A = Unit {0}} log (sync_of (current log) path) (Ok tt) after)
 
--- its sync was refused, and the job waits for an answer
-pub record FolderRefused (old : Running) (folder : Route) (did : Did) (new : Running) (dirty dirty_after : List Route) (before after : Option CallLog) : Type 0 where
-  pub error : TreeError
-  pub did_is : did ≡ Troubled (trouble_at error folder true)
-  pub new_is : new ≡ record old { course = OwedSyncFailed (cause_of error) }
+-- the look at it, or its sync, was refused, and the job waits for an answer
+pub record OwedRefused (old : Running) (path : Route) (did : Did) (new : Running) (dirty dirty_after : List Route) (before after : Option CallLog) : Type 0 where
+  pub trouble : Trouble
+  pub did_is : did ≡ Troubled trouble
+  pub barred : trouble.barrier ≡ true
+  pub new_is : new ≡ record old { course = OwedSyncFailed trouble.cause }
   pub dirty_is : dirty_after ≡ dirty
-  pub called : IfKnown before (λ log. Performs {A = Unit {0}} log (SyncFolder folder) (Err error) after)
+  pub called : IfKnown before (λ log. SyncStops path trouble.cause trouble.path log after)
 
-abbrev pub SyncsFolder : Running → Route → Did → Running → List Route → List Route → Option CallLog → Option CallLog → Type 0
-SyncsFolder old folder did new dirty dirty_after before after =
-    FolderSynced old folder did new dirty dirty_after before after ⊎ FolderRefused old folder did new dirty dirty_after before after
+abbrev pub SyncsOwed : Running → Route → Did → Running → List Route → List Route → Option CallLog → Option CallLog → Type 0
+SyncsOwed old path did new dirty dirty_after before after =
+    OwedSynced old path did new dirty dirty_after before after ⊎ OwedRefused old path did new dirty dirty_after before after
 
--- A step of a job that has changed nothing yet, where an ended job left a dirty folder: that is synced first.
+-- A step of a job that has changed nothing yet, where an ended job left something dirty: that is synced first, as what stands there.
 pub record OwedSyncStep (step : StepMade) : Type 0 where
   pub goes : step.old.course ≡ GoesOn
   pub fresh : is_fresh step.old.work ≡ true
-  pub folder : Route
-  pub owed : Among step.dirty folder
-  pub synced : SyncsFolder step.old folder step.did step.new step.dirty step.dirty_after step.before step.after
+  pub path : Route
+  pub owed : Among step.dirty path
+  pub synced : SyncsOwed step.old path step.did step.new step.dirty step.dirty_after step.before step.after
   pub counted : IfKnown step.before (λ log. IfKnown step.after (HasMore log step.calls))
   pub few : step.calls ≤ 1
   pub unknown : step.before ≡ None → step.after ≡ None
   pub later : step.faults ≤ step.faults_after
   pub fault : MeetsFault step.old.course step.did → HasRisen step.faults step.faults_after
 
--- what a step of a job may be: one of its own, or the sync of a folder that an ended job left
+-- what a step of a job may be: one of its own, or the sync of what an ended job left dirty
 abbrev pub RunStep : (Route → Type 0) → StepMade → Type 0
 RunStep unclaimed step = OwnStep unclaimed step ⊎ OwedSyncStep step

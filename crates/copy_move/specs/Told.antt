@@ -20,10 +20,13 @@ use Rattle.tree_deletion.specs.declared.deletion.Stage.TheVariants.{Going}
 use Rattle.tree_deletion.specs.Standing.{after_item}
 use Rattle.copy_move.specs.declared.making.MakingStage.TheVariants as making
 use Rattle.copy_move.specs.declared.work.Work.{Work}
-use Rattle.copy_move.specs.declared.work.Work.TheVariants.{Copy, Delete, Make}
+use Rattle.copy_move.specs.declared.work.Work.TheVariants.{Copy, Delete, Make, SetMode}
 use Rattle.copy_move.specs.declared.run.Course.{Course}
 use Rattle.copy_move.specs.declared.run.Course.TheVariants.{GoesOn, InTrouble, OwedSyncFailed}
 use Rattle.copy_move.specs.Makings as makings
+use Rattle.copy_move.specs.ModeSettings as modes
+use Rattle.mode_setting.specs.declared.setting.Stage.TheVariants as setting
+use Rattle.mode_setting.specs.Settings as settings
 use Rattle.copy_move.specs.Jobs.{Running, JobTells, closed_job, is_fresh, part_of, waits_on}
 
 -- what no history tells
@@ -42,6 +45,7 @@ abbrev pub work_told : Work → Work
 work_told (Copy c) = Copy (record c { stage = stage_told c.stage })
 work_told (Delete d) = Delete (record d { depth = Top; place = unopened; tried = 0 })
 work_told (Make m) = Make m
+work_told (SetMode s) = SetMode s
 
 -- a job as its history tells it
 abbrev pub told : Running → Running
@@ -52,36 +56,49 @@ abbrev pub with_part : Route → Work → Work
 with_part part (Copy c) = Copy (record c { stage = at.Fill part untold_facts 0; folder = Dirty })
 with_part part (Delete d) = Delete d
 with_part part (Make m) = Make m
+with_part part (SetMode s) = SetMode s
 
 -- the work once its file was placed
 abbrev pub placed : Work → Work
 placed (Copy c) = Copy (record c { stage = at.Decided })
 placed (Delete d) = Delete d
 placed (Make m) = Make m
+placed (SetMode s) = SetMode s
 
 -- the work once this was removed
 abbrev pub removed : Route → Work → Work
 removed path (Copy c) = Copy c
 removed path (Delete d) = Delete (record d { stage = after_item d.path path Going })
 removed path (Make m) = Make m
+removed path (SetMode s) = SetMode s
 
 -- the work once its thing was made
 abbrev pub made : Work → Work
 made (Copy c) = Copy c
 made (Delete d) = Delete d
 made (Make m) = Make (record m { stage = making.Sync })
+made (SetMode s) = SetMode s
+
+-- the work once its thing was given the mode
+abbrev pub mode_given : Work → Work
+mode_given (Copy c) = Copy c
+mode_given (Delete d) = Delete d
+mode_given (Make m) = Make m
+mode_given (SetMode s) = SetMode (record s { stage = setting.Sync })
 
 -- the work once this folder was kept
 abbrev pub spared : Route → Work → Work
 spared path (Copy c) = Copy c
 spared path (Delete d) = Delete (record d { stage = after_item d.path path d.stage })
 spared path (Make m) = Make m
+spared path (SetMode s) = SetMode s
 
 -- the work once this was left as it is
 abbrev pub skipped : Route → Work → Work
 skipped path (Copy c) = Copy (record c { stage = copying.skipped c.stage })
 skipped path (Delete d) = Delete (record d { stage = after_item d.path path d.stage })
 skipped path (Make m) = Make (record m { stage = makings.skipped m.stage })
+skipped path (SetMode s) = SetMode (record s { stage = settings.skipped s.stage })
 
 -- where a copy stands once its part was removed; in its last steps it is done then
 abbrev pub cleaned_stage : Course → Stage → Stage
@@ -92,15 +109,17 @@ abbrev pub cleaned : Course → Work → Work
 cleaned course (Copy c) = Copy (record c { stage = cleaned_stage course c.stage })
 cleaned course (Delete d) = Delete d
 cleaned course (Make m) = Make m
+cleaned course (SetMode s) = SetMode s
 
--- The work once a folder was synced, or its sync was tried; a part that stands then has had its try. A deletion stands where it stood.
--- The sync of a folder that an ended job left comes before the first change, and leaves the work as it is.
+-- The work once a folder, or the thing itself, was synced, or that was tried; a part that stands then has had its try. A deletion stands where it stood.
+-- The sync of what an ended job left dirty comes before the first change, and leaves the work as it is.
 abbrev pub synced : Work → Work
 synced (Copy c) = Copy (record c { stage = given_up c.stage; folder = Synced })
 synced (Delete d) = Delete d
 synced (Make m) = Make (record m { stage = makings.after_sync m.stage })
+synced (SetMode s) = SetMode (record s { stage = modes.after_sync s.stage })
 
--- a trouble at a barrier before the first change is that of a folder which an ended job left
+-- a trouble at a barrier before the first change is that of what an ended job left dirty
 abbrev pub course_told : Work → Trouble → Course
 course_told work trouble = if is_fresh work && trouble.barrier then OwedSyncFailed trouble.cause else InTrouble trouble.cause
 
@@ -108,7 +127,7 @@ course_told work trouble = if is_fresh work && trouble.barrier then OwedSyncFail
 abbrev pub after_step : Did → Running → Option Running
 after_step (Began part) job = Some (record job { work = with_part part job.work })
 after_step (Chunk count) job = Some job
-after_step (Set path) job = Some job
+after_step (Set path) job = Some (record job { work = mode_given job.work })
 after_step (Placed path) job = Some (record job { work = placed job.work })
 after_step (Removed path) job = Some (record job { work = removed path job.work })
 after_step (Made path) job = Some (record job { work = made job.work })
@@ -135,7 +154,7 @@ Reports job did = (old : Running) × (new : Running) × (told old ≡ job) × Jo
 abbrev pub EndsWithoutMemory : Running → Did → Type 0
 EndsWithoutMemory job did = (waits_on job.course ≡ false) × (did ≡ Ended NoMemory (part_of job.work))
 
--- a job that has changed nothing yet may report the sync of a folder that an ended job left, or its trouble at a barrier
+-- a job that has changed nothing yet may report the sync of what an ended job left dirty, or its trouble at a barrier
 abbrev pub ReportsSync : Running → Did → Type 0
 ReportsSync job did =
     (job.course ≡ GoesOn) × (is_fresh job.work ≡ true) × ((did ≡ Barrier) ⊎ ((trouble : Trouble) × (did ≡ Troubled trouble) × (trouble.barrier ≡ true)))

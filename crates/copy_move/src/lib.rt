@@ -4,6 +4,7 @@
 mod copying;
 mod deletion;
 mod dirty_making;
+mod dirty_setting;
 mod making;
 mod new_thing;
 mod noting;

@@ -1,10 +1,10 @@
-//! Which dirty folder a job has to sync before its first change.
+//! What an ended job left dirty, a folder or a thing that was given a mode, that a job has to sync before its first change.
 ghost use Rattle.std.specs.Prelude.{◌≡◌, ◌≤◌, ◌==◌, ◌||◌, true, IfSome, IfNone, false};
 ghost use Rattle.std.specs.Option.{option_map_or};
 ghost use Rattle.tree_trait.specs.Change.{current};
 ghost use Rattle.tree_trait.specs.Answers.{IfKnown};
 ghost use Rattle.tree_trait.specs.CrashImages.{Among};
-ghost use Rattle.copy_move.specs.Settling.{IsElsewhere, IsMountOf, NoneOwed, changed_folder, is_within};
+ghost use Rattle.copy_move.specs.Settling.{IsElsewhere, IsMountOf, NoneOwed, changed_folder, is_owed_anywhere};
 
 use crate::work::Work;
 use mc_text::Path;
@@ -12,8 +12,8 @@ use std::alloc::Global;
 use tree_deletion::Dirty;
 use tree_trait::{Tree, TreeError};
 
-/// The first of the dirty folders that lies on the mount of the folder in which this work begins, or in what it deletes, as far as
-/// the tree can be asked. One at which nothing stands any more was removed.
+/// The first of what is dirty that lies on the mount of the folder in which this work begins, or is owed on any, as far as the tree can be
+/// asked. One at which nothing stands any more was removed.
 pub(crate) fn first_owed<'a, T: Tree>(
     dirty: &'a Dirty,
     alloc: Global,
@@ -51,7 +51,7 @@ fn mount_at<T: Tree>(alloc: Global, tree: &mut T, folder: &Path) -> Option<u32>
     }
 }
 
-/// Whether a folder may lie on this mount, or in what is deleted.
+/// Whether what is dirty may lie on this mount, or is owed on any.
 fn is_owed<T: Tree>(
     alloc: Global,
     tree: &mut T,
@@ -64,7 +64,7 @@ fn is_owed<T: Tree>(
     ensures later { T.fault_count tree.old ≤ T.fault_count tree.new }
 {
     match tree.stat(alloc, folder) {
-        Ok(meta) => either(work.is_within(folder), is_mount(meta.mount, mount)),
+        Ok(meta) => either(work.is_owed_anywhere(folder), is_mount(meta.mount, mount)),
         Err(TreeError::Missing) => false,
         Err(_) => true,
     }

@@ -1,6 +1,6 @@
 //! Reports of steps with and without a call.
 ghost use Rattle.std.specs.Prelude.{◌≡◌, Err, None};
-ghost use Rattle.job_reports.specs.Stops.{calls_made_for, cause_of, refusal_in, trouble_at};
+ghost use Rattle.job_reports.specs.Stops.{calls_made_for, refusal_in, trouble_at};
 
 use job_reports::{Cause, Did, Ending, LastStepResult, StepResult, Trouble, out_of_memory};
 use mc_text::Path;
@@ -30,16 +30,6 @@ pub(crate) fn refused(error: TreeError, path: Path, barrier: bool) -> StepResult
             path: Some(path),
             barrier,
         })),
-    }
-}
-
-/// The cause of a trouble where a call was refused.
-pub(crate) fn cause_of(error: TreeError) -> Cause
-    ensures { result ≡ cause_of error }
-{
-    match error {
-        TreeError::Memory => Cause::Memory,
-        error => Cause::Tree(error),
     }
 }
 

@@ -9,7 +9,7 @@ ghost use Rattle.copy_move.specs.Told.{running};
 mod answering;
 mod stepping;
 
-use crate::starting::{copy_of, deletion_of, folder_of, link_of};
+use crate::starting::{copy_of, deletion_of, folder_of, link_of, setting_of};
 use crate::work::Work;
 use file_copy::PartTest;
 use job_reports::{Cause, Ending, Job, JobKind, StepResult};
@@ -25,7 +25,7 @@ pub enum Course {
     GoesOn,
     /// A call was refused, or there was no memory. The job waits for an answer.
     InTrouble(Cause),
-    /// A folder that an ended job left could not be synced. The job has changed nothing yet, and waits for an answer.
+    /// What an ended job left dirty could not be synced. The job has changed nothing yet, and waits for an answer.
     OwedSyncFailed(Cause),
     /// What stands next is to be left as it is, since this stood in the way.
     Skips(Cause),
@@ -64,7 +64,7 @@ impl Run {
             Job::Delete(paths) => deletion_of(alloc, paths)?,
             Job::MakeFolder(path) => folder_of(alloc, path)?,
             Job::MakeLink(path, text) => link_of(alloc, path, text)?,
-            Job::SetMode(..) => unreachable!(),
+            Job::SetMode(paths, mode) => setting_of(alloc, paths, *mode)?,
         };
         Ok(Run {
             id,
@@ -87,7 +87,7 @@ impl Run {
         self.work.kind()
     }
 
-    /// Its source; of a thing that is made, that thing.
+    /// Its source; of a thing that is made, or given a mode, that thing.
     pub fn path(&self) -> &Path
         ensures { result.now ≡ path_of self.now.work }
     {
@@ -111,9 +111,10 @@ impl Run {
         self.work.part()
     }
 
-    /// Makes the job's next step. Where an ended job left a dirty folder on the mount on which this job is to change names, or in what
-    /// it is to delete, that is synced first, a folder a step. After an end the job is to be let go. A folder is among the dirty
-    /// ones from the job's first change there until it was synced.
+    /// Makes the job's next step. Where an ended job left something dirty on the mount on which this job is to change names, or in what
+    /// it is to delete, or anything at all where this job is to set a mode, that is synced first, one a step. After an end the job is to
+    /// be let go. A folder is among the dirty ones from the job's first change there, and a thing from its new mode on, until it was
+    /// synced.
     pub fn step<T: Tree, P: PartTest>(
         &mut self,
         alloc: Global,

@@ -11,6 +11,7 @@ use crate::work::Work;
 use file_copy::FileCopy;
 use job_reports::Pairs;
 use mc_text::{NoMemory, Path, Paths, Text};
+use mode_setting::ModeSetting;
 use std::alloc::Global;
 
 /// The copy of one file.
@@ -44,6 +45,20 @@ pub(crate) fn deletion_of(alloc: Global, paths: &Paths) -> Result<Work, NoMemory
         unreachable!()
     };
     Ok(Work::Delete(TreeDeletion::new(alloc, path.copy(alloc)?, folder)))
+}
+
+/// The setting of the mode of one thing.
+pub(crate) fn setting_of(alloc: Global, paths: &Paths, mode: u16) -> Result<Work, NoMemory>
+    requires { is_workable (Job.SetMode paths.now mode) ≡ true }
+    ensures { IfOk result (λ work. (first_work 0 (Job.SetMode paths.now mode) ≡ Some work) × IsGoing work) }
+{
+    let [path] = paths.as_slice() else {
+        unreachable!()
+    };
+    let Some(folder) = path.parent(alloc)? else {
+        unreachable!()
+    };
+    Ok(Work::SetMode(ModeSetting::new(path.copy(alloc)?, folder, mode)))
 }
 
 /// The making of one folder.

@@ -1,16 +1,19 @@
-//! What a job does: it copies a file, deletes a thing with all that lies in it, or makes a folder or a link. One machine for each.
+//! What a job does: it copies a file, deletes a thing with all that lies in it, makes a folder or a link, or sets a thing's mode. One machine
+//! for each.
 ghost use Rattle.std.specs.Prelude.{◌≡◌, option_map, true};
 ghost use Rattle.copy_move.specs.Jobs.{IsGoing, at_barrier, is_fresh, kind_of, part_of, path_of, taken_anew as anew, with_skips};
-ghost use Rattle.copy_move.specs.Settling.{changed_folder, is_within};
+ghost use Rattle.copy_move.specs.Settling.{changed_folder, is_owed_anywhere};
 ghost use Rattle.copy_move.specs.Steps.{WorkSkips, WorkSteps, WorkWindsUp};
 
 use crate::copying::{step_copy, wind_up_copy};
 use crate::deletion::TreeDeletion;
 use crate::dirty_making::{step_making, wind_up_making};
+use crate::dirty_setting::{step_setting, wind_up_setting};
 use crate::making::ThingMaking;
 use file_copy::{FileCopy, PartTest};
 use job_reports::{Cause, Did, Ending, JobKind, LastStepResult, StepResult};
 use mc_text::Path;
+use mode_setting::ModeSetting;
 use std::alloc::Global;
 use tree_deletion::Dirty;
 use tree_trait::Tree;
@@ -21,6 +24,7 @@ pub enum Work {
     Copy(FileCopy),
     Delete(TreeDeletion),
     Make(ThingMaking),
+    SetMode(ModeSetting),
 }
 
 impl Work {
@@ -41,6 +45,7 @@ impl Work {
             Work::Copy(copy) => step_copy(copy, alloc, tree, parts, dirty),
             Work::Delete(deletion) => deletion.step(alloc, tree, dirty),
             Work::Make(making) => step_making(making, alloc, tree, dirty),
+            Work::SetMode(setting) => step_setting(setting, alloc, tree, dirty),
         }
     }
 
@@ -54,6 +59,7 @@ impl Work {
             Work::Copy(copy) => copy.skip(alloc, cause),
             Work::Delete(deletion) => deletion.skip(alloc, cause),
             Work::Make(making) => making.skip(alloc, cause),
+            Work::SetMode(setting) => setting.skip(alloc, cause),
         }
     }
 
@@ -67,6 +73,7 @@ impl Work {
             Work::Copy(_) => {}
             Work::Delete(deletion) => deletion.skip_all(cause),
             Work::Make(_) => {}
+            Work::SetMode(_) => {}
         }
     }
 
@@ -80,6 +87,7 @@ impl Work {
             Work::Copy(copy) => copy.retry(),
             Work::Delete(_) => {}
             Work::Make(_) => {}
+            Work::SetMode(_) => {}
         }
     }
 
@@ -98,6 +106,7 @@ impl Work {
             Work::Copy(copy) => wind_up_copy(copy, alloc, tree, ending, dirty),
             Work::Delete(deletion) => deletion.wind_up(alloc, tree, ending, dirty),
             Work::Make(making) => wind_up_making(making, alloc, tree, ending, dirty),
+            Work::SetMode(setting) => wind_up_setting(setting, alloc, tree, ending, dirty),
         }
     }
 
@@ -109,10 +118,11 @@ impl Work {
             Work::Copy(_) => JobKind::Copy,
             Work::Delete(_) => JobKind::Delete,
             Work::Make(making) => making.thing().kind(),
+            Work::SetMode(_) => JobKind::SetMode,
         }
     }
 
-    /// What is copied, deleted or made.
+    /// What is copied, deleted, made or given a mode.
     pub(crate) fn path(&self) -> &Path
         ensures { result.now ≡ path_of self.now }
     {
@@ -120,6 +130,7 @@ impl Work {
             Work::Copy(copy) => copy.source(),
             Work::Delete(deletion) => deletion.path(),
             Work::Make(making) => making.path(),
+            Work::SetMode(setting) => setting.path(),
         }
     }
 
@@ -131,6 +142,7 @@ impl Work {
             Work::Copy(copy) => copy.part(),
             Work::Delete(_) => None,
             Work::Make(_) => None,
+            Work::SetMode(_) => None,
         }
     }
 
@@ -142,6 +154,7 @@ impl Work {
             Work::Copy(copy) => copy.into_part(),
             Work::Delete(_) => None,
             Work::Make(_) => None,
+            Work::SetMode(_) => None,
         }
     }
 
@@ -153,10 +166,11 @@ impl Work {
             Work::Copy(copy) => copy.is_at_barrier(),
             Work::Delete(deletion) => deletion.is_at_barrier(),
             Work::Make(making) => making.is_at_barrier(),
+            Work::SetMode(setting) => setting.is_at_barrier(),
         }
     }
 
-    /// The folder that holds what is placed or removed.
+    /// The folder that holds what is placed, removed or given a mode.
     pub(crate) fn folder(&self) -> &Path
         ensures { result.now ≡ changed_folder self.now }
     {
@@ -164,17 +178,20 @@ impl Work {
             Work::Copy(copy) => copy.folder(),
             Work::Delete(deletion) => deletion.folder(),
             Work::Make(making) => making.folder(),
+            Work::SetMode(setting) => setting.folder(),
         }
     }
 
-    /// Whether a folder is the thing that is deleted, or lies in it.
-    pub(crate) fn is_within(&self, folder: &Path) -> bool
-        ensures { result ≡ is_within self.now folder.now }
+    /// Whether what is dirty here has to be synced first on whatever mount it lies: it is the thing that is deleted, or lies in it; and
+    /// before a mode is set all has, since the mode of a folder may bar the way to what lies in it.
+    pub(crate) fn is_owed_anywhere(&self, dirty: &Path) -> bool
+        ensures { result ≡ is_owed_anywhere self.now dirty.now }
     {
         match self {
             Work::Copy(_) => false,
-            Work::Delete(deletion) => deletion.path().is_prefix_of(folder),
+            Work::Delete(deletion) => deletion.path().is_prefix_of(dirty),
             Work::Make(_) => false,
+            Work::SetMode(_) => true,
         }
     }
 
@@ -186,6 +203,7 @@ impl Work {
             Work::Copy(copy) => copy.is_fresh(),
             Work::Delete(deletion) => deletion.is_fresh(),
             Work::Make(making) => making.is_fresh(),
+            Work::SetMode(setting) => setting.is_fresh(),
         }
     }
 }

@@ -1,5 +1,5 @@
 //! What is left in a crash image, in words.
-use crate::scenes::{COPIED, DELETED, Original, Scene};
+use crate::scenes::{COPIED, DELETED, Original, SET, Scene};
 use anyhow::{Result, bail};
 use mc_text::{Kind, Name, Path};
 use std::alloc::Global;
@@ -9,7 +9,7 @@ use tree_trait::{Meta, Tree, TreeError};
 /// What stands at a path.
 #[derive(Clone, Copy)]
 enum Standing {
-    /// The file as it was put, or an empty folder as it was made.
+    /// The file as it was put, or an empty folder or a link as it was made.
     Whole,
     Missing,
     /// Anything else.
@@ -26,6 +26,9 @@ pub fn left_in<T: Tree>(alloc: Global, image: &mut T, scene: Scene) -> Result<St
         Scene::LeftTarget => left_of_copy(alloc, image),
         Scene::NewFolder => left_of_making(alloc, image),
         Scene::LeftNewFolder => left_of_makings(alloc, image),
+        Scene::NewLink => left_of_link(alloc, image),
+        Scene::Mode => left_of_modes(alloc, image),
+        Scene::LeftMode => left_of_modes(alloc, image),
     }
 }
 
@@ -73,6 +76,40 @@ fn left_of_makings<T: Tree>(alloc: Global, image: &mut T) -> Result<String> {
     let first = word_of(what_folder_stands(alloc, image, "/a/n")?, "missing");
     let second = word_of(what_folder_stands(alloc, image, "/a/m")?, "missing");
     Ok(format!(in alloc; "{first}, the second {second}")?)
+}
+
+fn left_of_link<T: Tree>(alloc: Global, image: &mut T) -> Result<String> {
+    let made = word_of(what_link_stands(alloc, image, "/a/l")?, "missing");
+    Ok(String::from_str(alloc, made)?)
+}
+
+/// What stands where a link that says `x` is made.
+fn what_link_stands<T: Tree>(alloc: Global, image: &mut T, path: &str) -> Result<Standing> {
+    let path = Path::parse(alloc, path)?;
+    match image.read_link(alloc, &path) {
+        Err(TreeError::Missing) => Ok(Standing::Missing),
+        Err(_) => Ok(Standing::Torn),
+        Ok(text) if text.as_str() == "x" => Ok(Standing::Whole),
+        Ok(_) => Ok(Standing::Torn),
+    }
+}
+
+fn left_of_modes<T: Tree>(alloc: Global, image: &mut T) -> Result<String> {
+    let first = mode_left(alloc, image, "/a/x")?;
+    let second = mode_left(alloc, image, "/a/y")?;
+    Ok(format!(in alloc; "{first}, the one beside it {second}")?)
+}
+
+/// With which mode a file stands whose bytes are as they were put.
+fn mode_left<T: Tree>(alloc: Global, image: &mut T, path: &str) -> Result<&'static str> {
+    if let Standing::Whole = what_stands(alloc, image, path, DELETED)? {
+        return Ok("with 644");
+    }
+    match what_stands(alloc, image, path, SET)? {
+        Standing::Whole => Ok("with 600"),
+        Standing::Missing => Ok("missing"),
+        Standing::Torn => Ok("torn"),
+    }
 }
 
 /// What stands where a folder is made.

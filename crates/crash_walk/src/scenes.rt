@@ -2,7 +2,9 @@
 ghost use Rattle.std.specs.Prelude.{◌≡◌, []};
 
 use crate::images::walk;
+use crate::links::after_link;
 use crate::sessions::after_keys;
+use crate::settings::after_settings;
 use anyhow::{Result, bail};
 use mc_text::Path;
 use mem_tree::MemTree;
@@ -26,6 +28,12 @@ pub enum Scene {
     NewFolder,
     /// Two folders are made. The sync after the first is refused, and so is that of its last steps; the second job makes it.
     LeftNewFolder,
+    /// A link is made.
+    NewLink,
+    /// A file is given the mode 600.
+    Mode,
+    /// Two files are given the mode 600. The sync of the first is refused, and so is that of its last steps; the second job makes it.
+    LeftMode,
 }
 
 impl Scene {
@@ -39,6 +47,9 @@ impl Scene {
             Scene::LeftTarget => "/s/e is copied and /t not synced, then /s/e is deleted",
             Scene::NewFolder => "/a/n is made",
             Scene::LeftNewFolder => "/a/n is made and /a not synced, then /a/m is made",
+            Scene::NewLink => "/a/l is made, a link that says x",
+            Scene::Mode => "/a/x is given the mode 600",
+            Scene::LeftMode => "/a/x is given the mode 600 and not synced, then /a/y is",
         }
     }
 
@@ -52,6 +63,9 @@ impl Scene {
             Scene::LeftTarget => true,
             Scene::NewFolder => false,
             Scene::LeftNewFolder => false,
+            Scene::NewLink => false,
+            Scene::Mode => false,
+            Scene::LeftMode => false,
         }
     }
 }
@@ -67,6 +81,12 @@ pub struct Original {
 pub const DELETED: Original = Original {
     bytes: b"hi",
     mode: 0o644,
+};
+
+/// The same file once it was given its mode.
+pub const SET: Original = Original {
+    bytes: b"hi",
+    mode: 0o600,
 };
 
 /// The file that is copied.
@@ -106,6 +126,10 @@ const MAKING_BOTH: &[u8] = b"\x1b[18~n\rb\x1b[18~m\r\x1b[21~";
 /// its path and a listing; then the key's looks at the folder and at the path in it, and the making.
 const REFUSED_FOLDER_SYNCS: &[u64] = &[8, 9];
 
+/// The calls that are the sync of the file, and the one of the last steps. Before the first come the setting and a look, and another look
+/// between them.
+const REFUSED_FILE_SYNCS: &[u64] = &[3, 5];
+
 /// The lines of a session: its title, and what is left at each moment.
 pub fn scene_lines(alloc: Global, scene: Scene) -> Result<Vec<String>> {
     let tree = played(alloc, scene)?;
@@ -122,6 +146,9 @@ fn played(alloc: Global, scene: Scene) -> Result<MemTree> {
         Scene::LeftTarget => left_target(alloc),
         Scene::NewFolder => new_folder(alloc),
         Scene::LeftNewFolder => left_new_folder(alloc),
+        Scene::NewLink => new_link(alloc),
+        Scene::Mode => mode(alloc),
+        Scene::LeftMode => left_mode(alloc),
     }
 }
 
@@ -161,6 +188,22 @@ fn left_new_folder(alloc: Global) -> Result<MemTree> {
     let mut tree = empty_folder(alloc)?;
     tree.fail_calls(alloc, REFUSED_FOLDER_SYNCS)?;
     after_keys(alloc, tree, "/a", "/a", MAKING_BOTH)
+}
+
+fn new_link(alloc: Global) -> Result<MemTree> {
+    let tree = empty_folder(alloc)?;
+    after_link(alloc, tree, "/a/l")
+}
+
+fn mode(alloc: Global) -> Result<MemTree> {
+    let tree = two_files(alloc)?;
+    after_settings(alloc, tree, &["/a/x"])
+}
+
+fn left_mode(alloc: Global) -> Result<MemTree> {
+    let mut tree = two_files(alloc)?;
+    tree.fail_calls(alloc, REFUSED_FILE_SYNCS)?;
+    after_settings(alloc, tree, &["/a/x", "/a/y"])
 }
 
 /// The empty folder `/a`.

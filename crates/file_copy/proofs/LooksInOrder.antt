@@ -12,10 +12,10 @@ use Rattle.job_reports.specs.Paths.{folder_of}
 use Rattle.file_copy.specs.Looking.{IsThere, LookStops, Passes}
 use Rattle.job_reports.specs.Reading.{StatStops, TargetStops}
 
-must_be : {P : Type 0} → (let b = false in b) ≡ true → P
+pub must_be : {P : Type 0} → (let b = false in b) ≡ true → P
 must_be h = absurd cc
 
-passes_there : (s : FileSystem) (target : Route) (found : Option Meta) → IsThere s target found → Passes s (target, true)
+pub passes_there : (s : FileSystem) (target : Route) (found : Option Meta) → IsThere s target found → Passes s (target, true)
 passes_there s target None h = inr (refl, h)
 passes_there s target (Some meta) h = inl h.0
 

@@ -1,10 +1,12 @@
 -- What a step tells, piece by piece, and that only the beginning asks which paths may be taken.
-use Rattle.std.proofs.Common.{◌≡◌, ℕ, ◌+◌, ◌==◌, ◌≤◌, Bool, true, false, cond, List, [], ◌∷◌, length, length-append, refl, sym, ◌∙◌, ap, subst, inl, inr, Option, None, Ok, Err, arith}
+use Rattle.std.proofs.Common.{◌≡◌, ℕ, ◌+◌, ◌==◌, ◌≤◌, Bool, true, false, cond, List, [], ◌∷◌, length, length-append, refl, sym, ◌∙◌, ap, subst, inl, inr, Option, None, Result, Ok, Err, IfErr, arith}
 use Rattle.mc_text.specs.Routes.{Route}
-use Rattle.tree_trait.specs.Calls.{Call, SetMode, SyncFile, Rename}
+use Rattle.tree_trait.specs.Calls.{Call, WriteAt, SetMode, SyncFile, Rename}
 use Rattle.tree_trait.specs.Change.{CallLog, current}
-use Rattle.tree_trait.specs.Answers.{IfKnown}
+use Rattle.tree_trait.specs.Answers.{IfKnown, HasRisen}
 use Rattle.job_reports.specs.declared.report.Cause.{Cause}
+use Rattle.job_reports.specs.declared.report.Cause.TheVariants.{Tree}
+use Rattle.tree_trait.specs.declared.calls.TreeError.TheVariants as refused
 use Rattle.job_reports.specs.declared.report.Ending.TheVariants.{Finished, Aborted, Killed, NoMemory}
 use Rattle.job_reports.specs.declared.report.Did.{Did}
 use Rattle.job_reports.specs.declared.report.Did.TheVariants.{Began, Chunk, Placed, Removed, Made as MadeFolder, Set, Kept, Skipped, Cleaned, Barrier, Troubled, Ended}
@@ -20,31 +22,100 @@ use Rattle.job_reports.specs.declared.stop.Stop.{Stop}
 use Rattle.file_copy.specs.declared.work.Made.{Made}
 use Rattle.file_copy.specs.declared.work.AfterStep.{AfterStep}
 use Rattle.file_copy.specs.Chunks.{Wrote}
-use Rattle.file_copy.specs.CopyCalls.{CopyCalls, CopyStops, moding, part_mode, placing}
-use Rattle.file_copy.specs.CopySteps.{Begins, MovesOn, StepsOn}
+use Rattle.file_copy.specs.CopyCalls.{CopyCalls, CopyStops, making_with, moding, part_mode, placing}
+use Rattle.file_copy.specs.CopySteps.{Begins, BeginRuns, IfBegun, IfNamed, MovesOn, NameRuns, Names, StepsOn, moved_by}
 use Rattle.file_copy.specs.Copying.{Copying, IsSound, Places, Tells, after_clean, copying}
+use Rattle.file_copy.specs.PartSteps.{MakesPart, WritesNext}
 use Rattle.file_copy.specs.LastSteps.{left_at}
-use Rattle.file_copy.specs.Looking.{IsReady, AreFactsOf}
+use Rattle.file_copy.specs.Looking.{IsReady, AreFactsOf, HasRange}
 use Rattle.job_reports.specs.Reading.{Peeks}
-use Rattle.file_copy.specs.PartNames.{NameStops}
-use Rattle.job_reports.specs.Stops.{Ran, stopped_before_of}
-use Rattle.job_reports.proofs.Runs.{no_more, risen_before}
+use Rattle.job_reports.specs.Stops.{Ran}
+use Rattle.job_reports.specs.CallRuns.{AllDone, RunStops}
+use Rattle.job_reports.proofs.Runs.{risen_before}
 
--- no name could be given, and no call was made
-pub begins_unnamed : (unclaimed : Route → Type 0) (p : Places) (facts : SourceFacts) (t : Trouble) (stop : Stop) (before mid after : Option CallLog) (f0 f1 f2 : ℕ)
-    → stop ≡ stopped_before_of t → IfKnown before (λ log. IsReady (current log) p × AreFactsOf (current log) p.source facts) → Peeks {A = SourceFacts} (Ok facts) before mid f0 f1
-    → IfKnown mid (λ log. NameStops (current log) unclaimed p t.cause t.path) → Peeks {A = Route} (Err t) mid after f1 f2
-    → Begins unclaimed p (Err stop) before after f0 f2
-begins_unnamed unclaimed p facts t stop before mid after f0 f1 f2 is ready one names two =
-    subst (λ s. Begins unclaimed p (Err s) before after f0 f2) (sym is) record {
-      runs = λ log known. inr (inl ((ready log known).0, names log (one.same ∙ known), two.same ∙ (one.same ∙ known)));
-      begun = two.apart;
-      counted = λ log known now is_now. no_more log now (sym (two.same ∙ (one.same ∙ known)) ∙ is_now);
-      few = omega arith;
-      unknown = λ h. two.same ∙ (one.same ∙ h);
-      later = omega (arith, one.later, two.later);
-      fault = λ h. risen_before f0 f1 f2 one.later (two.fault h);
-    }
+-- a part that was made of a file with these facts is that of the source
+module _ (unclaimed : Route → Type 0) (p : Places) (facts : SourceFacts) (after : Option CallLog) where
+  named_runs : (r : Result Made Stop) (log : CallLog) → IfNamed facts r → IsReady (current log) p × AreFactsOf (current log) p.source facts → NameRuns unclaimed facts p r log after → BeginRuns unclaimed p r log after
+  named_runs (Ok made) log named is h = (
+    is.0,
+    subst (λ f. AreFactsOf (current log) p.source f) (sym named.1) is.1,
+    (h.0, h.1, h.2, subst (λ m. AllDone log (making_with m p h.0 ∷ []) after) is.1.mode h.3),
+  )
+  named_runs (Err stop) log named is (inl h) = inr (inl (is.0, h.0, h.1))
+  named_runs (Err stop) log named is (inr h) =
+      inr (inr (h.0, is.0, h.1, subst (λ m. RunStops (making_with m p h.0 ∷ []) stop.trouble.cause stop.trouble.path log after) is.1.mode h.2))
+
+  named_begun : (r : Result Made Stop) → HasRange facts → IfNamed facts r → IfBegun r
+  named_begun (Ok made) range named = (named.0, subst HasRange (sym named.1) range)
+  named_begun (Err stop) range named = named
+
+later_fault : (r : Result Made Stop) (f0 f1 f2 : ℕ) → f0 ≤ f1 → IfErr r (λ stop. stop.trouble.cause ≡ Tree refused.Fault → HasRisen f1 f2) → IfErr r (λ stop. stop.trouble.cause ≡ Tree refused.Fault → HasRisen f0 f2)
+later_fault (Ok made) f0 f1 f2 least h = tt
+later_fault (Err stop) f0 f1 f2 least h = λ e. risen_before f0 f1 f2 least (h e)
+
+pub begins_named : (unclaimed : Route → Type 0) (p : Places) (facts : SourceFacts) (result : Result Made Stop) (before mid after : Option CallLog) (f0 f1 f2 : ℕ)
+    → HasRange facts → IfKnown before (λ log. IsReady (current log) p × AreFactsOf (current log) p.source facts) → Peeks {A = SourceFacts} (Ok facts) before mid f0 f1
+    → Names unclaimed facts p result mid after f1 f2 → Begins unclaimed p result before after f0 f2
+begins_named unclaimed p facts result before mid after f0 f1 f2 range ready one n = record {
+  runs = λ log known. named_runs unclaimed p facts after result log n.named (ready log known) (n.runs log (one.same ∙ known));
+  begun = named_begun unclaimed p facts after result range n.named;
+  counted = λ log known. n.counted log (one.same ∙ known);
+  few = n.few;
+  unknown = λ h. n.unknown (one.same ∙ h);
+  later = let a = one.later in let b = n.later in omega (arith, a, b);
+  fault = later_fault result f0 f1 f2 one.later n.fault;
+}
+
+-- a part was made of a file with these facts
+pub makes_named : (unclaimed : Route → Type 0) (facts : SourceFacts) (p : Places) (folder : FolderState) (made : Made) (before after : Option CallLog) (f0 f1 : ℕ)
+    → Names unclaimed facts p (Ok made) before after f0 f1
+    → MakesPart unclaimed facts (copying p Begin folder) (copying p (Fill made.part made.facts 0) Dirty) (Began made.named) 1 before after f0 f1
+makes_named unclaimed facts p folder made before after f0 f1 n = record {
+  tells = ap (λ q. copying p (Fill q made.facts 0) Dirty) (sym n.named.0) ∙ ap (λ f. copying p (Fill made.named f 0) Dirty) n.named.1;
+  called = λ log known. let r = n.runs log known in (r.0, n.named.0 ∙ r.1, r.2, r.3);
+  counted = n.counted;
+  few = omega arith;
+  unknown = n.unknown;
+  later = n.later;
+  fault = λ h. absurd h;
+}
+
+-- of a copy that stands so
+pub makes_from : (unclaimed : Route → Type 0) (facts : SourceFacts) (old new : Copying) (p : Places) (stage : Stage) (folder : FolderState) (did : Did) (calls : ℕ) (before after : Option CallLog) (f0 f1 : ℕ)
+    → copying p stage folder ≡ old → old.stage ≡ Begin → MakesPart unclaimed facts (copying p Begin folder) new did calls before after f0 f1 → MakesPart unclaimed facts old new did calls before after f0 f1
+makes_from unclaimed facts old new p stage folder did calls before after f0 f1 view begin m =
+    let at : stage ≡ Begin = ap (λ (c : Copying). c.stage) view ∙ begin in
+    subst (λ (c : Copying). MakesPart unclaimed facts c new did calls before after f0 f1) (ap (λ s. copying p s folder) (sym at) ∙ view) m
+
+-- or its trouble came before
+pub makes_stopped : (unclaimed : Route → Type 0) (facts : SourceFacts) (p : Places) (folder : FolderState) (stop : Stop) (moved : AfterStep) (before after : Option CallLog) (f0 f1 : ℕ)
+    → moved ≡ moved_by stop Begin folder → Names unclaimed facts p (Err stop) before after f0 f1
+    → MakesPart unclaimed facts (copying p Begin folder) (copying p moved.stage moved.folder) moved.did moved.calls before after f0 f1
+makes_stopped unclaimed facts p folder stop moved before after f0 f1 is n =
+    subst (λ (m : AfterStep). MakesPart unclaimed facts (copying p Begin folder) (copying p m.stage m.folder) m.did m.calls before after f0 f1) (sym is) (record {
+      tells = (n.named, refl);
+      called = n.runs;
+      counted = n.counted;
+      few = n.few;
+      unknown = n.unknown;
+      later = n.later;
+      fault = n.fault;
+    })
+
+-- the next bytes weren't written
+pub writes_stopped : (bytes : List ℕ) (part : Route) (facts : SourceFacts) (done : ℕ) (folder : FolderState) (stop : Stop) (moved : AfterStep) (before after : Option CallLog) (f0 f1 : ℕ)
+    → moved ≡ moved_by stop (Fill part facts done) folder → Ran (WriteAt part done bytes ∷ []) false (Err stop) before after f0 f1
+    → WritesNext bytes (Fill part facts done) moved.stage moved.did moved.calls before after f0 f1
+writes_stopped bytes part facts done folder stop moved before after f0 f1 is ran =
+    subst (λ (m : AfterStep). WritesNext bytes (Fill part facts done) m.stage m.did m.calls before after f0 f1) (sym is) (record {
+      tells = (ran.barrier, refl);
+      called = ran.stopped;
+      counted = ran.counted;
+      few = ran.few;
+      unknown = ran.unknown;
+      later = ran.later;
+      fault = ran.fault;
+    })
 
 -- the part was made
 pub moves_began : (unclaimed : Route → Type 0) (p : Places) (folder : FolderState) (made : Made) (before after : Option CallLog) (f0 f1 : ℕ)

@@ -22,9 +22,13 @@ use Rattle.job_reports.specs.Paths.{folder_of}
 abbrev pub part_mode : ℕ → ℕ
 part_mode mode = bit_or mode 0o600
 
--- the call that makes the part with this number
+-- the call that makes the part with this number, of a file with this mode
+abbrev pub making_with : ℕ → Places → ℕ → Call
+making_with mode p k = MakeFile (part_path p k) (part_mode mode)
+
+-- of the source
 abbrev pub making : FileSystem → Places → ℕ → Call
-making s p k = MakeFile (part_path p k) (part_mode (file_at s p.source).mode)
+making s p k = making_with (file_at s p.source).mode p k
 
 -- the call that gives a part the source's mode, if it has another
 abbrev pub moding : Route → ℕ → List Call
@@ -52,6 +56,12 @@ BeginStops unclaimed p cause path log after =
     (LookStops (current log) p cause path × (after ≡ Some log))
     ⊎ (IsReady (current log) p × NameStops (current log) unclaimed p cause path × (after ≡ Some log))
     ⊎ ((k : ℕ) × IsReady (current log) p × IsFirstFree (current log) unclaimed p k × RunStops (making (current log) p k ∷ []) cause path log after)
+
+-- the trouble before the part of a file with this mode stands: of its name, or of its making
+abbrev pub PartStops : (Route → Type 0) → Places → ℕ → Cause → Option Route → CallLog → Option CallLog → Type 0
+PartStops unclaimed p mode cause path log after =
+    (NameStops (current log) unclaimed p cause path × (after ≡ Some log))
+    ⊎ ((k : ℕ) × IsFirstFree (current log) unclaimed p k × RunStops (making_with mode p k ∷ []) cause path log after)
 
 -- the trouble of reading the next bytes: the call is refused, or the source ends early
 abbrev pub ReadStops : FileSystem → Route → SourceFacts → ℕ → Cause → Option Route → Type 0

@@ -17,7 +17,8 @@ use Rattle.file_copy.specs.declared.work.Made.{Made}
 use Rattle.file_copy.specs.declared.work.AfterStep.{AfterStep}
 use Rattle.job_reports.specs.CallRuns.{AllDone, HasMore}
 use Rattle.file_copy.specs.Copying.{Places, Copying, IsSound, Tells, skipped, at_barrier, steps_left}
-use Rattle.file_copy.specs.CopyCalls.{CopyCalls, BeginStops, making}
+use Rattle.file_copy.specs.declared.stage.SourceFacts.{SourceFacts}
+use Rattle.file_copy.specs.CopyCalls.{CopyCalls, BeginStops, PartStops, making, making_with}
 use Rattle.file_copy.specs.Looking.{HasRange, IsReady, AreFactsOf}
 use Rattle.file_copy.specs.PartNames.{IsFirstFree, part_path}
 use Rattle.job_reports.specs.Stops.{out_of_memory_at}
@@ -82,6 +83,27 @@ IfBegun (Err stop) = stop.trouble.barrier ≡ false
 pub record Begins (unclaimed : Route → Type 0) (p : Places) (result : Result Made Stop) (before after : Option CallLog) (faults faults_after : ℕ) : Type 0 where
   pub runs : IfKnown before (λ log. BeginRuns unclaimed p result log after)
   pub begun : IfBegun result
+  pub counted : IfKnown before (λ log. IfKnown after (HasMore log (begin_calls result)))
+  pub few : begin_calls result ≤ 1
+  pub unknown : before ≡ None → after ≡ None
+  pub later : faults ≤ faults_after
+  pub fault : IfErr result (λ stop. stop.trouble.cause ≡ Tree refused.Fault → HasRisen faults faults_after)
+
+-- a part was made of a file with these facts, or the trouble is one that may come before
+abbrev pub NameRuns : (Route → Type 0) → SourceFacts → Places → Result Made Stop → CallLog → Option CallLog → Type 0
+NameRuns unclaimed facts p (Ok made) log after =
+    (k : ℕ) × (made.part ≡ part_path p k) × IsFirstFree (current log) unclaimed p k × AllDone log (making_with facts.mode p k ∷ []) after
+NameRuns unclaimed facts p (Err stop) log after = PartStops unclaimed p facts.mode stop.trouble.cause stop.trouble.path log after
+
+-- what is known of such a part, and of the trouble before
+abbrev pub IfNamed : SourceFacts → Result Made Stop → Type 0
+IfNamed facts (Ok made) = (made.named ≡ made.part) × (made.facts ≡ facts)
+IfNamed facts (Err stop) = stop.trouble.barrier ≡ false
+
+-- What the making of such a part comes to, as in `Ran`.
+pub record Names (unclaimed : Route → Type 0) (facts : SourceFacts) (p : Places) (result : Result Made Stop) (before after : Option CallLog) (faults faults_after : ℕ) : Type 0 where
+  pub runs : IfKnown before (λ log. NameRuns unclaimed facts p result log after)
+  pub named : IfNamed facts result
   pub counted : IfKnown before (λ log. IfKnown after (HasMore log (begin_calls result)))
   pub few : begin_calls result ≤ 1
   pub unknown : before ≡ None → after ≡ None

@@ -6,3 +6,4 @@ pub mod Copying
 pub mod LastSteps
 pub mod Looking
 pub mod PartNames
+pub mod PartSteps

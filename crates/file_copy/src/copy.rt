@@ -1,16 +1,18 @@
 //! The copy of one file, a piece of work at each step.
-ghost use Rattle.std.specs.Prelude.{◌≡◌, None, Some, true, option_map};
+ghost use Rattle.std.specs.Prelude.{◌≡◌, None, Some, length, true, option_map};
 ghost use Rattle.mc_text.specs.Routes.{parent_of};
 ghost use Rattle.file_copy.specs.Copying.{IsSound, at_barrier, begun, is_dirty, is_fresh, part_at, skipped as skipped_to, taken_anew as stage_anew};
 ghost use Rattle.job_reports.specs.Paths.{folder_of};
 ghost use Rattle.file_copy.specs.CopySteps.{Skips, StepsOn};
 ghost use Rattle.file_copy.specs.LastSteps.{WindsOn, left_at};
+ghost use Rattle.file_copy.specs.Looking.{HasRange};
+ghost use Rattle.file_copy.specs.PartSteps.{IsNext, MakesPart, WritesNext};
 
 use crate::item::Item;
 use crate::part_name::PartTest;
-use crate::stage::{FolderState, Next, Stage};
+use crate::stage::{FolderState, Next, SourceFacts, Stage};
 use crate::winding::wind;
-use crate::work::{AfterStep, work};
+use crate::work::{AfterStep, begin_known, work, write_next};
 use job_reports::{Cause, Did, Ending, LastStepResult, StepResult, out_of_memory};
 use mc_text::Path;
 use std::alloc::Global;
@@ -75,11 +77,25 @@ impl FileCopy {
         part_in(stage)
     }
 
+    /// What is to be done next.
+    pub fn stage(&self) -> &Stage
+        ensures { result.now ≡ self.now.stage }
+    {
+        &self.stage
+    }
+
     /// The file that is copied.
     pub fn source(&self) -> &Path
         ensures { result.now ≡ self.now.source }
     {
         self.item.source()
+    }
+
+    /// Where it is to come.
+    pub fn target(&self) -> &Path
+        ensures { result.now ≡ self.now.target }
+    {
+        self.item.target()
     }
 
     /// The folder of the target.
@@ -131,6 +147,45 @@ impl FileCopy {
     {
         let stage = mem::replace(&mut self.stage, Stage::Decided);
         let moved = work(alloc, tree, parts, &self.item, stage, self.folder);
+        self.stage = moved.stage;
+        self.folder = moved.folder;
+        StepResult {
+            did: moved.did,
+            calls: moved.calls,
+        }
+    }
+
+    /// Makes the part of a file whose size and mode the caller knows, in place of a step that looks at a source.
+    pub fn begin_with<T: Tree, P: PartTest>(
+        &mut self,
+        alloc: Global,
+        tree: &mut T,
+        parts: &P,
+        facts: SourceFacts,
+    ) -> StepResult
+        requires stage { self.old.stage ≡ Stage.Begin }
+        requires range { HasRange facts }
+        ensures { MakesPart (λ path. P.is_free parts.now path ≡ true) facts self.old self.new result.did result.calls
+            (T.contents tree.old) (T.contents tree.new) (T.fault_count tree.old) (T.fault_count tree.new) }
+    {
+        let moved = begin_known(alloc, tree, parts, &self.item, facts, self.folder);
+        self.stage = moved.stage;
+        self.folder = moved.folder;
+        StepResult {
+            did: moved.did,
+            calls: moved.calls,
+        }
+    }
+
+    /// Writes these bytes to the part, behind those that it has, in place of a step that reads a source.
+    pub fn fill_with<T: Tree>(&mut self, alloc: Global, tree: &mut T, bytes: &[u8]) -> StepResult
+        requires { IsNext self.old.stage (length bytes.now) }
+        ensures writes { WritesNext bytes.now self.old.stage self.new.stage result.did result.calls
+            (T.contents tree.old) (T.contents tree.new) (T.fault_count tree.old) (T.fault_count tree.new) }
+        ensures stays { self.new ≡ record self.old { stage = self.new.stage } }
+    {
+        let stage = mem::replace(&mut self.stage, Stage::Decided);
+        let moved = write_next(alloc, tree, stage, self.folder, bytes);
         self.stage = moved.stage;
         self.folder = moved.folder;
         StepResult {

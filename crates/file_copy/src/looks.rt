@@ -1,5 +1,5 @@
 //! The looks before a part is made: a file stands at the source, and nothing at the target.
-ghost use Rattle.std.specs.Prelude.{◌≡◌, None, IfOk, MatchResult};
+ghost use Rattle.std.specs.Prelude.{◌≡◌, None, IfOk, IfSome, MatchResult};
 ghost use Rattle.tree_trait.specs.Calls.{Stat};
 ghost use Rattle.tree_trait.specs.Change.{current};
 ghost use Rattle.tree_trait.specs.Refusals.{refusal_of};
@@ -71,6 +71,7 @@ pub fn look_at_target<T: Tree>(
         (λ trouble. TargetStops (current log) path.now trouble.cause trouble.path)) }
     ensures peeks { Peeks result (T.contents tree.old) (T.contents tree.new)
         (T.fault_count tree.old) (T.fault_count tree.new) }
+    ensures in_range { IfOk result (λ found. IfSome found IsInRange) }
 {
     match tree.stat(alloc, path) {
         Ok(meta) => Ok(Some(meta)),

@@ -1,14 +1,17 @@
 //! The next piece of a copy's work, by its stage.
-ghost use Rattle.std.specs.Prelude.{◌≡◌, ◌<◌, ◌≤◌, ⊤, None, true};
-ghost use Rattle.file_copy.specs.Copying.{IsSound, after_clean as stage_after, copying};
-ghost use Rattle.file_copy.specs.CopySteps.{Begins, MovesOn, moved_by};
+ghost use Rattle.std.specs.Prelude.{◌≡◌, ◌<◌, ◌≤◌, ⊤, None, length, true};
+ghost use Rattle.file_copy.specs.Copying.{IsSound, Places, after_clean as stage_after, copying};
+ghost use Rattle.file_copy.specs.Chunks.{HasCount};
+ghost use Rattle.file_copy.specs.PartSteps.{IsNext, MakesPart, WritesNext};
+ghost use Rattle.file_copy.specs.CopySteps.{Begins, MovesOn, Names, moved_by};
+ghost use Rattle.file_copy.specs.Looking.{HasRange};
 ghost use Rattle.file_copy.specs.LastSteps.{left_at};
 
 use crate::chunk::write_chunk;
 use crate::item::Item;
 use crate::looks::looks;
 use crate::part_name::{PartTest, choose_part};
-use crate::place::{PART_MODE, make_part, place, remove_part, sync_target_folder};
+use crate::place::{PART_MODE, make_part, place, remove_part, sync_target_folder, write_part};
 use crate::stage::{FolderState, Next, SourceFacts, Stage};
 use job_reports::{Did, Ending, Stop, out_of_memory, stopped_before};
 use mc_text::Path;
@@ -67,10 +70,10 @@ fn troubled(stop: Stop, stage: Stage, folder: FolderState) -> AfterStep
 
 /// A part that was made, its path once more, and what the source was said to be.
 #[derive(Debug, Drop)]
-struct Made {
-    part: Path,
-    named: Path,
-    facts: SourceFacts,
+pub(crate) struct Made {
+    pub(crate) part: Path,
+    pub(crate) named: Path,
+    pub(crate) facts: SourceFacts,
 }
 
 fn begin<T: Tree, P: PartTest>(
@@ -111,6 +114,21 @@ fn begin_part<T: Tree, P: PartTest>(
         Ok(facts) => facts,
         Err(trouble) => return Err(stopped_before(trouble)),
     };
+    make_named(alloc, tree, parts, item, facts)
+}
+
+/// Makes a part with the first name that is free, for a file of which this is known.
+pub(crate) fn make_named<T: Tree, P: PartTest>(
+    alloc: Global,
+    tree: &mut T,
+    parts: &P,
+    item: &Item,
+    facts: SourceFacts,
+) -> Result<Made, Stop>
+    requires { HasRange facts }
+    ensures { Names (λ path. P.is_free parts.now path ≡ true) facts item.now result (T.contents tree.old) (T.contents tree.new)
+        (T.fault_count tree.old) (T.fault_count tree.new) }
+{
     let part = match choose_part(alloc, tree, parts, item) {
         Ok(part) => part,
         Err(trouble) => return Err(stopped_before(trouble)),
@@ -121,6 +139,92 @@ fn begin_part<T: Tree, P: PartTest>(
     match make_part(alloc, tree, &part, facts.mode | PART_MODE) {
         Ok(_) => Ok(Made { part, named, facts }),
         Err(stop) => Err(stop),
+    }
+}
+
+/// Makes the part of a file that is known, without a look at a source.
+pub(crate) fn begin_known<T: Tree, P: PartTest>(
+    alloc: Global,
+    tree: &mut T,
+    parts: &P,
+    item: &Item,
+    facts: SourceFacts,
+    folder: FolderState,
+) -> AfterStep
+    requires { HasRange facts }
+    ensures { MakesPart (λ path. P.is_free parts.now path ≡ true) facts (copying item.now Stage.Begin folder)
+        (copying item.now result.stage result.folder) result.did result.calls (T.contents tree.old) (T.contents tree.new)
+        (T.fault_count tree.old) (T.fault_count tree.new) }
+{
+    match make_named(alloc, tree, parts, item, facts) {
+        Ok(made) => AfterStep {
+            did: Did::Began(made.named),
+            calls: 1,
+            stage: Stage::Fill {
+                part: made.part,
+                facts: made.facts,
+                done: 0,
+            },
+            folder: FolderState::Dirty,
+        },
+        Err(stop) => troubled(stop, Stage::Begin, folder),
+    }
+}
+
+/// Writes these bytes to the part, behind those that it has.
+pub(crate) fn write_next<T: Tree>(
+    alloc: Global,
+    tree: &mut T,
+    stage: Stage,
+    folder: FolderState,
+    bytes: &[u8],
+) -> AfterStep
+    requires fits { IsNext stage (length bytes.now) }
+    requires sound { IsSound stage folder }
+    ensures writes { WritesNext bytes.now stage result.stage result.did result.calls (T.contents tree.old) (T.contents tree.new)
+        (T.fault_count tree.old) (T.fault_count tree.new) }
+    ensures folder { result.folder ≡ folder }
+    ensures sound { IsSound result.stage folder }
+{
+    match stage {
+        Stage::Fill { part, facts, done } => write_behind(
+            alloc, tree, part, facts, done, folder, bytes,
+        ),
+        Stage::Begin => unreachable!(),
+        Stage::Clean { .. } => unreachable!(),
+        Stage::Left { .. } => unreachable!(),
+        Stage::Decided => unreachable!(),
+    }
+}
+
+fn write_behind<T: Tree>(
+    alloc: Global,
+    tree: &mut T,
+    part: Path,
+    facts: SourceFacts,
+    done: u64,
+    folder: FolderState,
+    bytes: &[u8],
+) -> AfterStep
+    requires fits { HasCount facts done (length bytes.now) }
+    requires sound { IsSound (Stage.Fill part facts done) folder }
+    ensures writes { WritesNext bytes.now (Stage.Fill part facts done) result.stage result.did result.calls (T.contents tree.old) (T.contents tree.new)
+        (T.fault_count tree.old) (T.fault_count tree.new) }
+    ensures folder { result.folder ≡ folder }
+    ensures sound { IsSound result.stage folder }
+{
+    match write_part(alloc, tree, &part, done, bytes) {
+        Ok(calls) => AfterStep {
+            did: Did::Chunk(bytes.len() as u32),
+            calls,
+            stage: Stage::Fill {
+                part,
+                facts,
+                done: done + bytes.len() as u64,
+            },
+            folder,
+        },
+        Err(stop) => troubled(stop, Stage::Fill { part, facts, done }, folder),
     }
 }
 

@@ -4,7 +4,7 @@ use Rattle.std.proofs.lemmas.Bool.{both_ways, false≢true}
 use Rattle.mc_text.specs.Routes.{Route}
 use Rattle.tree_trait.specs.Shape.{IsTree}
 use Rattle.tree_trait.specs.Change.{CallLog, current}
-use Rattle.tree_trait.specs.CrashImages.{all_settled}
+use Rattle.tree_trait.specs.CrashImages.{Among, all_settled}
 use Rattle.crash_law.specs.Guarded.{Marks}
 use Rattle.job_reports.specs.declared.report.Did.{Did}
 use Rattle.job_reports.specs.declared.report.Did.TheVariants.{Began, Chunk, Placed, Removed, Made, Set, Kept, Skipped, Cleaned, Barrier, Troubled, Ended}
@@ -15,22 +15,23 @@ use Rattle.session_history.specs.declared.history.Entry.{Entry}
 use Rattle.copy_move.specs.declared.run.Course.{Course}
 use Rattle.copy_move.specs.declared.run.Course.TheVariants.{GoesOn}
 use Rattle.copy_move.specs.declared.work.Work.{Work}
-use Rattle.copy_move.specs.declared.work.Work.TheVariants.{Copy, Delete, Make}
+use Rattle.copy_move.specs.declared.work.Work.TheVariants.{Copy, Delete, Make, SetMode}
 use Rattle.tree_deletion.specs.declared.deletion.Stage.{Stage}
 use Rattle.tree_deletion.specs.declared.deletion.Stage.TheVariants.{Begin, Going, Sync}
 use Rattle.tree_deletion.specs.Standing.{at_barrier, is_fresh as is_fresh_stage}
 use Rattle.copy_move.specs.Makings as makings
+use Rattle.mode_setting.specs.Settings as settings
 use Rattle.copy_move.specs.Jobs.{Running, WorkTells, is_fresh}
-use Rattle.copy_move.specs.Settling.{changed_folder}
-use Rattle.copy_move.specs.Steps.{SyncsFolder}
+use Rattle.copy_move.specs.Settling.{NoneOwed, changed_folder}
+use Rattle.copy_move.specs.Steps.{SyncsOwed}
 use Rattle.history_laws.specs.Calmed.{CalmLaw, HasBegun}
-use Rattle.history_laws.specs.Doubt.{name_waits}
+use Rattle.history_laws.specs.Doubt.{name_waits, node_waits}
 use Rattle.session_history.specs.LiveJobs.{live_jobs, live_item}
 use Rattle.history_laws.specs.Owed.{IsApart}
-use Rattle.session_history.specs.Named.{begins_change, has_changed, names_path}
+use Rattle.session_history.specs.Named.{begins_change, has_changed, named_parts, names_path}
 use Rattle.history_laws.specs.Replayed.{log_prefix}
-use Rattle.session_history.specs.Entries.{calls_in}
-use Rattle.history_laws.specs.Traces.{EventLeads, StepLeads, WorkLeads}
+use Rattle.session_history.specs.Entries.{IsMoment, calls_in}
+use Rattle.history_laws.specs.Traces.{EventLeads, IsTraced, Stand, StepLeads, WorkLeads}
 use Rattle.history_laws.proofs.Beginnings.{goes_then}
 use Rattle.job_reports.specs.Jobs.{folder_changed}
 use Rattle.history_laws.proofs.Sources.{folder_is as item_folder}
@@ -42,7 +43,8 @@ use Rattle.history_laws.proofs.Histories.{traced_reached}
 use Rattle.history_laws.proofs.JobKnows.{StageKnows, WorkKnows}
 use Rattle.history_laws.proofs.Knowing.{Said}
 use Rattle.history_laws.proofs.Moments.{prefix_is, log_of, traced_count}
-use Rattle.history_laws.proofs.Owing.{apart_from, owed_law}
+use Rattle.history_laws.proofs.ModesStay.{event_still as mode_still}
+use Rattle.history_laws.proofs.Owing.{apart_from, owed_modes, owed_names}
 use Rattle.history_laws.proofs.Unchanged.{has_begun, is_going}
 use Rattle.history_laws.proofs.Reports.{HasLive, JobsKnow}
 use Rattle.history_laws.proofs.Staying.{event_still}
@@ -88,6 +90,12 @@ module _ (told : Said) (dirty : List Route) (marks : Marks) (log : CallLog) (cou
   fresh_then (Delete d) (Delete new) (Troubled trouble) t h clean k = absurd (false≢true h)
   fresh_then (Delete d) (Delete new) (Ended ending part) t h clean k = absurd (false≢true h)
   fresh_then (Make m) (Copy new) did t h clean k = absurd t
+  fresh_then (SetMode s) (Copy new) did t h clean k = absurd t
+  fresh_then (SetMode s) (Delete new) did t h clean k = absurd t
+  fresh_then (SetMode s) (Make new) did t h clean k = absurd t
+  fresh_then (Copy c) (SetMode new) did t h clean k = absurd t
+  fresh_then (Delete d) (SetMode new) did t h clean k = absurd t
+  fresh_then (Make m) (SetMode new) did t h clean k = absurd t
   fresh_then (Make m) (Delete new) did t h clean k = absurd t
   fresh_then (Make m) (Make new) (Made path) t h clean (name, none) = (ap makings.is_fresh t.0, none)
   fresh_then (Make m) (Make new) (Began part) t h clean k = absurd t
@@ -101,21 +109,45 @@ module _ (told : Said) (dirty : List Route) (marks : Marks) (log : CallLog) (cou
   fresh_then (Make m) (Make new) Barrier t h clean k = absurd (false≢true h)
   fresh_then (Make m) (Make new) (Troubled trouble) t h clean k = absurd (false≢true h)
   fresh_then (Make m) (Make new) (Ended ending part) t h clean k = absurd (false≢true h)
+  fresh_then (SetMode s) (SetMode new) (Set path) t h clean (name, none) = (ap settings.is_fresh t.0, none)
+  fresh_then (SetMode s) (SetMode new) (Began part) t h clean k = absurd t
+  fresh_then (SetMode s) (SetMode new) (Chunk count) t h clean k = absurd (false≢true h)
+  fresh_then (SetMode s) (SetMode new) (Made path) t h clean k = absurd t
+  fresh_then (SetMode s) (SetMode new) (Placed path) t h clean k = absurd (false≢true h)
+  fresh_then (SetMode s) (SetMode new) (Removed made) t h clean k = absurd t
+  fresh_then (SetMode s) (SetMode new) (Kept kept) t h clean k = absurd (false≢true h)
+  fresh_then (SetMode s) (SetMode new) (Skipped path why) t h clean k = absurd (false≢true h)
+  fresh_then (SetMode s) (SetMode new) (Cleaned part) t h clean k = absurd (false≢true h)
+  fresh_then (SetMode s) (SetMode new) Barrier t h clean k = absurd (false≢true h)
+  fresh_then (SetMode s) (SetMode new) (Troubled trouble) t h clean k = absurd (false≢true h)
+  fresh_then (SetMode s) (SetMode new) (Ended ending part) t h clean k = absurd (false≢true h)
 
 no_route : (part : Option Route) (path : Route) → part ≡ None → part ≡ Some path → ⊥
 no_route part path none some = let f : ⊥ = cc in f
 
-module _ (opening : CallLog) (tree : IsTree (current opening)) (settled : all_settled opening.changes ≡ true) (end : CallLog) (e : Entry) (older : List Entry) (folder path : Route) (h : HasBegun e older folder)
-    (f : IsFound opening tree settled end e older) (waits : name_waits f.now path ≡ true) where
-  abbrev Calm : Type 0
-  Calm = (names_path e.what path ≡ true) ⊎ IsApart f.before folder (folder_of path)
+module _ (opening : CallLog) (tree : IsTree (current opening)) (settled : all_settled opening.changes ≡ true) (end : CallLog) (e : Entry) (older : List Entry) (folder : Route) (h : HasBegun e older folder)
+    (f : IsFound opening tree settled end e older) where
+  r : Rattle.history_laws.proofs.Histories.IsReached opening older f.was f.before
+  r = traced_reached opening tree settled older f.was f.before f.traced
 
-  of_works : (job new : Running) → f.was.jobs ≡ job ∷ [] → job.id ≡ h.id → WorkLeads job h.did new f.was.dirty f.after.dirty f.before f.now → Calm
-  of_works job new jobs_is id_is works = by (names_path e.what path) (name_waits f.before path) refl refl
+  -- the job whose report it is: nothing was owed by it then, and no part of it stood
+  record Begins : Type 0 where
+    pub job : Running
+    pub none_owed : NoneOwed (current f.before) job.work f.was.dirty
+    pub no_part : r.part ≡ None
+    pub folder_is : folder ≡ changed_folder job.work
+
+  of_works : (job new : Running) → f.was.jobs ≡ job ∷ [] → job.id ≡ h.id → WorkLeads job h.did new f.was.dirty f.after.dirty f.before f.now → Begins
+  of_works job new jobs_is id_is works = record {
+    job = job;
+    none_owed = works.settled goes.0 start.0;
+    no_part = start.1;
+    folder_is =
+        let same = same_item opening tree settled end e older job (live_jobs older) r.part h.item (subst (λ js. HasLive (live_jobs older) js r.part) jobs_is r.live)
+        (subst (λ n. live_item n (live_jobs older) ≡ Some h.item) (sym id_is) h.its) in
+        h.within ∙ (ap folder_changed (sym same) ∙ item_folder job.work);
+  }
     where
-      r : Rattle.history_laws.proofs.Histories.IsReached opening older f.was f.before
-      r = traced_reached opening tree settled older f.was f.before f.traced
-
       tidy : IsTidyJob opening older f.was.dirty job
       tidy = subst (λ js. AreTidy opening older f.was.dirty js) jobs_is (traced_tidy opening tree settled older f.was f.before f.traced)
 
@@ -126,48 +158,70 @@ module _ (opening : CallLog) (tree : IsTree (current opening)) (settled : all_se
       start = fresh_then (told_of opening f.before older r.part) f.was.dirty r.marks f.before job.course job.work goes.1.0 h.did goes.1.1 h.begins (tidy.clean (ap (λ n. has_changed n older) id_is ∙ h.unchanged))
           (subst (λ js. JobsKnow (told_of opening f.before older r.part) f.was.dirty r.marks f.before js) jobs_is r.knows)
 
-      folder_is : folder ≡ changed_folder job.work
-      folder_is =
-          let same = same_item opening tree settled end e older job (live_jobs older) r.part h.item (subst (λ js. HasLive (live_jobs older) js r.part) jobs_is r.live)
-          (subst (λ n. live_item n (live_jobs older) ≡ Some h.item) (sym id_is) h.its) in
-          h.within ∙ (ap folder_changed (sym same) ∙ item_folder job.work)
-
-      by : (named waited : Bool) → names_path e.what path ≡ named → name_waits f.before path ≡ waited → Calm
-      by true waited named_is waited_is = inl named_is
-      by false true named_is waited_is =
-          inr (subst (λ q. IsApart f.before q (folder_of path)) (sym folder_is) (apart_from (current f.before) job.work f.was.dirty (folder_of path) (owed_law opening f.before older f.was path tree settled f.traced waited_is) (works.settled goes.0 start.0)))
-      by false false named_is waited_is =
-          let still = event_still opening older f.was f.before r path waited_is (no_route r.part path start.1) e.what f.after f.now f.leads named_is in
-          absurd (both_ways _ still.after waits)
-
-  calm : Calm
-  calm = by (subst (λ w. EventLeads f.was w f.after f.before f.now) h.reports f.leads)
+  begins : Begins
+  begins = by (subst (λ w. EventLeads f.was w f.after f.before f.now) h.reports f.leads)
     where
-      no_sync : (job new : Running) (synced : Route) → SyncsFolder job synced h.did new f.was.dirty f.after.dirty (Some f.before) (Some f.now) → ⊥
+      no_sync : (job new : Running) (synced : Route) → SyncsOwed job synced h.did new f.was.dirty f.after.dirty (Some f.before) (Some f.now) → ⊥
       no_sync job new synced (inl s) = false≢true (sym (ap begins_change s.did_is) ∙ h.begins)
       no_sync job new synced (inr s) = false≢true (sym (ap begins_change s.did_is) ∙ h.begins)
 
       one_of : (job : Running) → Rattle.history_laws.specs.Traces.IsJob h.id f.was.jobs job → (f.was.jobs ≡ job ∷ []) × (job.id ≡ h.id)
-      one_of job its =
-          let r = traced_reached opening tree settled older f.was f.before f.traced in
-          only_job h.id f.was.jobs job (told_of opening f.before older r.part) f.was.dirty r.marks f.before its r.knows
+      one_of job its = only_job h.id f.was.jobs job (told_of opening f.before older r.part) f.was.dirty r.marks f.before its r.knows
 
-      of_step : (job : Running) (after : Option Running) → Rattle.history_laws.specs.Traces.IsJob h.id f.was.jobs job → StepLeads job h.did after f.was.dirty f.after.dirty f.before f.now → Calm
+      of_step : (job : Running) (after : Option Running) → Rattle.history_laws.specs.Traces.IsJob h.id f.was.jobs job → StepLeads job h.did after f.was.dirty f.after.dirty f.before f.now → Begins
       of_step job after its (inl (new, inl works, after_is)) = let one = one_of job its in of_works job new one.0 one.1 works
-      of_step job after its (inl (new, inr syncs, after_is)) = absurd (no_sync job new syncs.folder syncs.synced)
+      of_step job after its (inl (new, inr syncs, after_is)) = absurd (no_sync job new syncs.path syncs.synced)
       of_step job after its (inr (gives, after_is)) = absurd (false≢true (sym (ap begins_change gives.did_is) ∙ h.begins))
 
-      by : EventLeads f.was (Step h.id h.did) f.after f.before f.now → Calm
+      by : EventLeads f.was (Step h.id h.did) f.after f.before f.now → Begins
       by s = of_step s.job s.new s.its s.leads
 
+  -- a dirty path lies apart
+  apart : (q : Route) → Among f.was.dirty q → IsApart f.before folder q
+  apart q among = let b = begins in subst (λ (p : Route). IsApart f.before p q) (sym b.folder_is) (apart_from (current f.before) b.job.work f.was.dirty q among b.none_owed)
+
+  pub names_calm : (path : Route) → name_waits f.now path ≡ true → (names_path e.what path ≡ true) ⊎ IsApart f.before folder (folder_of path)
+  names_calm path waits = by (names_path e.what path) (name_waits f.before path) refl refl
+    where
+      by : (named waited : Bool) → names_path e.what path ≡ named → name_waits f.before path ≡ waited → (names_path e.what path ≡ true) ⊎ IsApart f.before folder (folder_of path)
+      by true waited named_is waited_is = inl named_is
+      by false true named_is waited_is = inr (apart (folder_of path) (owed_names opening f.before older f.was path tree settled f.traced waited_is))
+      by false false named_is waited_is =
+          let b = begins in
+          let still = event_still opening older f.was f.before r path waited_is (no_route r.part path b.no_part) e.what f.after f.now f.leads named_is in
+          absurd (both_ways _ still.after waits)
+
+  pub modes_calm : (path : Route) → (Among (named_parts older) path → ⊥) → node_waits f.now path ≡ true → (names_path e.what path ≡ true) ⊎ IsApart f.before folder path
+  modes_calm path unnamed waits = by (names_path e.what path) (node_waits f.before path) refl refl
+    where
+      by : (named waited : Bool) → names_path e.what path ≡ named → node_waits f.before path ≡ waited → (names_path e.what path ≡ true) ⊎ IsApart f.before folder path
+      by true waited named_is waited_is = inl named_is
+      by false true named_is waited_is = inr (apart path (owed_modes opening f.before older f.was path tree settled f.traced unnamed waited_is))
+      by false false named_is waited_is = absurd (both_ways _ (mode_still opening older f.was f.before r path waited_is unnamed e.what f.after f.now f.leads named_is).after waits)
+
+module _ (opening now : CallLog) (newest : List Entry) (stand : Stand) (tree : IsTree (current opening)) (settled : all_settled opening.changes ≡ true) (traced : IsTraced opening newest stand now)
+    (e : Entry) (older : List Entry) (folder path : Route) (h : HasBegun e older folder) (moment : IsMoment newest (e ∷ older) (e ∷ older) e.calls) where
+  f : IsFound opening tree settled now e older
+  f = found_moment opening tree settled now e older path newest (e ∷ older) (e ∷ older) stand e.calls now [] traced (ap (log_of now) (sym (append-nil now.changes))) moment (inl refl)
+
+  at_end : log_prefix opening e.calls now ≡ f.now
+  at_end = let c = f.calls in prefix_is opening now e.calls f.now f.later f.later_is (omega (arith, c))
+
+  at_start : log_prefix opening (calls_in older) now ≡ f.before
+  at_start = let n = traced_count opening f.before older f.was f.traced in prefix_is opening now (calls_in older) f.before f.rest f.end_is (omega (arith, n))
+
+  then_apart : (q : Route) → (names_path e.what path ≡ true) ⊎ IsApart f.before folder q → (names_path e.what path ≡ true) ⊎ IsApart (log_prefix opening (calls_in older) now) folder q
+  then_apart q (inl named) = inl named
+  then_apart q (inr apart) = inr (subst (λ (l : CallLog). IsApart l folder q) (sym at_start) apart)
+
+  calms_names : name_waits (log_prefix opening e.calls now) path ≡ true → (names_path e.what path ≡ true) ⊎ IsApart (log_prefix opening (calls_in older) now) folder (folder_of path)
+  calms_names waits = then_apart (folder_of path) (names_calm opening tree settled now e older folder h f path (subst (λ (l : CallLog). name_waits l path ≡ true) at_end waits))
+
+  calms_modes : (Among (named_parts older) path → ⊥) → node_waits (log_prefix opening e.calls now) path ≡ true → (names_path e.what path ≡ true) ⊎ IsApart (log_prefix opening (calls_in older) now) folder path
+  calms_modes unnamed waits = then_apart path (modes_calm opening tree settled now e older folder h f path unnamed (subst (λ (l : CallLog). node_waits l path ≡ true) at_end waits))
+
 pub calm_law : CalmLaw
-calm_law opening now newest stand tree settled traced e older folder path h moment waits =
-    let f = found_moment opening tree settled now e older path newest (e ∷ older) (e ∷ older) stand e.calls now [] traced (ap (log_of now) (sym (append-nil now.changes))) moment (inl refl) in
-    let n = traced_count opening f.before older f.was f.traced in
-    let c = f.calls in
-    let at_end : log_prefix opening e.calls now ≡ f.now = prefix_is opening now e.calls f.now f.later f.later_is (omega (arith, c)) in
-    let at_start : log_prefix opening (calls_in older) now ≡ f.before = prefix_is opening now (calls_in older) f.before f.rest f.end_is (omega (arith, n)) in
-    elim (calm opening tree settled now e older folder path h f (subst (λ (l : CallLog). name_waits l path ≡ true) at_end waits)) [
-      | inl named ↦ inl named
-      | inr apart ↦ inr (subst (λ (l : CallLog). IsApart l folder (folder_of path)) (sym at_start) apart)
-    ]
+calm_law opening now newest stand tree settled traced = record {
+  names = λ e older folder path h moment waits. calms_names opening now newest stand tree settled traced e older folder path h moment waits;
+  modes = λ e older folder path h moment unnamed waits. calms_modes opening now newest stand tree settled traced e older folder path h moment unnamed waits;
+}

@@ -13,17 +13,17 @@ use Rattle.tree_trait.specs.CrashImages.{says as says_of, same_name, Among}
 use Rattle.tree_trait.proofs.Kept.{folder_there}
 use Rattle.tree_trait.proofs.Finding.{and_then-some, find-once, same_name-true, same_name-self}
 use Rattle.tree_trait.proofs.Visible.{same_path-self, same_path-true}
-use Rattle.crash_law.specs.Guarded.{Marks, IsNaming}
+use Rattle.crash_law.specs.Guarded.{Marks, IsNaming, with_mode}
 use Rattle.crash_law.specs.Steps.{IsAnchored}
 use Rattle.crash_law.proofs.Guarding.{find_same, found_at, naming_law}
 use Rattle.crash_law.proofs.Leading.{current_more}
 use Rattle.crash_law.proofs.Removing.{removal_law}
 use Rattle.crash_law.proofs.Syncing.{unaltered_law}
 use Rattle.crash_law.proofs.Tops.{under_removed, none_below}
-use Rattle.history_laws.specs.Doubt.{is_pending, is_unsettled, name_waits}
+use Rattle.history_laws.specs.Doubt.{is_pending, way_waits, name_waits}
 use Rattle.history_laws.proofs.Pending.{pending_less, within_more}
-use Rattle.history_laws.proofs.Knowing.{Said, IsKnown, IsUnreached, held, nowhere}
-use Rattle.history_laws.proofs.Quiet.{folder_same, held_same, kind_same, mount_same, shows_same, was_bare}
+use Rattle.history_laws.proofs.Knowing.{HasMode, HasNoMode, IsCalmIn, IsKnown, IsUnreached, Said, held, nowhere}
+use Rattle.history_laws.proofs.Quiet.{folder_same, held_same, kind_same, mount_same, shows_same, starts_same, unclean_before, was_bare}
 use Rattle.history_laws.proofs.Resting.{IsSureFolder, mounted, stands_at, sure_still, unborn_more}
 
 pub some_none : {A : Type 0} (x : ℕ) → (let o : Option ℕ = Some x in o) ≡ None → A
@@ -108,11 +108,18 @@ pub record SaysGone (said after : Said) (marks : Marks) (log : CallLog) (path : 
   pub doubted : after.doubt path ≡ true
   -- a folder that is said to be on the disk is another one, and it was said so before, or it is
   pub folders : (p : Route) → after.folders p ≡ true → (same_path p path ≡ false) × ((said.folders p ≡ true) ⊎ IsSureFolder log p)
+  pub modes : (p : Route) → said.modes p ≡ true → after.modes p ≡ true
+  -- nor does a mode wait in a folder of which that is said
+  pub calm : (p : Route) → after.calm p ≡ true → (said.calm p ≡ true) ⊎ IsCalmIn marks (current log) p
 
--- Its removal keeps what is known. The folder that holds it is dirty then, and it is no longer one itself.
+-- a mode that is known isn't one that waits
+pub other_mode : {A : Type 0} (marks : Marks) (i before : ℕ) → marks.modes i ≡ None → marks.modes i ≡ Some before → A
+other_mode marks i before none some = absurd (let e : (let o : Option ℕ = None in o) ≡ Some before = sym none ∙ some in let f : ⊥ = cc in f)
+
+-- Its removal keeps what is known, where no mode of it waits. The folder that holds it is dirty then, and it is no longer one itself.
 module _ (told after : Said) (dirty dirty_after : List Route) (marks : Marks) (log : CallLog) (known : IsKnown told dirty marks log) (path : Route) (r : IsHollow (current log) path) (k : ℕ)
     (says : SaysGone told after marks log path) (was : marks.aside path ≡ false → marks.was path ≡ find (current log) path)
-    (listed : Among dirty_after r.up) (more : (q : Route) → Among dirty q → same_path q path ≡ false → Among dirty_after q) where
+    (no_mode : marks.modes r.i ≡ None) (listed : Among dirty_after r.up) (more : (q : Route) → Among dirty q → same_path q path ≡ false → Among dirty_after q) where
   abbrev removes : Change
   removes = Removes r.f r.name k
 
@@ -262,13 +269,41 @@ module _ (told after : Said) (dirty dirty_after : List Route) (marks : Marks) (l
   held_still : (p : Route) → marks.aside p ≡ false → held (current now) (marks.was p) ≡ held (current log) (marks.was p)
   held_still p out = held_same log removes (marks.was p) (λ i is. unaltered i (known.was_there p i out is).0)
 
-  was_shown : (p : Route) → marks.aside p ≡ false → (marks.was p ≡ find (current now) p) ⊎ (held (current now) (marks.was p) ≡ (after.earlier p).value)
+  -- of what stood at the path no mode waits
+  gone_mode : marks.aside path ≡ false → HasNoMode marks (marks.was path)
+  gone_mode out i is = let e : (let o : Option ℕ = Some r.i in o) ≡ Some i = sym path_at ∙ (sym (was out) ∙ is) in subst (λ k. marks.modes k ≡ None) (sym (some_is r.i i e)) no_mode
+
+  was_shown : (p : Route) → marks.aside p ≡ false → (marks.was p ≡ find (current now) p) ⊎ ((held (current now) (marks.was p) ≡ (after.earlier p).value) × HasNoMode marks (marks.was p))
   was_shown p out = elim (where_is p) [
-    | inl at ↦ inr (held_still p out ∙ subst (λ q. held (current log) (marks.was q) ≡ (after.earlier q).value) (sym at) (says.was (subst (λ q. marks.aside q ≡ false) at out)))
+    | inl at ↦
+        let here = subst (λ q. marks.aside q ≡ false) at out in
+        inr (held_still p out ∙ subst (λ q. held (current log) (marks.was q) ≡ (after.earlier q).value) (sym at) (says.was here), subst (λ q. HasNoMode marks (marks.was q)) (sym at) (gone_mode here))
     | inr off ↦ elim (known.was_shown p out) [
       | inl same ↦ inl (same ∙ sym (off_path p off))
-      | inr shown ↦ inr (held_still p out ∙ (shown ∙ sym (ap (λ (s : _). s.value) (says.off p off).1)))
+      | inr shown ↦ inr (held_still p out ∙ (shown.0 ∙ sym (ap (λ (s : _). s.value) (says.off p off).1)), shown.1)
     ]
+  ]
+
+  -- a mode that waits is of another path
+  moded_still : (i before : ℕ) → marks.modes i ≡ Some before → HasMode told dirty marks log i before → HasMode after dirty_after marks now i before
+  moded_still i before is h = record {
+    path = h.path;
+    leads = off_path h.path off ∙ h.leads;
+    out = h.out;
+    listed = more h.path h.listed off;
+    told = says.modes h.path h.told;
+    shown = ap (λ (s : _). s.value) (says.off h.path off).1 ∙ (h.shown ∙ ap (λ n. Some (value (with_mode before n))) (sym (unaltered i (known.guarded.there h.path i (found_at log h.path (Some i) h.leads)))));
+  }
+    where
+      off : same_path h.path path ≡ false
+      off = false_from_ne_true _ (λ same.
+          let i_is : i ≡ r.i = some_is r.i i (sym path_at ∙ (ap (find (current log)) (sym (same_path-true h.path path same)) ∙ h.leads)) in
+          other_mode marks i before (subst (λ k. marks.modes k ≡ None) (sym i_is) no_mode) is)
+
+  calm_was : (p : Route) → IsCalmIn marks (current log) p → IsCalmIn marks (current now) p
+  calm_was p calm name i at = elim (found_then (name ∷ p)) [
+    | inl same ↦ elim (calm name i (sym same ∙ at)) [ inl none ↦ inl none | inr begins ↦ inr (starts_same log removes i ∙ begins) ]
+    | inr gone ↦ absurd (no_path (name ∷ p) i at gone)
   ]
 
   shows : (p : Route) → (after.part ≡ Some p → ⊥) → visible_tree (current now) p ≡ after.tree p
@@ -280,7 +315,7 @@ module _ (told after : Said) (dirty dirty_after : List Route) (marks : Marks) (l
   ]
 
   -- a folder that isn't in doubt and stays is in none then
-  folder_sure : (p : Route) (j : ℕ) → find (current log) p ≡ Some j → is_folder (node (current log) j) ≡ true → find (current now) p ≡ Some j → is_unsettled log p ≡ false → is_unsettled now p ≡ false
+  folder_sure : (p : Route) (j : ℕ) → find (current log) p ≡ Some j → is_folder (node (current log) j) ≡ true → find (current now) p ≡ Some j → way_waits log p ≡ false → way_waits now p ≡ false
   folder_sure p j at folder stays sure = sure_still log removes known.guarded.tree
       (λ q g h before holds then. elim (found_then q) [
         | inl same ↦ let e : (let o : Option ℕ = Some g in o) ≡ Some h = sym before ∙ (sym same ∙ then) in cc
@@ -304,7 +339,7 @@ module _ (told after : Said) (dirty dirty_after : List Route) (marks : Marks) (l
       let k = says.folders p there in
       elim k.1 [ inl before ↦ firm_still p k.0 (known.stand p before) | inr firm ↦ firm_still p k.0 firm ]
 
-  mounts_sure : (p : Route) → (visible_tree (current now) p).is_mount ≡ true → is_unsettled now p ≡ false
+  mounts_sure : (p : Route) → (visible_tree (current now) p).is_mount ≡ true → way_waits now p ≡ false
   mounts_sure p on =
       let there = mounted (current now) naming.tree p on in
       elim (found_then p) [
@@ -321,7 +356,8 @@ module _ (told after : Said) (dirty dirty_after : List Route) (marks : Marks) (l
       unborn = unborn_more log removes (λ i past. naming.bytes i) naming.count known.files.unborn;
       mounts = mounts_sure;
     };
-    moded = known.moded;
+    moded = λ i before is unclean. moded_still i before is (known.moded i before is (unclean_before log removes i refl unclean));
+    calm = λ p there. elim (says.calm p there) [ inl before ↦ calm_was p (known.calm p before) | inr calm ↦ calm_was p calm ];
     folders = λ i folder. known.folders i (was_folder i folder);
     aside = says.named;
     was_there = λ p i out is. let t = known.was_there p i out is in (subst (λ n. i < n) (sym same_count) t.0, t.1);

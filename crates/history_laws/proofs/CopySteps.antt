@@ -14,7 +14,6 @@ use Rattle.tree_trait.specs.Calls.{RemoveFile, SyncFolder, WriteAt}
 use Rattle.tree_trait.specs.Change.{Nothing, Removes, Writes, CallLog, current, with_change}
 use Rattle.tree_trait.specs.CrashImages.{Among}
 use Rattle.tree_trait.specs.Answers.{Performs}
-use Rattle.tree_trait.proofs.Ending as ending
 use Rattle.crash_law.specs.Guarded.{Marks}
 use Rattle.job_reports.specs.declared.report.Cause.{Cause}
 use Rattle.job_reports.specs.declared.report.Cause.TheVariants as cause
@@ -31,7 +30,7 @@ use Rattle.job_reports.specs.CallRuns.{AllDone, RunStops}
 use Rattle.file_copy.specs.CopyCalls.{BeganOf, CopyCalls, CopyStops, making, next_bytes, placing, writing}
 use Rattle.file_copy.specs.Copying.{Copying, Tells, after_clean, is_dirty, is_fresh, places_of}
 use Rattle.job_reports.specs.Paths.{folder_of}
-use Rattle.job_reports.proofs.CallAnswers.{calm_stops, one_done, some_log}
+use Rattle.job_reports.proofs.CallAnswers.{one_done, some_log}
 use Rattle.tree_trait.proofs.Visible.{same_path-self, same_path-true}
 use Rattle.copy_move.specs.declared.work.Work.{Work}
 use Rattle.copy_move.specs.declared.work.Work.TheVariants.{Copy}
@@ -40,14 +39,14 @@ use Rattle.copy_move.specs.declared.run.Course.TheVariants.{GoesOn, InTrouble}
 use Rattle.copy_move.specs.Jobs.{course_after}
 use Rattle.copy_move.specs.Settling.{with_change as moves_dirty}
 use Rattle.history_laws.specs.Traces.{IsUnclaimed}
-use Rattle.history_laws.proofs.Calming.{written_known}
+use Rattle.history_laws.proofs.Calming.{stopped_is, written_known}
 use Rattle.history_laws.proofs.Changing.{off_itself, removed_known}
-use Rattle.history_laws.proofs.Deleted.{IsRemoval, comes_refused, removal_done}
+use Rattle.history_laws.proofs.Deleted.{IsRemoval, comes_refused, removal_done, removal_leads}
 use Rattle.history_laws.proofs.DeletionSteps.{Steps, ends, same_dirty, tried}
 use Rattle.history_laws.proofs.Resting.{folder_at}
-use Rattle.history_laws.proofs.Filling.{begun, filled_more, folder_firm, listed_now, making_stands, target_free}
+use Rattle.history_laws.proofs.Filling.{begun, filled_more, folder_calm, folder_firm, listed_now, making_stands, target_free}
 use Rattle.history_laws.proofs.Knowing.{Said, IsKnown, IsKept, settled_marks}
-use Rattle.history_laws.proofs.JobKnows.{NoneOn, HasPart, IsUntouched, KnowsAfter, StageKnows, WorkKnows, part_settled, untouched_settled, work_course}
+use Rattle.history_laws.proofs.JobKnows.{NoneOn, HasPart, IsUntouched, KnowsAfter, StageKnows, WorkKnows, none_of_part, part_settled, untouched_settled, work_course}
 use Rattle.history_laws.proofs.PartNodes.{part_on, part_there, written_node}
 use Rattle.history_laws.proofs.PlacingSteps.{part_placed, part_refused, placing_stops}
 use Rattle.history_laws.proofs.Stepped.{Comes, comes_map, comes_one, said_after}
@@ -89,8 +88,10 @@ part_cleaned told dirty marks log now work target part i kept has listed done = 
           part = refl;
           doubts = λ p h. or_left _ _ h;
           folders = λ p there. (no_file p (kept.known.stand p there).stands, inl there);
+          modes = λ p h. h;
+          calm = λ p h. inl h;
           doubted = or_right _ _ (same_path-self part);
-        }) (λ out. absurd (both_ways _ out aside)) (subst (λ q. Among dirty q) (sym folder_is ∙ ap folder_of it.r.path_is) listed) (λ q among off. among) in
+        }) (λ out. absurd (both_ways _ out aside)) (none_of_part told dirty marks log kept part it.r.i (removal_leads log now part it) aside) (subst (λ q. Among dirty q) (sym folder_is ∙ ap folder_of it.r.path_is) listed) (λ q among off. among) in
         let after = with_change log (Removes it.r.f it.r.name it.k) in
         let shown = known.shows target (λ is. let e : (let o : Option Route = None in o) ≡ Some target = is in absurd (let f : ⊥ = cc in f)) in
         let before = kept.known.shows target (λ is. has.apart (some_route part target (sym has.part_is ∙ is))) in
@@ -108,9 +109,6 @@ module _ (told : Said) (dirty dirty_after : List Route) (marks : Marks) (log now
   abbrev In : Course → Type 0
   In course = Comes told told dirty log now (λ m. WorkKnows told dirty m now course (Copy c))
 
-  quiet_how : (l : CallLog) → ending.IsQuiet log (Some l) → (l ≡ log) ⊎ (l ≡ with_change log Nothing)
-  quiet_how l q = elim q.how [ inl same ↦ inl (some_log l q.after q.tells ∙ same) | inr more ↦ inr (some_log l q.after q.tells ∙ more) ]
-
   -- a write stops, and leaves the part with any bytes
   write_refused : (part : Route) (i done : ℕ) (bytes : List ℕ) (e : TreeError) → HasPart told marks (current log) c.target part i → Performs {A = Unit {0}} log (WriteAt part done bytes) (Err e) (Some now)
       → Comes told told dirty log now (λ m. HasPart told m (current now) c.target part i)
@@ -118,7 +116,7 @@ module _ (told : Said) (dirty dirty_after : List Route) (marks : Marks) (log now
       let is : now ≡ with_change log (Writes i stop.1.0 (pos 0)) = some_log now _ stop.1.1 ∙ ap (λ j. with_change log (Writes j stop.1.0 (pos 0))) (ap (λ o. unwrap_or o 0) has.leads) in
       let node_is = written_node log i stop.1.0 (pos 0) (part_there told dirty marks log kept.known c.target part i has) in
       comes_one told told dirty dirty marks marks log now (Writes i stop.1.0 (pos 0)) (λ m. HasPart told m (current now) c.target part i) kept is
-      (subst (λ (l : CallLog). IsKnown told dirty marks l) (sym is) (written_known told dirty marks log kept.known part i has.part_is has.leads has.loose stop.1.0 (pos 0)))
+      (subst (λ (l : CallLog). IsKnown told dirty marks l) (sym is) (written_known told dirty marks log kept.known part i has.part_is has.leads has.loose (none_of_part told dirty marks log kept part i has.leads (kept.known.part part has.part_is).0) stop.1.0 (pos 0)))
       (subst (λ (l : CallLog). HasPart told (settled_marks l marks) (current l) c.target part i) (sym is)
       (part_settled (with_change log (Writes i stop.1.0 (pos 0))) marks told c.target part i
       (part_on told dirty marks log kept.known c.target part i has (Writes i stop.1.0 (pos 0)) (λ g m. refl) (ap (λ (x : Node). x.kind) node_is) (ap (λ (x : Node). x.unnamed) node_is))))
@@ -150,7 +148,7 @@ module _ (told : Said) (dirty dirty_after : List Route) (marks : Marks) (log now
       how : CopyStops IsUnclaimed (places_of c) Begin why path log (Some now) → (now ≡ log) ⊎ (now ≡ with_change log Nothing)
       how (inl look) = inl (some_log now log look.1)
       how (inr (inl name)) = inl (some_log now log name.2)
-      how (inr (inr (k, ready, free, run))) = quiet_how now (calm_stops (making (current log) (places_of c) k) why path log now (λ s left. refl) run)
+      how (inr (inr (k, ready, free, run))) = stopped_is log now (making (current log) (places_of c) k) why path (λ s left. refl) run
   stops why path course off (name, listed, knows) (Fill part said done) is stop =
       comes_map told told dirty log now (λ m. HasPart told m (current now) c.target part i) (λ m. WorkKnows told dirty m now course (Copy c))
       (λ m k has. (name, listed, subst (λ x. StageKnows told m (current now) course c x) (sym is) (at_fill.0, (i, has, λ e. absurd (off e)))))
@@ -168,11 +166,11 @@ module _ (told : Said) (dirty dirty_after : List Route) (marks : Marks) (log now
       how (inr (full, run)) = placing_stops told dirty c.target part i marks log now said.mode why path kept at_fill.1.1 run
   stops why path course off knows (Clean part follows) is stop =
       comes_refused told dirty marks log now course (Copy c) kept (work_course told dirty marks log GoesOn course (Copy c) (λ e. absurd (off e)) knows)
-      (quiet_how now (calm_stops (RemoveFile part) why path log now (λ s left. refl) stop))
+      (stopped_is log now (RemoveFile part) why path (λ s left. refl) stop)
   stops why path course off knows (Left part) is stop = absurd stop
   stops why path course off knows Decided is stop =
       comes_refused told dirty marks log now course (Copy c) kept (work_course told dirty marks log GoesOn course (Copy c) (λ e. absurd (off e)) knows)
-      (quiet_how now (calm_stops (SyncFolder up) why path log now (λ s left. refl) stop))
+      (stopped_is log now (SyncFolder up) why path (λ s left. refl) stop)
 
   with_routes : (did : Did) (course : Course) (new : Work) → dirty_after ≡ dirty → Comes told (said_after now did (Copy c) told) dirty log now (KnowsAfter did (said_after now did (Copy c) told) dirty now course new)
       → Steps told dirty dirty_after marks log now kept did course (Copy c) new
@@ -198,10 +196,11 @@ module _ (told : Said) (dirty dirty_after : List Route) (marks : Marks) (log now
       let on_list = listed_now told dirty dirty_after marks log now kept c (λ e. (listed e).0) (leaves ∙ ap (λ (x : Copying). moves_dirty (is_dirty c.folder) (is_dirty x.folder) up dirty) new_is) c.folder refl in
       let stands = making_stands log now c k (one_done log (making (current log) (places_of c) k) now rows) in
       let firm = folder_firm told dirty dirty_after marks log now kept c stands (λ e. (listed e).1) (λ e. settled (ap (λ x. is_fresh x c.folder) stage ∙ e)) c.folder refl in
+      let calm = folder_calm told dirty dirty_after marks log now kept c (λ e. (listed e).2) (λ e. settled (ap (λ x. is_fresh x c.folder) stage ∙ e)) c.folder refl in
       let untouched = target_free told dirty dirty_after marks log now kept c name firm ready at_begin.1 (λ e. settled (ap (λ x. is_fresh x c.folder) stage ∙ e)) c.folder refl in
       subst (λ (x : Copying). Steps told dirty dirty_after marks log now kept (Began part) GoesOn (Copy c) (Copy x)) (sym new_is)
       (subst (λ q. Steps told dirty dirty_after marks log now kept (Began q) GoesOn (Copy c) (Copy (record c { stage = Fill q said 0; folder = Dirty }))) (sym part_is)
-      (begun told dirty dirty_after marks log now kept c said k name ready is_said free at_begin.0 untouched (one_done log (making (current log) (places_of c) k) now rows) firm on_list.0 on_list.1))
+      (begun told dirty dirty_after marks log now kept c said k name ready is_said free at_begin.0 untouched (one_done log (making (current log) (places_of c) k) now rows) firm calm on_list.0 on_list.1))
   copy_tells new (Chunk count) (name, listed, knows) (part, said, done, stage, least, most, fits, new_is) (other_part, other_said, other_done, other_stage, count_is, rows) settled leaves =
       let e : (let o : Stage = Fill other_part other_said other_done in o) ≡ Fill part said done = sym other_stage ∙ stage in
       let p_is : other_part ≡ part = cc in

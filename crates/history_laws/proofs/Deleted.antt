@@ -21,10 +21,11 @@ use Rattle.job_reports.specs.Paths.{folder_of}
 use Rattle.job_reports.proofs.CallAnswers.{done_call, IsDoneCall}
 use Rattle.copy_move.specs.declared.work.Work.{Work}
 use Rattle.copy_move.specs.declared.run.Course.{Course}
+use Rattle.history_laws.specs.Staying.{may_change}
 use Rattle.history_laws.proofs.Calming.{nothing_known}
 use Rattle.history_laws.proofs.Changing.{IsHollow, hollow_file, removed_known}
 use Rattle.history_laws.proofs.Emptied.{IsEmptied, emptied}
-use Rattle.history_laws.proofs.Knowing.{Said, IsKnown, IsKept, held, settled_marks}
+use Rattle.history_laws.proofs.Knowing.{IsCalmIn, IsKept, IsKnown, Said, held, settled_marks}
 use Rattle.history_laws.proofs.JobKnows.{WorkKnows, work_settled, work_still}
 use Rattle.history_laws.proofs.Resting.{IsSureFolder}
 use Rattle.history_laws.proofs.Sources.{item_in}
@@ -120,12 +121,14 @@ pub removal_leads : (log now : CallLog) (path : Route) (it : IsRemoval log now p
 removal_leads log now path it =
     ap (find (current log)) it.r.path_is ∙ (ap (Rattle.std.specs.Prelude.option_and_then (λ f. Rattle.tree_trait.specs.FileSystem.lookup (current log).names f it.r.name)) it.r.folder ∙ it.r.leads)
 
--- A thing is removed, of which a job knows that nothing was done there yet, and that the folder in which it changes names is on the disk.
+-- A thing is removed, of which a job knows that nothing was done there yet, that the folder in which it changes names is on the disk, and that no
+-- mode waits in its folders, nor of the thing.
 pub removes_thing : (told : Said) (dirty dirty_after : List Route) (marks : Marks) (log now : CallLog) (path : Route) (work : Work) (knows : Marks → Type 0) → IsKept told dirty marks log → told.part ≡ None
-    → (marks.aside path ≡ false → marks.was path ≡ find (current log) path) → IsSureFolder log (folder_changed (item_in work)) → Among dirty_after (folder_of path)
+    → (marks.aside path ≡ false → marks.was path ≡ find (current log) path) → IsSureFolder log (folder_changed (item_in work)) → ((p : Route) → may_change (item_in work) p ≡ true → IsCalmIn marks (current log) p)
+    → ((i : ℕ) → find (current log) path ≡ Some i → starts_mount (current log) i ≡ false → marks.modes i ≡ None) → Among dirty_after (folder_of path)
     → ((q : Route) → Among dirty q → same_path q path ≡ false → Among dirty_after q)
     → IsRemoval log now path → knows (settled_marks now marks) → Comes told (said_after now (Removed path) work told) dirty_after log now knows
-removes_thing told dirty dirty_after marks log now path work knows kept none was firm listed more it known_of =
+removes_thing told dirty dirty_after marks log now path work knows kept none was firm calm no_mode listed more it known_of =
     comes_one told (said_after now (Removed path) work told) dirty dirty_after marks marks log now (Removes it.r.f it.r.name it.k) knows kept it.now_is
     (subst (λ (l : CallLog). IsKnown (said_after now (Removed path) work told) dirty_after marks l) (sym it.now_is)
     (removed_known told (said_after now (Removed path) work told) dirty dirty_after marks log kept.known path it.r it.k (record {
@@ -136,8 +139,10 @@ removes_thing told dirty dirty_after marks log now path work knows kept none was
       part = none;
       doubts = λ p h. or_left _ _ h;
       folders = folder_said;
+      modes = λ p h. h;
+      calm = λ p h. elim (either (may_change (item_in work) p) (told.calm p) h) [ inl here ↦ inr (calm p here) | inr before ↦ inl before ];
       doubted = or_right _ _ (same_path-self path);
-    }) was (subst (λ q. Among dirty_after (folder_of q)) it.r.path_is listed) more))
+    }) was (no_mode it.r.i (removal_leads log now path it) it.mountless) (subst (λ q. Among dirty_after (folder_of q)) it.r.path_is listed) more))
     known_of
   where
     no_part : (p : Route) → told.part ≡ Some p → ⊥

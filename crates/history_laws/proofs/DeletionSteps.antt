@@ -1,12 +1,13 @@
 -- Each step of a deletion keeps what is known.
-use Rattle.std.proofs.Common.{◌≡◌, ◌⊎◌, Bool, true, false, List, [], ◌∷◌, ◌++◌, refl, sym, ◌∙◌, ap, subst, inl, inr, Option, Some, None, Ok, arith, ◌||◌, not}
+use Rattle.std.proofs.Common.{◌≡◌, ◌⊎◌, ℕ, Bool, true, false, List, [], ◌∷◌, ◌++◌, refl, sym, ◌∙◌, ap, subst, inl, inr, Option, Some, None, Ok, arith, ◌||◌, not}
 use Rattle.std.specs.Prelude.{if◌then◌else◌}
-use Rattle.std.proofs.lemmas.Bool.{and_from, false≢true, or_cases, or_left}
+use Rattle.std.proofs.lemmas.Bool.{and_from, both_ways, false≢true, or_cases, or_left}
 use Rattle.mc_text.specs.Routes.{Route, is_prefix, same_path}
 use Rattle.mc_text.proofs.Prefixes.{same_path-lengths}
 use Rattle.tree_trait.specs.declared.calls.TreeError.{TreeError}
+use Rattle.tree_trait.specs.FileSystem.{find, starts_mount}
 use Rattle.tree_trait.specs.Calls.{RemoveFile, RemoveFolder, SyncFolder}
-use Rattle.tree_trait.specs.Change.{Syncs, CallLog, current, with_change}
+use Rattle.tree_trait.specs.Change.{Syncs, CallLog, current, found, with_change}
 use Rattle.tree_trait.specs.CrashImages.{Among}
 use Rattle.tree_trait.specs.Answers.{Performs}
 use Rattle.tree_trait.proofs.Visible.{same_path-self, same_path-true}
@@ -18,10 +19,12 @@ use Rattle.job_reports.specs.declared.report.Did.{Did}
 use Rattle.job_reports.specs.declared.report.Did.TheVariants.{Began, Chunk, Placed, Removed, Made, Set, Kept, Skipped, Cleaned, Barrier, Troubled, Ended}
 use Rattle.job_reports.specs.Paths.{folder_of, without}
 use Rattle.job_reports.specs.Stops.{sync_answer}
-use Rattle.job_reports.proofs.CallAnswers.{some_log}
+use Rattle.job_reports.proofs.CallAnswers.{done_call, some_log}
+use Rattle.job_reports.proofs.PermittedCalls.{sync_finds}
+use Rattle.mode_setting.specs.SettingSteps.{sync_of}
 use Rattle.tree_deletion.specs.declared.deletion.Stage.{Stage}
 use Rattle.tree_deletion.specs.declared.deletion.Stage.TheVariants.{Begin, Going, Sync}
-use Rattle.tree_deletion.specs.Folders.{is_one_of, joined}
+use Rattle.tree_deletion.specs.Folders.{is_of, is_one_of, joined}
 use Rattle.tree_deletion.specs.Standing.{after_item, at_barrier, is_fresh}
 use Rattle.copy_move.specs.declared.work.Work.{Work}
 use Rattle.copy_move.specs.declared.work.Work.TheVariants.{Delete}
@@ -30,13 +33,13 @@ use Rattle.copy_move.specs.declared.run.Course.TheVariants.{GoesOn, Ends}
 use Rattle.copy_move.specs.Deletions.{Deleting, DeletionCalls, DeletionLeaves, IsAtStage, IsRefused, LastCalls, RefusedFile, RefusedFolder, RefusedSync, Tells, TellsTried, Winds}
 use Rattle.copy_move.specs.DeletionSteps.{after_try}
 use Rattle.copy_move.specs.Jobs.{course_after}
-use Rattle.copy_move.specs.Settling.{NoneOwed, with_change as moves_dirty}
-use Rattle.history_laws.proofs.Calming.{folder_synced, refused_is, still_listed}
-use Rattle.history_laws.proofs.Knowing.{Said, IsKept, settled_marks}
-use Rattle.history_laws.proofs.JobKnows.{HasName, IsIntact, KnowsAfter, WorkKnows, work_settled, work_still}
+use Rattle.copy_move.specs.Settling.{NoneOwed, is_own, with_change as moves_dirty}
+use Rattle.history_laws.proofs.Calming.{cleared_known, refused_is, still_listed, thing_done}
+use Rattle.history_laws.proofs.Knowing.{IsCalmIn, IsKept, IsKnown, Said, settled_marks}
+use Rattle.history_laws.proofs.JobKnows.{HasName, IsIntact, KnowsAfter, KnowsWithin, WorkKnows, work_settled, work_still}
 use Rattle.history_laws.proofs.Stepped.{Comes, comes_none, comes_one, folders_by, said_after}
 use Rattle.history_laws.proofs.Deleted.{IsRemoval, comes_refused, folder_removed, removal_done, removal_leads, removes_thing}
-use Rattle.history_laws.proofs.Intact.{folder_apart, folder_firm, intact_after, intact_begins, intact_was, removed_in}
+use Rattle.history_laws.proofs.Intact.{calm_begins, folder_apart, folder_firm, intact_after, intact_begins, intact_was, own_folder, removed_in}
 use Rattle.history_laws.proofs.Resting.{IsSureFolder}
 
 last_among : (up : Route) (dirty : List Route) → Among (dirty ++ up ∷ []) up
@@ -67,14 +70,29 @@ joined_more up q dirty among = by (is_one_of up dirty)
     by true = among
     by false = among_more up q dirty among
 
+-- the sync of what stands at a path, after which the job stands so
+pub comes_synced_at : (told : Said) (dirty : List Route) (marks : Marks) (log now : CallLog) (up : Route) (course : Course) (work : Work) (f : ℕ) → IsKept told dirty marks log
+    → WorkKnows told (without up dirty) marks log course work → find (current log) up ≡ Some f → now ≡ with_change log (Syncs f)
+    → Comes told told (without up dirty) log now (λ m. WorkKnows told (without up dirty) m now course work)
+comes_synced_at told dirty marks log now up course work f kept knows at is =
+    comes_one told told dirty (without up dirty) marks marks log now (Syncs f) (λ m. WorkKnows told (without up dirty) m now course work) kept is
+    (subst (λ (l : CallLog). IsKnown told (without up dirty) marks l) (sym is) (cleared_known told dirty marks log kept.known up f at))
+    (work_settled now marks told (without up dirty) course work (work_still told (without up dirty) marks log now course work (ap current is ∙ current_more log (Syncs f)) knows))
+
 -- the sync of a folder that was done, after which the job stands so
-pub comes_synced : (told : Said) (dirty : List Route) (marks : Marks) (log now : CallLog) (up : Route) (course : Course) (work : Work) → IsKept told dirty marks log
+comes_synced : (told : Said) (dirty : List Route) (marks : Marks) (log now : CallLog) (up : Route) (course : Course) (work : Work) → IsKept told dirty marks log
     → WorkKnows told (without up dirty) marks log course work → Performs {A = Unit {0}} log (SyncFolder up) (Ok tt) (Some now)
     → Comes told told (without up dirty) log now (λ m. WorkKnows told (without up dirty) m now course work)
 comes_synced told dirty marks log now up course work kept knows done =
-    let s = folder_synced told dirty marks log kept.known up now done in
-    comes_one told told dirty (without up dirty) marks marks log now (Syncs s.0) (λ m. WorkKnows told (without up dirty) m now course work) kept s.1 s.2
-    (work_settled now marks told (without up dirty) course work (work_still told (without up dirty) marks log now course work (ap current s.1 ∙ current_more log (Syncs s.0)) knows))
+    let d = done_call log (SyncFolder up) now done in
+    comes_synced_at told dirty marks log now up course work (found (current log) up) kept knows (sync_finds (current log) up d.permits) d.is
+
+-- the sync of a thing, by its kind
+pub comes_thing_synced : (told : Said) (dirty : List Route) (marks : Marks) (log now : CallLog) (up : Route) (course : Course) (work : Work) → IsKept told dirty marks log
+    → WorkKnows told (without up dirty) marks log course work → Performs {A = Unit {0}} log (sync_of (current log) up) (Ok tt) (Some now)
+    → Comes told told (without up dirty) log now (λ m. WorkKnows told (without up dirty) m now course work)
+comes_thing_synced told dirty marks log now up course work kept knows done =
+    let d = thing_done log now up done in comes_synced_at told dirty marks log now up course work d.0 kept knows d.1 d.2
 
 pub same_dirty : (b : Bool) (up : Route) (dirty : List Route) → moves_dirty b b up dirty ≡ dirty
 same_dirty true up dirty = refl
@@ -109,8 +127,8 @@ module _ (told : Said) (dirty dirty_after : List Route) (marks : Marks) (log now
       (comes_none told told dirty log now (λ m. (let o : Option Route = None in o) ≡ None) marks is kept refl))
 
   -- what a deletion knows that goes on, of the same path
-  moved : (d new : Deleting) → new.path ≡ d.path → IsIntact marks (current log) d.path × (told.folders (folder_of d.path) ≡ true) → IsIntact marks (current log) new.path × (told.folders (folder_of new.path) ≡ true)
-  moved d new path_is (intact, stands) = (subst (IsIntact marks (current log)) (sym path_is) intact, subst (λ q. told.folders (folder_of q) ≡ true) (sym path_is) stands)
+  moved : (d new : Deleting) → new.path ≡ d.path → KnowsWithin told marks (current log) d.path → KnowsWithin told marks (current log) new.path
+  moved d new path_is known = subst (KnowsWithin told marks (current log)) (sym path_is) known
 
   -- a deletion that stands at this stage, wherever its walk is
   pub stays : (course other : Course) (d new : Deleting) (stage : Stage) → WorkKnows told dirty marks log course (Delete d) → IsAtStage d stage new → (stage ≡ Going → d.stage ≡ Going) → (routes : List Route)
@@ -137,6 +155,22 @@ module _ (told : Said) (dirty dirty_after : List Route) (marks : Marks) (log now
       by Going is = (known is).0
       by Sync is = absurd (false≢true (sym going ∙ ap at_barrier is))
 
+  -- no mode waits in its folders
+  calm_now : (d : Deleting) → WorkKnows told dirty marks log GoesOn (Delete d) → at_barrier d.stage ≡ false → (is_fresh d.stage ≡ true → NoneOwed (current log) (Delete d) dirty) → (q : Route) → is_own (Delete d) q ≡ true
+      → IsCalmIn marks (current log) q
+  calm_now d (name, none, known) going settled q own = by d.stage refl
+    where
+      by : (stage : Stage) → d.stage ≡ stage → IsCalmIn marks (current log) q
+      by Begin is = calm_begins told dirty marks log kept d name (settled (ap is_fresh is)) q own
+      by Going is = kept.known.calm q ((known is).2 q own)
+      by Sync is = absurd (false≢true (sym going ∙ ap at_barrier is))
+
+  -- nor of what is removed, at which no mount begins
+  no_mode_now : (d : Deleting) (path : Route) → ((q : Route) → is_own (Delete d) q ≡ true → IsCalmIn marks (current log) q) → is_prefix d.path path ≡ true → IsRemoval log now path
+      → (i : ℕ) → find (current log) path ≡ Some i → starts_mount (current log) i ≡ false → marks.modes i ≡ None
+  no_mode_now d path calm within it i at inside =
+      elim (calm it.r.up (own_folder d path it.r.up within (sym (ap folder_of it.r.path_is))) it.r.name i (ap (find (current log)) (sym it.r.path_is) ∙ at)) [ inl none ↦ none | inr begins ↦ absurd (both_ways _ inside begins) ]
+
   -- the folder that holds the thing is on the disk then
   firm_now : (d : Deleting) (path : Route) → WorkKnows told dirty marks log GoesOn (Delete d) → at_barrier d.stage ≡ false → (is_fresh d.stage ≡ true → NoneOwed (current log) (Delete d) dirty)
       → is_prefix d.path path ≡ true → IsRemoval log now path → IsSureFolder log (folder_of d.path)
@@ -150,16 +184,17 @@ module _ (told : Said) (dirty dirty_after : List Route) (marks : Marks) (log now
   above_it : (path : Route) → IsRemoval log now path → same_path (folder_of path) path ≡ false
   above_it path it = subst (λ q. same_path (folder_of q) q ≡ false) (sym it.r.path_is) (same_path-lengths it.r.up (it.r.name ∷ it.r.up) (λ e. let n : ⊥ = absurd (omega (arith, e)) in n))
 
-  removes : (d new : Deleting) (path : Route) (stage : Stage) → WorkKnows told dirty marks log GoesOn (Delete d) → IsIntact marks (current log) d.path → IsSureFolder log (folder_of d.path) → is_prefix d.path path ≡ true
+  removes : (d new : Deleting) (path : Route) (stage : Stage) → WorkKnows told dirty marks log GoesOn (Delete d) → IsIntact marks (current log) d.path → IsSureFolder log (folder_of d.path) → ((q : Route) → is_own (Delete d) q ≡ true → IsCalmIn marks (current log) q) → is_prefix d.path path ≡ true
       → IsAtStage d stage new → Among dirty_after (folder_of path) → ((q : Route) → Among dirty q → same_path q path ≡ false → Among dirty_after q) → IsRemoval log now path → Steps (Removed path) GoesOn (Delete d) (Delete new)
-  removes d new path stage (name, none, known) intact firm within at listed more it =
+  removes d new path stage (name, none, known) intact firm calm within at listed more it =
       removes_thing told dirty dirty_after marks log now path (Delete d) (KnowsAfter (Removed path) (said_after now (Removed path) (Delete d) told) dirty_after now GoesOn (Delete new)) kept none
-      (λ out. intact_was marks (current log) d.path path it.r.i intact within (removal_leads log now path it) out) firm listed more it (
+      (λ out. intact_was marks (current log) d.path path it.r.i intact within (removal_leads log now path it) out) firm calm (no_mode_now d path calm within it) listed more it (
         subst HasName (sym at.path_is) name,
         none,
         λ is. (
           subst (IsIntact (settled_marks now marks) (current now)) (sym at.path_is) (intact_after told dirty marks log now path d.path kept.known it intact),
           subst (λ q. folders_by (Removed path) (folder_of d.path) told.folders (folder_of q) ≡ true) (sym at.path_is) there,
+          λ q own. or_left _ _ (subst (λ (p : Route). is_of (folder_of p) p q ≡ true) at.path_is own),
         ),
       )
     where
@@ -176,11 +211,11 @@ module _ (told : Said) (dirty dirty_after : List Route) (marks : Marks) (log now
       → (is_fresh d.stage ≡ true → NoneOwed (current log) (Delete d) dirty) → DeletionLeaves d did dirty dirty_after (Some log) (Some now) → Steps did (course_after did) (Delete d) (Delete new)
   deletion_tells d new (Removed path) knows (going, within, at) done settled (inl (leaves, called)) =
       let it = removal_done log now path kept.known.guarded.tree (called log refl) in
-      removes d new path _ knows (intact_now d knows going settled) (firm_now d path knows going settled within it) within at (subst (λ xs. Among xs (folder_of path)) (sym leaves) (joined_holds (folder_of path) dirty))
+      removes d new path _ knows (intact_now d knows going settled) (firm_now d path knows going settled within it) (calm_now d knows going settled) within at (subst (λ xs. Among xs (folder_of path)) (sym leaves) (joined_holds (folder_of path) dirty))
       (λ q among off. subst (λ xs. Among xs q) (sym leaves) (joined_more (folder_of path) q dirty among)) it
   deletion_tells d new (Removed path) knows (going, within, at) done settled (inr (leaves, called)) =
       let it = folder_removed log now path kept.known.guarded.tree (called log refl) in
-      removes d new path _ knows (intact_now d knows going settled) (firm_now d path knows going settled within it) within at
+      removes d new path _ knows (intact_now d knows going settled) (firm_now d path knows going settled within it) (calm_now d knows going settled) within at
       (subst (λ xs. Among xs (folder_of path)) (sym leaves) (still_listed path (folder_of path) (joined (folder_of path) dirty) (joined_holds (folder_of path) dirty) (above_it path it)))
       (λ q among off. subst (λ xs. Among xs q) (sym leaves) (still_listed path q (joined (folder_of path) dirty) (joined_more (folder_of path) q dirty among) off)) it
   deletion_tells d new (Kept path) knows (going, at) done settled leaves = stands GoesOn (Delete new) (stays GoesOn GoesOn d new _ knows at (still_going path d) dirty) leaves (some_log now log done)

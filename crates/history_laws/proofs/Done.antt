@@ -2,7 +2,7 @@
 use Rattle.std.proofs.Common.{◌≡◌, ℕ, ◌+◌, Bool, true, false, List, [], ◌∷◌, ◌++◌, length, refl, sym, ◌∙◌, ap, subst, inl, inr, Option, Some, None, arith, append-nil, append_assoc}
 use Rattle.std.specs.Prelude.{is_some, if◌then◌else◌}
 use Rattle.std.proofs.lemmas.Bool.{eq-eqb}
-use Rattle.mc_text.specs.Routes.{Route}
+use Rattle.mc_text.specs.Routes.{Route, same_path}
 use Rattle.tree_trait.specs.declared.file_system.FileSystem.{FileSystem}
 use Rattle.tree_trait.specs.FileSystem.{Spot, find, value_at}
 use Rattle.tree_trait.specs.Shape.{IsTree}
@@ -16,16 +16,16 @@ use Rattle.session_history.specs.declared.history.Event.TheVariants.{Step}
 use Rattle.session_history.specs.declared.history.Entry.{Entry}
 use Rattle.copy_move.specs.Jobs.{Running}
 use Rattle.copy_move.specs.declared.work.Work.{Work}
-use Rattle.copy_move.specs.declared.work.Work.TheVariants.{Copy, Delete, Make}
-use Rattle.copy_move.specs.Settling.{is_own}
-use Rattle.copy_move.specs.Steps.{SyncsFolder}
+use Rattle.copy_move.specs.declared.work.Work.TheVariants.{Copy, Delete, Make, SetMode}
+use Rattle.copy_move.specs.Steps.{SyncsOwed}
 use Rattle.history_laws.specs.Doubt.{is_unsettled}
+use Rattle.history_laws.specs.Owed.{IsNoMatter, is_own_path}
 use Rattle.session_history.specs.LiveJobs.{LiveJob, live_item, live_jobs}
 use Rattle.session_history.specs.Named.{has_changed, named_after, named_parts, IsUnnamedSince, names_path}
 use Rattle.history_laws.specs.Replayed.{log_prefix, replayed_tree}
 use Rattle.session_history.specs.Entries.{IsMoment, calls_in}
 use Rattle.history_laws.specs.Safe.{IsPart}
-use Rattle.history_laws.specs.Staying.{DoneLaw, HasFinished, may_change}
+use Rattle.history_laws.specs.Staying.{DoneLaw, HasFinished, IsNoMatterOf, may_change_path}
 use Rattle.history_laws.specs.Traces.{EventLeads, IsTraced, Stand, StepLeads, WorkLeads}
 use Rattle.history_laws.proofs.Prefixes.{told_of}
 use Rattle.history_laws.proofs.Going.{only_job}
@@ -34,7 +34,9 @@ use Rattle.history_laws.proofs.Holding.{holds_since}
 use Rattle.history_laws.proofs.Lasting.{finished_stays_law}
 use Rattle.history_laws.proofs.Moments.{log_of, prefix_is, traced_count}
 use Rattle.history_laws.proofs.Reports.{HasLive}
-use Rattle.history_laws.proofs.Sources.{item_in}
+use Rattle.history_laws.proofs.Sources.{item_in, making_item}
+use Rattle.copy_move.specs.declared.new_thing.NewThing.{NewThing}
+use Rattle.copy_move.specs.declared.new_thing.NewThing.TheVariants as thing
 use Rattle.history_laws.proofs.Stepped.{more}
 use Rattle.history_laws.proofs.Unnamed.{replayed_since}
 
@@ -109,13 +111,14 @@ module _ (opening : CallLog) (tree : IsTree (current opening)) (settled : all_se
       found_moment path g standing coming was calls before (n.made ++ rest) traced (end_is ∙ (ap (λ (l : CallLog). more l rest) n.now_is ∙ ap (log_of before) (append_assoc before.changes n.made rest))) earlier since
 
   -- the job that has ended
-  pub record IsEnder (was after : Stand) (before now : CallLog) (part : Option Route) (id : ℕ) (folder : Route) : Type 0 where
+  pub record IsEnder (was after : Stand) (before now : CallLog) (part : Option Route) (id : ℕ) (item : Item) (path : Route) : Type 0 where
     pub job : Running
     pub new : Running
     pub jobs_is : was.jobs ≡ job ∷ []
     pub id_is : job.id ≡ id
     pub works : WorkLeads job (Ended Finished part) new was.dirty after.dirty before now
-    pub within : is_own job.work folder ≡ true
+    pub within : is_own_path job.work path ≡ true
+    pub same : item_in job.work ≡ item
 
   -- the item that the history tells of is that of the live job
   pub same_item : (job : Running) (live : List LiveJob) (part : Option Route) (item : Item) → HasLive live (job ∷ []) part → live_item job.id live ≡ Some item → item_in job.work ≡ item
@@ -123,44 +126,61 @@ module _ (opening : CallLog) (tree : IsTree (current opening)) (settled : all_se
       let first : Some (item_in job.work) ≡ Some item =
       sym (ap (λ b. if b then Some (item_in job.work) else None) (eq-eqb job.id job.id refl)) ∙ (sym (ap (live_item job.id) is) ∙ its) in cc
 
-  -- and so are the folders of its own
-  own_changed : (work : Work) (folder : Route) → may_change (item_in work) folder ≡ true → is_own work folder ≡ true
-  own_changed (Copy c) folder h = h
-  own_changed (Delete d) folder h = h
-  own_changed (Make m) folder h = h
-
-  ender : (folder : Route) (h : HasFinished e older folder) (f : IsFound) → IsEnder f.was f.after f.before f.now h.part h.id folder
-  ender folder h f = by (subst (λ w. EventLeads f.was w f.after f.before f.now) h.ended f.leads)
+  -- and so are the paths of its own
+  own_changed : (work : Work) (path : Route) → may_change_path (item_in work) path ≡ true → is_own_path work path ≡ true
+  own_changed (Copy c) path h = h
+  own_changed (Delete d) path h = h
+  own_changed (Make m) path h = by m.thing h
     where
-      of_job : (job new : Running) → WorkLeads job (Ended Finished h.part) new f.was.dirty f.after.dirty f.before f.now → Rattle.history_laws.specs.Traces.IsJob h.id f.was.jobs job → IsEnder f.was f.after f.before f.now h.part h.id folder
+      by : (new : NewThing) → may_change_path (making_item new m.path) path ≡ true → same_path (folder_of path) (folder_of m.path) ≡ true
+      by thing.Folder h = h
+      by (thing.Link text) h = h
+  own_changed (SetMode s) path h = h
+
+  -- and what is no matter of it
+  no_matter : (work : Work) (log : CallLog) (path : Route) → IsNoMatter work log path → IsNoMatterOf (item_in work) log path
+  no_matter (Copy c) log path h = h
+  no_matter (Delete d) log path h = h
+  no_matter (Make m) log path h = by m.thing
+    where
+      by : (new : NewThing) → IsNoMatterOf (making_item new m.path) log path
+      by thing.Folder = h
+      by (thing.Link text) = h
+  no_matter (SetMode s) log path h = absurd h
+
+  ender : (path : Route) (h : HasFinished e older path) (f : IsFound) → IsEnder f.was f.after f.before f.now h.part h.id h.item path
+  ender path h f = by (subst (λ w. EventLeads f.was w f.after f.before f.now) h.ended f.leads)
+    where
+      of_job : (job new : Running) → WorkLeads job (Ended Finished h.part) new f.was.dirty f.after.dirty f.before f.now → Rattle.history_laws.specs.Traces.IsJob h.id f.was.jobs job → IsEnder f.was f.after f.before f.now h.part h.id h.item path
       of_job job new works its =
           let r = traced_reached opening tree settled older f.was f.before f.traced in
           let one = only_job h.id f.was.jobs job (told_of opening f.before older r.part) f.was.dirty r.marks f.before its r.knows in
+          let same = same_item job (live_jobs older) r.part h.item (subst (λ js. HasLive (live_jobs older) js r.part) one.0 r.live) (subst (λ n. live_item n (live_jobs older) ≡ Some h.item) (sym one.1) h.its) in
           record {
             job = job;
             new = new;
             jobs_is = one.0;
             id_is = one.1;
             works = works;
-            within = own_changed job.work folder (subst (λ i. may_change i folder ≡ true)
-                (sym (same_item job (live_jobs older) r.part h.item (subst (λ js. HasLive (live_jobs older) js r.part) one.0 r.live) (subst (λ n. live_item n (live_jobs older) ≡ Some h.item) (sym one.1) h.its))) h.within);
+            within = own_changed job.work path (subst (λ i. may_change_path i path ≡ true) (sym same) h.within);
+            same = same;
           }
 
-      none : (job new : Running) (synced : Route) → SyncsFolder job synced (Ended Finished h.part) new f.was.dirty f.after.dirty (Some f.before) (Some f.now) → IsEnder f.was f.after f.before f.now h.part h.id folder
+      none : (job new : Running) (synced : Route) → SyncsOwed job synced (Ended Finished h.part) new f.was.dirty f.after.dirty (Some f.before) (Some f.now) → IsEnder f.was f.after f.before f.now h.part h.id h.item path
       none job new synced (inl s) = absurd (let is = s.did_is in let no : ⊥ = cc in no)
       none job new synced (inr s) = absurd (let is = s.did_is in let no : ⊥ = cc in no)
 
       of_step : (job : Running) (after : Option Running) → Rattle.history_laws.specs.Traces.IsJob h.id f.was.jobs job → StepLeads job (Ended Finished h.part) after f.was.dirty f.after.dirty f.before f.now
-          → IsEnder f.was f.after f.before f.now h.part h.id folder
+          → IsEnder f.was f.after f.before f.now h.part h.id h.item path
       of_step job after its (inl (new, inl works, after_is)) = of_job job new works its
-      of_step job after its (inl (new, inr syncs, after_is)) = none job new syncs.folder syncs.synced
+      of_step job after its (inl (new, inr syncs, after_is)) = none job new syncs.path syncs.synced
       of_step job after its (inr (gives, after_is)) = absurd (let is = gives.did_is in let no : ⊥ = cc in no)
 
-      by : EventLeads f.was (Step h.id (Ended Finished h.part)) f.after f.before f.now → IsEnder f.was f.after f.before f.now h.part h.id folder
+      by : EventLeads f.was (Step h.id (Ended Finished h.part)) f.after f.before f.now → IsEnder f.was f.after f.before f.now h.part h.id h.item path
       by s = of_step s.job s.new s.its s.leads
 
 module _ (opening now : CallLog) (newest : List Entry) (stand : Stand) (tree : IsTree (current opening)) (settled : all_settled opening.changes ≡ true) (traced : IsTraced opening newest stand now)
-    (e : Entry) (older standing coming : List Entry) (calls : ℕ) (path : Route) (image : FileSystem) (h : HasFinished e older (folder_of path)) (bare : names_path e.what path ≡ false)
+    (e : Entry) (older standing coming : List Entry) (calls : ℕ) (path : Route) (image : FileSystem) (h : HasFinished e older path) (bare : names_path e.what path ≡ false) (none : IsNoMatterOf h.item (log_prefix opening (calls_in older) now) path → ⊥)
     (moment : IsMoment newest standing coming calls) (since : IsUnnamedSince (e ∷ older) path standing) (later : IsUnnamedSince (e ∷ older) path coming) (left : IsCrashImage now (length opening.changes + calls) image) where
   abbrev Holds : Type 0
   Holds = value_at image path ≡ (replayed_tree opening now older path).value
@@ -172,13 +192,14 @@ module _ (opening now : CallLog) (newest : List Entry) (stand : Stand) (tree : I
   of_unnamed : (Among (named_parts older) path → ⊥) → Holds
   of_unnamed unnamed =
       let f = found in
-      let by = ender opening tree settled now e older (folder_of path) h f in
+      let by = ender opening tree settled now e older path h f in
       let n = traced_count opening f.before older f.was f.traced in
       let at_start : log_prefix opening (calls_in older) now ≡ f.before = prefix_is opening now (calls_in older) f.before f.rest f.end_is (omega (arith, n)) in
       finished_stays_law opening now f.now newest older standing coming f.was stand (let a : Stand = f.after in a.dirty) by.job by.new h.part calls path image tree settled traced
       (subst (λ (l : CallLog). IsTraced opening older f.was l) (sym at_start) f.traced)
       by.jobs_is (subst (λ (l : CallLog). WorkLeads by.job (Ended Finished h.part) by.new (let w : Stand = f.was in w.dirty) (let a : Stand = f.after in a.dirty) l f.now) (sym at_start) by.works)
-      (subst (λ i. has_changed i older ≡ true) (sym by.id_is) h.changed) by.within unnamed moment (since_before e older standing path bare since) (since_before e older coming path bare later) left
+      (subst (λ i. has_changed i older ≡ true) (sym by.id_is) h.changed) by.within unnamed
+      (λ matter. none (subst (λ i. IsNoMatterOf i (log_prefix opening (calls_in older) now) path) by.same (no_matter opening tree settled now e older by.job.work (log_prefix opening (calls_in older) now) path matter))) moment (since_before e older standing path bare since) (since_before e older coming path bare later) left
 
   told_same : (replayed_tree opening now (e ∷ older) path) ≡ replayed_tree opening now older path
   told_same = replayed_since opening now older (e ∷ older) path (inr (bare, since_self older))
@@ -203,6 +224,6 @@ module _ (opening now : CallLog) (newest : List Entry) (stand : Stand) (tree : I
   by_part no_part false false stands_is waits_is = of_gone stands_is waits_is
 
 pub done_law : DoneLaw
-done_law opening now newest stand tree settled traced e older standing coming calls path image h no_part bare moment since later left =
-    by_part opening now newest stand tree settled traced e older standing coming calls path image h bare moment since later left no_part (is_some (find (current (log_prefix opening e.calls now)) path)) (is_unsettled (log_prefix opening e.calls now) path)
+done_law opening now newest stand tree settled traced e older standing coming calls path image h no_part bare none moment since later left =
+    by_part opening now newest stand tree settled traced e older standing coming calls path image h bare none moment since later left no_part (is_some (find (current (log_prefix opening e.calls now)) path)) (is_unsettled (log_prefix opening e.calls now) path)
     refl refl

@@ -1,7 +1,7 @@
 -- A small session, so the premises can be met: a deletion whose sync fails and that is aborted, its last sync failing too; then
 -- the file is in doubt. The next job syncs that folder first, after which no crash brings the file back; its first change leaves
 -- nothing else in doubt.
-use Rattle.std.proofs.Common.{◌≡◌, ◌⊎◌, ℕ, zero, suc, ◌+◌, ◌<◌, pos, true, false, List, [], ◌∷◌, length, refl, sym, ◌∙◌, ap, subst, inl, inr, true≢false, Option, Some, None, Ok, Err, arith}
+use Rattle.std.proofs.Common.{◌≡◌, ◌⊎◌, ℕ, pos, true, false, List, [], ◌∷◌, refl, sym, subst, inl, inr, true≢false, Some, None, Ok, Err, arith}
 use Rattle.mc_text.specs.Routes.{Route}
 use Rattle.tree_trait.specs.declared.file_system.FileSystem.{FileSystem}
 use Rattle.tree_trait.specs.declared.calls.TreeError.TheVariants as refused
@@ -9,12 +9,11 @@ use Rattle.tree_trait.specs.FileSystem.{value_at}
 use Rattle.tree_trait.specs.Calls.{RemoveFile, SyncFolder}
 use Rattle.tree_trait.specs.Answers.{Performs}
 use Rattle.tree_trait.specs.Shape.{IsTree}
-use Rattle.tree_trait.specs.Change.{Change, Nothing, Makes, Removes, Syncs, CallLog, after_change}
+use Rattle.tree_trait.specs.Change.{Change, Nothing, Makes, Removes, Syncs, CallLog, after_change, current}
 use Rattle.tree_trait.specs.CrashImages.{IsCrashImage}
 use Rattle.tree_trait.proofs.BareRoot.{bare, bare_tree}
 use Rattle.tree_trait.proofs.Kept.{tree_made}
-use Rattle.job_reports.specs.declared.report.Ending.TheVariants.{Aborted, Finished}
-use Rattle.job_reports.specs.declared.report.Did.{Did}
+use Rattle.job_reports.specs.declared.report.Ending.TheVariants.{Aborted}
 use Rattle.job_reports.specs.declared.report.Did.TheVariants.{Removed, Barrier, Troubled, Ended}
 use Rattle.job_answers.specs.Skipping.{no_skips}
 use Rattle.subtree_walk.specs.Places.{unopened}
@@ -25,7 +24,6 @@ use Rattle.tree_deletion.specs.declared.deletion.Deletion.{Deletion}
 use Rattle.tree_deletion.specs.Steps.{LastSteps, WorkCalls}
 use Rattle.copy_move.specs.Deletions.{Deleting, RefusedSync, machine_of}
 use Rattle.copy_move.specs.DeletionSteps.{Goes}
-use Rattle.session_history.specs.declared.history.Event.{Event}
 use Rattle.session_history.specs.declared.history.Event.TheVariants.{Began, Step, Closed}
 use Rattle.job_reports.specs.declared.job.Job.TheVariants as plan
 use Rattle.session_history.specs.declared.history.Entry.{Entry}
@@ -35,19 +33,16 @@ use Rattle.copy_move.specs.declared.run.Course.TheVariants.{GoesOn, InTrouble, E
 use Rattle.job_reports.specs.Jobs as jobs
 use Rattle.job_reports.specs.Stops.{trouble_at, cause_of}
 use Rattle.copy_move.specs.Jobs.{Running}
+use Rattle.mode_setting.specs.SettingSteps.{sync_of}
 use Rattle.history_laws.specs.Calmed.{HasBegun}
 use Rattle.history_laws.specs.Doubt.{is_unsettled, name_waits}
-use Rattle.session_history.specs.LiveJobs.{IsLivePart, LiveJob, live_jobs}
 use Rattle.history_laws.specs.Owed.{IsApart}
 use Rattle.history_laws.specs.Replayed.{earlier_tree, log_prefix, replayed_tree}
-use Rattle.session_history.specs.Named.{IsUnnamedSince, names_path}
-use Rattle.history_laws.specs.Staying.{HasFinished}
+use Rattle.session_history.specs.Named.{names_path}
 use Rattle.history_laws.specs.Traces.{IsTraced, nothing_live}
 use Rattle.history_laws.proofs.Calmed.{calm_law}
-use Rattle.history_laws.proofs.Done.{done_law}
 use Rattle.history_laws.proofs.ExampleParts.{deleting_job, entry, file, known_is, more_known, no_step, own_step, some_log, some_weight, stand}
 use Rattle.history_laws.proofs.Moments.{session_law}
-use Rattle.history_laws.proofs.Staying.{stays_law}
 
 -- the root holds a file under the name 1
 abbrev pub smaller : FileSystem
@@ -291,13 +286,13 @@ settled_traced = (
         inr (record {
           goes = refl;
           fresh = refl;
-          folder = [];
+          path = [];
           owed = inl refl;
           synced = inl (record {
             did_is = refl;
             new_is = refl;
             dirty_is = refl;
-            called = λ known is. subst (λ (l : CallLog). Performs {A = Unit {0}} l (SyncFolder []) (Ok tt) (Some settled_log)) (some_log aborted_log known is) (refl, (pos 0, refl));
+            called = known_is aborted_log (λ l. Performs {A = Unit {0}} l (sync_of (current l) []) (Ok tt) (Some settled_log)) (refl, (pos 0, refl));
           });
         }),
         refl,
@@ -388,7 +383,7 @@ first_change = record {
 
 -- then the first file is in doubt no more, as the law says
 calmed : name_waits (log_prefix (log []) 5 changed_log) the_file ≡ true → ⊥
-calmed waits = by (calm_law (log []) changed_log changed_entries (stand (changed ∷ []) ([] ∷ [])) small_tree refl changed_traced change settled_entries [] the_file first_change (inl (refl, refl, refl)) waits)
+calmed waits = by ((calm_law (log []) changed_log changed_entries (stand (changed ∷ []) ([] ∷ [])) small_tree refl changed_traced).names change settled_entries [] the_file first_change (inl (refl, refl, refl)) waits)
   where
     by : (names_path change.what the_file ≡ true) ⊎ IsApart (log_prefix (log []) 4 changed_log) [] [] → ⊥
     by (inl named) = true≢false (sym named)

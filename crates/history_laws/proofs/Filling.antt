@@ -32,8 +32,8 @@ use Rattle.tree_deletion.specs.Folders.{joined}
 use Rattle.copy_move.specs.Settling.{with_change as moves_dirty}
 use Rattle.history_laws.specs.Traces.{IsUnclaimed}
 use Rattle.history_laws.proofs.Calming.{written_known}
-use Rattle.history_laws.proofs.Knowing.{Said, IsKnown, IsKept, settled_marks}
-use Rattle.history_laws.proofs.JobKnows.{HasName, HasPart, IsFilled, IsUntouched, NoneOn, WorkKnows, none_waits, part_settled, untouched_free, way_sure}
+use Rattle.history_laws.proofs.Knowing.{IsCalmIn, IsKept, IsKnown, Said, settled_marks}
+use Rattle.history_laws.proofs.JobKnows.{HasName, HasPart, IsFilled, IsUntouched, NoneOn, WorkKnows, calm_in, none_of_part, none_waits, part_settled, untouched_free, way_sure}
 use Rattle.history_laws.proofs.MakingParts.{MakesPart, made_known, marks_new, new_node, off_part, part_leads, part_node, with_part}
 use Rattle.history_laws.proofs.Resting.{IsSureFolder, folder_at, folder_at_of, stands_at, sure_path}
 use Rattle.history_laws.proofs.PartNodes.{other_node, part_on, part_there, written_node}
@@ -64,6 +64,11 @@ module _ (told : Said) (dirty dirty_after : List Route) (marks : Marks) (log now
       let there = stands_at (current log) up stands in
       record { stands = stands; sure = way_sure told dirty marks log up there.i kept.known there.at (settled (ap (λ x. not (is_dirty x)) is)) }
 
+  -- nor does a mode wait in it
+  pub folder_calm : (c.folder ≡ Dirty → told.calm up ≡ true) → (not (is_dirty c.folder) ≡ true → NoneOn (current log) up dirty) → (f : FolderState) → c.folder ≡ f → IsCalmIn marks (current log) up
+  folder_calm calm settled Dirty is = kept.known.calm up (calm is)
+  folder_calm calm settled Synced is = calm_in told dirty marks log kept up (settled (ap (λ x. not (is_dirty x)) is))
+
   -- the target of a copy that begins
   pub target_free : HasName c.target → IsSureFolder log up → IsReady (current log) (places_of c) → (c.folder ≡ Dirty → IsUntouched marks (current log) c.target)
       → (not (is_dirty c.folder) ≡ true → NoneOn (current log) up dirty) → (f : FolderState) → c.folder ≡ f → IsUntouched marks (current log) c.target
@@ -86,7 +91,7 @@ module _ (told : Said) (dirty dirty_after : List Route) (marks : Marks) (log now
 
   module _ (said : SourceFacts) (k : ℕ) (target_name : HasName c.target) (ready : IsReady (current log) (places_of c)) (is_said : AreFactsOf (current log) c.source said)
       (free : IsFirstFree (current log) IsUnclaimed (places_of c) k) (none : told.part ≡ None) (untouched : IsUntouched marks (current log) c.target)
-      (d : IsDoneCall log (making (current log) (places_of c) k) now) (firm : IsSureFolder log up) (listed : Among dirty_after up) (more : (q : Route) → Among dirty q → Among dirty_after q) where
+      (d : IsDoneCall log (making (current log) (places_of c) k) now) (firm : IsSureFolder log up) (calm : IsCalmIn marks (current log) up) (listed : Among dirty_after up) (more : (q : Route) → Among dirty q → Among dirty_after q) where
     abbrev name : List ℕ
     name = part_name c.job k
 
@@ -114,17 +119,21 @@ module _ (told : Said) (dirty dirty_after : List Route) (marks : Marks) (log now
     abbrev after : CallLog
     after = with_change log (Makes f name made)
 
+    -- of what isn't made yet no mode waits
+    new_mode : marks.modes n ≡ None
+    new_mode = kept.modes n (kept.known.files.unborn n (omega arith))
+
     new_marks : Marks
     new_marks = marks_new marks part n
 
     node_made : node (current after) n ≡ made
-    node_made = part_node told dirty dirty_after marks log kept.known name up f made makes refl
+    node_made = part_node told dirty dirty_after marks log kept.known name up f made makes refl new_mode
 
     apart_of : (p : Route) → (part ≡ p → ⊥) → same_path p part ≡ false
     apart_of p apart = false_from_ne_true _ (λ same. apart (sym (same_path-true p part same)))
 
     off : (p : Route) → (part ≡ p → ⊥) → find (current after) p ≡ find (current log) p
-    off p apart = off_part told dirty dirty_after marks log kept.known name up f made makes refl p (apart_of p apart)
+    off p apart = off_part told dirty dirty_after marks log kept.known name up f made makes refl new_mode p (apart_of p apart)
 
     same_n : (n == n) ≡ true
     same_n = Rattle.std.proofs.lemmas.Bool.eq-eqb n n refl
@@ -132,7 +141,7 @@ module _ (told : Said) (dirty dirty_after : List Route) (marks : Marks) (log now
     has : HasPart (with_part told part) (marks_new marks part n) (current after) c.target part n
     has = record {
       part_is = refl;
-      leads = part_leads told dirty dirty_after marks log kept.known name up f made makes refl;
+      leads = part_leads told dirty dirty_after marks log kept.known name up f made makes refl new_mode;
       loose = or_left _ _ same_n;
       moves = or_left _ _ same_n;
       file = ap (λ (x : Node). x.kind) node_made;
@@ -170,16 +179,19 @@ module _ (told : Said) (dirty dirty_after : List Route) (marks : Marks) (log now
     begun = comes_one told (with_part told part) dirty dirty_after marks (marks_new marks part n) log now (Makes f name made)
         (λ m. WorkKnows (with_part told part) dirty_after m now GoesOn (Copy (record c { stage = Fill part said 0; folder = Dirty }))) kept d.is
         (subst (λ (l : CallLog). IsKnown (with_part told part) dirty_after (marks_new marks part n) l) (sym d.is)
-        (made_known told dirty dirty_after marks log kept.known name up f made makes refl firm listed more))
+        (made_known told dirty dirty_after marks log kept.known name up f made makes refl new_mode firm calm listed more))
         (subst (λ (l : CallLog). WorkKnows (with_part told part) dirty_after (settled_marks l (marks_new marks part n)) l GoesOn (Copy (record c { stage = Fill part said 0; folder = Dirty }))) (sym d.is)
-        (target_name, (λ e. (listed, or_left _ _ (same_path-self up))), (refl, (n, part_settled after (marks_new marks part n) (with_part told part) c.target part n has, λ e. filled))))
+        (target_name, (λ e. (listed, or_left _ _ (same_path-self up), or_left _ _ (same_path-self up))), (refl, (n, part_settled after (marks_new marks part n) (with_part told part) c.target part n has, λ e. filled))))
 
   -- bytes are written behind the first
-  module _ (part : Route) (said : SourceFacts) (done : ℕ) (listed : c.folder ≡ Dirty → Among dirty up × (told.folders up ≡ true)) (target_name : HasName c.target) (i : ℕ) (has : HasPart told marks (current log) c.target part i)
+  module _ (part : Route) (said : SourceFacts) (done : ℕ) (listed : c.folder ≡ Dirty → Among dirty up × (told.folders up ≡ true) × (told.calm up ≡ true)) (target_name : HasName c.target) (i : ℕ) (has : HasPart told marks (current log) c.target part i)
       (filled : IsFilled (current log) c.source part said done i) (few : done + length (next_bytes (current log) c.source said done) ≤ said.size)
       (d : IsDoneCall log (writing (current log) (places_of c) part said done) now) (dirty_is : c.folder ≡ Dirty) where
     abbrev bytes : List ℕ
     bytes = next_bytes (current log) c.source said done
+
+    no_mode : marks.modes i ≡ None
+    no_mode = none_of_part told dirty marks log kept part i has.leads (kept.known.part part has.part_is).0
 
     abbrev whole : List ℕ
     whole = overwritten (node (current log) i).bytes done bytes
@@ -245,6 +257,6 @@ module _ (told : Said) (dirty dirty_after : List Route) (marks : Marks) (log now
 
     pub filled_more : Comes told told dirty log now (λ m. WorkKnows told dirty m now GoesOn (Copy later))
     filled_more = comes_one told told dirty dirty marks marks log now writes (λ m. WorkKnows told dirty m now GoesOn (Copy later)) kept now_is
-        (subst (λ (l : CallLog). IsKnown told dirty marks l) (sym now_is) (written_known told dirty marks log kept.known part i has.part_is has.leads has.loose whole d.time))
+        (subst (λ (l : CallLog). IsKnown told dirty marks l) (sym now_is) (written_known told dirty marks log kept.known part i has.part_is has.leads has.loose no_mode whole d.time))
         (subst (λ (l : CallLog). WorkKnows told dirty (settled_marks l marks) l GoesOn (Copy later)) (sym now_is)
         (target_name, listed, (dirty_is, (i, part_settled (with_change log writes) marks told c.target part i has_on, λ e. filled_on))))

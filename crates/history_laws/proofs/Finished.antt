@@ -2,9 +2,10 @@
 use Rattle.std.proofs.Common.{◌≡◌, ◌⊎◌, ℕ, Bool, true, false, not, List, [], ◌∷◌, refl, sym, ◌∙◌, ap, subst, inl, inr, Option, Some, None}
 use Rattle.std.specs.Prelude.{◌==◌, ◌||◌, ◌&&◌, if◌then◌else◌, map}
 use Rattle.std.specs.Option.{option_map_or}
-use Rattle.std.proofs.lemmas.Bool.{true≢false, false≢true, both_ways, eq-eqb, and_parts, false_from_ne_true, or_cases}
+use Rattle.std.proofs.lemmas.Bool.{false≢true, both_ways, eq-eqb, and_parts, false_from_ne_true, or_cases}
 use Rattle.mc_text.specs.Routes.{Route, is_prefix, same_path}
 use Rattle.tree_trait.specs.Shape.{IsTree}
+use Rattle.crash_law.proofs.Tops.{not_longer}
 use Rattle.tree_trait.specs.Change.{CallLog, current}
 use Rattle.tree_trait.specs.CrashImages.{Among, all_settled}
 use Rattle.tree_trait.proofs.Visible.{same_path-self, same_path-true}
@@ -13,8 +14,7 @@ use Rattle.job_reports.specs.declared.report.Ending.TheVariants.{Finished, Abort
 use Rattle.job_reports.specs.declared.report.Cause.{Cause}
 use Rattle.job_reports.specs.declared.report.Did.{Did}
 use Rattle.job_reports.specs.declared.report.Did.TheVariants.{Began, Chunk, Placed, Removed, Made, Set, Kept, Skipped, Cleaned, Barrier, Troubled, Ended}
-use Rattle.job_reports.specs.Stops.{cause_of, trouble_at}
-use Rattle.job_reports.specs.Jobs.{folder_changed}
+use Rattle.job_reports.specs.Jobs.{Item, folder_changed}
 use Rattle.file_copy.specs.Copying.{Copying}
 use Rattle.file_copy.specs.Copying as copying
 use Rattle.job_reports.specs.declared.answer.Answer.{Answer}
@@ -30,156 +30,36 @@ use Rattle.copy_move.specs.declared.run.Course.TheVariants.{GoesOn, InTrouble, O
 use Rattle.copy_move.specs.declared.work.Work.{Work}
 use Rattle.copy_move.specs.declared.making.MakingStage.{MakingStage}
 use Rattle.copy_move.specs.declared.making.MakingStage.TheVariants as making
-use Rattle.copy_move.specs.declared.work.Work.TheVariants.{Copy, Delete, Make}
+use Rattle.copy_move.specs.declared.work.Work.TheVariants.{Copy, Delete, Make, SetMode}
 use Rattle.copy_move.specs.Makings.{Making}
 use Rattle.copy_move.specs.Makings as makings
-use Rattle.copy_move.specs.Jobs.{PassesOver, Running, TellsOn, WorkTells, answered_on, closed_course, closed_job, course_after, first_work, taken_anew, with_skips}
+use Rattle.mode_setting.specs.Settings.{Setting}
+use Rattle.mode_setting.specs.Settings as settings
+use Rattle.copy_move.specs.Jobs.{CallsOn, PassesOver, Running, TellsOn, WorkCalls, WorkTells, answered_on, closed_course, closed_job, course_after, first_work, is_fresh, taken_anew, with_skips}
 use Rattle.job_reports.specs.Reports.{ends}
-use Rattle.copy_move.specs.Settling.{WorkLeaves, changed_folder, is_own, with_change}
-use Rattle.copy_move.proofs.FolderSteps.{copy_stays}
-use Rattle.copy_move.proofs.MakingFolders.{making_stays}
+use Rattle.copy_move.specs.Settling.{WorkLeaves, changed_folder, is_own}
 use Rattle.job_reports.specs.Paths.{folder_of, without}
-use Rattle.copy_move.specs.Steps.{LeavesDirty, SyncsFolder}
-use Rattle.history_laws.specs.Doubt.{is_unsettled, name_waits}
-use Rattle.history_laws.specs.Owed.{FinishedLaw}
-use Rattle.session_history.specs.Named.{begins_change, changed_after, has_changed}
+use Rattle.copy_move.specs.Steps.{LeavesDirty, SyncsOwed}
+use Rattle.history_laws.specs.Doubt.{IsMountInDoubt, is_unsettled, name_waits, node_waits, way_waits}
+use Rattle.history_laws.specs.Owed.{FinishedLaw, IsNoMatter, is_own_path}
+use Rattle.history_laws.specs.Staying.{may_change}
+use Rattle.session_history.specs.Named.{begins_change, changed_after, has_changed, named_parts}
 use Rattle.session_history.specs.LiveJobs.{live_item, live_jobs}
 use Rattle.session_history.specs.Entries.{is_closed}
 use Rattle.copy_move.specs.Told.{running}
 use Rattle.history_laws.specs.Traces.{EventLeads, IsTraced, Stand, SyncLeads, WorkLeads, before_others, if_closed, ordered, with_job}
-use Rattle.history_laws.proofs.Beginnings.{folder_stays}
+use Rattle.history_laws.proofs.Beginnings.{calm_stays, folder_stays}
 use Rattle.history_laws.proofs.Going.{only_job}
 use Rattle.history_laws.proofs.Histories.{IsReached, traced_reached}
-use Rattle.history_laws.proofs.Owing.{in_filter, own_folder, owed_law}
+use Rattle.history_laws.proofs.Owing.{calm_there, in_filter, owed_modes, owed_names}
+use Rattle.history_laws.proofs.Intact.{own_folder}
 use Rattle.history_laws.proofs.Reports.{HasLive, with_one}
 use Rattle.history_laws.proofs.Resting.{sure_path}
-use Rattle.history_laws.proofs.Sources.{folder_is, folder_same, item_in, tells_same}
-use Rattle.history_laws.proofs.Prefixes.{folders_event, folders_told, told_of}
-use Rattle.history_laws.proofs.Stepped.{folders_by}
+use Rattle.history_laws.proofs.Sources.{folder_is, folder_same, item_in, making_changes, tells_same}
+use Rattle.history_laws.proofs.Prefixes.{calm_event, calm_told, folders_event, folders_told, told_of}
+use Rattle.history_laws.proofs.Stepped.{calm_by, folders_by}
 use Rattle.history_laws.proofs.Unchanged.{first_clean, has_begun, step_clean}
-
--- a copy that begins a change is dirty then
-dirty_then : (c new : Copying) (did : Did) → copying.Tells c did new → begins_change did ≡ true → copying.is_dirty new.folder ≡ true
-dirty_then c new (Began part) t h = ap (λ (x : Copying). copying.is_dirty x.folder) t.1.1
-dirty_then c new (Removed path) t h = absurd t
-dirty_then c new (Chunk count) t h = absurd (false≢true h)
-dirty_then c new (Set path) t h = absurd t
-dirty_then c new (Placed path) t h = absurd (false≢true h)
-dirty_then c new (Made made) t h = absurd t
-dirty_then c new (Kept kept) t h = absurd (false≢true h)
-dirty_then c new (Skipped path why) t h = absurd (false≢true h)
-dirty_then c new (Cleaned part) t h = absurd (false≢true h)
-dirty_then c new Barrier t h = absurd (false≢true h)
-dirty_then c new (Troubled trouble) t h = absurd (false≢true h)
-dirty_then c new (Ended ending part) t h = absurd (false≢true h)
-
--- so is the making of a folder
-making_dirty : (m new : Making) (did : Did) → makings.Tells m did new → begins_change did ≡ true → makings.is_dirty new.stage ≡ true
-making_dirty m new (Made path) (stage, path_is, new_is) h = ap (λ (x : Making). makings.is_dirty x.stage) new_is
-making_dirty m new (Began part) t h = absurd t
-making_dirty m new (Removed path) t h = absurd t
-making_dirty m new (Chunk count) t h = absurd (false≢true h)
-making_dirty m new (Set path) t h = absurd t
-making_dirty m new (Placed path) t h = absurd (false≢true h)
-making_dirty m new (Kept kept) t h = absurd (false≢true h)
-making_dirty m new (Skipped path why) t h = absurd (false≢true h)
-making_dirty m new (Cleaned part) t h = absurd (false≢true h)
-making_dirty m new Barrier t h = absurd (false≢true h)
-making_dirty m new (Troubled trouble) t h = absurd (false≢true h)
-making_dirty m new (Ended ending part) t h = absurd (false≢true h)
-
--- a folder that was synced is no longer listed
-pub not_listed : (up : Route) (routes : List Route) → Among (without up routes) up → ⊥
-not_listed up [] among = among
-not_listed up (first ∷ routes) among = by (same_path first up) refl among (not_listed up routes)
-  where
-    by : (b : Bool) → same_path first up ≡ b → Among (without up (first ∷ routes)) up → (Among (without up routes) up → ⊥) → ⊥
-    by true is among rest = rest (rw is at among)
-    by false is among rest = elim (rw is at among) [ inl same ↦ both_ways _ is (subst (λ q. same_path q up ≡ true) same (same_path-self up)) | inr later ↦ rest later ]
-
-neither : (a b : Bool) → (a || b) ≡ false → (a ≡ false) × (b ≡ false)
-neither true b h = absurd (true≢false h)
-neither false b h = (refl, h)
-
--- a job that is to end early is aborted
-abbrev IsGoing : Course → Type 0
-IsGoing (Ends ending) = ⊥
-IsGoing GoesOn = Unit {0}
-IsGoing (InTrouble why) = Unit {0}
-IsGoing (OwedSyncFailed why) = Unit {0}
-IsGoing (Skips why) = Unit {0}
-
--- where the folder of a copy, or of a new folder, isn't dirty, it isn't listed
-abbrev TidyFolder : Work → List Route → Type 0
-TidyFolder (Copy c) dirty = copying.is_dirty c.folder ≡ false → Among dirty (folder_of c.target) → ⊥
-TidyFolder (Delete d) dirty = Unit {0}
-TidyFolder (Make m) dirty = makings.is_dirty m.stage ≡ false → Among dirty (folder_of m.path) → ⊥
-
--- what is known of a job that has changed something
-abbrev IsTidy : Bool → List Route → Running → Type 0
-IsTidy changed dirty job = changed ≡ true → IsGoing job.course → TidyFolder job.work dirty
-
-changed_by : (before begins : Bool) → (before || begins) ≡ true → (before ≡ true) ⊎ (begins ≡ true)
-changed_by true begins h = inl refl
-changed_by false begins h = inr h
-
--- by whether the folder was dirty before
-tidy_by : (was now : Bool) (folder up : Route) (dirty dirty_after : List Route) → dirty_after ≡ with_change was now folder dirty → up ≡ folder → (was ≡ false → Among dirty folder → ⊥) → now ≡ false → Among dirty_after up → ⊥
-tidy_by true now folder up dirty dirty_after leaves same old clean among =
-    not_listed folder dirty (subst (λ q. Among (without folder dirty) q) same (subst (λ xs. Among xs up) (leaves ∙ ap (λ b. with_change true b folder dirty) clean) among))
-tidy_by false now folder up dirty dirty_after leaves same old clean among =
-    old refl (subst (λ q. Among dirty q) same (subst (λ xs. Among xs up) (leaves ∙ ap (λ b. with_change false b folder dirty) clean) among))
-
-tidy_work : (old new : Work) (did : Did) (dirty dirty_after : List Route) (before after : Option CallLog) → WorkTells old did new → WorkLeaves old did new dirty dirty_after before after
-    → ((begins_change did ≡ true → ⊥) → TidyFolder old dirty) → TidyFolder new dirty_after
-tidy_work (Copy c) (Copy new) did dirty dirty_after before after tells leaves old = λ clean among.
-    tidy_by (copying.is_dirty c.folder) (copying.is_dirty new.folder) (folder_of c.target) (folder_of new.target) dirty dirty_after leaves (ap folder_of (copy_stays c new did tells)) (old (λ h. both_ways _ clean (dirty_then c new did tells h))) clean among
-tidy_work (Copy c) (Delete new) did dirty dirty_after before after tells leaves old = absurd tells
-tidy_work (Delete d) (Copy new) did dirty dirty_after before after tells leaves old = absurd tells
-tidy_work (Delete d) (Delete new) did dirty dirty_after before after tells leaves old = tt
-tidy_work (Make m) (Make new) did dirty dirty_after before after tells leaves old = λ clean among.
-    tidy_by (makings.is_dirty m.stage) (makings.is_dirty new.stage) (folder_of m.path) (folder_of new.path) dirty dirty_after leaves (ap folder_of (making_stays m new did tells)) (old (λ h. both_ways _ clean (making_dirty m new did tells h))) clean among
-tidy_work (Copy c) (Make new) did dirty dirty_after before after tells leaves old = absurd tells
-tidy_work (Delete d) (Make new) did dirty dirty_after before after tells leaves old = absurd tells
-tidy_work (Make m) (Copy new) did dirty dirty_after before after tells leaves old = absurd tells
-tidy_work (Make m) (Delete new) did dirty dirty_after before after tells leaves old = absurd tells
-
-skipped_clean : (stage : MakingStage) → makings.is_dirty (makings.skipped stage) ≡ makings.is_dirty stage
-skipped_clean making.Make = refl
-skipped_clean making.Sync = refl
-skipped_clean making.Finish = refl
-skipped_clean making.PassedOver = refl
-
-tidy_passes : (old new : Work) (path : Route) (dirty : List Route) → PassesOver old path new → TidyFolder old dirty → TidyFolder new dirty
-tidy_passes (Copy c) (Copy new) path dirty (path_is, new_is) old = subst (λ (n : Copying). TidyFolder (Copy n) dirty) (sym new_is) old
-tidy_passes (Copy c) (Delete new) path dirty h old = absurd h
-tidy_passes (Delete d) (Copy new) path dirty h old = absurd h
-tidy_passes (Delete d) (Delete new) path dirty h old = tt
-tidy_passes (Make m) (Make new) path dirty (path_is, new_is) old = subst (λ (n : Making). TidyFolder (Make n) dirty) (sym new_is) (λ clean among. old (sym (skipped_clean m.stage) ∙ clean) among)
-tidy_passes (Copy c) (Make new) path dirty h old = absurd h
-tidy_passes (Delete d) (Make new) path dirty h old = absurd h
-tidy_passes (Make m) (Copy new) path dirty h old = absurd h
-tidy_passes (Make m) (Delete new) path dirty h old = absurd h
-
-module _ (job new : Running) (did : Did) (dirty dirty_after : List Route) (log now : CallLog) (before : Bool) where
-  tidy_on : (course : Course) → job.course ≡ course → TellsOn course job did new → LeavesDirty course job.work did new.work dirty dirty_after (Some log) (Some now) → IsTidy before dirty job
-      → IsTidy (before || begins_change did) dirty_after new
-  tidy_on GoesOn is (work, tells, new_is) leaves old changed going =
-      subst (λ (x : Running). TidyFolder x.work dirty_after) (sym new_is)
-      (tidy_work job.work work did dirty dirty_after (Some log) (Some now) tells (subst (λ (x : Running). WorkLeaves job.work did x.work dirty dirty_after (Some log) (Some now)) new_is leaves)
-      (λ none. elim (changed_by before (begins_change did) changed) [ inl b ↦ old b (subst IsGoing (sym is) tt) | inr h ↦ absurd (none h) ]))
-  tidy_on (InTrouble why) is t leaves old changed going = absurd t
-  tidy_on (OwedSyncFailed why) is t leaves old changed going = absurd t
-  tidy_on (Skips why) is (inl (path, work, did_is, passes, new_is)) leaves old changed going =
-      subst (λ (x : Running). TidyFolder x.work dirty_after) (sym new_is) (subst (λ xs. TidyFolder work xs) (sym leaves) (tidy_passes job.work work path dirty passes
-      (elim (changed_by before (begins_change did) changed) [ inl b ↦ old b (subst IsGoing (sym is) tt) | inr h ↦ absurd (false≢true (sym (ap begins_change did_is) ∙ h)) ])))
-  tidy_on (Skips why) is (inr (did_is, new_is)) leaves old changed going =
-      subst (λ (x : Running). TidyFolder x.work dirty_after) (sym new_is) (subst (λ xs. TidyFolder job.work xs) (sym leaves)
-      (elim (changed_by before (begins_change did) changed) [ inl b ↦ old b (subst IsGoing (sym is) tt) | inr h ↦ absurd (false≢true (sym (ap begins_change did_is) ∙ h)) ]))
-  tidy_on (Ends ending) is (work, winds, new_is) leaves old changed going = absurd (subst IsGoing (ap (λ (x : Running). x.course) new_is ∙ is) going)
-
-  pub tidy_works : WorkLeads job did new dirty dirty_after log now → IsTidy before dirty job → IsTidy (before || begins_change did) dirty_after new
-  tidy_works w old = tidy_on job.course refl w.tells w.leaves old
+use Rattle.history_laws.proofs.Tidy.{IsApartFrom, IsGoing, IsTidy, TidyFolder, changed_by, neither, tidy_works}
 
 -- what is kept of the live job
 pub record IsTidyJob (opening : CallLog) (g : List Entry) (dirty : List Route) (job : Running) : Type 0 where
@@ -187,6 +67,7 @@ pub record IsTidyJob (opening : CallLog) (g : List Entry) (dirty : List Route) (
   pub aborted : (ending : Ending) → job.course ≡ Ends ending → ending ≡ Aborted
   pub clean : has_changed job.id g ≡ false → has_begun job.work ≡ false
   pub stands : has_changed job.id g ≡ true → folders_told opening g (changed_folder job.work) ≡ true
+  pub calm : has_changed job.id g ≡ true → (q : Route) → may_change (item_in job.work) q ≡ true → calm_told g q ≡ true
 
 abbrev pub AreTidy : CallLog → List Entry → List Route → List Running → Type 0
 AreTidy opening g dirty [] = Unit {0}
@@ -219,35 +100,40 @@ tells_aborted job new did (Skips why) is (inr (did_is, new_is)) old ending e = n
 tells_aborted job new did (Ends first) is (work, winds, new_is) old ending e = old ending (sym (ap (λ (x : Running). x.course) new_is) ∙ e)
 
 -- a job with the same work and number, that goes on only where it went on
-kept_tidy : (opening : CallLog) (g : List Entry) (dirty : List Route) (job new : Running) → new.id ≡ job.id → has_begun new.work ≡ has_begun job.work → changed_folder new.work ≡ changed_folder job.work → (TidyFolder job.work dirty → TidyFolder new.work dirty)
+kept_tidy : (opening : CallLog) (g : List Entry) (dirty : List Route) (job new : Running) → new.id ≡ job.id → has_begun new.work ≡ has_begun job.work → (changed_folder new.work ≡ changed_folder job.work) × (item_in new.work ≡ item_in job.work) → (TidyFolder job.work dirty → TidyFolder new.work dirty)
     → (IsGoing new.course → IsGoing job.course) → ((ending : Ending) → new.course ≡ Ends ending → ending ≡ Aborted) → IsTidyJob opening g dirty job → IsTidyJob opening g dirty new
-kept_tidy opening g dirty job new id_is begun_is folder_is tidy_is on aborted old = record {
+kept_tidy opening g dirty job new id_is begun_is (folder_is, item_is) tidy_is on aborted old = record {
   tidy = λ changed going. tidy_is (old.tidy (ap (λ n. has_changed n g) (sym id_is) ∙ changed) (on going));
   aborted = aborted;
   clean = λ unchanged. begun_is ∙ old.clean (ap (λ n. has_changed n g) (sym id_is) ∙ unchanged);
   stands = λ changed. ap (folders_told opening g) folder_is ∙ old.stands (ap (λ n. has_changed n g) (sym id_is) ∙ changed);
+  calm = λ changed q own. old.calm (ap (λ n. has_changed n g) (sym id_is) ∙ changed) q (subst (λ i. may_change i q ≡ true) item_is own);
 }
 
-anew_dirty : (work : Work) → (has_begun (taken_anew work) ≡ has_begun work) × (changed_folder (taken_anew work) ≡ changed_folder work)
-anew_dirty (Copy c) = (refl, refl)
-anew_dirty (Delete d) = (refl, refl)
-anew_dirty (Make m) = (refl, refl)
+anew_dirty : (work : Work) → (has_begun (taken_anew work) ≡ has_begun work) × ((changed_folder (taken_anew work) ≡ changed_folder work) × (item_in (taken_anew work) ≡ item_in work))
+anew_dirty (Copy c) = (refl, (refl, refl))
+anew_dirty (Delete d) = (refl, (refl, refl))
+anew_dirty (Make m) = (refl, (refl, refl))
+anew_dirty (SetMode s) = (refl, (refl, refl))
 
 anew_tidy : (work : Work) (dirty : List Route) → TidyFolder work dirty → TidyFolder (taken_anew work) dirty
 anew_tidy (Copy c) dirty t = t
 anew_tidy (Delete d) dirty t = tt
 anew_tidy (Make m) dirty t = t
+anew_tidy (SetMode s) dirty t = t
 
 -- nor does it once a kind of trouble is passed over
-skips_dirty : (why : Cause) (work : Work) → (has_begun (with_skips why work) ≡ has_begun work) × (changed_folder (with_skips why work) ≡ changed_folder work)
-skips_dirty why (Copy c) = (refl, refl)
-skips_dirty why (Delete d) = (refl, refl)
-skips_dirty why (Make m) = (refl, refl)
+skips_dirty : (why : Cause) (work : Work) → (has_begun (with_skips why work) ≡ has_begun work) × ((changed_folder (with_skips why work) ≡ changed_folder work) × (item_in (with_skips why work) ≡ item_in work))
+skips_dirty why (Copy c) = (refl, (refl, refl))
+skips_dirty why (Delete d) = (refl, (refl, refl))
+skips_dirty why (Make m) = (refl, (refl, refl))
+skips_dirty why (SetMode s) = (refl, (refl, refl))
 
 skips_tidy : (why : Cause) (work : Work) (dirty : List Route) → TidyFolder work dirty → TidyFolder (with_skips why work) dirty
 skips_tidy why (Copy c) dirty t = t
 skips_tidy why (Delete d) dirty t = tt
 skips_tidy why (Make m) dirty t = t
+skips_tidy why (SetMode s) dirty t = t
 
 some_end : (a b : Ending) → (let c : Course = Ends a in c) ≡ Ends b → b ≡ a
 some_end a b h = cc
@@ -255,25 +141,25 @@ some_end a b h = cc
 answer_tidy : (opening : CallLog) (g : List Entry) (dirty : List Route) (job : Running) (course : Course) → job.course ≡ course → (answer : Answer) → IsTidyJob opening g dirty job → IsTidyJob opening g dirty (answered_on course answer job)
 answer_tidy opening g dirty job (InTrouble why) is Retry t =
     let a = anew_dirty job.work in kept_tidy opening g dirty job (record job { work = taken_anew job.work; course = GoesOn }) refl a.0 a.1 (anew_tidy job.work dirty) (λ going. subst IsGoing (sym is) tt) (λ ending e. no_end GoesOn ending tt e) t
-answer_tidy opening g dirty job (InTrouble why) is Skip t = kept_tidy opening g dirty job (record job { course = Skips why }) refl refl refl (λ t. t) (λ going. subst IsGoing (sym is) tt) (λ ending e. no_end (Skips why) ending tt e) t
+answer_tidy opening g dirty job (InTrouble why) is Skip t = kept_tidy opening g dirty job (record job { course = Skips why }) refl refl (refl, refl) (λ t. t) (λ going. subst IsGoing (sym is) tt) (λ ending e. no_end (Skips why) ending tt e) t
 answer_tidy opening g dirty job (InTrouble why) is SkipAll t =
     let a = skips_dirty why job.work in kept_tidy opening g dirty job (record job { work = with_skips why job.work; course = Skips why }) refl a.0 a.1 (skips_tidy why job.work dirty) (λ going. subst IsGoing (sym is) tt) (λ ending e. no_end (Skips why) ending tt e) t
-answer_tidy opening g dirty job (InTrouble why) is Abort t = kept_tidy opening g dirty job (record job { course = Ends Aborted }) refl refl refl (λ t. t) (λ going. absurd going) (λ ending e. some_end Aborted ending e) t
+answer_tidy opening g dirty job (InTrouble why) is Abort t = kept_tidy opening g dirty job (record job { course = Ends Aborted }) refl refl (refl, refl) (λ t. t) (λ going. absurd going) (λ ending e. some_end Aborted ending e) t
 answer_tidy opening g dirty job (OwedSyncFailed why) is Retry t =
     let a = anew_dirty job.work in kept_tidy opening g dirty job (record job { work = taken_anew job.work; course = GoesOn }) refl a.0 a.1 (anew_tidy job.work dirty) (λ going. subst IsGoing (sym is) tt) (λ ending e. no_end GoesOn ending tt e) t
 answer_tidy opening g dirty job (OwedSyncFailed why) is Skip t = t
 answer_tidy opening g dirty job (OwedSyncFailed why) is SkipAll t = t
-answer_tidy opening g dirty job (OwedSyncFailed why) is Abort t = kept_tidy opening g dirty job (record job { course = Ends Aborted }) refl refl refl (λ t. t) (λ going. absurd going) (λ ending e. some_end Aborted ending e) t
+answer_tidy opening g dirty job (OwedSyncFailed why) is Abort t = kept_tidy opening g dirty job (record job { course = Ends Aborted }) refl refl (refl, refl) (λ t. t) (λ going. absurd going) (λ ending e. some_end Aborted ending e) t
 answer_tidy opening g dirty job GoesOn is answer t = t
 answer_tidy opening g dirty job (Skips why) is answer t = t
 answer_tidy opening g dirty job (Ends ending) is answer t = t
 
 close_tidy : (opening : CallLog) (g : List Entry) (dirty : List Route) (job : Running) (course : Course) → job.course ≡ course → IsTidyJob opening g dirty job → IsTidyJob opening g dirty (record job { course = closed_course course })
-close_tidy opening g dirty job GoesOn is t = kept_tidy opening g dirty job (record job { course = GoesOn }) refl refl refl (λ t. t) (λ going. subst IsGoing (sym is) tt) (λ ending e. no_end GoesOn ending tt e) t
-close_tidy opening g dirty job (InTrouble why) is t = kept_tidy opening g dirty job (record job { course = Ends Aborted }) refl refl refl (λ t. t) (λ going. absurd going) (λ ending e. some_end Aborted ending e) t
-close_tidy opening g dirty job (OwedSyncFailed why) is t = kept_tidy opening g dirty job (record job { course = Ends Aborted }) refl refl refl (λ t. t) (λ going. absurd going) (λ ending e. some_end Aborted ending e) t
-close_tidy opening g dirty job (Skips why) is t = kept_tidy opening g dirty job (record job { course = Skips why }) refl refl refl (λ t. t) (λ going. subst IsGoing (sym is) tt) (λ ending e. no_end (Skips why) ending tt e) t
-close_tidy opening g dirty job (Ends first) is t = kept_tidy opening g dirty job (record job { course = Ends first }) refl refl refl (λ t. t) (λ going. absurd going) (λ ending e. t.aborted ending (is ∙ e)) t
+close_tidy opening g dirty job GoesOn is t = kept_tidy opening g dirty job (record job { course = GoesOn }) refl refl (refl, refl) (λ t. t) (λ going. subst IsGoing (sym is) tt) (λ ending e. no_end GoesOn ending tt e) t
+close_tidy opening g dirty job (InTrouble why) is t = kept_tidy opening g dirty job (record job { course = Ends Aborted }) refl refl (refl, refl) (λ t. t) (λ going. absurd going) (λ ending e. some_end Aborted ending e) t
+close_tidy opening g dirty job (OwedSyncFailed why) is t = kept_tidy opening g dirty job (record job { course = Ends Aborted }) refl refl (refl, refl) (λ t. t) (λ going. absurd going) (λ ending e. some_end Aborted ending e) t
+close_tidy opening g dirty job (Skips why) is t = kept_tidy opening g dirty job (record job { course = Skips why }) refl refl (refl, refl) (λ t. t) (λ going. subst IsGoing (sym is) tt) (λ ending e. no_end (Skips why) ending tt e) t
+close_tidy opening g dirty job (Ends first) is t = kept_tidy opening g dirty job (record job { course = Ends first }) refl refl (refl, refl) (λ t. t) (λ going. absurd going) (λ ending e. t.aborted ending (is ∙ e)) t
 
 module _ (opening : CallLog) (tree : IsTree (current opening)) (settled : all_settled opening.changes ≡ true) where
   order_tidy : (g : List Entry) (dirty : List Route) (id : ℕ) (order : JobOrder) (jobs : List Running) → AreTidy opening g dirty jobs → AreTidy opening g dirty (map (ordered id order) jobs)
@@ -294,13 +180,14 @@ module _ (opening : CallLog) (tree : IsTree (current opening)) (settled : all_se
 
   -- an event that says nothing of steps
   same_tidy : (e : Entry) (older : List Entry) (dirty : List Route) (jobs : List Running) → ((id : ℕ) → has_changed id (e ∷ older) ≡ has_changed id older) → folders_told opening (e ∷ older) ≡ folders_told opening older
-      → AreTidy opening older dirty jobs → AreTidy opening (e ∷ older) dirty jobs
-  same_tidy e older dirty [] same still t = tt
-  same_tidy e older dirty (job ∷ jobs) same still t = record {
+      → calm_told (e ∷ older) ≡ calm_told older → AreTidy opening older dirty jobs → AreTidy opening (e ∷ older) dirty jobs
+  same_tidy e older dirty [] same still calm t = tt
+  same_tidy e older dirty (job ∷ jobs) same still calm t = record {
     tidy = λ changed going. t.tidy (sym (same job.id) ∙ changed) going;
     aborted = t.aborted;
     clean = λ unchanged. t.clean (sym (same job.id) ∙ unchanged);
     stands = λ changed. ap (λ (f : Route → Bool). f (changed_folder job.work)) still ∙ t.stands (sym (same job.id) ∙ changed);
+    calm = λ changed q own. ap (λ (f : Route → Bool). f q) calm ∙ t.calm (sym (same job.id) ∙ changed) q own;
   }
 
   begun_tidy : (g : List Entry) (dirty : List Route) (id : ℕ) (o : Option Work) → ((w : Work) → o ≡ Some w → has_begun w ≡ false) → has_changed id g ≡ false → AreTidy opening g dirty (option_map_or (λ w. running id w ∷ []) o [])
@@ -310,6 +197,7 @@ module _ (opening : CallLog) (tree : IsTree (current opening)) (settled : all_se
     aborted = λ ending e. no_end GoesOn ending tt e;
     clean = λ none. clean w refl;
     stands = λ changed. absurd (both_ways _ unchanged changed);
+    calm = λ changed q own. absurd (both_ways _ unchanged changed);
   }
 
   changed_same : (number id : ℕ) (before begins : Bool) → number ≡ id → (before || ((number == id) && begins)) ≡ (before || begins)
@@ -322,6 +210,12 @@ module _ (opening : CallLog) (tree : IsTree (current opening)) (settled : all_se
       ap (λ w. folders_event w (live_jobs older) (folders_told opening older) p) what_is
       ∙ (ap (λ o. option_map_or (λ item. folders_by did (folder_changed item) (folders_told opening older)) o (folders_told opening older) p) item_is
       ∙ ap (λ f. folders_by did f (folders_told opening older) p) (folder_is work))
+
+  -- and those in which no mode waits
+  step_calm : (e : Entry) (older : List Entry) (id : ℕ) (did : Did) (work : Work) → live_item id (live_jobs older) ≡ Some (item_in work) → e.what ≡ Step id did → (p : Route)
+      → calm_told (e ∷ older) p ≡ calm_by did (item_in work) (calm_told older) p
+  step_calm e older id did work item_is what_is p =
+      ap (λ w. calm_event w (live_jobs older) (calm_told older) p) what_is ∙ ap (λ o. option_map_or (λ item. calm_by did item (calm_told older)) o (calm_told older) p) item_is
 
   -- after a step of a job
   step_tidy : (e : Entry) (older : List Entry) (id : ℕ) (did : Did) (job new : Running) (dirty dirty_after : List Route) (before now : CallLog) → IsTree (current before) → live_item id (live_jobs older) ≡ Some (item_in job.work)
@@ -341,6 +235,10 @@ module _ (opening : CallLog) (tree : IsTree (current opening)) (settled : all_se
               | inl b ↦ inl (t.stands b)
               | inr h ↦ inr h
             ]));
+        calm = λ changed q own.
+            let here = subst (λ i. may_change i q ≡ true) same.1 own in
+            step_calm e older id did job.work item_is what_is q
+            ∙ calm_stays job new did dirty dirty_after before now (calm_told older) q works here (elim (changed_by (has_changed job.id older) (begins_change did) (changed_is ∙ changed)) [ inl b ↦ inl (t.calm b q here) | inr h ↦ inr h ]);
       }
   step_tidy e older id did job new dirty dirty_after before now shape item_is what_is id_is on t (inr syncs) = by syncs.synced
     where
@@ -359,23 +257,34 @@ module _ (opening : CallLog) (tree : IsTree (current opening)) (settled : all_se
           ∙ (ap (λ x. folders_by x (changed_folder job.work) (folders_told opening older) (changed_folder job.work)) did_is
           ∙ ap (λ (f : Route → Bool). f (changed_folder job.work)) (same (changed_folder job.work) (folders_told opening older)))
 
-      fewer_tidy : (work : Work) → TidyFolder work dirty → TidyFolder work (without syncs.folder dirty)
-      fewer_tidy (Copy c) tidy = λ clean among. tidy clean (in_filter (λ kept. not (same_path kept syncs.folder)) (folder_of c.target) dirty among)
-      fewer_tidy (Delete d) tidy = tt
-      fewer_tidy (Make m) tidy = λ clean among. tidy clean (in_filter (λ kept. not (same_path kept syncs.folder)) (folder_of m.path) dirty among)
+      still_calm : (d : Did) → did ≡ d → (q : Route) → ((item : Item) (before : Route → Bool) → calm_by d item before ≡ before) → calm_told (e ∷ older) q ≡ calm_told older q
+      still_calm d did_is q same =
+          step_calm e older id did job.work item_is what_is q
+          ∙ (ap (λ x. calm_by x (item_in job.work) (calm_told older) q) did_is ∙ ap (λ (f : Route → Bool). f q) (same (item_in job.work) (calm_told older)))
 
-      by : SyncsFolder job syncs.folder did new dirty dirty_after (Some before) (Some now) → IsTidyJob opening (e ∷ older) dirty_after new
+      fewer_tidy : (work : Work) → TidyFolder work dirty → TidyFolder work (without syncs.path dirty)
+      fewer_tidy (Copy c) tidy = λ clean among. tidy clean (in_filter (λ kept. not (same_path kept syncs.path)) (folder_of c.target) dirty among)
+      fewer_tidy (Delete d) tidy = tt
+      fewer_tidy (Make m) tidy = λ clean among. tidy clean (in_filter (λ kept. not (same_path kept syncs.path)) (folder_of m.path) dirty among)
+      fewer_tidy (SetMode s) tidy = (
+        λ clean among. tidy.0 clean (in_filter (λ kept. not (same_path kept syncs.path)) s.path dirty among),
+        λ among. tidy.1 (in_filter (λ kept. not (same_path kept syncs.path)) (folder_of s.path) dirty among),
+      )
+
+      by : SyncsOwed job syncs.path did new dirty dirty_after (Some before) (Some now) → IsTidyJob opening (e ∷ older) dirty_after new
       by (inl s) = subst (λ (x : Running). IsTidyJob opening (e ∷ older) dirty_after x) (sym s.new_is) (record {
         tidy = λ changed going. subst (λ xs. TidyFolder job.work xs) (sym s.dirty_is) (fewer_tidy job.work (t.tidy (unchanged job.id (ap begins_change s.did_is) changed) going));
         aborted = t.aborted;
         clean = clean;
         stands = λ changed. still Barrier s.did_is (λ f b. refl) ∙ t.stands (unchanged job.id (ap begins_change s.did_is) changed);
+        calm = λ changed q own. still_calm Barrier s.did_is q (λ i b. refl) ∙ t.calm (unchanged job.id (ap begins_change s.did_is) changed) q own;
       })
       by (inr s) = subst (λ (x : Running). IsTidyJob opening (e ∷ older) dirty_after x) (sym s.new_is) (record {
         tidy = λ changed going. subst (λ xs. TidyFolder job.work xs) (sym s.dirty_is) (t.tidy (unchanged job.id (ap begins_change s.did_is) changed) (subst IsGoing (sym syncs.goes) tt));
-        aborted = λ ending x. no_end (OwedSyncFailed (cause_of s.error)) ending tt x;
+        aborted = λ ending x. no_end (OwedSyncFailed s.trouble.cause) ending tt x;
         clean = clean;
-        stands = λ changed. still (Troubled (trouble_at s.error syncs.folder true)) s.did_is (λ f b. refl) ∙ t.stands (unchanged job.id (ap begins_change s.did_is) changed);
+        stands = λ changed. still (Troubled s.trouble) s.did_is (λ f b. refl) ∙ t.stands (unchanged job.id (ap begins_change s.did_is) changed);
+        calm = λ changed q own. still_calm (Troubled s.trouble) s.did_is q (λ i b. refl) ∙ t.calm (unchanged job.id (ap begins_change s.did_is) changed) q own;
       })
 
   after_tidy : (g : List Entry) (dirty : List Route) (new : Running) (b : Bool) → (b ≡ false → IsTidyJob opening g dirty new) → AreTidy opening g dirty (before_others (if◌then◌else◌ b None (Some new)) [])
@@ -407,15 +316,15 @@ module _ (opening : CallLog) (tree : IsTree (current opening)) (settled : all_se
           (begun_tidy (e ∷ older) was.dirty id (first_work id plan) (first_clean id plan) (ap (λ w. changed_after id w (has_changed id older)) is ∙ ap (λ b. if◌then◌else◌ b false (has_changed id older)) (eq-eqb id id refl)))
       by (Order id order) is s t r =
           subst (λ (x : Stand). AreTidy opening (e ∷ older) x.dirty x.jobs) (sym s.after_is)
-          (order_tidy (e ∷ older) was.dirty id order was.jobs (same_tidy e older was.dirty was.jobs (λ n. ap (λ w. changed_after n w (has_changed n older)) is) (ap (λ w. folders_event w (live_jobs older) (folders_told opening older)) is) t))
+          (order_tidy (e ∷ older) was.dirty id order was.jobs (same_tidy e older was.dirty was.jobs (λ n. ap (λ w. changed_after n w (has_changed n older)) is) (ap (λ w. folders_event w (live_jobs older) (folders_told opening older)) is) (ap (λ w. calm_event w (live_jobs older) (calm_told older)) is) t))
       by (Key key time refusals lost) is s t r =
-          subst (λ (x : Stand). AreTidy opening (e ∷ older) x.dirty x.jobs) (sym s.after_is) (same_tidy e older was.dirty was.jobs (λ n. ap (λ w. changed_after n w (has_changed n older)) is) (ap (λ w. folders_event w (live_jobs older) (folders_told opening older)) is) t)
+          subst (λ (x : Stand). AreTidy opening (e ∷ older) x.dirty x.jobs) (sym s.after_is) (same_tidy e older was.dirty was.jobs (λ n. ap (λ w. changed_after n w (has_changed n older)) is) (ap (λ w. folders_event w (live_jobs older) (folders_told opening older)) is) (ap (λ w. calm_event w (live_jobs older) (calm_told older)) is) t)
       by (Look refusals) is s t r =
-          subst (λ (x : Stand). AreTidy opening (e ∷ older) x.dirty x.jobs) (sym s.after_is) (same_tidy e older was.dirty was.jobs (λ n. ap (λ w. changed_after n w (has_changed n older)) is) (ap (λ w. folders_event w (live_jobs older) (folders_told opening older)) is) t)
+          subst (λ (x : Stand). AreTidy opening (e ∷ older) x.dirty x.jobs) (sym s.after_is) (same_tidy e older was.dirty was.jobs (λ n. ap (λ w. changed_after n w (has_changed n older)) is) (ap (λ w. folders_event w (live_jobs older) (folders_told opening older)) is) (ap (λ w. calm_event w (live_jobs older) (calm_told older)) is) t)
       by Sought is s t r =
-          subst (λ (x : Stand). AreTidy opening (e ∷ older) x.dirty x.jobs) (sym s.after_is) (same_tidy e older was.dirty was.jobs (λ n. ap (λ w. changed_after n w (has_changed n older)) is) (ap (λ w. folders_event w (live_jobs older) (folders_told opening older)) is) t)
+          subst (λ (x : Stand). AreTidy opening (e ∷ older) x.dirty x.jobs) (sym s.after_is) (same_tidy e older was.dirty was.jobs (λ n. ap (λ w. changed_after n w (has_changed n older)) is) (ap (λ w. folders_event w (live_jobs older) (folders_told opening older)) is) (ap (λ w. calm_event w (live_jobs older) (calm_told older)) is) t)
       by Closed is s t r =
-          subst (λ (x : Stand). AreTidy opening (e ∷ older) x.dirty x.jobs) (sym s.after_is) (same_tidy e older was.dirty was.jobs (λ n. ap (λ w. changed_after n w (has_changed n older)) is) (ap (λ w. folders_event w (live_jobs older) (folders_told opening older)) is) t)
+          subst (λ (x : Stand). AreTidy opening (e ∷ older) x.dirty x.jobs) (sym s.after_is) (same_tidy e older was.dirty was.jobs (λ n. ap (λ w. changed_after n w (has_changed n older)) is) (ap (λ w. folders_event w (live_jobs older) (folders_told opening older)) is) (ap (λ w. calm_event w (live_jobs older) (calm_told older)) is) t)
 
 -- a job whose step is that it is finished owes no sync
 done_making : (stage : MakingStage) → makings.is_done stage ≡ true → makings.is_dirty stage ≡ false
@@ -433,10 +342,19 @@ done_work (Delete d) (Copy new) next part dirty dirty_after before after t leave
 done_work (Copy c) (Make new) next part dirty dirty_after before after t leaves tidy q own among = t
 done_work (Delete d) (Make new) next part dirty dirty_after before after t leaves tidy q own among = t
 done_work (Make m) (Copy new) next part dirty dirty_after before after t leaves tidy q own among = t
+done_work (SetMode s) (Copy new) next part dirty dirty_after before after t leaves tidy q own among = t
+done_work (SetMode s) (Delete new) next part dirty dirty_after before after t leaves tidy q own among = t
+done_work (SetMode s) (Make new) next part dirty dirty_after before after t leaves tidy q own among = t
+done_work (Copy c) (SetMode new) next part dirty dirty_after before after t leaves tidy q own among = t
+done_work (Delete d) (SetMode new) next part dirty dirty_after before after t leaves tidy q own among = t
+done_work (Make m) (SetMode new) next part dirty dirty_after before after t leaves tidy q own among = t
 done_work (Make m) (Delete new) next part dirty dirty_after before after t leaves tidy q own among = t
 done_work (Make m) (Make new) next part dirty dirty_after before after (is_done, part_is, new_is) leaves tidy q own among =
     tidy (done_making m.stage is_done) (subst (λ x. Among dirty x) (same_path-true q (folder_of m.path) own) among)
 done_work (Delete d) (Delete new) (Copy next) part dirty dirty_after before after t leaves tidy q own among = leaves
+done_work (SetMode s) (SetMode new) next part dirty dirty_after before after (stage, part_is, new_is) leaves tidy q own among =
+    tidy.0 (ap settings.is_dirty stage) (subst (λ x. Among dirty x) (same_path-true q s.path own) among)
+done_work (Delete d) (Delete new) (SetMode next) part dirty dirty_after before after t leaves tidy q own among = leaves
 done_work (Delete d) (Delete new) (Make next) part dirty dirty_after before after t leaves tidy q own among = leaves
 done_work (Delete d) (Delete new) (Delete next) part dirty dirty_after before after t leaves tidy q own among = both_ways _ (leaves.0 q among) own
 
@@ -444,23 +362,31 @@ wound_up : (ending : Ending) (old new : Work) (part : Option Route) → Rattle.c
 wound_up ending (Copy c) (Copy new) part (none, synced, how_is, part_is, new_is) = how_is
 wound_up ending (Delete d) (Delete new) part (how_is, part_is, path_is, stage_is, skips_is) = how_is
 wound_up ending (Make m) (Make new) part (off, how_is, part_is, new_is) = how_is
+wound_up ending (SetMode s) (SetMode new) part (clean, how_is, part_is, new_is) = how_is
 wound_up ending (Copy c) (Delete new) part t = absurd t
 wound_up ending (Copy c) (Make new) part t = absurd t
 wound_up ending (Delete d) (Copy new) part t = absurd t
 wound_up ending (Delete d) (Make new) part t = absurd t
 wound_up ending (Make m) (Copy new) part t = absurd t
+wound_up ending (SetMode s) (Copy new) part t = absurd t
+wound_up ending (SetMode s) (Delete new) part t = absurd t
+wound_up ending (SetMode s) (Make new) part t = absurd t
+wound_up ending (Copy c) (SetMode new) part t = absurd t
+wound_up ending (Delete d) (SetMode new) part t = absurd t
+wound_up ending (Make m) (SetMode new) part t = absurd t
 wound_up ending (Make m) (Delete new) part t = absurd t
 
 finished_tidy : (opening : CallLog) (g : List Entry) (dirty dirty_after : List Route) (job new : Running) (part : Option Route) (before after : Option CallLog) (course : Course) → job.course ≡ course → TellsOn course job (Ended Finished part) new
-    → LeavesDirty course job.work (Ended Finished part) new.work dirty dirty_after before after → IsTidyJob opening g dirty job → has_changed job.id g ≡ true → (q : Route) → is_own job.work q ≡ true → Among dirty q → ⊥
-finished_tidy opening g dirty dirty_after job new part before after GoesOn is (work, tells, new_is) leaves t changed q own among =
-    done_work job.work work new.work part dirty dirty_after before after tells leaves (t.tidy changed (subst IsGoing (sym is) tt)) q own among
-finished_tidy opening g dirty dirty_after job new part before after (InTrouble why) is tells leaves t changed q own among = tells
-finished_tidy opening g dirty dirty_after job new part before after (OwedSyncFailed why) is tells leaves t changed q own among = tells
-finished_tidy opening g dirty dirty_after job new part before after (Skips why) is (inl (path, work, did_is, passes, new_is)) leaves t changed q own among = let f : ⊥ = cc in f
-finished_tidy opening g dirty dirty_after job new part before after (Skips why) is (inr (did_is, new_is)) leaves t changed q own among = let f : ⊥ = cc in f
-finished_tidy opening g dirty dirty_after job new part before after (Ends ending) is (work, winds, new_is) leaves t changed q own among =
-    let e : Finished ≡ Aborted = wound_up ending job.work work part winds ∙ t.aborted ending is in let f : ⊥ = cc in f
+    → LeavesDirty course job.work (Ended Finished part) new.work dirty dirty_after before after → IsTidyJob opening g dirty job → has_changed job.id g ≡ true
+    → TidyFolder job.work dirty × ((q : Route) → is_own job.work q ≡ true → Among dirty q → ⊥)
+finished_tidy opening g dirty dirty_after job new part before after GoesOn is (work, tells, new_is) leaves t changed =
+    let tidy = t.tidy changed (subst IsGoing (sym is) tt) in (tidy, λ q own among. done_work job.work work new.work part dirty dirty_after before after tells leaves tidy q own among)
+finished_tidy opening g dirty dirty_after job new part before after (InTrouble why) is tells leaves t changed = absurd tells
+finished_tidy opening g dirty dirty_after job new part before after (OwedSyncFailed why) is tells leaves t changed = absurd tells
+finished_tidy opening g dirty dirty_after job new part before after (Skips why) is (inl (path, work, did_is, passes, new_is)) leaves t changed = absurd (let f : ⊥ = cc in f)
+finished_tidy opening g dirty dirty_after job new part before after (Skips why) is (inr (did_is, new_is)) leaves t changed = absurd (let f : ⊥ = cc in f)
+finished_tidy opening g dirty dirty_after job new part before after (Ends ending) is (work, winds, new_is) leaves t changed =
+    let e : Finished ≡ Aborted = wound_up ending job.work work part winds ∙ t.aborted ending is in absurd (let f : ⊥ = cc in f)
 
 -- so its folder is known to be on the disk
 pub finished_folder : (opening : CallLog) → IsTree (current opening) → all_settled opening.changes ≡ true → (newest : List Entry) (stand : Stand) (now : CallLog) (job : Running) → IsTraced opening newest stand now
@@ -469,29 +395,79 @@ finished_folder opening tree settled newest stand now job traced jobs_is changed
     let tidy : IsTidyJob opening newest stand.dirty job = subst (λ js. AreTidy opening newest stand.dirty js) jobs_is (traced_tidy opening tree settled newest stand now traced) in
     tidy.stands changed
 
+-- work that changes names
+abbrev IsOfNames : Work → Type 0
+IsOfNames (SetMode s) = ⊥
+IsOfNames work = Unit {0}
+
 -- a folder of its own is the one that holds what it changes, or lies in one of its own
-own_above : (work : Work) (up : Route) → is_own work up ≡ true → (up ≡ changed_folder work) ⊎ (is_own work (folder_of up) ≡ true)
-own_above (Copy c) up own = inl (same_path-true up (folder_of c.target) own)
-own_above (Make m) up own = inl (same_path-true up (folder_of m.path) own)
-own_above (Delete d) up own = elim (or_cases (same_path up (folder_of d.path)) (is_prefix d.path up) own) [
+own_above : (work : Work) (up : Route) → IsOfNames work → is_own work up ≡ true → (up ≡ changed_folder work) ⊎ (is_own work (folder_of up) ≡ true)
+own_above (SetMode s) up names own = absurd names
+own_above (Copy c) up names own = inl (same_path-true up (folder_of c.target) own)
+own_above (Make m) up names own = inl (same_path-true up (folder_of m.path) own)
+own_above (Delete d) up names own = elim (or_cases (same_path up (folder_of d.path)) (is_prefix d.path up) own) [
   | inl here ↦ inl (same_path-true up (folder_of d.path) here)
   | inr within ↦ inr (own_folder d up (folder_of up) within refl)
 ]
 
+-- and its item tells of it
+own_may : (work : Work) (up : Route) → IsOfNames work → is_own work up ≡ true → may_change (item_in work) up ≡ true
+own_may (Copy c) up names own = own
+own_may (Delete d) up names own = own
+own_may (Make m) up names own = making_changes m.thing m.path up own
+own_may (SetMode s) up names own = absurd names
+
 -- so where that one isn't in doubt, and nothing waits in one of its own, nothing there is
-own_settled : (log : CallLog) (work : Work) → is_unsettled log (changed_folder work) ≡ false → ((p : Route) → is_own work (folder_of p) ≡ true → name_waits log p ≡ false) → (path : Route) → is_own work (folder_of path) ≡ true
-    → is_unsettled log path ≡ false
-own_settled log work firm calm [] own = refl
-own_settled log work firm calm (name ∷ up) own = by (own_settled log work firm calm up) (own_above work up own)
+own_settled : (log : CallLog) (work : Work) → IsOfNames work → way_waits log (changed_folder work) ≡ false → ((p : Route) → is_own work (folder_of p) ≡ true → name_waits log p ≡ false) → (path : Route) → is_own work (folder_of path) ≡ true
+    → way_waits log path ≡ false
+own_settled log work names firm calm [] own = refl
+own_settled log work names firm calm (name ∷ up) own = by (own_settled log work names firm calm up) (own_above work up names own)
   where
-    by : (is_own work (folder_of up) ≡ true → is_unsettled log up ≡ false) → (up ≡ changed_folder work) ⊎ (is_own work (folder_of up) ≡ true) → is_unsettled log (name ∷ up) ≡ false
-    by above (inl here) = sure_path log (name ∷ up) (subst (λ q. is_unsettled log q ≡ false) (sym here) firm) (calm (name ∷ up) own)
+    by : (is_own work (folder_of up) ≡ true → way_waits log up ≡ false) → (up ≡ changed_folder work) ⊎ (is_own work (folder_of up) ≡ true) → way_waits log (name ∷ up) ≡ false
+    by above (inl here) = sure_path log (name ∷ up) (subst (λ q. way_waits log q ≡ false) (sym here) firm) (calm (name ∷ up) own)
     by above (inr within) = sure_path log (name ∷ up) (above within) (calm (name ∷ up) own)
+
+module _ (opening now : CallLog) (newest : List Entry) (stand : Stand) (path : Route) (tree : IsTree (current opening)) (settled : all_settled opening.changes ≡ true) (traced : IsTraced opening newest stand now) where
+  -- nor does a mode, parts aside, but where another mount begins
+  own_calm : (Among (named_parts newest) path → ⊥) → (IsMountInDoubt now path → ⊥) → calm_told newest (folder_of path) ≡ true → node_waits now path ≡ false
+  own_calm unnamed no_mount calm = false_from_ne_true (node_waits now path) (λ waits.
+      both_ways _ (calm_there opening now newest stand path tree settled traced unnamed calm (false_from_ne_true _ (λ begins. no_mount (record { begins = begins; waits = waits })))) waits)
+
+  abbrev IsLeft : Work → Type 0
+  IsLeft work = (way_waits now path ≡ false) × ((Among (named_parts newest) path → ⊥) → (IsNoMatter work now path → ⊥) → is_unsettled now path ≡ false)
+
+  -- of work that changes names
+  names_left : (work : Work) → IsOfNames work → way_waits now (changed_folder work) ≡ false → ((q : Route) → is_own work q ≡ true → Among stand.dirty q → ⊥)
+      → ((q : Route) → may_change (item_in work) q ≡ true → calm_told newest q ≡ true) → is_own work (folder_of path) ≡ true
+      → (way_waits now path ≡ false) × ((Among (named_parts newest) path → ⊥) → (IsMountInDoubt now path → ⊥) → is_unsettled now path ≡ false)
+  names_left work names firm off calm own =
+      let sure = own_settled now work names firm (λ p within. false_from_ne_true (name_waits now p) (λ waits. off (folder_of p) within (owed_names opening now newest stand p tree settled traced waits))) path own in
+      (sure, λ unnamed no_mount. ap (λ b. b || node_waits now path) sure ∙ own_calm unnamed no_mount (calm (folder_of path) (own_may work (folder_of path) names own)))
+
+  -- and of work that sets a mode: its thing isn't dirty, nor the folder around
+  mode_left : (s : Setting) → way_waits now (folder_of s.path) ≡ false → (Among stand.dirty s.path → ⊥) → IsApartFrom s.path stand.dirty → path ≡ s.path → IsLeft (SetMode s)
+  mode_left s firm off apart same =
+      let sure = sure_path now path (ap (λ q. way_waits now (folder_of q)) same ∙ firm) (false_from_ne_true _ (named path refl)) in
+      (sure, λ unnamed none. ap (λ b. b || node_waits now path) sure ∙ false_from_ne_true _ (λ waits. off (subst (λ q. Among stand.dirty q) same (owed_modes opening now newest stand path tree settled traced unnamed waits))))
+    where
+      named : (p : Route) → path ≡ p → name_waits now path ≡ true → ⊥
+      named [] is waits = false≢true (sym (ap (name_waits now) is) ∙ waits)
+      named (name ∷ up) is waits =
+          let among = subst (λ q. Among stand.dirty (folder_of q)) same (owed_names opening now newest stand path tree settled traced waits) in
+          let e : up ≡ name ∷ up = sym (ap folder_of (sym same ∙ is)) ∙ (apart among ∙ (sym same ∙ is)) in
+          not_longer [] name up e
+
+  left_by : (work : Work) → way_waits now (changed_folder work) ≡ false → ((q : Route) → is_own work q ≡ true → Among stand.dirty q → ⊥) → TidyFolder work stand.dirty
+      → ((q : Route) → may_change (item_in work) q ≡ true → calm_told newest q ≡ true) → is_own_path work path ≡ true → IsLeft work
+  left_by (Copy c) firm off tidy calm own = names_left (Copy c) tt firm off calm own
+  left_by (Delete d) firm off tidy calm own = names_left (Delete d) tt firm off calm own
+  left_by (Make m) firm off tidy calm own = names_left (Make m) tt firm off calm own
+  left_by (SetMode s) firm off tidy calm own = mode_left s firm (off s.path (same_path-self s.path)) tidy.1 (same_path-true path s.path own)
 
 pub finished_law : FinishedLaw
 finished_law opening now after newest stand dirty job new part path tree settled traced jobs_is works changed own =
     let r = traced_reached opening tree settled newest stand now traced in
     let firm = r.kept.known.stand (changed_folder job.work) (finished_folder opening tree settled newest stand now job traced jobs_is changed) in
     let tidy : IsTidyJob opening newest stand.dirty job = subst (λ js. AreTidy opening newest stand.dirty js) jobs_is (traced_tidy opening tree settled newest stand now traced) in
-    own_settled now job.work firm.sure (λ p within. false_from_ne_true (name_waits now p) (λ waits.
-    finished_tidy opening newest stand.dirty dirty job new part (Some now) (Some after) job.course refl works.tells works.leaves tidy changed (folder_of p) within (owed_law opening now newest stand p tree settled traced waits))) path own
+    let left = finished_tidy opening newest stand.dirty dirty job new part (Some now) (Some after) job.course refl works.tells works.leaves tidy changed in
+    left_by opening now newest stand path tree settled traced job.work firm.sure left.1 left.0 (tidy.calm changed) own

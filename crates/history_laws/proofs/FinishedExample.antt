@@ -1,6 +1,7 @@
 -- The same session goes on: the next job's folder is synced, it is finished, and the session closes. Then what was settled stays so, and
 -- what it has deleted stays gone.
 use Rattle.std.proofs.Common.{◌≡◌, pos, false, List, [], ◌∷◌, refl, sym, ◌∙◌, ap, subst, inl, inr, true≢false, Option, Some, None, Ok, arith}
+use Rattle.std.proofs.lemmas.Bool.{false≢true}
 use Rattle.mc_text.specs.Routes.{Route}
 use Rattle.tree_trait.specs.declared.file_system.FileSystem.{FileSystem}
 use Rattle.tree_trait.specs.FileSystem.{value_at}
@@ -26,7 +27,7 @@ use Rattle.history_laws.specs.Staying.{HasFinished}
 use Rattle.history_laws.specs.Traces.{IsTraced}
 use Rattle.history_laws.proofs.Done.{done_law}
 use Rattle.history_laws.proofs.ExampleParts.{entry, known_is, more_known, no_step, own_step, some_log, stand}
-use Rattle.history_laws.proofs.Staying.{stays_law}
+use Rattle.history_laws.proofs.ModesStay.{stays_law}
 use Rattle.history_laws.proofs.Example.{another, changed, changed_entries, changed_log, deletion, job, log, removal, settled_entries, small_tree, the_file, changed_traced}
 
 -- its folder is synced, and it is finished
@@ -116,14 +117,14 @@ no_live_part (found, inr none, is) = none
 
 still_settled : name_waits (log_prefix (log []) 6 finished_log) the_file ≡ false
 still_settled =
-    stays_law (log []) finished_log ended_entries settled_entries ended_entries ended_entries (stand [] []) 6 the_file small_tree refl ended_traced (inl (refl, refl, refl)) since since
+    stays_law.names (log []) finished_log ended_entries settled_entries ended_entries ended_entries (stand [] []) 6 the_file small_tree refl ended_traced (inl (refl, refl, refl)) since since
     refl no_live_part
   where
     since : IsUnnamedSince settled_entries the_file ended_entries
     since = inr (refl, inr (refl, inr (refl, inr (refl, inl refl))))
 
 -- and the second stays gone
-has_finished : HasFinished end synced_entries []
+abbrev has_finished : HasFinished end synced_entries another
 has_finished = record {
   id = 2;
   part = None;
@@ -136,7 +137,7 @@ has_finished = record {
 
 stays_gone : (image : FileSystem) → IsCrashImage finished_log 6 image → value_at image another ≡ None
 stays_gone image left =
-    done_law (log []) finished_log ended_entries (stand [] []) small_tree refl ended_traced end synced_entries ended_entries ended_entries 6 another image has_finished (λ part. part.named) refl (inl (refl, refl, refl))
+    done_law (log []) finished_log ended_entries (stand [] []) small_tree refl ended_traced end synced_entries ended_entries ended_entries 6 another image has_finished (λ part. part.named) refl (λ m. false≢true m.begins) (inl (refl, refl, refl))
     since since left
   where
     since : IsUnnamedSince finished_entries another ended_entries

@@ -3,6 +3,7 @@
 use Rattle.std.proofs.Common.{◌≡◌, ◌⊎◌, ℕ, ◌+◌, ◌*◌, ◌<◌, pos, Bool, true, false, List, [], ◌∷◌, refl, sym, ◌∙◌, ap, subst, inl, inr, true≢false, Option, Some, None, Ok, Err, arith}
 use Rattle.std.specs.Prelude.{IsSome, if◌then◌else◌}
 use Rattle.std.specs.Str.{bytes_eq}
+use Rattle.std.proofs.lemmas.Bool.{false≢true}
 use Rattle.mc_text.specs.Routes.{Route}
 use Rattle.tree_trait.specs.declared.calls.Children.{Children}
 use Rattle.tree_trait.specs.declared.calls.TreeError.TheVariants as refused
@@ -24,7 +25,7 @@ use Rattle.job_reports.specs.declared.job.Job.TheVariants as plan
 use Rattle.job_reports.specs.declared.report.Did.TheVariants.{Removed, Kept, Skipped, Barrier, Troubled, Ended}
 use Rattle.job_reports.specs.declared.report.Ending.TheVariants.{Finished}
 use Rattle.job_answers.specs.Skipping.{no_skips}
-use Rattle.subtree_walk.specs.Places.{Place, opened, unopened}
+use Rattle.subtree_walk.specs.Places.{Place, unopened}
 use Rattle.subtree_walk.specs.Ranks.{weight}
 use Rattle.tree_deletion.specs.Descending.{Enters}
 use Rattle.tree_deletion.specs.Steps.{WorkCalls}
@@ -43,7 +44,7 @@ use Rattle.copy_move.specs.Jobs.{Running}
 use Rattle.copy_move.specs.declared.run.Course.{Course}
 use Rattle.copy_move.specs.declared.run.Course.TheVariants.{GoesOn, InTrouble, Skips}
 use Rattle.copy_move.specs.declared.work.Work.TheVariants.{Delete}
-use Rattle.history_laws.specs.Staying.{HasFinished}
+use Rattle.history_laws.specs.Staying.{HasFinished, may_change_path}
 use Rattle.history_laws.specs.Traces.{IsTraced, nothing_live}
 use Rattle.history_laws.proofs.Done.{done_law}
 use Rattle.history_laws.proofs.ExampleParts.{deleting_job, entry, file, folder, known_is, more_known, no_step, own_step, stand}
@@ -395,19 +396,19 @@ ended_entries = entry 3 Closed ∷ finished_entries
 ended_traced : IsTraced (log []) ended_entries (stand [] []) synced_log
 ended_traced = (stand [] [], synced_log, finished_traced, record { after = stand [] []; leads = record { after_is = refl; now_is = refl }; stand_is = refl; counts = refl })
 
-has_finished : HasFinished end synced_entries top
-has_finished = record { id = 1; part = None; item = jobs.Removes top; ended = refl; changed = refl; its = refl; within = refl }
+abbrev has_finished : (path : Route) → may_change_path (jobs.Removes top) path ≡ true → HasFinished end synced_entries path
+has_finished path within = record { id = 1; part = None; item = jobs.Removes top; ended = refl; changed = refl; its = refl; within = within }
 
 stays_gone : (image : FileSystem) → IsCrashImage synced_log 3 image → value_at image first ≡ None
 stays_gone image left =
-    done_law (log []) synced_log ended_entries (stand [] []) small_tree refl ended_traced end synced_entries ended_entries ended_entries 3 first image has_finished (λ part. part.named) refl (inl (refl, refl, refl)) since since left
+    done_law (log []) synced_log ended_entries (stand [] []) small_tree refl ended_traced end synced_entries ended_entries ended_entries 3 first image (has_finished first refl) (λ part. part.named) refl (λ m. false≢true m.begins) (inl (refl, refl, refl)) since since left
   where
     since : IsUnnamedSince finished_entries first ended_entries
     since = inr (refl, inl refl)
 
 stays_there : (image : FileSystem) → IsCrashImage synced_log 3 image → value_at image second ≡ Some (value file)
 stays_there image left =
-    done_law (log []) synced_log ended_entries (stand [] []) small_tree refl ended_traced end synced_entries ended_entries ended_entries 3 second image has_finished (λ part. part.named) refl (inl (refl, refl, refl)) since since left
+    done_law (log []) synced_log ended_entries (stand [] []) small_tree refl ended_traced end synced_entries ended_entries ended_entries 3 second image (has_finished second refl) (λ part. part.named) refl (λ m. false≢true m.begins) (inl (refl, refl, refl)) since since left
   where
     since : IsUnnamedSince finished_entries second ended_entries
     since = inr (refl, inl refl)

@@ -20,7 +20,7 @@ use Rattle.session_history.specs.declared.history.JobOrder.TheVariants.{Answered
 use Rattle.copy_move.specs.declared.run.Course.{Course}
 use Rattle.copy_move.specs.declared.run.Course.TheVariants.{GoesOn, InTrouble, OwedSyncFailed, Skips, Ends}
 use Rattle.copy_move.specs.declared.work.Work.{Work}
-use Rattle.copy_move.specs.declared.work.Work.TheVariants.{Copy, Delete, Make}
+use Rattle.copy_move.specs.declared.work.Work.TheVariants.{Copy, Delete, Make, SetMode}
 use Rattle.file_copy.specs.declared.stage.Stage.{Stage}
 use Rattle.file_copy.specs.declared.stage.Stage.TheVariants as at
 use Rattle.file_copy.specs.Copying.{Copying}
@@ -53,11 +53,13 @@ anew_knows : (told : Said) (dirty : List Route) (m : Marks) (log : CallLog) (cou
 anew_knows told dirty m log course (Copy c) (name, listed, stage) = (name, listed, anew_stage told m (current log) course c c.stage stage)
 anew_knows told dirty m log course (Delete d) k = k
 anew_knows told dirty m log course (Make w) k = k
+anew_knows told dirty m log course (SetMode s) k = k
 
 skips_knows : (told : Said) (dirty : List Route) (m : Marks) (log : CallLog) (course : Course) (why : Cause) (work : Work) → WorkKnows told dirty m log course work → WorkKnows told dirty m log course (with_skips why work)
 skips_knows told dirty m log course why (Copy c) k = k
 skips_knows told dirty m log course why (Delete d) k = k
 skips_knows told dirty m log course why (Make w) k = k
+skips_knows told dirty m log course why (SetMode s) k = k
 
 module _ (told : Said) (dirty : List Route) (marks : Marks) (log : CallLog) where
   abbrev Knows : Running → Type 0
@@ -215,7 +217,7 @@ module _ (said : Said) (listed : List LiveJob) (was : Stand) (before : CallLog) 
         (entered dirty_after _ _ (sync_leads said was.dirty dirty_after marks before now kept job new did job_knows syncs)
         (λ m k. knows_after (said_after now did job.work said) dirty_after m now new did k) (still_live new (settled_same syncs.synced)))
       where
-        settled_same : Rattle.copy_move.specs.Steps.SyncsFolder job syncs.folder did new was.dirty dirty_after (Some before) (Some now) → IsSame job new
+        settled_same : Rattle.copy_move.specs.Steps.SyncsOwed job syncs.path did new was.dirty dirty_after (Some before) (Some now) → IsSame job new
         settled_same (inl s) = (ap (λ (x : Running). x.id) s.new_is, ap (λ (x : Running). item_in x.work) s.new_is)
         settled_same (inr s) = (ap (λ (x : Running). x.id) s.new_is, ap (λ (x : Running). item_in x.work) s.new_is)
     stepped dirty_after jobs after (inr (gives, after_is)) is =

@@ -13,7 +13,7 @@ use Rattle.crash_law.specs.Steps.{as_it_stands}
 use Rattle.crash_law.proofs.Others.{opening_law}
 use Rattle.crash_law.proofs.Guarding.{found_there}
 use Rattle.job_reports.specs.Jobs.{folder_changed}
-use Rattle.history_laws.specs.Doubt.{is_pending, is_unsettled}
+use Rattle.history_laws.specs.Doubt.{is_pending, way_waits}
 use Rattle.tree_trait.specs.FileSystem.{find}
 use Rattle.job_reports.specs.declared.report.Did.{Did}
 use Rattle.job_reports.specs.declared.report.Did.TheVariants.{Ended}
@@ -26,13 +26,13 @@ use Rattle.session_history.specs.Entries.{is_closed}
 use Rattle.session_history.specs.LiveJobs.{after_event, live_jobs, live_item}
 use Rattle.history_laws.specs.Replayed.{earlier_tree, log_prefix, replayed_step, replayed_tree}
 use Rattle.history_laws.specs.Traces.{EventLeads, Follows, IsTraced, Stand, if_closed}
-use Rattle.history_laws.proofs.Prefixes.{AreWithin, earlier_more, folders_event, folders_told, replayed_more, said_by, told_of, told_with, within_more}
+use Rattle.history_laws.proofs.Prefixes.{AreWithin, calm_event, calm_told, earlier_more, folders_event, folders_told, replayed_more, said_by, told_of, told_with, within_more}
 use Rattle.history_laws.proofs.Going.{Goes, closed_know, closed_live, event_goes}
 use Rattle.history_laws.proofs.Knowing.{Said, IsKept, anywhere}
 use Rattle.history_laws.proofs.Pending.{pending_settled, within_settled}
 use Rattle.history_laws.proofs.Reports.{HasLive, JobsKnow}
 use Rattle.history_laws.proofs.Sources.{item_in}
-use Rattle.history_laws.proofs.Stepped.{AreMids, doubt_by, folders_by, more, part_after, said_after}
+use Rattle.history_laws.proofs.Stepped.{AreMids, calm_by, doubt_by, folders_by, modes_by, more, part_after, said_after}
 
 -- what holds after these entries
 pub record IsReached (opening : CallLog) (g : List Entry) (stand : Stand) (now : CallLog) : Type 0 where
@@ -57,6 +57,21 @@ doubt_anywhere (reported.Kept kept) part = refl
 doubt_anywhere (reported.Skipped path cause) part = refl
 doubt_anywhere reported.Barrier part = refl
 doubt_anywhere (reported.Troubled trouble) part = refl
+
+-- nor does it hang on the report of which paths a mode may wait, where it may of any
+modes_anywhere : (did : Did) → modes_by did anywhere ≡ anywhere
+modes_anywhere (Ended ending left) = refl
+modes_anywhere (reported.Began made) = refl
+modes_anywhere (reported.Placed path) = refl
+modes_anywhere (reported.Removed path) = refl
+modes_anywhere (reported.Cleaned gone) = refl
+modes_anywhere (reported.Chunk count) = refl
+modes_anywhere (reported.Set path) = refl
+modes_anywhere (reported.Made made) = refl
+modes_anywhere (reported.Kept kept) = refl
+modes_anywhere (reported.Skipped path cause) = refl
+modes_anywhere reported.Barrier = refl
+modes_anywhere (reported.Troubled trouble) = refl
 
 -- what an event makes of it
 pub record IsEntered (opening : CallLog) (older : List Entry) (calls : ℕ) (what : Event) (told : Said) (before : CallLog) (after : Stand) (now : CallLog) : Type 0 where
@@ -115,15 +130,16 @@ module _ (opening : CallLog) (older : List Entry) (calls : ℕ) (was : Stand) (b
     told_is made now_is =
         let tree : replayed_tree opening now older ≡ replayed_tree opening before older = ap (λ l. replayed_tree opening l older) now_is ∙ replayed_more opening before made older r.within in
         let earlier : earlier_tree opening now older ≡ earlier_tree opening before older = ap (λ l. earlier_tree opening l older) now_is ∙ earlier_more opening before made older r.within in
-        ap (λ t. said_by (folders_event (Step id did) (live_jobs older) (folders_told opening older)) t (Rattle.history_laws.specs.Replayed.keeping (Rattle.session_history.specs.Named.changed_by did) (replayed_tree opening now older) (earlier_tree opening now older)) (Rattle.session_history.specs.Named.named_by did (Rattle.session_history.specs.Named.named_parts older)) (part_after did r.part))
+        ap (λ t. said_by (folders_event (Step id did) (live_jobs older) (folders_told opening older)) (calm_event (Step id did) (live_jobs older) (calm_told older)) t (Rattle.history_laws.specs.Replayed.keeping (Rattle.session_history.specs.Named.changed_by did) (replayed_tree opening now older) (earlier_tree opening now older)) (Rattle.session_history.specs.Named.named_by did (Rattle.session_history.specs.Named.named_parts older)) (part_after did r.part))
         (ap (λ l. replayed_step l did (live_item id (live_jobs older)) (replayed_tree opening now older)) at_end
         ∙ (ap (λ w. replayed_step now did w (replayed_tree opening now older)) item_is
         ∙ ap (replayed_step now did (Some (item_in job.work))) tree))
-        ∙ ap (λ t. said_by (folders_event (Step id did) (live_jobs older) (folders_told opening older)) (replayed_step now did (Some (item_in job.work)) (replayed_tree opening before older)) t (Rattle.session_history.specs.Named.named_by did (Rattle.session_history.specs.Named.named_parts older)) (part_after did r.part))
+        ∙ ap (λ t. said_by (folders_event (Step id did) (live_jobs older) (folders_told opening older)) (calm_event (Step id did) (live_jobs older) (calm_told older)) (replayed_step now did (Some (item_in job.work)) (replayed_tree opening before older)) t (Rattle.session_history.specs.Named.named_by did (Rattle.session_history.specs.Named.named_parts older)) (part_after did r.part))
         (ap (λ v. Rattle.history_laws.specs.Replayed.keeping (Rattle.session_history.specs.Named.changed_by did) v (earlier_tree opening now older)) tree
         ∙ ap (Rattle.history_laws.specs.Replayed.keeping (Rattle.session_history.specs.Named.changed_by did) (replayed_tree opening before older)) earlier)
-        ∙ (ap (λ o. said_by (option_map_or (λ item. folders_by did (folder_changed item) (folders_told opening older)) o (folders_told opening older)) (replayed_step now did (Some (item_in job.work)) (replayed_tree opening before older)) (Rattle.history_laws.specs.Replayed.keeping (Rattle.session_history.specs.Named.changed_by did) (replayed_tree opening before older) (earlier_tree opening before older)) (Rattle.session_history.specs.Named.named_by did (Rattle.session_history.specs.Named.named_parts older)) (part_after did r.part)) item_is
-        ∙ ap (λ d. (let t : Said = record (said_after now did job.work told) { doubt = d } in t)) (sym (doubt_anywhere did r.part)))
+        ∙ (ap (λ o. said_by (option_map_or (λ item. folders_by did (folder_changed item) (folders_told opening older)) o (folders_told opening older)) (option_map_or (λ item. calm_by did item (calm_told older)) o (calm_told older)) (replayed_step now did (Some (item_in job.work)) (replayed_tree opening before older)) (Rattle.history_laws.specs.Replayed.keeping (Rattle.session_history.specs.Named.changed_by did) (replayed_tree opening before older) (earlier_tree opening before older)) (Rattle.session_history.specs.Named.named_by did (Rattle.session_history.specs.Named.named_parts older)) (part_after did r.part)) item_is
+        ∙ (ap (λ d. (let t : Said = record (said_after now did job.work told) { doubt = d; modes = anywhere } in t)) (sym (doubt_anywhere did r.part))
+        ∙ ap (λ m. (let t : Said = record (said_after now did job.work told) { modes = m } in t)) (sym (modes_anywhere did))))
 
     stepped : (after : Stand) (n : Led (Step id did) after now) → (let x : Led (Step id did) after now = n in x.said_then) ≡ said_after now did job.work told → Entered (Step id did) after now
     stepped after n then_is =
@@ -177,7 +193,8 @@ module _ (opening : CallLog) (tree : IsTree (current opening)) (settled : all_se
         unborn = λ i past. (opening_law opening tree settled).clean i refl;
         mounts = λ p on. none_unsettled p;
       };
-      moded = λ i. refl;
+      moded = λ i before is unclean. absurd (let f : ⊥ = cc in f);
+      calm = λ p there name i at. inl refl;
       folders = λ i folder. (refl, refl);
       aside = λ p is. absurd (false≢true is);
       was_there = λ p i out is. (found_there (current opening) tree p i is, refl);
@@ -190,15 +207,16 @@ module _ (opening : CallLog) (tree : IsTree (current opening)) (settled : all_se
     };
     aside = λ p is. absurd (false≢true is);
     was = λ p out sure. refl;
+    modes = λ i clean. refl;
   }
     where
       none_by : (name : List ℕ) (o : Option ℕ) → option_map_or (λ f. is_pending f name opening.changes) o false ≡ false
       none_by name None = refl
       none_by name (Some f) = pending_settled f name opening.changes settled
 
-      none_unsettled : (p : Route) → is_unsettled opening p ≡ false
+      none_unsettled : (p : Route) → way_waits opening p ≡ false
       none_unsettled [] = refl
-      none_unsettled (name ∷ up) = ap (λ b. b || is_unsettled opening up) (none_by name (find (current opening) up)) ∙ none_unsettled up
+      none_unsettled (name ∷ up) = ap (λ b. b || way_waits opening up) (none_by name (find (current opening) up)) ∙ none_unsettled up
 
       all_in : Rattle.history_laws.proofs.Pending.all_within opening.changes ≡ true
       all_in = within_settled opening.changes settled

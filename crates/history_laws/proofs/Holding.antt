@@ -1,14 +1,14 @@
 -- A path that is on the disk holds in each later image what it held then, until an entry names it; also where its folder goes. Each step
 -- is asked with what the path held as what it held before, too: so it holds that whichever of the two an image has.
-use Rattle.std.proofs.Common.{◌≡◌, ◌⊎◌, ℕ, ◌+◌, ◌≤◌, Bool, true, false, List, [], ◌∷◌, ◌++◌, length, refl, sym, ◌∙◌, ap, subst, inl, inr, Option, Some, arith, append_assoc, append-nil}
+use Rattle.std.proofs.Common.{◌≡◌, ◌⊎◌, ℕ, ◌+◌, ◌≤◌, Bool, true, false, ◌||◌, List, [], ◌∷◌, ◌++◌, length, refl, sym, ◌∙◌, ap, subst, inl, inr, Option, Some, arith, append_assoc, append-nil}
 use Rattle.std.specs.Prelude.{is_some}
-use Rattle.std.proofs.lemmas.Bool.{both_ways, false_from_ne_true}
+use Rattle.std.proofs.lemmas.Bool.{both_ways, false_from_ne_true, true≢false}
 use Rattle.mc_text.specs.Routes.{Route, same_path}
 use Rattle.tree_trait.specs.declared.file_system.FileSystem.{FileSystem}
 use Rattle.tree_trait.specs.FileSystem.{Spot, Value, find, put, value_at}
 use Rattle.tree_trait.specs.Shape.{IsTree}
 use Rattle.tree_trait.specs.Change.{Change, CallLog, current}
-use Rattle.tree_trait.specs.CrashImages.{Among, IsCrashImage, all_settled}
+use Rattle.tree_trait.specs.CrashImages.{Among, IsCrashImage, all_settled, is_clean}
 use Rattle.tree_trait.proofs.Visible.{same_path-true}
 use Rattle.crash_law.specs.Guarded.{Marks}
 use Rattle.crash_law.specs.Possible.{IsImage}
@@ -25,24 +25,28 @@ use Rattle.session_history.specs.Named.{IsUnnamedSince, named_parts, names_path}
 use Rattle.job_reports.specs.Paths.{without}
 use Rattle.copy_move.specs.declared.run.Course.{Course}
 use Rattle.copy_move.specs.declared.work.Work.{Work}
-use Rattle.copy_move.specs.declared.work.Work.TheVariants.{Copy, Delete, Make}
+use Rattle.copy_move.specs.declared.work.Work.TheVariants.{Copy, Delete, Make, SetMode}
 use Rattle.copy_move.specs.Jobs.{Running}
-use Rattle.history_laws.specs.Doubt.{is_unsettled}
+use Rattle.history_laws.specs.Doubt.{is_unsettled, node_waits, way_waits}
 use Rattle.history_laws.specs.Replayed.{log_prefix, replayed_tree}
 use Rattle.history_laws.specs.Traces.{EventLeads, IsTraced, Stand, if_closed}
 use Rattle.history_laws.proofs.Calming.{still_listed}
 use Rattle.history_laws.proofs.Deleted.{put_at, put_off}
-use Rattle.history_laws.proofs.Finished.{not_listed}
+use Rattle.history_laws.proofs.Tidy.{not_listed}
 use Rattle.history_laws.proofs.Going.{Goes, SaidThen, closed_know, closed_live, event_goes}
 use Rattle.history_laws.proofs.Histories.{IsReached, enters, traced_reached}
 use Rattle.history_laws.proofs.JobKnows.{HasPart, StageKnows, WorkKnows}
-use Rattle.history_laws.proofs.Knowing.{IsKept, Said, safe_path}
+use Rattle.history_laws.proofs.Knowing.{HasMode, HasNoMode, IsKept, Said, held, safe_path, waits_there}
 use Rattle.history_laws.proofs.Moments.{log_of, prefix_cut, prefix_is, traced_count}
 use Rattle.history_laws.proofs.Prefixes.{replayed_more, told_of}
 use Rattle.history_laws.proofs.Reports.{HasLive, JobsKnow}
 use Rattle.history_laws.proofs.Staying.{since_longer}
 use Rattle.history_laws.proofs.Stepped.{AreMids, cut, mid_at, more}
 use Rattle.history_laws.proofs.Unnamed.{earlier_unnamed, named_step, step_unnamed}
+
+neither : (a b : Bool) → (a || b) ≡ false → (a ≡ false) × (b ≡ false)
+neither true b h = absurd (true≢false h)
+neither false b h = (refl, h)
 
 -- what a history says, where a path held this before, too, and was no part
 abbrev holding : Route → Option Value → Said → Said
@@ -94,6 +98,7 @@ module _ (path : Route) (v : Option Value) (told : Said) where
   work_holding dirty marks log course (Copy c) (name, listed, stage) = (name, listed, stage_holding marks (current log) course c c.stage stage)
   work_holding dirty marks log course (Delete d) k = k
   work_holding dirty marks log course (Make w) k = k
+  work_holding dirty marks log course (SetMode s) k = k
 
   jobs_holding : (dirty : List Route) (marks : Marks) (log : CallLog) (jobs : List Running) → JobsKnow told dirty marks log jobs → JobsKnow (holding path v told) dirty marks log jobs
   jobs_holding dirty marks log [] k = k
@@ -106,7 +111,8 @@ module _ (path : Route) (v : Option Value) (told : Said) where
     known = record {
       guarded = kept.known.guarded;
       files = kept.known.files;
-      moded = kept.known.moded;
+      moded = λ i before is unclean. moded i before unclean (kept.known.moded i before is unclean);
+      calm = kept.known.calm;
       folders = kept.known.folders;
       aside = λ p is. still_listed path p told.named (kept.known.aside p is) (false_from_ne_true _ (λ same. both_ways _ out (subst (λ q. marks.aside q ≡ true) (same_path-true p path same) is)));
       was_there = kept.known.was_there;
@@ -119,14 +125,26 @@ module _ (path : Route) (v : Option Value) (told : Said) where
     };
     aside = kept.aside;
     was = kept.was;
+    modes = kept.modes;
   }
     where
+      moded : (i before : ℕ) → is_clean i log.changes ≡ false → HasMode told dirty marks log i before → HasMode (holding path v told) dirty marks log i before
+      moded i before unclean h = record {
+        path = h.path;
+        leads = h.leads;
+        out = h.out;
+        listed = h.listed;
+        told = h.told;
+        shown = ap (λ (s : Spot). s.value) (put_off told.earlier path v h.path (false_from_ne_true _ (λ same.
+            both_ways _ (neither (way_waits log path) (node_waits log path) sure).1 (subst (λ q. node_waits log q ≡ true) (same_path-true h.path path same) (waits_there log h.path i h.leads unclean))))) ∙ h.shown;
+      }
+
       shown : (p : Route) → marks.aside p ≡ false → (b : Bool) → same_path p path ≡ b
-          → (marks.was p ≡ find (current log) p) ⊎ (Rattle.history_laws.proofs.Knowing.held (current log) (marks.was p) ≡ (let t : Said = holding path v told in t.earlier p).value)
-      shown p out_p true same = inl (subst (λ q. marks.was q ≡ find (current log) q) (sym (same_path-true p path same)) (kept.was path out sure))
+          → (marks.was p ≡ find (current log) p) ⊎ ((held (current log) (marks.was p) ≡ (let t : Said = holding path v told in t.earlier p).value) × HasNoMode marks (marks.was p))
+      shown p out_p true same = inl (subst (λ q. marks.was q ≡ find (current log) q) (sym (same_path-true p path same)) (kept.was path out (neither (way_waits log path) (node_waits log path) sure).0))
       shown p out_p false off = elim (kept.known.was_shown p out_p) [
         | inl now ↦ inl now
-        | inr old ↦ inr (old ∙ sym (ap (λ (s : Spot). s.value) (put_off told.earlier path v p off)))
+        | inr old ↦ inr (old.0 ∙ sym (ap (λ (s : Spot). s.value) (put_off told.earlier path v p off)), old.1)
       ]
 
 -- where a path isn't in doubt, and isn't a part that stands, it is held
@@ -150,7 +168,7 @@ held_here opening g stand now path r sure bare = record {
     out : (a : Bool) → r.marks.aside path ≡ a → (Among (named_parts g) path → ⊥) ⊎ (is_some (find (current now) path) ≡ false) → r.marks.aside path ≡ false
     out false is bare = is
     out true is (inl unnamed) = absurd (unnamed (r.kept.known.aside path is))
-    out true is (inr gone) = elim (r.kept.aside path is) [ inl waits ↦ absurd (both_ways _ sure waits) | inr stands ↦ absurd (both_ways _ gone stands) ]
+    out true is (inr gone) = elim (r.kept.aside path is) [ inl waits ↦ absurd (both_ways _ (neither (way_waits now path) (node_waits now path) sure).0 waits) | inr stands ↦ absurd (both_ways _ gone stands) ]
 
 -- an event that doesn't name it
 module _ (listed : List LiveJob) (was : Stand) (before : CallLog) (path : Route) (v : Option Value) (h : IsHeld listed was before path v) where

@@ -17,12 +17,12 @@ use Rattle.job_reports.specs.Paths.{folder_of}
 use Rattle.job_reports.proofs.PermittedCalls.{stat_missing}
 use Rattle.copy_move.specs.declared.work.Work.TheVariants.{Delete}
 use Rattle.copy_move.specs.Deletions.{Deleting}
-use Rattle.copy_move.specs.Settling.{NoneOwed}
-use Rattle.history_laws.specs.Doubt.{is_pending, is_unsettled, name_waits}
+use Rattle.copy_move.specs.Settling.{NoneOwed, is_own}
+use Rattle.history_laws.specs.Doubt.{is_pending, way_waits, name_waits}
 use Rattle.history_laws.proofs.Changing.{folder_anchored}
 use Rattle.history_laws.proofs.Deleted.{IsRemoval, removal_leads}
-use Rattle.history_laws.proofs.JobKnows.{HasName, IsIntact, intact_settled, none_on, way_sure}
-use Rattle.history_laws.proofs.Knowing.{IsKept, IsKnown, Said, settled_marks}
+use Rattle.history_laws.proofs.JobKnows.{HasName, IsIntact, calm_in, intact_settled, none_on, none_unlisted, way_sure}
+use Rattle.history_laws.proofs.Knowing.{IsCalmIn, IsKept, IsKnown, Said, settled_marks}
 use Rattle.history_laws.proofs.Resting.{IsSureFolder, folder_at, folder_at_of, stands_at, sure_path}
 
 pub prefix_way : (top p : Route) → is_prefix top p ≡ true → (rest : Route) × (p ≡ rest ++ top)
@@ -36,6 +36,14 @@ pub prefix_append : (top rest : Route) → is_prefix top (rest ++ top) ≡ true
 prefix_append [] [] = refl
 prefix_append (name ∷ top) [] = or_left (same_path (name ∷ top) (name ∷ top)) (is_prefix (name ∷ top) top) (same_path-self (name ∷ top))
 prefix_append top (name ∷ rest) = or_right (same_path top (name ∷ rest ++ top)) (is_prefix top (rest ++ top)) (prefix_append top rest)
+
+-- the folder of what a deletion removes is its own
+pub own_folder : (d : Deleting) (path q : Route) → is_prefix d.path path ≡ true → q ≡ folder_of path → is_own (Delete d) q ≡ true
+own_folder d path q within same = let w = prefix_way d.path path within in by w.0 (same ∙ ap folder_of w.1)
+  where
+    by : (rest : Route) → q ≡ folder_of (rest ++ d.path) → is_own (Delete d) q ≡ true
+    by [] e = or_left (same_path q (folder_of d.path)) (is_prefix d.path q) (subst (λ p. same_path p (folder_of d.path) ≡ true) (sym e) (same_path-self (folder_of d.path)))
+    by (name ∷ rest) e = or_right (same_path q (folder_of d.path)) (is_prefix d.path q) (subst (λ p. is_prefix d.path p ≡ true) (sym e) (prefix_append d.path rest))
 
 module _ (told : Said) (dirty : List Route) (marks : Marks) (log : CallLog) (kept : IsKept told dirty marks log) (d : Deleting) (has : HasName d.path) (none : NoneOwed (current log) (Delete d) dirty) where
   -- no folder in which something lies that is deleted is dirty
@@ -59,23 +67,33 @@ module _ (told : Said) (dirty : List Route) (marks : Marks) (log : CallLog) (kep
       ]
 
   -- nor is the folder that holds it in doubt
-  up_sure : (f : ℕ) → find (current log) (folder_of d.path) ≡ Some f → is_unsettled log (folder_of d.path) ≡ false
+  up_sure : (f : ℕ) → find (current log) (folder_of d.path) ≡ Some f → way_waits log (folder_of d.path) ≡ false
   up_sure f at = way_sure told dirty marks log (folder_of d.path) f kept.known at (none_on (current log) (Delete d) dirty none)
 
   pub folder_firm : folder_at (current log) (folder_of d.path) ≡ true → IsSureFolder log (folder_of d.path)
   folder_firm stands = let there = stands_at (current log) (folder_of d.path) stands in record { stands = stands; sure = up_sure there.i there.at }
 
   -- so nothing that stands there is
-  top_sure : (i : ℕ) → find (current log) (has.name ∷ folder_of d.path) ≡ Some i → is_unsettled log (has.name ∷ folder_of d.path) ≡ false
+  top_sure : (i : ℕ) → find (current log) (has.name ∷ folder_of d.path) ≡ Some i → way_waits log (has.name ∷ folder_of d.path) ≡ false
   top_sure i at =
       let h = and_then-some (find (current log) (folder_of d.path)) (λ g. lookup (current log).names g has.name) i at in
       sure_path log (has.name ∷ folder_of d.path) (up_sure h.0 h.1) (calm has.name (folder_of d.path) h.0 h.1 (inr refl))
 
-  sure_there : (rest : Route) (i : ℕ) → find (current log) (rest ++ d.path) ≡ Some i → is_unsettled log (rest ++ d.path) ≡ false
-  sure_there [] i at = subst (λ q. is_unsettled log q ≡ false) (sym has.is) (top_sure i (sym (ap (find (current log)) has.is) ∙ at))
+  sure_there : (rest : Route) (i : ℕ) → find (current log) (rest ++ d.path) ≡ Some i → way_waits log (rest ++ d.path) ≡ false
+  sure_there [] i at = subst (λ q. way_waits log q ≡ false) (sym has.is) (top_sure i (sym (ap (find (current log)) has.is) ∙ at))
   sure_there (name ∷ rest) i at =
       let h = and_then-some (find (current log) (rest ++ d.path)) (λ g. lookup (current log).names g name) i at in
       sure_path log (name ∷ rest ++ d.path) (sure_there rest h.0 h.1) (calm name (rest ++ d.path) h.0 h.1 (inl (prefix_append d.path rest)))
+
+  -- no mode waits in its folders
+  pub calm_begins : (q : Route) → is_own (Delete d) q ≡ true → IsCalmIn marks (current log) q
+  calm_begins q own = elim (or_cases (same_path q (folder_of d.path)) (is_prefix d.path q) own) [
+    | inl here ↦ subst (IsCalmIn marks (current log)) (sym (same_path-true q (folder_of d.path) here)) (calm_in told dirty marks log kept (folder_of d.path) (none_on (current log) (Delete d) dirty none))
+    | inr within ↦ λ name i at. inl (none_unlisted told dirty marks log kept (name ∷ q) i at (λ among. elim (none (name ∷ q) among) [
+      | inl gone ↦ (let e : (let o : Option ℕ = None in o) ≡ Some i = sym (stat_missing (current log) (name ∷ q) gone) ∙ at in let x : ⊥ = cc in x)
+      | inr apart ↦ both_ways _ apart.0 (or_right (same_path d.path (name ∷ q)) (is_prefix d.path q) within)
+    ]))
+  ]
 
   -- before the first change nothing waits there, so all is as it was found
   pub intact_begins : IsIntact marks (current log) d.path

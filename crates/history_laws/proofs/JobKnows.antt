@@ -12,7 +12,7 @@ use Rattle.tree_trait.specs.FileSystem.{find, lookup, node, starts_mount}
 use Rattle.tree_trait.specs.Refusals.{mount_here, mount_of, refusal_of}
 use Rattle.tree_trait.specs.Answers.{mount_number}
 use Rattle.tree_trait.specs.Change.{CallLog, current}
-use Rattle.tree_trait.specs.CrashImages.{Among}
+use Rattle.tree_trait.specs.CrashImages.{Among, is_clean}
 use Rattle.tree_trait.proofs.Finding.{and_then-some, find-once}
 use Rattle.crash_law.specs.Guarded.{Marks}
 use Rattle.job_reports.specs.declared.report.Did.{Did}
@@ -29,12 +29,13 @@ use Rattle.job_reports.proofs.PermittedCalls.{stat_missing}
 use Rattle.copy_move.specs.declared.run.Course.{Course}
 use Rattle.copy_move.specs.declared.run.Course.TheVariants.{GoesOn}
 use Rattle.copy_move.specs.declared.work.Work.{Work}
-use Rattle.copy_move.specs.declared.work.Work.TheVariants.{Copy, Delete, Make}
+use Rattle.copy_move.specs.declared.work.Work.TheVariants.{Copy, Delete, Make, SetMode}
 use Rattle.copy_move.specs.Settling.{IsMountOf, LiesApart, NoneOwed, changed_folder}
 use Rattle.tree_deletion.specs.declared.deletion.Stage.TheVariants.{Going}
+use Rattle.tree_deletion.specs.Folders.{is_of}
 use Rattle.crash_law.proofs.Unworked.{unworked_law}
-use Rattle.history_laws.specs.Doubt.{is_pending, is_unsettled, name_waits}
-use Rattle.history_laws.proofs.Knowing.{Said, IsKnown, IsKept, settled_marks}
+use Rattle.history_laws.specs.Doubt.{is_pending, way_waits, name_waits}
+use Rattle.history_laws.proofs.Knowing.{HasMode, IsCalmIn, IsKept, IsKnown, Said, settled_marks}
 
 -- nothing was done at the target yet, and nothing stands there
 pub record IsUntouched (marks : Marks) (s : FileSystem) (target : Route) : Type 0 where
@@ -83,15 +84,20 @@ StageKnows told marks s course c (Clean part follows) = (c.folder ≡ Dirty) × 
 StageKnows told marks s course c (Left part) = (i : ℕ) × HasPart told marks s c.target part i
 StageKnows told marks s course c Decided = told.part ≡ None
 
+-- of a deletion that goes on: the folder that holds the thing is on the disk, too, and in it, and within the thing, no mode waits
+abbrev pub KnowsWithin : Said → Marks → FileSystem → Route → Type 0
+KnowsWithin told marks s top = IsIntact marks s top × (told.folders (folder_of top) ≡ true) × ((q : Route) → is_of (folder_of top) top q ≡ true → told.calm q ≡ true)
+
 abbrev pub WorkKnows : Said → List Route → Marks → CallLog → Course → Work → Type 0
 WorkKnows told dirty marks log course (Copy c) =
-    HasName c.target × (c.folder ≡ Dirty → Among dirty (folder_of c.target) × (told.folders (folder_of c.target) ≡ true)) × StageKnows told marks (current log) course c c.stage
+    HasName c.target × (c.folder ≡ Dirty → Among dirty (folder_of c.target) × (told.folders (folder_of c.target) ≡ true) × (told.calm (folder_of c.target) ≡ true)) × StageKnows told marks (current log) course c c.stage
 WorkKnows told dirty marks log course (Delete d) =
-    HasName d.path × (told.part ≡ None) × (d.stage ≡ Going → IsIntact marks (current log) d.path × (told.folders (folder_of d.path) ≡ true))
+    HasName d.path × (told.part ≡ None) × (d.stage ≡ Going → KnowsWithin told marks (current log) d.path)
 WorkKnows told dirty marks log course (Make m) = HasName m.path × (told.part ≡ None)
+WorkKnows told dirty marks log course (SetMode s) = HasName s.path × (told.part ≡ None)
 
 -- a path at which nothing stands, and of whose name nothing waits
-pub untouched_free : (told : Said) (dirty : List Route) (marks : Marks) (log : CallLog) (p : Route) → IsKept told dirty marks log → is_unsettled log p ≡ false → find (current log) p ≡ None → IsUntouched marks (current log) p
+pub untouched_free : (told : Said) (dirty : List Route) (marks : Marks) (log : CallLog) (p : Route) → IsKept told dirty marks log → way_waits log p ≡ false → find (current log) p ≡ None → IsUntouched marks (current log) p
 untouched_free told dirty marks log p kept sure free =
     let out = not_aside (marks.aside p) refl in
     record { out = out; free = free; was = kept.was p out sure ∙ free }
@@ -133,7 +139,7 @@ none_waits told dirty marks log up known none m = by (find (current log) up) ref
 
 -- nor is the folder itself in doubt, nor one above it: those on other mounts never are
 pub way_sure : (told : Said) (dirty : List Route) (marks : Marks) (log : CallLog) (up : Route) (i : ℕ) → IsKnown told dirty marks log → find (current log) up ≡ Some i → NoneOn (current log) up dirty
-    → is_unsettled log up ≡ false
+    → way_waits log up ≡ false
 way_sure told dirty marks log [] i known at none = refl
 way_sure told dirty marks log (name ∷ up) i known at none =
     by (starts_mount (current log) i) refl (λ above. way_sure told dirty marks log up h.0 known h.1 above)
@@ -141,22 +147,64 @@ way_sure told dirty marks log (name ∷ up) i known at none =
     h : (g : ℕ) × (find (current log) up ≡ Some g) × (lookup (current log).names g name ≡ Some i)
     h = and_then-some (find (current log) up) (λ g. lookup (current log).names g name) i at
 
-    by : (b : Bool) → starts_mount (current log) i ≡ b → (NoneOn (current log) up dirty → is_unsettled log up ≡ false) → is_unsettled log (name ∷ up) ≡ false
+    by : (b : Bool) → starts_mount (current log) i ≡ b → (NoneOn (current log) up dirty → way_waits log up ≡ false) → way_waits log (name ∷ up) ≡ false
     by true starts rest = known.files.mounts (name ∷ up) (ap (λ o. option_map_or (starts_mount (current log)) o false) at ∙ starts)
     by false starts rest =
         let same : mount_of (current log) (name ∷ up) ≡ mount_of (current log) up =
         ap (λ o. mount_here (current log) o (mount_of (current log) up)) at ∙ ap (λ b. cond b i (mount_of (current log) up)) starts in
         let above = subst (λ n. (kept : Route) → Among dirty kept → (refusal_of (current log) (Stat kept) ≡ Some Missing)
         ⊎ ((number : ℕ) × (number ≡ mount_number (current log).mounts n) × (IsMountOf (current log) kept number → ⊥))) same none in
-        ap (λ b. b || is_unsettled log up) (none_waits told dirty marks log up known above name) ∙ rest above
+        ap (λ b. b || way_waits log up) (none_waits told dirty marks log up known above name) ∙ rest above
+
+-- a mode that waits is of a path at which something stands, which is listed
+module _ (told : Said) (dirty : List Route) (marks : Marks) (log : CallLog) (kept : IsKept told dirty marks log) where
+  pub mode_listed : (p : Route) (i before : ℕ) → find (current log) p ≡ Some i → marks.modes i ≡ Some before → Among dirty p
+  mode_listed p i before at is = by (is_clean i log.changes) refl
+    where
+      by : (b : Bool) → is_clean i log.changes ≡ b → Among dirty p
+      by true clean = absurd (let none = kept.modes i clean in let e : (let o : Option ℕ = None in o) ≡ Some before = sym none ∙ is in let f : ⊥ = cc in f)
+      by false unclean = let h : HasMode told dirty marks log i before = kept.known.moded i before is unclean in subst (λ q. Among dirty q) (find-once (current log) kept.known.guarded.tree h.path p i h.leads at) h.listed
+
+  -- so none waits of what stands at a path that isn't
+  pub none_unlisted : (p : Route) (i : ℕ) → find (current log) p ≡ Some i → (Among dirty p → ⊥) → marks.modes i ≡ None
+  none_unlisted p i at off = by (marks.modes i) refl
+    where
+      by : (o : Option ℕ) → marks.modes i ≡ o → marks.modes i ≡ None
+      by None is = is
+      by (Some before) is = absurd (off (mode_listed p i before at is))
+
+  -- nor of a part
+  pub none_of_part : (part : Route) (i : ℕ) → find (current log) part ≡ Some i → marks.aside part ≡ true → marks.modes i ≡ None
+  none_of_part part i at aside = by (marks.modes i) refl (is_clean i log.changes) refl
+    where
+      by : (o : Option ℕ) → marks.modes i ≡ o → (b : Bool) → is_clean i log.changes ≡ b → marks.modes i ≡ None
+      by None is b b_is = is
+      by (Some before) is true clean = kept.modes i clean
+      by (Some before) is false unclean =
+          let h : HasMode told dirty marks log i before = kept.known.moded i before is unclean in
+          absurd (both_ways _ (subst (λ q. marks.aside q ≡ false) (find-once (current log) kept.known.guarded.tree h.path part i h.leads at) h.out) aside)
+
+  -- Where no dirty path lies on the mount of a folder, no mode waits of what stands in it but where another mount begins.
+  pub calm_in : (up : Route) → NoneOn (current log) up dirty → IsCalmIn marks (current log) up
+  calm_in up none name i at = by (starts_mount (current log) i) refl
+    where
+      by : (b : Bool) → starts_mount (current log) i ≡ b → (marks.modes i ≡ None) ⊎ (starts_mount (current log) i ≡ true)
+      by true begins = inr begins
+      by false inside =
+          let same : mount_of (current log) (name ∷ up) ≡ mount_of (current log) up =
+          ap (λ o. mount_here (current log) o (mount_of (current log) up)) at ∙ ap (λ b. cond b i (mount_of (current log) up)) inside in
+          inl (none_unlisted (name ∷ up) i at (λ among. elim (none (name ∷ up) among) [
+            | inl gone ↦ (let e : (let o : Option ℕ = None in o) ≡ Some i = sym (stat_missing (current log) (name ∷ up) gone) ∙ at in let f : ⊥ = cc in f)
+            | inr apart ↦ apart.2 (subst (λ n. apart.0 ≡ mount_number (current log).mounts n) (sym same) apart.1)
+          ]))
 
 -- What is known of a job is known with the marks that are settled.
 module _ (log : CallLog) (marks : Marks) where
   pub untouched_settled : (p : Route) → IsUntouched marks (current log) p → IsUntouched (settled_marks log marks) (current log) p
   untouched_settled p u = record {
-    out = ap (λ a. a && (is_unsettled log p || is_some (find (current log) p))) u.out;
+    out = ap (λ a. a && (way_waits log p || is_some (find (current log) p))) u.out;
     free = u.free;
-    was = by (is_unsettled log p);
+    was = by (way_waits log p);
   }
     where
       by : (b : Bool) → cond b (marks.was p) (find (current log) p) ≡ None
@@ -178,7 +226,7 @@ module _ (log : CallLog) (marks : Marks) where
   }
 
   -- what is taken back stands, or it is said of it what was said
-  remarked : (p : Route) → (let m = settled_marks log marks in m.aside p) ≡ false → (u : Bool) → is_unsettled log p ≡ u
+  remarked : (p : Route) → (let m = settled_marks log marks in m.aside p) ≡ false → (u : Bool) → way_waits log p ≡ u
       → (find (current log) p ≡ (let m = settled_marks log marks in m.was p)) ⊎ ((find (current log) p ≡ None) ⊎ ((marks.aside p ≡ false) × ((let m = settled_marks log marks in m.was p) ≡ marks.was p)))
   remarked p out false is = inl (sym (ap (λ b. cond b (marks.was p) (find (current log) p)) is))
   remarked p out true is = inr (inr (by (marks.aside p) (ap (λ b. marks.aside p && (b || is_some (find (current log) p))) (sym is) ∙ out), ap (λ b. cond b (marks.was p) (find (current log) p)) is))
@@ -188,7 +236,7 @@ module _ (log : CallLog) (marks : Marks) where
       by false h = refl
 
   pub intact_settled : (top : Route) → IsIntact marks (current log) top → IsIntact (settled_marks log marks) (current log) top
-  intact_settled top known = unworked_law.remarked marks (settled_marks log marks) log top (λ p out. remarked p out (is_unsettled log p) refl) known
+  intact_settled top known = unworked_law.remarked marks (settled_marks log marks) log top (λ p out. remarked p out (way_waits log p) refl) known
 
   stage_settled : (told : Said) (course : Course) (c : Copying) (stage : Stage) → StageKnows told marks (current log) course c stage → StageKnows told (settled_marks log marks) (current log) course c stage
   stage_settled told course c Begin (none, untouched) = (none, λ dirty. untouched_settled c.target (untouched dirty))
@@ -199,8 +247,9 @@ module _ (log : CallLog) (marks : Marks) where
 
   pub work_settled : (told : Said) (dirty : List Route) (course : Course) (work : Work) → WorkKnows told dirty marks log course work → WorkKnows told dirty (settled_marks log marks) log course work
   work_settled told dirty course (Copy c) (name, listed, stage) = (name, listed, stage_settled told course c c.stage stage)
-  work_settled told dirty course (Delete d) (name, none, intact) = (name, none, λ is. let k = intact is in (intact_settled d.path k.0, k.1))
+  work_settled told dirty course (Delete d) (name, none, intact) = (name, none, λ is. let k = intact is in (intact_settled d.path k.0, k.1, k.2))
   work_settled told dirty course (Make w) k = k
+  work_settled told dirty course (SetMode s) k = k
 
 -- a job that goes on only where it went on knows what it knew
 pub stage_course : (told : Said) (marks : Marks) (s : FileSystem) (course other : Course) (c : Copying) (stage : Stage) → (other ≡ GoesOn → course ≡ GoesOn) → StageKnows told marks s course c stage → StageKnows told marks s other c stage
@@ -214,12 +263,14 @@ pub work_course : (told : Said) (dirty : List Route) (marks : Marks) (log : Call
 work_course told dirty marks log course other (Copy c) on (name, listed, stage) = (name, listed, stage_course told marks (current log) course other c c.stage on stage)
 work_course told dirty marks log course other (Delete d) on k = k
 work_course told dirty marks log course other (Make w) on k = k
+work_course told dirty marks log course other (SetMode s) on k = k
 
 -- what is known holds on after a call that leaves the tree as it was
 pub work_still : (told : Said) (dirty : List Route) (marks : Marks) (log now : CallLog) (course : Course) (work : Work) → current now ≡ current log → WorkKnows told dirty marks log course work → WorkKnows told dirty marks now course work
 work_still told dirty marks log now course (Copy c) same (name, listed, stage) = (name, listed, subst (λ (s : FileSystem). StageKnows told marks s course c c.stage) (sym same) stage)
-work_still told dirty marks log now course (Delete d) same (name, none, known) = (name, none, λ is. let k = known is in (subst (λ (s : FileSystem). IsIntact marks s d.path) (sym same) k.0, k.1))
+work_still told dirty marks log now course (Delete d) same (name, none, known) = (name, none, λ is. let k = known is in (subst (λ (s : FileSystem). IsIntact marks s d.path) (sym same) k.0, k.1, k.2))
 work_still told dirty marks log now course (Make m) same k = k
+work_still told dirty marks log now course (SetMode s) same k = k
 
 -- what is known after a report: of a job that has ended no part stands
 abbrev pub KnowsAfter : Did → Said → List Route → CallLog → Course → Work → Marks → Type 0

@@ -2,9 +2,7 @@
 use Rattle.std.proofs.Common.{◌≡◌, true, List, refl, sym, ◌∙◌, ap, subst, inl, inr, Some}
 use Rattle.mc_text.specs.Routes.{Route}
 use Rattle.tree_trait.specs.declared.file_system.FileSystem.{FileSystem}
-use Rattle.tree_trait.specs.Calls.{SyncFolder}
 use Rattle.tree_trait.specs.Change.{CallLog, current}
-use Rattle.job_reports.specs.Stops.{cause_of, trouble_at}
 use Rattle.crash_law.specs.Guarded.{Marks}
 use Rattle.tree_trait.proofs.Visible.{same_path-true}
 use Rattle.job_reports.specs.Paths.{folder_of}
@@ -18,7 +16,7 @@ use Rattle.file_copy.specs.Copying.{Copying}
 use Rattle.file_copy.specs.Copying as copying
 use Rattle.job_reports.proofs.CallAnswers.{some_log}
 use Rattle.copy_move.specs.declared.work.Work.{Work}
-use Rattle.copy_move.specs.declared.work.Work.TheVariants.{Copy, Delete, Make}
+use Rattle.copy_move.specs.declared.work.Work.TheVariants.{Copy, Delete, Make, SetMode}
 use Rattle.copy_move.specs.declared.run.Course.{Course}
 use Rattle.copy_move.specs.declared.run.Course.TheVariants.{GoesOn, InTrouble, OwedSyncFailed, Skips, Ends}
 use Rattle.copy_move.specs.Makings.{Making}
@@ -27,9 +25,11 @@ use Rattle.copy_move.specs.DeletionSteps.{after_try}
 use Rattle.copy_move.specs.Settling.{NoneOwed, WorkLeaves}
 use Rattle.copy_move.specs.Steps.{LeavesDirty}
 use Rattle.history_laws.specs.Traces.{IsUnclaimed, SyncLeads, WorkLeads}
-use Rattle.history_laws.proofs.Calming.{refused_is}
+use Rattle.mode_setting.specs.Settings.{Setting}
+use Rattle.history_laws.proofs.Calming.{thing_stopped}
+use Rattle.history_laws.proofs.ModeSteps.{setting_tells, setting_winds}
 use Rattle.history_laws.proofs.Deleted.{comes_refused}
-use Rattle.history_laws.proofs.DeletionSteps.{Steps, comes_synced, deletion_tells, deletion_winds, stands, stays, still_going}
+use Rattle.history_laws.proofs.DeletionSteps.{Steps, comes_thing_synced, deletion_tells, deletion_winds, stands, stays, still_going}
 use Rattle.history_laws.proofs.MakingSteps.{making_tells, making_winds}
 use Rattle.history_laws.proofs.CopySteps.{copy_tells}
 use Rattle.history_laws.proofs.JobSteps.{copy_winds, fresh_knows}
@@ -54,7 +54,14 @@ module _ (told : Said) (dirty dirty_after : List Route) (marks : Marks) (log now
   skip_knows course (Delete d) (Copy new) path h k = absurd h
   skip_knows course (Delete d) (Make new) path h k = absurd h
   skip_knows course (Make m) (Copy new) path h k = absurd h
+  skip_knows course (SetMode s) (Copy new) path h k = absurd h
+  skip_knows course (SetMode s) (Delete new) path h k = absurd h
+  skip_knows course (SetMode s) (Make new) path h k = absurd h
+  skip_knows course (Copy c) (SetMode new) path h k = absurd h
+  skip_knows course (Delete d) (SetMode new) path h k = absurd h
+  skip_knows course (Make m) (SetMode new) path h k = absurd h
   skip_knows course (Make m) (Delete new) path h k = absurd h
+  skip_knows course (SetMode s) (SetMode new) path (path_is, new_is) k = subst (λ (n : Setting). WorkKnows told dirty marks log GoesOn (SetMode n)) (sym new_is) k
   skip_knows course (Make m) (Make new) path (path_is, new_is) k = subst (λ (n : Making). WorkKnows told dirty marks log GoesOn (Make n)) (sym new_is) k
   skip_knows course (Delete d) (Delete new) path at k = stays told dirty dirty_after marks log now kept course GoesOn d new _ k at (still_going told dirty dirty_after marks log now kept path d) dirty
 
@@ -64,11 +71,18 @@ module _ (told : Said) (dirty dirty_after : List Route) (marks : Marks) (log now
   work_tells (Copy c) (Copy new) did knows tells calls settled leaves = copy_tells told dirty dirty_after marks log now kept c new did knows tells calls (λ fresh. none_on (current log) (Copy c) dirty (settled fresh)) leaves
   work_tells (Delete d) (Delete new) did knows tells calls settled leaves = deletion_tells told dirty dirty_after marks log now kept d new did knows tells calls settled leaves
   work_tells (Make w) (Make new) did knows tells calls settled leaves = making_tells told dirty dirty_after marks log now kept w new did knows tells calls (λ fresh. none_on (current log) (Make w) dirty (settled fresh)) leaves
+  work_tells (SetMode s) (SetMode new) did knows tells calls settled leaves = setting_tells told dirty dirty_after marks log now kept s new did knows tells calls settled leaves
   work_tells (Copy c) (Delete new) did knows tells calls settled leaves = absurd tells
   work_tells (Copy c) (Make new) did knows tells calls settled leaves = absurd tells
   work_tells (Delete d) (Copy new) did knows tells calls settled leaves = absurd tells
   work_tells (Delete d) (Make new) did knows tells calls settled leaves = absurd tells
   work_tells (Make w) (Copy new) did knows tells calls settled leaves = absurd tells
+  work_tells (SetMode s) (Copy new) did knows tells calls settled leaves = absurd tells
+  work_tells (SetMode s) (Delete new) did knows tells calls settled leaves = absurd tells
+  work_tells (SetMode s) (Make new) did knows tells calls settled leaves = absurd tells
+  work_tells (Copy c) (SetMode new) did knows tells calls settled leaves = absurd tells
+  work_tells (Delete d) (SetMode new) did knows tells calls settled leaves = absurd tells
+  work_tells (Make w) (SetMode new) did knows tells calls settled leaves = absurd tells
   work_tells (Make w) (Delete new) did knows tells calls settled leaves = absurd tells
 
   work_winds : (ending : Ending) (old new : Work) (did : Did) → WorkKnows told dirty marks log (Ends ending) old → WorkWinds ending old did new → WorkLastCalls old did log (Some now)
@@ -81,11 +95,20 @@ module _ (told : Said) (dirty dirty_after : List Route) (marks : Marks) (log now
   work_winds ending (Make m) (Make new) did knows winds calls leaves =
       making_winds told dirty dirty_after marks log now kept m new ending did leaves.refusal knows winds (leaves.tried log refl) calls
       (leaves.dirty_is ∙ ap (λ f. after_try did leaves.refusal f dirty) (same_path-true leaves.folder (folder_of m.path) leaves.own))
+  work_winds ending (SetMode s) (SetMode new) did knows winds calls leaves =
+      setting_winds told dirty dirty_after marks log now kept s new ending did leaves.refusal knows winds (leaves.tried log refl) calls
+      (leaves.dirty_is ∙ ap (λ f. after_try did leaves.refusal f dirty) (same_path-true leaves.folder s.path leaves.own))
   work_winds ending (Copy c) (Delete new) did knows winds calls leaves = absurd winds
   work_winds ending (Copy c) (Make new) did knows winds calls leaves = absurd winds
   work_winds ending (Delete d) (Copy new) did knows winds calls leaves = absurd winds
   work_winds ending (Delete d) (Make new) did knows winds calls leaves = absurd winds
   work_winds ending (Make m) (Copy new) did knows winds calls leaves = absurd winds
+  work_winds ending (SetMode s) (Copy new) did knows winds calls leaves = absurd winds
+  work_winds ending (SetMode s) (Delete new) did knows winds calls leaves = absurd winds
+  work_winds ending (SetMode s) (Make new) did knows winds calls leaves = absurd winds
+  work_winds ending (Copy c) (SetMode new) did knows winds calls leaves = absurd winds
+  work_winds ending (Delete d) (SetMode new) did knows winds calls leaves = absurd winds
+  work_winds ending (Make m) (SetMode new) did knows winds calls leaves = absurd winds
   work_winds ending (Make m) (Delete new) did knows winds calls leaves = absurd winds
 
   abbrev pub Leads : Running → Did → Running → Type 0
@@ -117,15 +140,15 @@ module _ (told : Said) (dirty dirty_after : List Route) (marks : Marks) (log now
   pub sync_leads : (job new : Running) (did : Did) → WorkKnows told dirty marks log job.course job.work → SyncLeads job did new dirty dirty_after log now → Leads job did new
   sync_leads job new did knows s = by s.synced
     where
-      by : Rattle.copy_move.specs.Steps.SyncsFolder job s.folder did new dirty dirty_after (Some log) (Some now) → Leads job did new
+      by : Rattle.copy_move.specs.Steps.SyncsOwed job s.path did new dirty dirty_after (Some log) (Some now) → Leads job did new
       by (inl f) =
           subst (λ x. Leads job x new) (sym f.did_is) (subst (λ (x : Running). Leads job Barrier x) (sym f.new_is)
           (subst (λ xs. Comes told told xs log now (λ m. WorkKnows told xs m now job.course job.work)) (sym f.dirty_is)
-          (comes_synced told dirty marks log now s.folder job.course job.work kept
-          (fresh_knows told dirty (Rattle.job_reports.specs.Paths.without s.folder dirty) marks log job.course job.work s.fresh knows) (f.called log refl))))
+          (comes_thing_synced told dirty marks log now s.path job.course job.work kept
+          (fresh_knows told dirty (Rattle.job_reports.specs.Paths.without s.path dirty) marks log job.course job.work s.fresh knows) (f.called log refl))))
       by (inr f) =
-          subst (λ x. Leads job x new) (sym f.did_is) (subst (λ (x : Running). Leads job (Troubled (trouble_at f.error s.folder true)) x) (sym f.new_is)
-          (subst (λ xs. Comes told told xs log now (λ m. WorkKnows told xs m now (OwedSyncFailed (cause_of f.error)) job.work)) (sym f.dirty_is)
-          (comes_refused told dirty marks log now (OwedSyncFailed (cause_of f.error)) job.work kept
-          (work_course told dirty marks log job.course (OwedSyncFailed (cause_of f.error)) job.work (λ x. absurd (let f : ⊥ = cc in f)) knows)
-          (refused_is log now (SyncFolder s.folder) f.error (λ x bytes. refl) (f.called log refl)))))
+          subst (λ x. Leads job x new) (sym f.did_is) (subst (λ (x : Running). Leads job (Troubled f.trouble) x) (sym f.new_is)
+          (subst (λ xs. Comes told told xs log now (λ m. WorkKnows told xs m now (OwedSyncFailed f.trouble.cause) job.work)) (sym f.dirty_is)
+          (comes_refused told dirty marks log now (OwedSyncFailed f.trouble.cause) job.work kept
+          (work_course told dirty marks log job.course (OwedSyncFailed f.trouble.cause) job.work (λ x. absurd (let f : ⊥ = cc in f)) knows)
+          (thing_stopped log now s.path f.trouble.cause f.trouble.path (f.called log refl)))))

@@ -28,7 +28,7 @@ use Rattle.file_copy.specs.LastSteps.{SyncAnswers, WindCalls, Winds, given_up, l
 use Rattle.file_copy.specs.LastSteps as last
 use Rattle.job_reports.proofs.CallAnswers.{some_log}
 use Rattle.copy_move.specs.declared.work.Work.{Work}
-use Rattle.copy_move.specs.declared.work.Work.TheVariants.{Copy, Delete, Make}
+use Rattle.copy_move.specs.declared.work.Work.TheVariants.{Copy, Delete, Make, SetMode}
 use Rattle.copy_move.specs.declared.run.Course.{Course}
 use Rattle.copy_move.specs.declared.run.Course.TheVariants.{Ends}
 use Rattle.copy_move.specs.Jobs.{part_of}
@@ -57,6 +57,7 @@ pub fresh_knows : (told : Said) (dirty other : List Route) (marks : Marks) (log 
 fresh_knows told dirty other marks log course (Copy c) fresh (name, listed, stage) = (name, (λ e. absurd (fresh_synced c.stage c.folder fresh e)), stage)
 fresh_knows told dirty other marks log course (Delete d) fresh k = k
 fresh_knows told dirty other marks log course (Make w) fresh k = k
+fresh_knows told dirty other marks log course (SetMode s) fresh k = k
 
 module _ (told : Said) (dirty dirty_after : List Route) (marks : Marks) (log now : CallLog) (kept : IsKept told dirty marks log) where
   -- an end names the part that stays
@@ -69,7 +70,8 @@ module _ (told : Said) (dirty dirty_after : List Route) (marks : Marks) (log now
         known = record {
           guarded = kept.known.guarded;
           files = kept.known.files;
-          moded = kept.known.moded;
+          moded = λ j before is unclean. let h = kept.known.moded j before is unclean in record { path = h.path; leads = h.leads; out = h.out; listed = h.listed; told = h.told; shown = h.shown };
+          calm = kept.known.calm;
           folders = kept.known.folders;
           aside = kept.known.aside;
           was_there = kept.known.was_there;
@@ -82,6 +84,7 @@ module _ (told : Said) (dirty dirty_after : List Route) (marks : Marks) (log now
         };
         aside = kept.aside;
         was = kept.was;
+        modes = kept.modes;
       })) refl)
     where
       mountless : option_map_or (starts_mount (current log)) (find (current log) part) false ≡ false
@@ -120,6 +123,8 @@ module _ (told : Said) (dirty dirty_after : List Route) (marks : Marks) (log now
       subst (λ x. Comes told (said_after now x (Delete d) told) dirty_after log now (λ m. (said_after now x (Delete d) told).part ≡ None)) (sym did_is) (ends told dirty dirty_after marks log now kept (Delete d) knows.1 same is)
   gives_up (Make w) course did knows did_is same is =
       subst (λ x. Comes told (said_after now x (Make w) told) dirty_after log now (λ m. (said_after now x (Make w) told).part ≡ None)) (sym did_is) (ends told dirty dirty_after marks log now kept (Make w) knows.1 same is)
+  gives_up (SetMode s) course did knows did_is same is =
+      subst (λ x. Comes told (said_after now x (SetMode s) told) dirty_after log now (λ m. (said_after now x (SetMode s) told).part ≡ None)) (sym did_is) (ends told dirty dirty_after marks log now kept (SetMode s) knows.1 same is)
 
   -- the part that a last step removes
   removed_part : (c : Copying) (ending : Ending) (part : Route) (stage : Stage) → StageKnows told marks (current log) (Ends ending) c stage → removable stage ≡ Some part

@@ -7,6 +7,6 @@ use Rattle.history_laws.proofs.Finished.{finished_law}
 use Rattle.history_laws.proofs.Holding.{holds_since}
 
 pub finished_stays_law : FinishedStaysLaw
-finished_stays_law opening now after newest older standing coming was stand dirty job new part calls path image tree settled traced before jobs_is works changed own unnamed moment since later left =
-    holds_since opening now newest older standing coming stand calls path image tree settled traced moment since later
-    (finished_law opening (log_prefix opening (calls_in older) now) after older was dirty job new part path tree settled before jobs_is works changed own) (inl unnamed) left
+finished_stays_law opening now after newest older standing coming was stand dirty job new part calls path image tree settled traced before jobs_is works changed own unnamed none moment since later left =
+    let done = finished_law opening (log_prefix opening (calls_in older) now) after older was dirty job new part path tree settled before jobs_is works changed own in
+    holds_since opening now newest older standing coming stand calls path image tree settled traced moment since later (done.1 unnamed none) (inl unnamed) left

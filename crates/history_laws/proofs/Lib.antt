@@ -25,9 +25,12 @@ pub mod JobLeads
 pub mod JobSteps
 pub mod Knowing
 pub mod Lasting
-pub mod MakingFolders
 pub mod MakingParts
 pub mod MakingSteps
+pub mod MakingThings
+pub mod ModeExample
+pub mod ModeSteps
+pub mod ModesStay
 pub mod Moments
 pub mod Owing
 pub mod PartNodes
@@ -38,8 +41,10 @@ pub mod Quiet
 pub mod Renaming
 pub mod Reports
 pub mod Resting
+pub mod SettingModes
 pub mod Sources
 pub mod Staying
 pub mod Stepped
+pub mod Tidy
 pub mod Unchanged
 pub mod Unnamed

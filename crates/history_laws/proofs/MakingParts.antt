@@ -20,7 +20,7 @@ use Rattle.crash_law.proofs.Leading.{current_more}
 use Rattle.crash_law.proofs.Making.{making_law}
 use Rattle.crash_law.proofs.Tops.{under_made, none_below}
 use Rattle.job_reports.specs.Paths.{folder_of}
-use Rattle.history_laws.proofs.Knowing.{Said, IsKnown, nowhere}
+use Rattle.history_laws.proofs.Knowing.{HasMode, IsCalmIn, IsKnown, Said, nowhere}
 use Rattle.history_laws.proofs.Resting.{IsSureFolder}
 use Rattle.history_laws.proofs.Renaming.{naming_known}
 use Rattle.history_laws.proofs.Changing.{seen_nowhere, none_below_file, folder_anchored, off_itself, said_one, some_none, some_is}
@@ -56,7 +56,7 @@ both_false false b h e = e
 older : (i n : ℕ) → i < n → (i == n) ≡ false
 older i n less = false_from_ne_true _ (λ same. let e = eqb-true i n same in absurd (omega (arith, less, e)))
 
-module _ (told : Said) (dirty : List Route) (marks : Marks) (log : CallLog) (known : IsKnown told dirty marks log) (part : Route) where
+module _ (told : Said) (dirty : List Route) (marks : Marks) (log : CallLog) (known : IsKnown told dirty marks log) (part : Route) (free : find (current log) part ≡ None) where
   abbrev n : ℕ
   n = new_node log
 
@@ -65,6 +65,17 @@ module _ (told : Said) (dirty : List Route) (marks : Marks) (log : CallLog) (kno
 
   there_folder : (i : ℕ) → is_folder (node (current log) i) ≡ true → i < n
   there_folder i is = folder_there (current log).nodes i is
+
+  -- nothing stands there, so no mode of it waits
+  moded_apart : (i before : ℕ) → HasMode told dirty marks log i before → HasMode (naming_part told part) dirty new_marks log i before
+  moded_apart i before h = record {
+    path = h.path;
+    leads = h.leads;
+    out = both_false _ _ (false_from_ne_true _ (λ same. some_none i (sym h.leads ∙ (ap (find (current log)) (same_path-true h.path part same) ∙ free)))) h.out;
+    listed = h.listed;
+    told = h.told;
+    shown = h.shown;
+  }
 
   pub marked_known : IsKnown (naming_part told part) dirty new_marks log
   marked_known = record {
@@ -78,7 +89,8 @@ module _ (told : Said) (dirty : List Route) (marks : Marks) (log : CallLog) (kno
       places = λ i stays. inl (neither _ _ stays).1;
     });
     files = known.files;
-    moded = known.moded;
+    moded = λ i before is unclean. moded_apart i before (known.moded i before is unclean);
+    calm = known.calm;
     folders = λ i is. let o = older i n (there_folder i is) in let k = known.folders i is in (both_false _ _ o k.0, both_false _ _ o k.1);
     aside = λ p is. elim (either _ _ is) [ inl same ↦ inl (same_path-true p part same) | inr before ↦ inr (known.aside p before) ];
     was_there = λ p i out is. let t = known.was_there p i (neither _ _ out).1 is in (t.0, both_false _ _ (older i n t.0) t.1);
@@ -98,10 +110,10 @@ pub record MakesPart (told : Said) (log : CallLog) (name : List ℕ) (up : Route
   pub free : lookup (current log).names f name ≡ None
 
 abbrev pub with_part : Said → Route → Said
-with_part told part = record (naming_part told part) { part = Some part; doubt = λ p. told.doubt p || same_path p part; folders = λ p. same_path p (folder_of part) || told.folders p }
+with_part told part = record (naming_part told part) { part = Some part; doubt = λ p. told.doubt p || same_path p part; folders = λ p. same_path p (folder_of part) || told.folders p; calm = λ p. same_path p (folder_of part) || told.calm p }
 
 module _ (told : Said) (dirty dirty_after : List Route) (marks : Marks) (log : CallLog) (known : IsKnown told dirty marks log) (name : List ℕ) (up : Route) (f : ℕ) (made : Node)
-    (m : MakesPart told log name up f) (bare : is_folder made ≡ false) where
+    (m : MakesPart told log name up f) (bare : is_folder made ≡ false) (new_mode : marks.modes (new_node log) ≡ None) where
   abbrev makes : Change
   makes = Makes f name made
 
@@ -111,8 +123,11 @@ module _ (told : Said) (dirty dirty_after : List Route) (marks : Marks) (log : C
   abbrev part : Route
   part = name ∷ up
 
+  was_free : find (current log) part ≡ None
+  was_free = ap (option_and_then (λ g. lookup (current log).names g name)) m.at ∙ m.free
+
   marked : IsKnown (naming_part told part) dirty (marks_new marks part (new_node log)) log
-  marked = marked_known told dirty marks log known part
+  marked = marked_known told dirty marks log known part was_free
 
   naming : IsNaming (marks_new marks part (new_node log)) log makes
   naming = making_law (marks_new marks part (new_node log)) log up name f made marked.guarded (record {
@@ -151,9 +166,6 @@ module _ (told : Said) (dirty dirty_after : List Route) (marks : Marks) (log : C
   bare_part : is_folder (node (current now) (new_node log)) ≡ false
   bare_part = ap is_folder part_node ∙ bare
 
-  was_free : find (current log) part ≡ None
-  was_free = ap (option_and_then (λ g. lookup (current log).names g name)) m.at ∙ m.free
-
   pub off_part : (p : Route) → same_path p part ≡ false → find (current now) p ≡ find (current log) p
   off_part p off = elim (find_same log makes p) [
     | inl same ↦ same
@@ -175,8 +187,8 @@ module _ (told : Said) (dirty dirty_after : List Route) (marks : Marks) (log : C
   nodes_more : length (current now).nodes ≡ count_after makes (new_node log)
   nodes_more = ap (λ (s : FileSystem). length s.nodes) (current_more log makes) ∙ count-after_change (current log) makes
 
-  pub made_known : IsSureFolder log up → Among dirty_after up → ((q : Route) → Among dirty q → Among dirty_after q) → IsKnown (with_part told part) dirty_after (marks_new marks part (new_node log)) now
-  made_known firm listed more = naming_known (naming_part told part) (with_part told part) dirty dirty_after (marks_new marks part (new_node log)) log makes up part part f marked (record {
+  pub made_known : IsSureFolder log up → IsCalmIn marks (current log) up → Among dirty_after up → ((q : Route) → Among dirty q → Among dirty_after q) → IsKnown (with_part told part) dirty_after (marks_new marks part (new_node log)) now
+  made_known firm calm listed more = naming_known (naming_part told part) (with_part told part) dirty dirty_after (marks_new marks part (new_node log)) log makes up part part f marked (record {
     naming = naming;
     within = refl;
     stands = stands;
@@ -190,6 +202,9 @@ module _ (told : Said) (dirty dirty_after : List Route) (marks : Marks) (log : C
     at = λ k h. inl (ap (λ q. (let r : Route = q ∷ up in r)) (sym (name_is k h)));
     doubts = λ p h. or_left _ _ h;
     folders = λ p h. elim (either _ _ h) [ inl same ↦ inr (subst (λ q. IsSureFolder log q) (sym (same_path-true p up same)) firm) | inr before ↦ inl before ];
+    modes = λ p h. h;
+    calm = λ p h. elim (either _ _ h) [ inl same ↦ inr (subst (λ q. IsCalmIn marks (current log) q) (sym (same_path-true p up same)) calm) | inr before ↦ inl before ];
+    no_mode = λ p i at there. mode_of i (elim there [ inl before ↦ inl (sym (ap (find (current log)) (either_is p at)) ∙ before) | inr then ↦ inr (sym (ap (find (current now)) (either_is p at)) ∙ then) ]);
     touched = λ p at. or_right _ _ (subst (λ q. same_path q part ≡ true) (sym (either_is p at)) (same_path-self part));
     named = marked.aside;
     off = λ p first second. (off_part p first, refl, refl, λ is. some_none_route p (sym m.none ∙ is));
@@ -205,6 +220,10 @@ module _ (told : Said) (dirty dirty_after : List Route) (marks : Marks) (log : C
       either_is : (p : Route) → (p ≡ part) ⊎ (p ≡ part) → p ≡ part
       either_is p (inl e) = e
       either_is p (inr e) = e
+
+      mode_of : (i : ℕ) → (find (current log) part ≡ Some i) ⊎ (find (current now) part ≡ Some i) → marks.modes i ≡ None
+      mode_of i (inl before) = some_none i (sym before ∙ was_free)
+      mode_of i (inr then) = subst (λ k. marks.modes k ≡ None) (sym (some_is (new_node log) i (sym part_leads ∙ then))) new_mode
 
       name_is : (k : List ℕ) → is_some (says makes 0 f k) ≡ true → name ≡ k
       name_is k h = (same_name-true f f name k (said_one (same_name f name f k) (Some 0) h)).1

@@ -1,14 +1,16 @@
--- Each step of the making of a folder keeps what is known.
-use Rattle.std.proofs.Common.{◌≡◌, ◌⊎◌, true, false, List, [], ◌∷◌, ◌++◌, refl, sym, ◌∙◌, ap, subst, inl, inr, Option, Some, None, Ok, Err, pos}
+-- Each step of the making of a thing keeps what is known.
+use Rattle.std.proofs.Common.{◌≡◌, ◌⊎◌, ℕ, ℤ, true, false, List, [], ◌∷◌, refl, sym, ◌∙◌, ap, subst, inl, inr, Option, Some, None, Ok, Err, arith, pos}
 use Rattle.std.specs.Prelude.{option_and_then}
 use Rattle.std.proofs.lemmas.Bool.{both_ways, false_from_ne_true, or_left, or_right}
-use Rattle.mc_text.specs.declared.kind.Kind.TheVariants.{Folder}
+use Rattle.mc_text.specs.declared.kind.Kind.TheVariants as kind
 use Rattle.mc_text.specs.Routes.{Route, same_path}
 use Rattle.tree_trait.specs.declared.file_system.Node.{Node}
 use Rattle.tree_trait.specs.declared.calls.TreeError.{TreeError}
-use Rattle.tree_trait.specs.FileSystem.{Spot, find, lookup}
-use Rattle.tree_trait.specs.Calls.{MakeFolder, SyncFolder}
-use Rattle.tree_trait.specs.Change.{Makes, Nothing, CallLog, current, found, with_change}
+use Rattle.tree_trait.specs.declared.file_system.FileSystem.{FileSystem}
+use Rattle.tree_trait.specs.FileSystem.{Spot, find, lookup, value}
+use Rattle.tree_trait.specs.Calls.{SyncFolder}
+use Rattle.tree_trait.specs.Change.{Makes, Nothing, CallLog, change_of, current, found, torn_write, with_change}
+use Rattle.tree_trait.specs.Refusals.{refusal_of}
 use Rattle.tree_trait.specs.CrashImages.{Among}
 use Rattle.tree_trait.specs.Answers.{Performs}
 use Rattle.tree_trait.proofs.Visible.{same_path-self, same_path-true}
@@ -24,53 +26,82 @@ use Rattle.job_reports.proofs.CallAnswers.{IsDoneCall, done_call, some_log}
 use Rattle.job_reports.proofs.PermittedCalls.{IsMaking, making_passes}
 use Rattle.copy_move.specs.declared.making.MakingStage.{MakingStage}
 use Rattle.copy_move.specs.declared.making.MakingStage.TheVariants as making
+use Rattle.copy_move.specs.declared.new_thing.NewThing.{NewThing}
+use Rattle.copy_move.specs.declared.new_thing.NewThing.TheVariants as thing
 use Rattle.copy_move.specs.declared.work.Work.{Work}
 use Rattle.copy_move.specs.declared.work.Work.TheVariants.{Make}
 use Rattle.copy_move.specs.declared.run.Course.{Course}
 use Rattle.copy_move.specs.declared.run.Course.TheVariants.{GoesOn, Ends}
 use Rattle.copy_move.specs.DeletionSteps.{after_try}
-use Rattle.copy_move.specs.Makings.{Answers, LastMakingCalls, Making, MakingCalls, MakingLeaves, Tells, Winds, call_of, is_fresh}
+use Rattle.copy_move.specs.Makings.{Answers, LastMakingCalls, Making, MakingCalls, MakingLeaves, Tells, Winds, call_of, is_fresh, sync_of}
 use Rattle.copy_move.specs.Makings as makings
+use Rattle.copy_move.specs.NewThings.{making_call}
 use Rattle.copy_move.specs.Jobs.{course_after}
 use Rattle.copy_move.specs.Settling.{with_change as moves_dirty}
-use Rattle.history_laws.specs.Replayed.{new_folder}
+use Rattle.history_laws.specs.Replayed.{made_by}
+use Rattle.history_laws.specs.Staying.{may_change}
 use Rattle.history_laws.proofs.Calming.{refused_is, still_listed}
 use Rattle.history_laws.proofs.Changing.{seen_nowhere}
 use Rattle.history_laws.proofs.Deleted.{comes_refused, either, put_at, put_off}
 use Rattle.history_laws.proofs.DeletionSteps.{Steps, ends, joined_holds, joined_more, same_dirty, tried}
 use Rattle.tree_deletion.specs.Folders.{joined}
-use Rattle.history_laws.proofs.JobKnows.{HasName, IsUntouched, KnowsAfter, NoneOn, WorkKnows, none_waits, untouched_free, way_sure}
-use Rattle.history_laws.proofs.Knowing.{IsKept, IsKnown, Said, nowhere, settled_marks}
-use Rattle.history_laws.proofs.MakingFolders.{folder_made_known, marks_born, new_node}
+use Rattle.history_laws.proofs.JobKnows.{HasName, IsUntouched, KnowsAfter, NoneOn, WorkKnows, calm_in, none_waits, untouched_free, way_sure}
+use Rattle.history_laws.proofs.Knowing.{IsCalmIn, IsKept, IsKnown, Said, nowhere, settled_marks}
+use Rattle.history_laws.proofs.MakingThings.{marks_born, new_node, thing_made_known}
 use Rattle.history_laws.proofs.Resting.{IsSureFolder, folder_at_of, sure_path}
-use Rattle.history_laws.proofs.Sources.{item_in}
+use Rattle.history_laws.proofs.Sources.{folder_is, item_in, making_changed, making_item}
 use Rattle.history_laws.proofs.Stepped.{Comes, comes_one, said_after}
 
--- what a new folder is
-abbrev new_folder_node : Node
-new_folder_node = record { kind = Folder; bytes = []; mode = new_folder_mode; mtime = pos 0; unnamed = 0 }
+-- what a new thing is
+abbrev node_of : NewThing → Node
+node_of thing.Folder = record { kind = kind.Folder; bytes = []; mode = new_folder_mode; mtime = pos 0; unnamed = 0 }
+node_of (thing.Link text) = record { kind = kind.Link; bytes = text; mode = 0; mtime = pos 0; unnamed = 0 }
 
--- a folder is made
-module _ (told : Said) (dirty dirty_after : List Route) (marks : Marks) (log now : CallLog) (name : List Rattle.std.proofs.Common.ℕ) (up : Route) (work : Work) (kept : IsKept told dirty marks log) (none : told.part ≡ None)
-    (owed : NoneOn (current log) up dirty) (within : folder_changed (item_in work) ≡ up) (listed : Among dirty_after up) (more : (q : Route) → Among dirty q → Among dirty_after q)
-    (done : Performs {A = Unit {0}} log (MakeFolder (name ∷ up) new_folder_mode) (Ok tt) (Some now)) where
+-- it is what the history says of its making
+shown_as : (new : NewThing) (path : Route) → made_by (Some (making_item new path)) ≡ value (node_of new)
+shown_as thing.Folder path = refl
+shown_as (thing.Link text) path = refl
+
+-- the call that makes it is refused as the making of a file is, and it is no write
+thing_passes : (s : FileSystem) (new : NewThing) (name : List ℕ) (up : Route) → refusal_of s (making_call new (name ∷ up)) ≡ None → IsMaking s name up
+thing_passes s thing.Folder name up h = making_passes s name up new_folder_mode h
+thing_passes s (thing.Link text) name up h = making_passes s name up 0 h
+
+thing_made : (s : FileSystem) (new : NewThing) (name : List ℕ) (up : Route) (time : ℤ) → change_of s (making_call new (name ∷ up)) time ≡ Makes (found s up) name (node_of new)
+thing_made s thing.Folder name up time = refl
+thing_made s (thing.Link text) name up time = refl
+
+no_write : (new : NewThing) (path : Route) (s : FileSystem) (left : List ℕ) → torn_write s (making_call new path) left ≡ Nothing
+no_write thing.Folder path s left = refl
+no_write (thing.Link text) path s left = refl
+
+-- a thing is made
+module _ (told : Said) (dirty dirty_after : List Route) (marks : Marks) (log now : CallLog) (name : List ℕ) (up : Route) (new : NewThing) (work : Work) (kept : IsKept told dirty marks log) (none : told.part ≡ None)
+    (owed : NoneOn (current log) up dirty) (within : folder_changed (item_in work) ≡ up) (own : (p : Route) → may_change (item_in work) p ≡ true → p ≡ up) (said_made : made_by (Some (item_in work)) ≡ value (node_of new)) (listed : Among dirty_after up) (more : (q : Route) → Among dirty q → Among dirty_after q)
+    (done : Performs {A = Unit {0}} log (making_call new (name ∷ up)) (Ok tt) (Some now)) where
   abbrev made_path : Route
   made_path = name ∷ up
 
   abbrev after : Said
   after = said_after now (Made made_path) work told
 
-  d : IsDoneCall log (MakeFolder made_path new_folder_mode) now
-  d = done_call log (MakeFolder made_path new_folder_mode) now done
+  d : IsDoneCall log (making_call new made_path) now
+  d = done_call log (making_call new made_path) now done
+
+  now_is : now ≡ with_change log (Makes (found (current log) up) name (node_of new))
+  now_is = d.is ∙ ap (with_change log) (thing_made (current log) new name up d.time)
 
   passes : IsMaking (current log) name up
-  passes = making_passes (current log) name up new_folder_mode d.permits
+  passes = thing_passes (current log) new name up d.permits
 
   firm : IsSureFolder log up
   firm = record {
     stands = folder_at_of (current log) up (found (current log) up) passes.folder passes.holds;
     sure = way_sure told dirty marks log up (found (current log) up) kept.known passes.folder owed;
   }
+
+  calm : (p : Route) → may_change (item_in work) p ≡ true → IsCalmIn marks (current log) p
+  calm p here = subst (IsCalmIn marks (current log)) (sym (own p here)) (calm_in told dirty marks log kept up owed)
 
   was_free : find (current log) made_path ≡ None
   was_free = ap (option_and_then (λ g. lookup (current log).names g name)) passes.folder ∙ passes.none
@@ -89,46 +120,49 @@ module _ (told : Said) (dirty dirty_after : List Route) (marks : Marks) (log now
   other : (p : Route) → marks.aside p ≡ true → same_path p made_path ≡ false
   other p aside = false_from_ne_true _ (λ same. both_ways _ (ap marks.aside (same_path-true p made_path same) ∙ untouched.out) aside)
 
-  known_then : IsKnown after dirty_after (marks_born marks (new_node log)) (with_change log (Makes (found (current log) up) name new_folder_node))
-  known_then = folder_made_known told after dirty dirty_after marks log kept.known name up (found (current log) up) new_folder_node (record {
+  known_then : IsKnown after dirty_after (marks_born marks (new_node log)) (with_change log (Makes (found (current log) up) name (node_of new)))
+  known_then = thing_made_known told after dirty dirty_after marks log kept.known name up (found (current log) up) (node_of new) (record {
     none = none;
     firm = firm;
     at = passes.folder;
     holds = passes.holds;
     free = passes.none;
-    folder = refl;
     was = untouched.was;
     named = λ p aside. still_listed made_path p told.named (kept.known.aside p aside) (other p aside);
-    off = λ p off. (put_off told.tree made_path (Some new_folder) p off, put_off told.earlier made_path (told.tree made_path).value p off);
-    shown = put_at told.tree made_path (Some new_folder) ∙ ap (λ (s : Spot). (let t : Spot = record { value = Some new_folder; is_mount = s.is_mount } in t)) nothing_told;
+    off = λ p off. (put_off told.tree made_path (Some (made_by (Some (item_in work)))) p off, put_off told.earlier made_path (told.tree made_path).value p off);
+    shown = put_at told.tree made_path (Some (made_by (Some (item_in work)))) ∙ ap (λ (s : Spot). (let t : Spot = record { value = Some (made_by (Some (item_in work))); is_mount = s.is_mount } in t)) nothing_told
+        ∙ ap (λ v. (let t : Spot = record { value = Some v; is_mount = false } in t)) said_made;
     earlier = ap (λ (s : Spot). s.value) (put_at told.earlier made_path (told.tree made_path).value) ∙ ap (λ (s : Spot). s.value) nothing_told;
     no_part = none;
     doubts = λ p h. or_left _ _ h;
     doubted = or_right _ _ (same_path-self made_path);
+    modes = λ p h. h;
+    calm = λ p there. elim (either (may_change (item_in work) p) (told.calm p) there) [ inl here ↦ inr (calm p here) | inr before ↦ inl before ];
+    new_mode = kept.modes (new_node log) (kept.known.files.unborn (new_node log) (omega arith));
     folders = λ p there. elim (either (same_path p (folder_changed (item_in work))) (told.folders p) there) [
       | inl same ↦ inr (same_path-true p (folder_changed (item_in work)) same ∙ within)
       | inr before ↦ inl before
     ];
   }) listed more
 
-  pub folder_made : (knows : Marks → Type 0) → ((m : Marks) → knows m) → Comes told after dirty_after log now knows
-  folder_made knows known_of =
-      comes_one told after dirty dirty_after marks (marks_born marks (new_node log)) log now (Makes (found (current log) up) name new_folder_node) knows kept d.is
-      (subst (λ (l : CallLog). IsKnown after dirty_after (marks_born marks (new_node log)) l) (sym d.is) known_then) (known_of (settled_marks now (marks_born marks (new_node log))))
+  pub thing_is_made : (knows : Marks → Type 0) → ((m : Marks) → knows m) → Comes told after dirty_after log now knows
+  thing_is_made knows known_of =
+      comes_one told after dirty dirty_after marks (marks_born marks (new_node log)) log now (Makes (found (current log) up) name (node_of new)) knows kept now_is
+      (subst (λ (l : CallLog). IsKnown after dirty_after (marks_born marks (new_node log)) l) (sym now_is) known_then) (known_of (settled_marks now (marks_born marks (new_node log))))
 
 module _ (told : Said) (dirty dirty_after : List Route) (marks : Marks) (log now : CallLog) (kept : IsKept told dirty marks log) where
   abbrev In : Did → Course → Work → Work → Type 0
   In did course work new = Steps told dirty dirty_after marks log now kept did course work new
 
-  -- the folder was made, by its last name
+  -- the thing was made, by its last name
   made_at : (w new : Making) (name : HasName w.path) → told.part ≡ None → new ≡ record w { stage = making.Sync } → NoneOn (current log) (folder_of w.path) dirty → dirty_after ≡ joined (folder_of w.path) dirty
-      → Performs {A = Unit {0}} log (MakeFolder w.path new_folder_mode) (Ok tt) (Some now) → In (Made w.path) GoesOn (Make w) (Make new)
+      → Performs {A = Unit {0}} log (making_call w.thing w.path) (Ok tt) (Some now) → In (Made w.path) GoesOn (Make w) (Make new)
   made_at w new name none new_is owed routes done =
       let up = folder_of w.path in
       subst (λ q. Comes told (said_after now (Made q) (Make w) told) dirty_after log now (KnowsAfter (Made q) (said_after now (Made q) (Make w) told) dirty_after now GoesOn (Make new))) (sym name.is)
-      (folder_made told dirty dirty_after marks log now name.name up (Make w) kept none owed refl
+      (thing_is_made told dirty dirty_after marks log now name.name up w.thing (Make w) kept none owed (folder_is (Make w)) (λ p own. same_path-true p (folder_of w.path) (making_changed w.thing w.path p own)) (shown_as w.thing w.path)
       (subst (λ xs. Among xs up) (sym routes) (joined_holds up dirty)) (λ q among. subst (λ xs. Among xs q) (sym routes) (joined_more up q dirty among))
-      (subst (λ q. Performs {A = Unit {0}} log (MakeFolder q new_folder_mode) (Ok tt) (Some now)) name.is done)
+      (subst (λ q. Performs {A = Unit {0}} log (making_call w.thing q) (Ok tt) (Some now)) name.is done)
       (KnowsAfter (Made (name.name ∷ up)) (said_after now (Made (name.name ∷ up)) (Make w) told) dirty_after now GoesOn (Make new))
       (λ m. (subst (λ (x : Making). HasName x.path) (sym new_is) name, none)))
 
@@ -138,25 +172,25 @@ module _ (told : Said) (dirty dirty_after : List Route) (marks : Marks) (log now
   making_tells w new (Made path) (name, none) (stage, path_is, new_is) done settled leaves =
       subst (λ q. In (Made q) GoesOn (Make w) (Make new)) (sym path_is) (made_at w new name none new_is (settled (ap is_fresh stage))
       (leaves ∙ (ap (λ x. moves_dirty (makings.is_dirty x) (makings.is_dirty new.stage) (folder_of w.path) dirty) stage ∙ ap (λ (x : Making). moves_dirty false (makings.is_dirty x.stage) (folder_of w.path) dirty) new_is))
-      (subst (λ q. Performs {A = Unit {0}} log (MakeFolder q new_folder_mode) (Ok tt) (Some now)) path_is done))
+      (subst (λ q. Performs {A = Unit {0}} log (making_call w.thing q) (Ok tt) (Some now)) path_is done))
   making_tells w new Barrier (name, none) (stage, new_is) done settled leaves =
       let routes : dirty_after ≡ without (folder_of w.path) dirty =
       leaves ∙ (ap (λ x. moves_dirty (makings.is_dirty x) (makings.is_dirty new.stage) (folder_of w.path) dirty) stage ∙ ap (λ (x : Making). moves_dirty true (makings.is_dirty x.stage) (folder_of w.path) dirty) new_is) in
       tried told dirty dirty_after marks log now kept (folder_of w.path) None GoesOn (Make new) (λ routes. (subst (λ (x : Making). HasName x.path) (sym new_is) name, none))
-      (subst (λ q. Answers log (call_of making.Sync q) (Ok tt) (Some now)) name.is done) routes
+      (subst (λ q. Answers log (sync_of q) (Ok tt) (Some now)) name.is done) routes
   making_tells w new (Troubled trouble) (name, none) (at, new_is) (e, cause, answer) settled leaves =
       subst (λ (x : Making). Comes told told dirty_after log now (λ m. WorkKnows told dirty_after m now (course_after (Troubled trouble)) (Make x))) (sym new_is)
       (subst (λ routes. Comes told told routes log now (λ m. WorkKnows told routes m now (course_after (Troubled trouble)) (Make w))) (sym routes)
-      (comes_refused told dirty marks log now (course_after (Troubled trouble)) (Make w) kept (name, none) (by w.stage refl (subst (λ q. Answers log (call_of w.stage q) (Err e) (Some now)) name.is answer))))
+      (comes_refused told dirty marks log now (course_after (Troubled trouble)) (Make w) kept (name, none) (by w.stage refl (subst (λ q. Answers log (call_of w.thing w.stage q) (Err e) (Some now)) name.is answer))))
     where
       routes : dirty_after ≡ dirty
       routes = leaves ∙ (ap (λ (x : Making). moves_dirty (makings.is_dirty w.stage) (makings.is_dirty x.stage) (folder_of w.path) dirty) new_is ∙ same_dirty (makings.is_dirty w.stage) (folder_of w.path) dirty)
 
-      by : (stage : MakingStage) → w.stage ≡ stage → Answers log (call_of w.stage (name.name ∷ folder_of w.path)) (Err e) (Some now) → (now ≡ log) ⊎ (now ≡ with_change log Nothing)
-      by making.Make is h = refused_is log now (MakeFolder (name.name ∷ folder_of w.path) new_folder_mode) e (λ s left. refl) (subst (λ x. Answers log (call_of x (name.name ∷ folder_of w.path)) (Err e) (Some now)) is h)
-      by making.Sync is h = refused_is log now (SyncFolder (folder_of w.path)) e (λ s left. refl) (subst (λ x. Answers log (call_of x (name.name ∷ folder_of w.path)) (Err e) (Some now)) is h)
-      by making.Finish is h = inl (some_log now log (subst (λ x. Answers log (call_of x (name.name ∷ folder_of w.path)) (Err e) (Some now)) is h))
-      by making.PassedOver is h = inl (some_log now log (subst (λ x. Answers log (call_of x (name.name ∷ folder_of w.path)) (Err e) (Some now)) is h))
+      by : (stage : MakingStage) → w.stage ≡ stage → Answers log (call_of w.thing w.stage (name.name ∷ folder_of w.path)) (Err e) (Some now) → (now ≡ log) ⊎ (now ≡ with_change log Nothing)
+      by making.Make is h = refused_is log now (making_call w.thing (name.name ∷ folder_of w.path)) e (no_write w.thing (name.name ∷ folder_of w.path)) (subst (λ x. Answers log (call_of w.thing x (name.name ∷ folder_of w.path)) (Err e) (Some now)) is h)
+      by making.Sync is h = refused_is log now (SyncFolder (folder_of w.path)) e (λ s left. refl) (subst (λ x. Answers log (call_of w.thing x (name.name ∷ folder_of w.path)) (Err e) (Some now)) is h)
+      by making.Finish is h = inl (some_log now log (subst (λ x. Answers log (call_of w.thing x (name.name ∷ folder_of w.path)) (Err e) (Some now)) is h))
+      by making.PassedOver is h = inl (some_log now log (subst (λ x. Answers log (call_of w.thing x (name.name ∷ folder_of w.path)) (Err e) (Some now)) is h))
   making_tells w new (Ended Finished part) (name, none) (is_done, part_is, new_is) done settled leaves =
       subst (λ o. In (Ended Finished o) GoesOn (Make w) (Make new)) (sym part_is) (ends told dirty dirty_after marks log now kept (Make w) none
       (leaves ∙ (ap (λ (x : Making). moves_dirty (makings.is_dirty w.stage) (makings.is_dirty x.stage) (folder_of w.path) dirty) new_is ∙ same_dirty (makings.is_dirty w.stage) (folder_of w.path) dirty))
@@ -178,7 +212,7 @@ module _ (told : Said) (dirty dirty_after : List Route) (marks : Marks) (log now
       → In did (Ends ending) (Make w) (Make new)
   making_winds w new ending Barrier left (name, none) (stage, new_is) answer calls leaves =
       tried told dirty dirty_after marks log now kept (folder_of w.path) left (Ends ending) (Make new) (λ routes. (subst (λ (x : Making). HasName x.path) (sym new_is) name, none))
-      (subst (λ q. Answers log (call_of making.Sync q) (sync_answer left) (Some now)) name.is answer) leaves
+      (subst (λ q. Answers log (sync_of q) (sync_answer left) (Some now)) name.is answer) leaves
   making_winds w new ending (Ended how part) left (name, none) (off, how_is, part_is, new_is) answer calls leaves =
       subst (λ o. In (Ended how o) (Ends ending) (Make w) (Make new)) (sym part_is) (ends told dirty dirty_after marks log now kept (Make w) none leaves (some_log now log calls))
   making_winds w new ending (Began part) left knows tells answer calls leaves = absurd tells

@@ -13,7 +13,7 @@ use Rattle.crash_law.specs.Possible.{IsImage}
 use Rattle.session_history.specs.declared.history.Entry.{Entry}
 use Rattle.job_reports.specs.Paths.{folder_of}
 use Rattle.copy_move.specs.Jobs.{Running}
-use Rattle.history_laws.specs.Doubt.{is_unsettled, name_waits}
+use Rattle.history_laws.specs.Doubt.{way_waits, name_waits}
 use Rattle.session_history.specs.LiveJobs.{LiveJob, IsLivePart, live_jobs}
 use Rattle.history_laws.specs.Replayed.{log_prefix, replayed_tree}
 use Rattle.session_history.specs.Entries.{IsMoment, calls_in}
@@ -155,9 +155,9 @@ shown_moment opening now newest standing coming stand calls tree settled traced 
 
 -- in a folder that is known to be on the disk a path is in doubt only where its own name waits
 pub sure_moment : (opening now : CallLog) (newest standing coming : List Entry) (stand : Stand) (calls : ℕ) (path : Route) → IsTree (current opening) → all_settled opening.changes ≡ true → IsTraced opening newest stand now
-    → IsMoment newest standing coming calls → folders_told opening standing (folder_of path) ≡ true → folders_told opening coming (folder_of path) ≡ true → name_waits (log_prefix opening calls now) path ≡ false → is_unsettled (log_prefix opening calls now) path ≡ false
+    → IsMoment newest standing coming calls → folders_told opening standing (folder_of path) ≡ true → folders_told opening coming (folder_of path) ≡ true → name_waits (log_prefix opening calls now) path ≡ false → way_waits (log_prefix opening calls now) path ≡ false
 sure_moment opening now newest standing coming stand calls path tree settled traced moment stands comes none = elim (known_moment opening tree settled now calls
-    (λ g. folders_told opening g (folder_of path) ≡ true → is_unsettled (log_prefix opening calls now) path ≡ false)
+    (λ g. folders_told opening g (folder_of path) ≡ true → way_waits (log_prefix opening calls now) path ≡ false)
     (λ g part dirty marks live kept known. let firm = kept.known.stand (folder_of path) known in sure_path (log_prefix opening calls now) path firm.sure none)
     standing coming newest stand now [] traced (ap (log_of now) (sym (Rattle.std.proofs.Common.append-nil now.changes))) moment) [ inl sure ↦ sure stands | inr sure ↦ sure comes ]
 

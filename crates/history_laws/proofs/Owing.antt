@@ -2,21 +2,23 @@
 use Rattle.std.proofs.Common.{◌≡◌, ◌⊎◌, ℕ, Bool, true, false, List, [], ◌∷◌, ◌++◌, refl, sym, ◌∙◌, ap, subst, inl, inr, Option, Some, None}
 use Rattle.std.specs.Prelude.{filter, if◌then◌else◌, not}
 use Rattle.std.specs.Option.{option_map_or}
-use Rattle.std.proofs.lemmas.Bool.{false≢true, or_left, or_right}
-use Rattle.mc_text.specs.Routes.{Route, is_prefix, same_path}
-use Rattle.tree_trait.specs.FileSystem.{find}
+use Rattle.std.proofs.lemmas.Bool.{both_ways, false≢true}
+use Rattle.mc_text.specs.Routes.{Route, same_path}
+use Rattle.tree_trait.specs.FileSystem.{find, starts_mount, visible_tree}
 use Rattle.tree_trait.specs.Change.{CallLog, current}
-use Rattle.tree_trait.specs.CrashImages.{Among}
+use Rattle.tree_trait.specs.CrashImages.{Among, all_settled, is_clean}
+use Rattle.tree_trait.specs.Shape.{IsTree}
 use Rattle.tree_trait.proofs.Finding.{find-once}
 use Rattle.crash_law.specs.Guarded.{Marks}
 use Rattle.job_reports.specs.Paths.{folder_of}
 use Rattle.copy_move.specs.declared.run.Course.{Course}
 use Rattle.copy_move.specs.declared.run.Course.TheVariants.{GoesOn}
 use Rattle.copy_move.specs.declared.work.Work.{Work}
-use Rattle.copy_move.specs.declared.work.Work.TheVariants.{Copy, Delete, Make}
-use Rattle.copy_move.specs.Deletions.{Deleting, DeletionLeaves, Tells}
+use Rattle.copy_move.specs.declared.work.Work.TheVariants.{Copy, Delete, Make, SetMode}
+use Rattle.copy_move.specs.Deletions.{DeletionLeaves, Tells}
 use Rattle.copy_move.specs.Makings as makings
-use Rattle.copy_move.specs.Jobs.{TellsOn, WorkTells}
+use Rattle.mode_setting.specs.Settings as settings
+use Rattle.copy_move.specs.Jobs.{Running, TellsOn, WorkTells, is_fresh}
 use Rattle.copy_move.specs.Settling.{LiesApart, NoneOwed, WorkLeaves, changed_folder, is_own, with_change}
 use Rattle.file_copy.specs.Copying as copying
 use Rattle.job_reports.specs.declared.report.Did.{Did}
@@ -28,11 +30,15 @@ use Rattle.tree_trait.specs.Calls.{Stat}
 use Rattle.tree_trait.specs.Refusals.{refusal_of}
 use Rattle.tree_trait.proofs.Visible.{same_path-self}
 use Rattle.copy_move.specs.Steps.{LeavesDirty}
-use Rattle.history_laws.specs.Doubt.{is_pending, name_waits}
-use Rattle.history_laws.specs.Owed.{FirstChangeLaw, OwedLaw, StepLaw}
-use Rattle.history_laws.proofs.Histories.{traced_reached}
-use Rattle.history_laws.proofs.Intact.{prefix_append, prefix_way}
-use Rattle.history_laws.proofs.Knowing.{IsKnown, Said}
+use Rattle.history_laws.specs.Doubt.{is_pending, name_waits, node_waits}
+use Rattle.history_laws.specs.Owed.{FirstChangeLaw, IsApart, OwedLaw, StepLaw}
+use Rattle.history_laws.specs.Traces.{IsTraced, Stand, WorkLeads}
+use Rattle.session_history.specs.Named.{named_parts}
+use Rattle.session_history.specs.declared.history.Entry.{Entry}
+use Rattle.history_laws.proofs.Histories.{IsReached, traced_reached}
+use Rattle.history_laws.proofs.Intact.{own_folder}
+use Rattle.history_laws.proofs.Knowing.{IsCalmIn, IsKnown, Said, clean_now, mode_waits}
+use Rattle.history_laws.proofs.Prefixes.{calm_told}
 
 -- a path of which a change waits lies in a dirty folder
 listed : (told : Said) (dirty : List Route) (marks : Marks) (log : CallLog) (path : Route) → IsKnown told dirty marks log → name_waits log path ≡ true → Among dirty (folder_of path)
@@ -47,10 +53,45 @@ listed told dirty marks log (name ∷ up) known waits = by (find (current log) u
           | inr none ↦ absurd (none up is)
         ]
 
+module _ (opening now : CallLog) (newest : List Entry) (stand : Stand) (path : Route) (tree : IsTree (current opening)) (settled : all_settled opening.changes ≡ true) (traced : IsTraced opening newest stand now) where
+  reached : IsReached opening newest stand now
+  reached = traced_reached opening tree settled newest stand now traced
+
+  pub owed_names : name_waits now path ≡ true → Among stand.dirty (folder_of path)
+  owed_names waits = listed _ stand.dirty reached.marks now path reached.kept.known waits
+
+  -- a path that was named as no part isn't aside
+  not_aside : (Among (named_parts newest) path → ⊥) → (b : Bool) → reached.marks.aside path ≡ b → reached.marks.aside path ≡ false
+  not_aside unnamed false is = is
+  not_aside unnamed true is = absurd (unnamed (reached.kept.known.aside path is))
+
+  pub owed_modes : (Among (named_parts newest) path → ⊥) → node_waits now path ≡ true → Among stand.dirty path
+  owed_modes unnamed waits = (mode_waits _ stand.dirty reached.marks now reached.kept.known path (not_aside unnamed (reached.marks.aside path) refl) waits).0
+
+  calm_by : (up : Route) (name : List ℕ) → path ≡ name ∷ up → (Among (named_parts newest) path → ⊥) → IsCalmIn reached.marks (current now) up → (visible_tree (current now) path).is_mount ≡ false → node_waits now path ≡ false
+  calm_by up name is unnamed calm no_mount = by (find (current now) path) refl
+    where
+      by : (o : Option ℕ) → find (current now) path ≡ o → node_waits now path ≡ false
+      by None at = ap (λ x. option_map_or (λ i. not (is_clean i now.changes)) x false) at
+      by (Some i) at =
+          ap (λ x. option_map_or (λ i. not (is_clean i now.changes)) x false) at ∙ ap not (elim (calm name i (ap (find (current now)) (sym is) ∙ at)) [
+            | inl none ↦ clean_now _ stand.dirty reached.marks now reached.kept.known path (not_aside unnamed (reached.marks.aside path) refl) i at none
+            | inr begins ↦ absurd (both_ways _ no_mount (ap (λ x. option_map_or (starts_mount (current now)) x false) at ∙ begins))
+          ])
+
+  -- in a folder in which none is said to wait no mode does, parts aside, but where another mount begins
+  pub calm_there : (Among (named_parts newest) path → ⊥) → calm_told newest (folder_of path) ≡ true → (visible_tree (current now) path).is_mount ≡ false → node_waits now path ≡ false
+  calm_there unnamed calm no_mount = by path refl
+    where
+      by : (q : Route) → path ≡ q → node_waits now path ≡ false
+      by [] is = absurd (both_ways _ no_mount (ap (λ q. (visible_tree (current now) q).is_mount) is ∙ reached.kept.known.guarded.tree.mounted))
+      by (name ∷ up) is = calm_by up name is unnamed (reached.kept.known.calm up (subst (λ q. calm_told newest (folder_of q) ≡ true) is calm)) no_mount
+
 pub owed_law : OwedLaw
-owed_law opening now newest stand path tree settled traced waits =
-    let r = traced_reached opening tree settled newest stand now traced in
-    listed _ stand.dirty r.marks now path r.kept.known waits
+owed_law = record {
+  names = λ opening now newest stand path tree settled traced waits. owed_names opening now newest stand path tree settled traced waits;
+  modes = λ opening now newest stand path tree settled traced unnamed waits. owed_modes opening now newest stand path tree settled traced unnamed waits;
+}
 
 -- where none is owed, each dirty folder lies on another mount, or was removed
 pub apart_from : (s : FileSystem) (work : Work) (dirty : List Route) (q : Route) → Among dirty q → NoneOwed s work dirty → (refusal_of s (Stat q) ≡ Some Missing) ⊎ LiesApart s (changed_folder work) q
@@ -77,19 +118,11 @@ in_joined up q dirty = by (is_one_of up dirty)
     by true among = inr among
     by false among = in_both q dirty up among
 
-changed_or_before : (a b : Bool) (up q : Route) (dirty : List Route) → Among (with_change a b up dirty) q → (q ≡ up) ⊎ Among dirty q
+pub changed_or_before : (a b : Bool) (up q : Route) (dirty : List Route) → Among (with_change a b up dirty) q → (q ≡ up) ⊎ Among dirty q
 changed_or_before false true up q dirty among = in_joined up q dirty among
 changed_or_before true false up q dirty among = inr (in_filter (λ kept. not (same_path kept up)) q dirty among)
 changed_or_before false false up q dirty among = inr among
 changed_or_before true true up q dirty among = inr among
-
--- the folder of what a deletion removes is its own
-pub own_folder : (d : Deleting) (path q : Route) → is_prefix d.path path ≡ true → q ≡ folder_of path → is_own (Delete d) q ≡ true
-own_folder d path q within same = let w = prefix_way d.path path within in by w.0 (same ∙ ap folder_of w.1)
-  where
-    by : (rest : Route) → q ≡ folder_of (rest ++ d.path) → is_own (Delete d) q ≡ true
-    by [] e = or_left (same_path q (folder_of d.path)) (is_prefix d.path q) (subst (λ p. same_path p (folder_of d.path) ≡ true) (sym e) (same_path-self (folder_of d.path)))
-    by (name ∷ rest) e = or_right (same_path q (folder_of d.path)) (is_prefix d.path q) (subst (λ p. is_prefix d.path p ≡ true) (sym e) (prefix_append d.path rest))
 
 -- what is dirty after a step was dirty, or it is the job's own folder
 own_or_before : (old next new : Work) (did : Did) (q : Route) (dirty dirty_after : List Route) (before after : Option CallLog) → WorkTells old did next → WorkLeaves old did new dirty dirty_after before after → Among dirty_after q
@@ -97,6 +130,18 @@ own_or_before : (old next new : Work) (did : Did) (q : Route) (dirty dirty_after
 own_or_before (Copy c) next (Delete new) did q dirty dirty_after before after t leaves among = absurd leaves
 own_or_before (Copy c) next (Make new) did q dirty dirty_after before after t leaves among = absurd leaves
 own_or_before (Make m) next (Copy new) did q dirty dirty_after before after t leaves among = absurd leaves
+own_or_before (Make m) next (SetMode new) did q dirty dirty_after before after t leaves among = absurd leaves
+own_or_before (Copy c) next (SetMode new) did q dirty dirty_after before after t leaves among = absurd leaves
+own_or_before (Delete d) (SetMode next) new did q dirty dirty_after before after t leaves among = absurd t
+own_or_before (Delete d) (Delete next) (SetMode new) did q dirty dirty_after before after t leaves among = absurd leaves
+own_or_before (SetMode s) next (Copy new) did q dirty dirty_after before after t leaves among = absurd leaves
+own_or_before (SetMode s) next (Delete new) did q dirty dirty_after before after t leaves among = absurd leaves
+own_or_before (SetMode s) next (Make new) did q dirty dirty_after before after t leaves among = absurd leaves
+own_or_before (SetMode s) next (SetMode new) did q dirty dirty_after before after t leaves among =
+    elim (changed_or_before (settings.is_dirty s.stage) (settings.is_dirty new.stage) s.path q dirty (subst (λ xs. Among xs q) leaves among)) [
+      | inl same ↦ inl (subst (λ p. same_path p s.path ≡ true) (sym same) (same_path-self s.path))
+      | inr old ↦ inr old
+    ]
 own_or_before (Make m) next (Delete new) did q dirty dirty_after before after t leaves among = absurd leaves
 own_or_before (Make m) next (Make new) did q dirty dirty_after before after t leaves among =
     elim (changed_or_before (makings.is_dirty m.stage) (makings.is_dirty new.stage) (folder_of m.path) q dirty (subst (λ xs. Among xs q) leaves among)) [
@@ -133,17 +178,26 @@ own_or_before (Delete d) (Delete next) (Delete new) did q dirty dirty_after befo
     by (Skipped path why) t h = inr (subst (λ xs. Among xs q) h among)
     by (Cleaned part) t h = absurd t
 
+module _ (opening log now : CallLog) (older newest : List Entry) (was stand : Stand) (job new : Running) (did : Did) (tree : IsTree (current opening)) (settled : all_settled opening.changes ≡ true)
+    (works : WorkLeads job did new was.dirty stand.dirty log now) (goes : job.course ≡ GoesOn) (fresh : is_fresh job.work ≡ true) where
+  -- a path that is dirty then is the job's own, or lies apart
+  own_or_apart : (q : Route) → Among stand.dirty q → (is_own job.work q ≡ true) ⊎ IsApart log (changed_folder job.work) q
+  own_or_apart q among =
+      let tells : TellsOn GoesOn job did new = subst (λ (course : Course). TellsOn course job did new) goes works.tells in
+      let leaves : WorkLeaves job.work did new.work was.dirty stand.dirty (Some log) (Some now) =
+      subst (λ (course : Course). LeavesDirty course job.work did new.work was.dirty stand.dirty (Some log) (Some now)) goes works.leaves in
+      elim (own_or_before job.work tells.0 new.work did q was.dirty stand.dirty (Some log) (Some now) tells.1 leaves among) [
+        | inl own ↦ inl own
+        | inr old ↦ inr (apart_from (current log) job.work was.dirty q old (works.settled goes fresh))
+      ]
+
 pub first_change_law : FirstChangeLaw
-first_change_law opening log now older newest was stand job new did path tree settled before traced works goes fresh waits =
-    let r = traced_reached opening tree settled newest stand now traced in
-    let among = listed _ stand.dirty r.marks now path r.kept.known waits in
-    let tells : TellsOn GoesOn job did new = subst (λ (course : Course). TellsOn course job did new) goes works.tells in
-    let leaves : WorkLeaves job.work did new.work was.dirty stand.dirty (Some log) (Some now) =
-    subst (λ (course : Course). LeavesDirty course job.work did new.work was.dirty stand.dirty (Some log) (Some now)) goes works.leaves in
-    elim (own_or_before job.work tells.0 new.work did (folder_of path) was.dirty stand.dirty (Some log) (Some now) tells.1 leaves among) [
-      | inl own ↦ inl own
-      | inr old ↦ inr (apart_from (current log) job.work was.dirty (folder_of path) old (works.settled goes fresh))
-    ]
+first_change_law = record {
+  names = λ opening log now older newest was stand job new did path tree settled before traced works goes fresh waits.
+      own_or_apart opening log now older newest was stand job new did tree settled works goes fresh (folder_of path) (owed_names opening now newest stand path tree settled traced waits);
+  modes = λ opening log now older newest was stand job new did path tree settled before traced works goes fresh unnamed waits.
+      own_or_apart opening log now older newest was stand job new did tree settled works goes fresh path (owed_modes opening now newest stand path tree settled traced unnamed waits);
+}
 
 pub step_law : StepLaw
 step_law job new did calls dirty dirty_after log now faults faults_after (inl own) = inl (
@@ -159,6 +213,6 @@ step_law job new did calls dirty dirty_after log now faults faults_after (inl ow
 )
 step_law job new did calls dirty dirty_after log now faults faults_after (inr settling) = inl (
   new,
-  inr (record { goes = settling.goes; fresh = settling.fresh; folder = settling.folder; owed = settling.owed; synced = settling.synced }),
+  inr (record { goes = settling.goes; fresh = settling.fresh; path = settling.path; owed = settling.owed; synced = settling.synced }),
   refl,
 )

@@ -19,7 +19,7 @@ use Rattle.crash_law.proofs.Placing.{placing_law}
 use Rattle.crash_law.proofs.Syncing.{unaltered_law}
 use Rattle.crash_law.proofs.Tops.{under_moved, none_below}
 use Rattle.history_laws.proofs.Resting.{bare_may}
-use Rattle.history_laws.proofs.Knowing.{Said, IsKnown, held}
+use Rattle.history_laws.proofs.Knowing.{IsKnown, Said, held}
 use Rattle.history_laws.proofs.Renaming.{naming_known}
 use Rattle.history_laws.proofs.Changing.{seen_nowhere, none_below_file, folder_anchored, off_itself, said_two, some_none, some_is}
 
@@ -39,16 +39,17 @@ was_or true true h = inr refl
 was_or true false h = absurd (true≢false h)
 was_or false b h = inl refl
 
-pub firm_known : (told : Said) (dirty : List Route) (marks : Marks) (log : CallLog) (i : ℕ) → is_clean i log.changes ≡ true → IsKnown told dirty marks log → IsKnown told dirty (marks_firm marks i) log
-firm_known told dirty marks log i clean known = record {
+pub firm_known : (told : Said) (dirty : List Route) (marks : Marks) (log : CallLog) (i : ℕ) → is_clean i log.changes ≡ true → marks.modes i ≡ None → IsKnown told dirty marks log → IsKnown told dirty (marks_firm marks i) log
+firm_known told dirty marks log i clean no_mode known = record {
   guarded = settle_law marks (marks_firm marks i) log known.guarded (record {
     paths = λ p out. inl (out, refl);
-    nodes = λ j firm. elim (was_or (marks.loose j) (j == i) firm) [ inl same ↦ inl (same, refl) | inr is ↦ inr (subst (λ k. is_clean k log.changes ≡ true) (sym (eqb-true j i is)) clean, known.moded j) ];
+    nodes = λ j firm. elim (was_or (marks.loose j) (j == i) firm) [ inl same ↦ inl (same, refl) | inr is ↦ inr (subst (λ k. is_clean k log.changes ≡ true) (sym (eqb-true j i is)) clean, subst (λ k. marks.modes k ≡ None) (sym (eqb-true j i is)) no_mode) ];
     firm = λ p j out at. elim (known.guarded.firm p j out at) [ inl firm ↦ inl (still _ _ firm) | inr folder ↦ inr folder ];
     places = λ j stays. inl stays;
   });
   files = known.files;
-  moded = known.moded;
+  moded = λ j before is unclean. let h = known.moded j before is unclean in record { path = h.path; leads = h.leads; out = h.out; listed = h.listed; told = h.told; shown = h.shown };
+  calm = known.calm;
   folders = λ j is. let k = known.folders j is in (k.0, still _ _ k.1);
   aside = known.aside;
   was_there = λ p j out is. let t = known.was_there p j out is in (t.0, still _ _ t.1);
@@ -81,6 +82,9 @@ pub record PlacesPart (told after : Said) (marks : Marks) (log : CallLog) (part 
   pub none : after.part ≡ None
   pub doubts : (p : Route) → told.doubt p ≡ true → after.doubt p ≡ true
   pub folders : (p : Route) → after.folders p ≡ true → told.folders p ≡ true
+  pub modes : (p : Route) → told.modes p ≡ true → after.modes p ≡ true
+  pub calm : (p : Route) → after.calm p ≡ true → told.calm p ≡ true
+  pub no_mode : marks.modes i ≡ None
   pub doubted : (after.doubt (target ∷ up) ≡ true) × (after.doubt (part ∷ up) ≡ true)
 
 module _ (told after : Said) (dirty dirty_after : List Route) (marks : Marks) (log : CallLog) (known : IsKnown told dirty marks log) (part target : List ℕ) (up : Route) (f i : ℕ) (r : Option ℕ)
@@ -216,6 +220,9 @@ module _ (told after : Said) (dirty dirty_after : List Route) (marks : Marks) (l
     ];
     doubts = h.doubts;
     folders = λ p there. inl (h.folders p there);
+    modes = h.modes;
+    calm = λ p there. inl (h.calm p there);
+    no_mode = λ p j at there. subst (λ k. marks.modes k ≡ None) (sym (moved_is p j at there)) h.no_mode;
     touched = λ p at. elim at [
       | inl e ↦ subst (λ q. after.doubt q ≡ true) (sym e) h.doubted.0
       | inr e ↦ subst (λ q. after.doubt q ≡ true) (sym e) h.doubted.1
@@ -227,11 +234,18 @@ module _ (told after : Said) (dirty dirty_after : List Route) (marks : Marks) (l
       | inr e ↦ subst (λ q. visible_tree (current now) q ≡ after.tree q) (sym e) part_shown
     ];
     was = λ p at out. elim at [
-      | inl e ↦ inr (ap (held (current log)) (ap marks.was e ∙ h.was) ∙ sym (ap (λ q. (after.earlier q).value) e ∙ h.earlier))
+      | inl e ↦ inr (ap (held (current log)) (ap marks.was e ∙ h.was) ∙ sym (ap (λ q. (after.earlier q).value) e ∙ h.earlier), λ j is. some_none j (sym is ∙ (ap marks.was e ∙ h.was)))
       | inr e ↦ absurd (both_ways _ (subst (λ q. marks.aside q ≡ false) e out) (known.part (part ∷ up) h.part_is).0)
     ];
     part = λ p is. absurd (let e = h.none in let n : (let o : Option Route = None in o) ≡ Some p = sym e ∙ is in cc);
   })
     where
+      -- what stands at the two paths is what moves
+      moved_is : (p : Route) (j : ℕ) → (p ≡ target ∷ up) ⊎ (p ≡ part ∷ up) → (find (current log) p ≡ Some j) ⊎ (find (current now) p ≡ Some j) → j ≡ i
+      moved_is p j (inl e) (inl before) = some_none j (sym before ∙ (ap (find (current log)) e ∙ h.free))
+      moved_is p j (inl e) (inr then) = some_is i j (sym target_at ∙ (ap (find (current now)) (sym e) ∙ then))
+      moved_is p j (inr e) (inl before) = some_is i j (sym h.leads ∙ (ap (find (current log)) (sym e) ∙ before))
+      moved_is p j (inr e) (inr then) = some_none j (sym then ∙ (ap (find (current now)) e ∙ part_at))
+
       ap_same : (f == f) ≡ true
       ap_same = eq-eqb f f refl

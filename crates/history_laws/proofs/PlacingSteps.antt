@@ -34,7 +34,7 @@ use Rattle.copy_move.specs.declared.work.Work.TheVariants.{Copy}
 use Rattle.history_laws.proofs.Calming.{moded_known, nothing_known, synced_known, refused_is}
 use Rattle.history_laws.proofs.Deleted.{file_no_mount, put_at, put_off}
 use Rattle.history_laws.proofs.Knowing.{Said, IsKnown, IsKept, nowhere, settled_marks}
-use Rattle.history_laws.proofs.JobKnows.{HasPart, IsFilled, IsUntouched, part_settled}
+use Rattle.history_laws.proofs.JobKnows.{HasPart, IsFilled, IsUntouched, none_of_part, part_settled}
 use Rattle.history_laws.proofs.PartNodes.{moded_node, part_on, part_there}
 use Rattle.history_laws.proofs.PlacingParts.{PlacesPart, firm_known, marks_firm, placed_known}
 use Rattle.history_laws.proofs.Stepped.{Comes, comes_none, comes_one, comes_then, said_after}
@@ -52,7 +52,7 @@ module _ (told : Said) (dirty : List Route) (target part : Route) (i : ℕ) wher
   mode_set marks log mid mode kept has done =
       comes_one told told dirty dirty marks marks log mid (Sets i mode)
       (λ m. HasPart told m (current mid) target part i × ((bytes : List ℕ) (old : ℕ) → Holds (node (current log) i) bytes old → Holds (node (current mid) i) bytes mode)) kept mid_is
-      (subst (λ (l : CallLog). IsKnown told dirty marks l) (sym mid_is) (moded_known told dirty marks log kept.known part i has.part_is has.leads has.loose mode))
+      (subst (λ (l : CallLog). IsKnown told dirty marks l) (sym mid_is) (moded_known told dirty marks log kept.known part i has.part_is has.leads has.loose (none_of_part told dirty marks log kept part i has.leads (kept.known.part part has.part_is).0) mode))
       (subst (λ (l : CallLog). HasPart told (settled_marks l marks) (current l) target part i × ((bytes : List ℕ) (old : ℕ) → Holds (node (current log) i) bytes old → Holds (node (current l) i) bytes mode)) (sym mid_is) (
         part_settled (with_change log (Sets i mode)) marks told target part i
             (part_on told dirty marks log kept.known target part i has (Sets i mode) (λ g m. refl) (ap (λ (x : Node). x.kind) node_is) (ap (λ (x : Node). x.unnamed) node_is)),
@@ -257,6 +257,9 @@ module _ (told : Said) (dirty : List Route) (c : Copying) (tname : List ℕ) (ta
       none = refl;
       doubts = λ p h. or_left _ _ (or_left _ _ h);
       folders = λ p there. there;
+      modes = λ p there. there;
+      calm = λ p there. there;
+      no_mode = kept.modes i clean;
       doubted = (
         or_left _ _ (or_right _ _ (subst (λ q. same_path q c.target ≡ true) target_is (same_path-self c.target))),
         or_right _ _ (ap (λ o. option_map_or (same_path (has.name ∷ up)) o false) (has.part_is ∙ ap (λ q. Some q) has.beside) ∙ same_path-self (has.name ∷ up)),
@@ -267,7 +270,7 @@ module _ (told : Said) (dirty : List Route) (c : Copying) (tname : List ℕ) (ta
     renamed =
         comes_one told (after now) dirty dirty marks (marks_firm marks i) mid now moved (λ m. (after now).part ≡ None) kept now_is
         (subst (λ (l : CallLog). IsKnown (after now) dirty (marks_firm marks i) l) (sym now_is)
-        (placed_known told (after now) dirty dirty (marks_firm marks i) mid (firm_known told dirty marks mid i clean kept.known) has.name tname up f i r places listed (λ q among. among)))
+        (placed_known told (after now) dirty dirty (marks_firm marks i) mid (firm_known told dirty marks mid i clean (kept.modes i clean) kept.known) has.name tname up f i r places listed (λ q among. among)))
         refl
 
   -- the sync and the renaming were done

@@ -18,7 +18,7 @@ use Rattle.history_laws.specs.Replayed.{earlier_event, earlier_tree, log_prefix,
 use Rattle.session_history.specs.Named.{IsUnnamedSince, named_after, named_parts, names, names_path}
 use Rattle.history_laws.proofs.Knowing.{Said, anywhere}
 use Rattle.history_laws.proofs.Resting.{folder_at}
-use Rattle.history_laws.proofs.Stepped.{folders_by, more}
+use Rattle.history_laws.proofs.Stepped.{calm_by, folders_by, more}
 
 -- the folders that are known to be on the disk after an event: the one in which a step made a job's first change is, and none that
 -- was removed
@@ -36,9 +36,33 @@ abbrev pub folders_told : CallLog → List Entry → Route → Bool
 folders_told opening [] = folder_at (current opening)
 folders_told opening (e ∷ older) = folders_event e.what (live_jobs older) (folders_told opening older)
 
+-- the folders in which no mode waits after an event
+abbrev pub calm_event : Event → List LiveJob → (Route → Bool) → Route → Bool
+calm_event (Step id did) jobs before = option_map_or (λ item. calm_by did item before) (live_item id jobs) before
+calm_event (Key key now refusals lost) jobs before = before
+calm_event (Look refusals) jobs before = before
+calm_event Sought jobs before = before
+calm_event (event.Began id plan background) jobs before = before
+calm_event (Order id order) jobs before = before
+calm_event Closed jobs before = before
+
+-- after these entries: at the opening none waits
+abbrev pub calm_told : List Entry → Route → Bool
+calm_told [] = anywhere
+calm_told (e ∷ older) = calm_event e.what (live_jobs older) (calm_told older)
+
 -- what a history says, over a tree that has come to this log
 abbrev pub told_of : CallLog → CallLog → List Entry → Option Route → Said
-told_of opening end g part = record { tree = replayed_tree opening end g; earlier = earlier_tree opening end g; named = named_parts g; part = part; doubt = anywhere; folders = folders_told opening g }
+told_of opening end g part = record {
+  tree = replayed_tree opening end g;
+  earlier = earlier_tree opening end g;
+  named = named_parts g;
+  part = part;
+  doubt = anywhere;
+  folders = folders_told opening g;
+  modes = anywhere;
+  calm = calm_told g;
+}
 
 -- the same after one event more, by which so many calls were made
 abbrev pub told_with : CallLog → CallLog → List Entry → ℕ → Event → Option Route → Said
@@ -49,6 +73,8 @@ told_with opening end older calls what part = record {
   part = part;
   doubt = anywhere;
   folders = folders_event what (live_jobs older) (folders_told opening older);
+  modes = anywhere;
+  calm = calm_event what (live_jobs older) (calm_told older);
 }
 
 -- the calls of these entries were made
@@ -75,13 +101,14 @@ earlier_more opening now cs (e ∷ older) (few, w) =
     ap (λ v. earlier_event e.what v (earlier_tree opening (more now cs) older)) (replayed_more opening now cs older w)
     ∙ ap (earlier_event e.what (replayed_tree opening now older)) (earlier_more opening now cs older w)
 
-abbrev pub said_by : (Route → Bool) → View → View → List Route → Option Route → Said
-said_by folders tree earlier named part = record { tree = tree; earlier = earlier; named = named; part = part; doubt = anywhere; folders = folders }
+abbrev pub said_by : (Route → Bool) → (Route → Bool) → View → View → List Route → Option Route → Said
+said_by folders calm tree earlier named part =
+    record { tree = tree; earlier = earlier; named = named; part = part; doubt = anywhere; folders = folders; modes = anywhere; calm = calm }
 
 pub told_more : (opening now : CallLog) (cs : List Change) (g : List Entry) (part : Option Route) → AreWithin opening g now → told_of opening (more now cs) g part ≡ told_of opening now g part
 told_more opening now cs g part w =
-    ap (λ v. said_by (folders_told opening g) v (earlier_tree opening (more now cs) g) (named_parts g) part) (replayed_more opening now cs g w)
-    ∙ ap (λ v. said_by (folders_told opening g) (replayed_tree opening now g) v (named_parts g) part) (earlier_more opening now cs g w)
+    ap (λ v. said_by (folders_told opening g) (calm_told g) v (earlier_tree opening (more now cs) g) (named_parts g) part) (replayed_more opening now cs g w)
+    ∙ ap (λ v. said_by (folders_told opening g) (calm_told g) (replayed_tree opening now g) v (named_parts g) part) (earlier_more opening now cs g w)
 
 -- a folder that is known to be on the disk stays known until a report names it
 known_by : (did : Did) (folder : Route) (before : Route → Bool) (p : Route) → names did p ≡ false → before p ≡ true → folders_by did folder before p ≡ true

@@ -4,20 +4,20 @@ use Rattle.std.specs.Prelude.{is_some, option_and_then}
 use Rattle.std.specs.Option.{option_map_or}
 use Rattle.std.proofs.lemmas.Bool.{false≢true, both_ways, false_from_ne_true, cases_lt}
 use Rattle.mc_text.specs.Routes.{Route, same_path}
-use Rattle.tree_trait.specs.FileSystem.{lookup, find, node, visible_tree}
+use Rattle.tree_trait.specs.FileSystem.{lookup, find, node, value, visible_tree}
 use Rattle.tree_trait.specs.Refusals.{is_folder}
 use Rattle.tree_trait.specs.Change.{Change, CallLog, current, with_change}
 use Rattle.tree_trait.specs.CrashImages.{says, Among}
 use Rattle.tree_trait.proofs.Finding.{and_then-some, find-once}
 use Rattle.tree_trait.proofs.Kept.{folder_there}
 use Rattle.tree_trait.proofs.Visible.{same_path-true}
-use Rattle.crash_law.specs.Guarded.{Marks, IsNaming, IsUnder, Touches}
+use Rattle.crash_law.specs.Guarded.{Marks, IsNaming, IsUnder, Touches, with_mode}
 use Rattle.crash_law.proofs.Guarding.{naming_law, find_same, found_at}
 use Rattle.crash_law.proofs.Syncing.{unaltered_law}
-use Rattle.history_laws.specs.Doubt.{is_pending, is_unsettled, name_waits}
+use Rattle.history_laws.specs.Doubt.{is_pending, way_waits, name_waits}
 use Rattle.history_laws.proofs.Pending.{is_within, within_more, pending_less, says_at}
-use Rattle.history_laws.proofs.Knowing.{Said, IsKnown, IsUnreached, held, nowhere}
-use Rattle.history_laws.proofs.Quiet.{kind_same, mount_same, was_bare, shows_same, held_same}
+use Rattle.history_laws.proofs.Knowing.{HasMode, HasNoMode, IsCalmIn, IsKnown, IsUnreached, Said, held, nowhere}
+use Rattle.history_laws.proofs.Quiet.{held_same, kind_same, mount_same, shows_same, starts_same, unclean_before, was_bare}
 use Rattle.history_laws.proofs.Resting.{IsSureFolder, folder_at_of, mounted, stands_at, sure_still, unborn_more}
 
 -- A call that changes the names of files in one folder, at these two paths alone, and what the history says then.
@@ -39,6 +39,10 @@ pub record IsFileNaming (said after : Said) (dirty dirty_after : List Route) (ma
   pub doubts : (p : Route) → said.doubt p ≡ true → after.doubt p ≡ true
   -- where a folder is said to be on the disk it was said so before, or it is
   pub folders : (p : Route) → after.folders p ≡ true → (said.folders p ≡ true) ⊎ IsSureFolder log p
+  pub modes : (p : Route) → said.modes p ≡ true → after.modes p ≡ true
+  -- nor does a mode wait in a folder of which that is said, nor of what stands at the two paths
+  pub calm : (p : Route) → after.calm p ≡ true → (said.calm p ≡ true) ⊎ IsCalmIn marks (current log) p
+  pub no_mode : (p : Route) (i : ℕ) → (p ≡ first) ⊎ (p ≡ second) → (find (current log) p ≡ Some i) ⊎ (find (current (with_change log c)) p ≡ Some i) → marks.modes i ≡ None
   pub touched : (p : Route) → (p ≡ first) ⊎ (p ≡ second) → after.doubt p ≡ true
   pub named : (p : Route) → marks.aside p ≡ true → Among after.named p
   -- elsewhere all is as it was
@@ -46,7 +50,7 @@ pub record IsFileNaming (said after : Said) (dirty dirty_after : List Route) (ma
       → (find (current (with_change log c)) p ≡ find (current log) p) × (after.tree p ≡ said.tree p) × (after.earlier p ≡ said.earlier p) × (said.part ≡ Some p → ⊥)
   pub shown : (p : Route) → (p ≡ first) ⊎ (p ≡ second) → (after.part ≡ Some p → ⊥) → visible_tree (current (with_change log c)) p ≡ after.tree p
   pub was : (p : Route) → (p ≡ first) ⊎ (p ≡ second) → marks.aside p ≡ false
-      → (marks.was p ≡ find (current (with_change log c)) p) ⊎ (held (current log) (marks.was p) ≡ (after.earlier p).value)
+      → (marks.was p ≡ find (current (with_change log c)) p) ⊎ ((held (current log) (marks.was p) ≡ (after.earlier p).value) × HasNoMode marks (marks.was p))
   pub part : (p : Route) → after.part ≡ Some p → (marks.aside p ≡ true) × (after.tree p ≡ nowhere) × (is_some (find (current (with_change log c)) p) ≡ true)
 
 module _ (said after : Said) (dirty dirty_after : List Route) (marks : Marks) (log : CallLog) (c : Change) (up first second : Route) (f : ℕ)
@@ -111,7 +115,7 @@ module _ (said after : Said) (dirty dirty_after : List Route) (marks : Marks) (l
           both_ways _ (n.files_now name j (subst (λ k. is_some (says c 0 k name) ≡ true) g_is s) leads) folder
 
   -- so a folder that isn't in doubt stays so
-  folder_sure : (p : Route) (j : ℕ) → find (current log) p ≡ Some j → is_folder (node (current log) j) ≡ true → is_unsettled log p ≡ false → is_unsettled now p ≡ false
+  folder_sure : (p : Route) (j : ℕ) → find (current log) p ≡ Some j → is_folder (node (current log) j) ≡ true → way_waits log p ≡ false → way_waits now p ≡ false
   folder_sure p j at folder sure = sure_still log c known.guarded.tree
       (λ q g h before holds then. let e : (let o : Option ℕ = Some g in o) ≡ Some h = sym (folder_stays q g before holds) ∙ then in cc)
       (λ g m k said before then holds.
@@ -127,7 +131,7 @@ module _ (said after : Said) (dirty dirty_after : List Route) (marks : Marks) (l
         sure = folder_sure p there.i there.at there.folder firm.sure;
       }
 
-  mounts_sure : (p : Route) → (visible_tree (current now) p).is_mount ≡ true → is_unsettled now p ≡ false
+  mounts_sure : (p : Route) → (visible_tree (current now) p).is_mount ≡ true → way_waits now p ≡ false
   mounts_sure p on =
       let there = mounted (current now) naming_of.tree p on in
       elim (find_same log c p) [
@@ -173,15 +177,37 @@ module _ (said after : Said) (dirty dirty_after : List Route) (marks : Marks) (l
   held_still : (p : Route) → marks.aside p ≡ false → held (current now) (marks.was p) ≡ held (current log) (marks.was p)
   held_still p out = held_same log c (marks.was p) (λ i is. unaltered i (known.was_there p i out is).0)
 
-  was_shown : (p : Route) → marks.aside p ≡ false → (marks.was p ≡ find (current now) p) ⊎ (held (current now) (marks.was p) ≡ (after.earlier p).value)
+  was_shown : (p : Route) → marks.aside p ≡ false → (marks.was p ≡ find (current now) p) ⊎ ((held (current now) (marks.was p) ≡ (after.earlier p).value) × HasNoMode marks (marks.was p))
   was_shown p out = elim (where_is p) [
-    | inl at ↦ elim (n.was p at out) [ inl same ↦ inl same | inr shown ↦ inr (held_still p out ∙ shown) ]
+    | inl at ↦ elim (n.was p at out) [ inl same ↦ inl same | inr shown ↦ inr (held_still p out ∙ shown.0, shown.1) ]
     | inr off ↦
         let o = n.off p off.0 off.1 in
         elim (known.was_shown p out) [
           | inl same ↦ inl (same ∙ sym o.0)
-          | inr shown ↦ inr (held_still p out ∙ (shown ∙ sym (ap (λ (s : _). s.value) o.2)))
+          | inr shown ↦ inr (held_still p out ∙ (shown.0 ∙ sym (ap (λ (s : _). s.value) o.2)), shown.1)
         ]
+  ]
+
+  -- a mode that waits is of another path
+  moded_still : (i before : ℕ) → marks.modes i ≡ Some before → HasMode said dirty marks log i before → HasMode after dirty_after marks now i before
+  moded_still i before is h = elim (where_is h.path) [
+    | inl at ↦ absurd (let none = n.no_mode h.path i at (inl h.leads) in let e : (let o : Option ℕ = None in o) ≡ Some before = sym none ∙ is in let f : ⊥ = cc in f)
+    | inr off ↦
+        let o = n.off h.path off.0 off.1 in
+        record {
+          path = h.path;
+          leads = o.0 ∙ h.leads;
+          out = h.out;
+          listed = n.more h.path h.listed;
+          told = n.modes h.path h.told;
+          shown = ap (λ (s : _). s.value) o.2 ∙ (h.shown ∙ ap (λ x. Some (value (with_mode before x))) (sym (unaltered i (known.guarded.there h.path i (found_at log h.path (Some i) h.leads)))));
+        }
+  ]
+
+  calm_was : (p : Route) → IsCalmIn marks (current log) p → IsCalmIn marks (current now) p
+  calm_was p calm name i at = elim (where_is (name ∷ p)) [
+    | inl here ↦ inl (n.no_mode (name ∷ p) i here (inr at))
+    | inr off ↦ elim (calm name i (sym (n.off (name ∷ p) off.0 off.1).0 ∙ at)) [ inl none ↦ inl none | inr begins ↦ inr (starts_same log c i ∙ begins) ]
   ]
 
   shows : (p : Route) → (after.part ≡ Some p → ⊥) → visible_tree (current now) p ≡ after.tree p
@@ -237,7 +263,8 @@ module _ (said after : Said) (dirty dirty_after : List Route) (marks : Marks) (l
       unborn = unborn_more log c (λ i past. naming_of.bytes i) naming_of.count known.files.unborn;
       mounts = mounts_sure;
     };
-    moded = known.moded;
+    moded = λ i before is unclean. moded_still i before is (known.moded i before is (unclean_before log c i (naming_of.bytes i) unclean));
+    calm = λ p there. elim (n.calm p there) [ inl before ↦ calm_was p (known.calm p before) | inr calm ↦ calm_was p calm ];
     folders = λ i folder. known.folders i (was_folder i folder);
     aside = n.named;
     was_there = λ p i out is. let t = known.was_there p i out is in (let k = naming_of.count in let l = t.0 in omega (arith, k, l), t.1);

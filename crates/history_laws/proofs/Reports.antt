@@ -1,6 +1,6 @@
 -- What a report makes of the live jobs, and of what is known of them.
 use Rattle.std.proofs.Common.{◌≡◌, ℕ, Bool, true, false, List, [], ◌∷◌, refl, sym, ◌∙◌, ap, subst, Option, Some, None}
-use Rattle.std.specs.Prelude.{◌==◌, if◌then◌else◌, is_some, ◌&&◌}
+use Rattle.std.specs.Prelude.{◌==◌, if◌then◌else◌, is_some, nat_le, ◌&&◌}
 use Rattle.std.proofs.lemmas.Bool.{false≢true, and_parts, eq-eqb}
 use Rattle.mc_text.specs.Routes.{Route, parent_of}
 use Rattle.tree_trait.specs.Change.{CallLog}
@@ -9,8 +9,10 @@ use Rattle.job_reports.specs.declared.report.Did.{Did}
 use Rattle.job_reports.specs.declared.report.Did.TheVariants.{Began, Chunk, Placed, Removed, Made, Set, Kept, Skipped, Cleaned, Barrier, Troubled, Ended}
 use Rattle.job_reports.specs.declared.job.Job.{Job}
 use Rattle.job_reports.specs.declared.job.Job.TheVariants as plan
-use Rattle.job_reports.specs.Jobs.{Item}
+use Rattle.job_reports.specs.Jobs.{Item, is_link_text}
 use Rattle.copy_move.specs.declared.run.Course.TheVariants.{GoesOn}
+use Rattle.copy_move.specs.declared.new_thing.NewThing.{NewThing}
+use Rattle.copy_move.specs.declared.new_thing.NewThing.TheVariants as thing
 use Rattle.copy_move.specs.declared.work.Work.{Work}
 use Rattle.copy_move.specs.Jobs.{Running, first_work}
 use Rattle.session_history.specs.LiveJobs.{LiveJob, after_report}
@@ -91,9 +93,13 @@ module _ (told : Said) (dirty : List Route) (marks : Marks) (log : CallLog) (non
   deletes path w true has is = subst (λ x. WorkKnows told dirty marks log GoesOn x) (let e : Rattle.copy_move.specs.Jobs.deletes path ≡ w = cc in e) (has_name path has, none, λ e. absurd (let f : ⊥ = cc in f))
   deletes path w false has is = absurd (let f : ⊥ = cc in f)
 
-  makes : (path : Route) (w : Work) (b : Bool) → is_some (parent_of path) ≡ b → (let o : Option Work = if◌then◌else◌ b (Some (Rattle.copy_move.specs.Jobs.makes path)) None in o) ≡ Some w → WorkKnows told dirty marks log GoesOn w
-  makes path w true has is = subst (λ x. WorkKnows told dirty marks log GoesOn x) (let e : Rattle.copy_move.specs.Jobs.makes path ≡ w = cc in e) (has_name path has, none)
-  makes path w false has is = absurd (let f : ⊥ = cc in f)
+  makes : (new : NewThing) (path : Route) (w : Work) (b : Bool) → (b ≡ true → is_some (parent_of path) ≡ true) → (let o : Option Work = if◌then◌else◌ b (Some (Rattle.copy_move.specs.Jobs.makes new path)) None in o) ≡ Some w → WorkKnows told dirty marks log GoesOn w
+  makes new path w true has is = subst (λ x. WorkKnows told dirty marks log GoesOn x) (let e : Rattle.copy_move.specs.Jobs.makes new path ≡ w = cc in e) (has_name path (has refl), none)
+  makes new path w false has is = absurd (let f : ⊥ = cc in f)
+
+  sets : (path : Route) (mode : ℕ) (w : Work) (b : Bool) → (b ≡ true → is_some (parent_of path) ≡ true) → (let o : Option Work = if◌then◌else◌ b (Some (Rattle.copy_move.specs.Jobs.sets path mode)) None in o) ≡ Some w → WorkKnows told dirty marks log GoesOn w
+  sets path mode w true has is = subst (λ x. WorkKnows told dirty marks log GoesOn x) (let e : Rattle.copy_move.specs.Jobs.sets path mode ≡ w = cc in e) (has_name path (has refl), none)
+  sets path mode w false has is = absurd (let f : ⊥ = cc in f)
 
   copies : (id : ℕ) (source target : Route) (w : Work) (b : Bool) → (is_some (parent_of source) && is_some (parent_of target)) ≡ b
       → (let o : Option Work = if◌then◌else◌ b (Some (Rattle.copy_move.specs.Jobs.copies id source target)) None in o) ≡ Some w → WorkKnows told dirty marks log GoesOn w
@@ -109,4 +115,8 @@ module _ (told : Said) (dirty : List Route) (marks : Marks) (log : CallLog) (non
   first_knows id (plan.Copy []) w is = absurd (let f : ⊥ = cc in f)
   first_knows id (plan.Copy (pair ∷ [])) w is = copies id pair.source pair.target w (is_some (parent_of pair.source) && is_some (parent_of pair.target)) refl is
   first_knows id (plan.Copy (pair ∷ more ∷ pairs)) w is = absurd (let f : ⊥ = cc in f)
-  first_knows id (plan.MakeFolder path) w is = makes path w (is_some (parent_of path)) refl is
+  first_knows id (plan.MakeFolder path) w is = makes thing.Folder path w (is_some (parent_of path)) (λ has. has) is
+  first_knows id (plan.MakeLink path text) w is = makes (thing.Link text) path w (is_some (parent_of path) && is_link_text text) (λ has. (and_parts _ _ has).0) is
+  first_knows id (plan.SetMode [] mode) w is = absurd (let f : ⊥ = cc in f)
+  first_knows id (plan.SetMode (path ∷ []) mode) w is = sets path mode w (is_some (parent_of path) && nat_le mode 0o7777) (λ has. (and_parts _ _ has).0) is
+  first_knows id (plan.SetMode (path ∷ more ∷ paths) mode) w is = absurd (let f : ⊥ = cc in f)

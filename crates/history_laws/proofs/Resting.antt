@@ -16,7 +16,7 @@ use Rattle.crash_law.specs.Possible.{MayLead, Leads}
 use Rattle.crash_law.specs.Guarded.{IsSettledAt}
 use Rattle.crash_law.proofs.Leading.{clean_more}
 use Rattle.job_reports.specs.Paths.{folder_of}
-use Rattle.history_laws.specs.Doubt.{is_pending, is_unsettled, name_waits}
+use Rattle.history_laws.specs.Doubt.{is_pending, way_waits, name_waits}
 use Rattle.history_laws.proofs.Pending.{all_within, leads_only, pending_less}
 
 -- a folder stands at this path
@@ -46,12 +46,12 @@ pub record IsOfFiles (log : CallLog) : Type 0 where
   pub bare : (i : ℕ) (m : List ℕ) → is_folder (node (current log) i) ≡ false → is_pending i m log.changes ≡ false
   -- of a node that isn't made yet neither bytes nor a mode wait
   pub unborn : (i : ℕ) → length (current log).nodes ≤ i → is_clean i log.changes ≡ true
-  pub mounts : (p : Route) → (visible_tree (current log) p).is_mount ≡ true → is_unsettled log p ≡ false
+  pub mounts : (p : Route) → (visible_tree (current log) p).is_mount ≡ true → way_waits log p ≡ false
 
 -- a folder stands at this path, and neither it nor one above it is in doubt
 pub record IsSureFolder (log : CallLog) (p : Route) : Type 0 where
   pub stands : folder_at (current log) p ≡ true
-  pub sure : is_unsettled log p ≡ false
+  pub sure : way_waits log p ≡ false
 
 -- where a mount begins a folder stands
 pub mounted : (s : FileSystem) → IsTree s → (p : Route) → (visible_tree s p).is_mount ≡ true → IsFolderAt s p
@@ -79,9 +79,9 @@ neither true b h = absurd (true≢false h)
 neither false b h = (refl, h)
 
 -- in a folder that isn't in doubt a path is in doubt only where its own name waits
-pub sure_path : (log : CallLog) (p : Route) → is_unsettled log (folder_of p) ≡ false → name_waits log p ≡ false → is_unsettled log p ≡ false
+pub sure_path : (log : CallLog) (p : Route) → way_waits log (folder_of p) ≡ false → name_waits log p ≡ false → way_waits log p ≡ false
 sure_path log [] sure none = refl
-sure_path log (name ∷ up) sure none = ap (λ b. b || is_unsettled log up) none ∙ sure
+sure_path log (name ∷ up) sure none = ap (λ b. b || way_waits log up) none ∙ sure
 
 -- A call after which each folder on the way leads where it led, and that touches no name of it, leaves a path out of doubt.
 module _ (log : CallLog) (c : Change) (tree : IsTree (current log))
@@ -95,18 +95,18 @@ module _ (log : CallLog) (c : Change) (tree : IsTree (current log))
   waits_not g m j old before after folder =
       false_from_ne_true _ (λ waits. elim (pending_less g m log.changes c waits) [ inl was ↦ both_ways _ old was | inr new ↦ apart g m j new before after folder ])
 
-  pub sure_still : (p : Route) (j : ℕ) → find (current log) p ≡ Some j → is_folder (node (current log) j) ≡ true → find (current now) p ≡ Some j → is_unsettled log p ≡ false → is_unsettled now p ≡ false
+  pub sure_still : (p : Route) (j : ℕ) → find (current log) p ≡ Some j → is_folder (node (current log) j) ≡ true → find (current now) p ≡ Some j → way_waits log p ≡ false → way_waits now p ≡ false
   sure_still [] j at folder then sure = refl
   sure_still (name ∷ up) j at folder then sure =
       let h = and_then-some (find (current log) up) (λ f. lookup (current log).names f name) j at in
       let k = and_then-some (find (current now) up) (λ f. lookup (current now).names f name) j then in
       let holds = tree.in_folders h.0 name j h.2 in
       let g_is : k.0 ≡ h.0 = same up h.0 k.0 h.1 holds k.1 in
-      let both = neither (name_waits log (name ∷ up)) (is_unsettled log up) sure in
+      let both = neither (name_waits log (name ∷ up)) (way_waits log up) sure in
       let there : find (current now) up ≡ Some h.0 = k.1 ∙ ap (λ g. Some g) g_is in
       let leads : lookup (current now).names h.0 name ≡ Some j = subst (λ g. lookup (current now).names g name ≡ Some j) g_is k.2 in
       let old : is_pending h.0 name log.changes ≡ false = sym (ap (λ o. option_map_or (λ f. is_pending f name log.changes) o false) h.1) ∙ both.0 in
-      ap (λ b. b || is_unsettled now up) (ap (λ o. option_map_or (λ f. is_pending f name now.changes) o false) there ∙ waits_not h.0 name j old h.2 leads folder)
+      ap (λ b. b || way_waits now up) (ap (λ o. option_map_or (λ f. is_pending f name now.changes) o false) there ∙ waits_not h.0 name j old h.2 leads folder)
       ∙ sure_still up h.0 h.1 holds there both.1
 
 -- of a node that isn't made yet nothing waits after a call that alters no such node
@@ -115,15 +115,15 @@ pub unborn_more : (log : CallLog) (c : Change) → ((i : ℕ) → length (curren
 unborn_more log c unaltered grown clean i past = let before : length (current log).nodes ≤ i = omega (arith, grown, past) in clean_more i log.changes c (unaltered i before) (clean i before)
 
 -- of a path that isn't in doubt the name waits for nothing
-pub name_sure : (log : CallLog) (p : Route) → is_unsettled log p ≡ false → name_waits log p ≡ false
+pub name_sure : (log : CallLog) (p : Route) → way_waits log p ≡ false → name_waits log p ≡ false
 name_sure log [] sure = refl
-name_sure log (m ∷ up) sure = (neither (name_waits log (m ∷ up)) (is_unsettled log up) sure).0
+name_sure log (m ∷ up) sure = (neither (name_waits log (m ∷ up)) (way_waits log up) sure).0
 
 -- a path that isn't in doubt leads only where it leads
-pub settled_unless : (log : CallLog) (p : Route) → is_unsettled log p ≡ false → IsSettledAt log p
+pub settled_unless : (log : CallLog) (p : Route) → way_waits log p ≡ false → IsSettledAt log p
 settled_unless log [] sure x h = h
 settled_unless log (m ∷ up) sure x (y, found, leads) =
-    let both = neither (name_waits log (m ∷ up)) (is_unsettled log up) sure in
+    let both = neither (name_waits log (m ∷ up)) (way_waits log up) sure in
     at (find (current log) up) refl (subst (λ o. Leads log o m x) (settled_unless log up both.1 y found) leads) both.0
   where
     at : (o : Option ℕ) → find (current log) up ≡ o → Leads log (find (current log) up) m x → name_waits log (m ∷ up) ≡ false → x ≡ find (current log) (m ∷ up)

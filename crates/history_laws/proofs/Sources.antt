@@ -1,42 +1,71 @@
 -- A step leaves a job its number and its item.
 use Rattle.std.proofs.Common.{◌≡◌, ℕ, Bool, true, false, [], ◌∷◌, refl, sym, ◌∙◌, ap, inl, inr, Some, None}
-use Rattle.std.specs.Prelude.{if◌then◌else◌, is_some, ◌&&◌}
+use Rattle.std.specs.Prelude.{if◌then◌else◌, is_some, nat_le, ◌&&◌}
 use Rattle.std.specs.Option.{option_map}
-use Rattle.mc_text.specs.Routes.{Route, parent_of}
+use Rattle.mc_text.specs.Routes.{Route, parent_of, same_path}
 use Rattle.job_reports.specs.declared.job.Job.{Job}
 use Rattle.job_reports.specs.declared.job.Job.TheVariants as plan
-use Rattle.job_reports.specs.Jobs.{Item, Copies, Removes, Makes, folder_changed, item_of}
+use Rattle.job_reports.specs.Jobs.{Item, Copies, Removes, Makes, MakesLink, Sets, folder_changed, is_link_text, item_of}
 use Rattle.job_reports.specs.declared.report.Ending.{Ending}
 use Rattle.job_reports.specs.declared.report.Ending.TheVariants.{Finished, Aborted, Killed, NoMemory}
 use Rattle.job_reports.specs.declared.report.Cause.{Cause}
 use Rattle.job_reports.specs.declared.report.Did.{Did}
 use Rattle.job_reports.specs.declared.report.Did.TheVariants.{Began, Chunk, Placed, Removed, Made, Set, Kept, Skipped, Cleaned, Barrier, Troubled, Ended}
+use Rattle.job_reports.specs.Paths.{folder_of}
 use Rattle.file_copy.specs.Copying.{Copying, Tells}
 use Rattle.file_copy.specs.LastSteps.{Winds}
 use Rattle.job_reports.specs.declared.answer.Answer.{Answer}
 use Rattle.job_reports.specs.declared.answer.Answer.TheVariants.{Retry, Skip, SkipAll, Abort}
+use Rattle.copy_move.specs.declared.new_thing.NewThing.{NewThing}
+use Rattle.copy_move.specs.declared.new_thing.NewThing.TheVariants as thing
 use Rattle.copy_move.specs.declared.work.Work.{Work}
-use Rattle.copy_move.specs.declared.work.Work.TheVariants.{Copy, Delete, Make}
+use Rattle.copy_move.specs.declared.work.Work.TheVariants.{Copy, Delete, Make, SetMode}
 use Rattle.copy_move.specs.declared.run.Course.{Course}
 use Rattle.copy_move.specs.declared.run.Course.TheVariants.{GoesOn, InTrouble, OwedSyncFailed, Skips, Ends}
 use Rattle.copy_move.specs.Deletions.{Deleting}
 use Rattle.copy_move.specs.Deletions as deletions
 use Rattle.copy_move.specs.Makings.{Making}
 use Rattle.copy_move.specs.Makings as makings
-use Rattle.copy_move.specs.Jobs.{PassesOver, Running, JobTells, TellsOn, WorkTells, WorkWinds, answered, answered_on, copies, deletes, first_work, makes, taken_anew, with_skips}
+use Rattle.copy_move.specs.ModeSettings as modes
+use Rattle.mode_setting.specs.Settings.{Setting}
+use Rattle.mode_setting.specs.Settings as settings
+use Rattle.copy_move.specs.Jobs.{PassesOver, Running, JobTells, TellsOn, WorkTells, WorkWinds, answered, answered_on, copies, deletes, first_work, makes, sets, taken_anew, with_skips}
 use Rattle.copy_move.specs.Settling.{changed_folder}
+use Rattle.history_laws.specs.Staying.{may_change}
+
+-- what is made at a path
+abbrev pub making_item : NewThing → Route → Item
+making_item thing.Folder path = Makes path
+making_item (thing.Link text) path = MakesLink path text
 
 -- what a work is at, whatever its stage
 abbrev pub item_in : Work → Item
 item_in (Copy c) = Copies c.source c.target
 item_in (Delete d) = Removes d.path
-item_in (Make m) = Makes m.path
+item_in (Make m) = making_item m.thing m.path
+item_in (SetMode s) = Sets s.path s.mode
+
+making_folder : (new : NewThing) (path : Route) → folder_changed (making_item new path) ≡ folder_of path
+making_folder thing.Folder path = refl
+making_folder (thing.Link text) path = refl
 
 -- the folder in which it changes names is that of its item
 pub folder_is : (work : Work) → folder_changed (item_in work) ≡ changed_folder work
 folder_is (Copy c) = refl
 folder_is (Delete d) = refl
-folder_is (Make m) = refl
+folder_is (Make m) = making_folder m.thing m.path
+folder_is (SetMode s) = refl
+
+-- where a thing is made, names change in the folder that holds it and in no other
+making_may : (new : NewThing) (path folder : Route) → may_change (making_item new path) folder ≡ same_path folder (folder_of path)
+making_may thing.Folder path folder = refl
+making_may (thing.Link text) path folder = refl
+
+pub making_changed : (new : NewThing) (path folder : Route) → may_change (making_item new path) folder ≡ true → same_path folder (folder_of path) ≡ true
+making_changed new path folder h = sym (making_may new path folder) ∙ h
+
+pub making_changes : (new : NewThing) (path folder : Route) → same_path folder (folder_of path) ≡ true → may_change (making_item new path) folder ≡ true
+making_changes new path folder h = making_may new path folder ∙ h
 
 -- works on the same item change names in the same folder
 pub folder_same : (old new : Work) → item_in old ≡ item_in new → changed_folder old ≡ changed_folder new
@@ -54,7 +83,11 @@ first_item id (plan.Delete (path ∷ more ∷ paths)) = refl
 first_item id (plan.Copy []) = refl
 first_item id (plan.Copy (pair ∷ [])) = first_if (is_some (parent_of pair.source) && is_some (parent_of pair.target)) (copies id pair.source pair.target)
 first_item id (plan.Copy (pair ∷ more ∷ pairs)) = refl
-first_item id (plan.MakeFolder path) = first_if (is_some (parent_of path)) (makes path)
+first_item id (plan.MakeFolder path) = first_if (is_some (parent_of path)) (makes thing.Folder path)
+first_item id (plan.MakeLink path text) = first_if (is_some (parent_of path) && is_link_text text) (makes (thing.Link text) path)
+first_item id (plan.SetMode [] mode) = refl
+first_item id (plan.SetMode (path ∷ []) mode) = first_if (is_some (parent_of path) && nat_le mode 0o7777) (sets path mode)
+first_item id (plan.SetMode (path ∷ more ∷ paths) mode) = refl
 
 copy_paths : (c new : Copying) (did : Did) → Tells c did new → item_in (Copy new) ≡ item_in (Copy c)
 copy_paths c new (Began part) t = ap (λ (x : Copying). item_in (Copy x)) t.1.1
@@ -149,6 +182,37 @@ making_winds ending m new (Skipped path why) t = absurd t
 making_winds ending m new (Cleaned part) t = absurd t
 making_winds ending m new (Troubled trouble) t = absurd t
 
+setting_paths : (s new : Setting) (did : Did) → settings.Tells s did new → item_in (SetMode new) ≡ item_in (SetMode s)
+setting_paths s new (Set path) (stage, path_is, new_is) = ap (λ (x : Setting). item_in (SetMode x)) new_is
+setting_paths s new Barrier (stage, new_is) = ap (λ (x : Setting). item_in (SetMode x)) new_is
+setting_paths s new (Troubled trouble) (at, new_is) = ap (λ (x : Setting). item_in (SetMode x)) new_is
+setting_paths s new (Ended Finished part) (is_done, part_is, new_is) = ap (λ (x : Setting). item_in (SetMode x)) new_is
+setting_paths s new (Ended Aborted part) t = absurd t
+setting_paths s new (Ended Killed part) t = absurd t
+setting_paths s new (Ended NoMemory part) t = absurd t
+setting_paths s new (Began part) t = absurd t
+setting_paths s new (Chunk count) t = absurd t
+setting_paths s new (Made path) t = absurd t
+setting_paths s new (Placed path) t = absurd t
+setting_paths s new (Removed made) t = absurd t
+setting_paths s new (Kept kept) t = absurd t
+setting_paths s new (Skipped path why) t = absurd t
+setting_paths s new (Cleaned part) t = absurd t
+
+setting_winds : (ending : Ending) (s new : Setting) (did : Did) → modes.Winds ending s did new → item_in (SetMode new) ≡ item_in (SetMode s)
+setting_winds ending s new Barrier (stage, new_is) = ap (λ (x : Setting). item_in (SetMode x)) new_is
+setting_winds ending s new (Ended how part) (stage, how_is, part_is, new_is) = ap (λ (x : Setting). item_in (SetMode x)) new_is
+setting_winds ending s new (Began part) t = absurd t
+setting_winds ending s new (Chunk count) t = absurd t
+setting_winds ending s new (Set path) t = absurd t
+setting_winds ending s new (Placed path) t = absurd t
+setting_winds ending s new (Made path) t = absurd t
+setting_winds ending s new (Removed made) t = absurd t
+setting_winds ending s new (Kept kept) t = absurd t
+setting_winds ending s new (Skipped path why) t = absurd t
+setting_winds ending s new (Cleaned part) t = absurd t
+setting_winds ending s new (Troubled trouble) t = absurd t
+
 pub work_paths : (old new : Work) (did : Did) → WorkTells old did new → item_in new ≡ item_in old
 work_paths (Copy c) (Copy new) did t = copy_paths c new did t
 work_paths (Copy c) (Delete new) did t = absurd t
@@ -156,9 +220,16 @@ work_paths (Copy c) (Make new) did t = absurd t
 work_paths (Delete d) (Copy new) did t = absurd t
 work_paths (Delete d) (Make new) did t = absurd t
 work_paths (Make m) (Copy new) did t = absurd t
+work_paths (SetMode s) (Copy new) did t = absurd t
+work_paths (SetMode s) (Delete new) did t = absurd t
+work_paths (SetMode s) (Make new) did t = absurd t
+work_paths (Copy c) (SetMode new) did t = absurd t
+work_paths (Delete d) (SetMode new) did t = absurd t
+work_paths (Make m) (SetMode new) did t = absurd t
 work_paths (Make m) (Delete new) did t = absurd t
 work_paths (Delete d) (Delete new) did t = deletion_paths d new did t
 work_paths (Make m) (Make new) did t = making_paths m new did t
+work_paths (SetMode s) (SetMode new) did t = setting_paths s new did t
 
 wind_paths : (ending : Ending) (old new : Work) (did : Did) → WorkWinds ending old did new → item_in new ≡ item_in old
 wind_paths ending (Copy c) (Copy new) did t = copy_winds ending c new did t
@@ -167,9 +238,16 @@ wind_paths ending (Copy c) (Make new) did t = absurd t
 wind_paths ending (Delete d) (Copy new) did t = absurd t
 wind_paths ending (Delete d) (Make new) did t = absurd t
 wind_paths ending (Make m) (Copy new) did t = absurd t
+wind_paths ending (SetMode s) (Copy new) did t = absurd t
+wind_paths ending (SetMode s) (Delete new) did t = absurd t
+wind_paths ending (SetMode s) (Make new) did t = absurd t
+wind_paths ending (Copy c) (SetMode new) did t = absurd t
+wind_paths ending (Delete d) (SetMode new) did t = absurd t
+wind_paths ending (Make m) (SetMode new) did t = absurd t
 wind_paths ending (Make m) (Delete new) did t = absurd t
 wind_paths ending (Delete d) (Delete new) did t = deletion_winds ending d new did t
 wind_paths ending (Make m) (Make new) did t = making_winds ending m new did t
+wind_paths ending (SetMode s) (SetMode new) did t = setting_winds ending s new did t
 
 skip_paths : (work new : Work) (path : Route) → PassesOver work path new → item_in new ≡ item_in work
 skip_paths (Copy c) (Copy new) path (path_is, new_is) = ap (λ (x : Copying). item_in (Copy x)) new_is
@@ -179,13 +257,21 @@ skip_paths (Delete d) (Copy new) path h = absurd h
 skip_paths (Delete d) (Delete new) path at = ap Removes at.path_is
 skip_paths (Delete d) (Make new) path h = absurd h
 skip_paths (Make m) (Copy new) path h = absurd h
+skip_paths (SetMode s) (Copy new) path h = absurd h
+skip_paths (SetMode s) (Delete new) path h = absurd h
+skip_paths (SetMode s) (Make new) path h = absurd h
+skip_paths (Copy c) (SetMode new) path h = absurd h
+skip_paths (Delete d) (SetMode new) path h = absurd h
+skip_paths (Make m) (SetMode new) path h = absurd h
 skip_paths (Make m) (Delete new) path h = absurd h
 skip_paths (Make m) (Make new) path (path_is, new_is) = ap (λ (x : Making). item_in (Make x)) new_is
+skip_paths (SetMode s) (SetMode new) path (path_is, new_is) = ap (λ (x : Setting). item_in (SetMode x)) new_is
 
 anew_paths : (work : Work) → item_in (taken_anew work) ≡ item_in work
 anew_paths (Copy c) = refl
 anew_paths (Delete d) = refl
 anew_paths (Make m) = refl
+anew_paths (SetMode s) = refl
 
 abbrev pub IsSame : Running → Running → Type 0
 IsSame old new = (new.id ≡ old.id) × (item_in new.work ≡ item_in old.work)
@@ -205,6 +291,7 @@ skips_paths : (why : Cause) (work : Work) → item_in (with_skips why work) ≡ 
 skips_paths why (Copy c) = refl
 skips_paths why (Delete d) = refl
 skips_paths why (Make m) = refl
+skips_paths why (SetMode s) = refl
 
 answer_on : (course : Course) (answer : Answer) (job : Running) → IsSame job (answered_on course answer job)
 answer_on (InTrouble why) Retry job = (refl, anew_paths job.work)

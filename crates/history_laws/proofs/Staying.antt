@@ -22,14 +22,13 @@ use Rattle.session_history.specs.declared.history.Event.TheVariants as event
 use Rattle.session_history.specs.declared.history.Entry.{Entry}
 use Rattle.copy_move.specs.declared.run.Course.{Course}
 use Rattle.copy_move.specs.declared.work.Work.{Work}
-use Rattle.copy_move.specs.declared.work.Work.TheVariants.{Copy, Delete, Make}
+use Rattle.copy_move.specs.declared.work.Work.TheVariants.{Copy, Delete, Make, SetMode}
 use Rattle.copy_move.specs.Jobs.{Running}
-use Rattle.history_laws.specs.Doubt.{name_waits}
+use Rattle.history_laws.specs.Doubt.{name_waits, node_waits}
 use Rattle.session_history.specs.LiveJobs.{IsLivePart, LiveJob, after_event, after_report, live, live_jobs, part_after}
 use Rattle.history_laws.specs.Replayed.{log_prefix}
 use Rattle.session_history.specs.Entries.{IsMoment, calls_in}
 use Rattle.session_history.specs.Named.{IsUnnamedSince, names, names_path}
-use Rattle.history_laws.specs.Staying.{StaysLaw}
 use Rattle.history_laws.specs.Traces.{EventLeads, IsTraced, Stand, StepLeads}
 use Rattle.history_laws.proofs.Prefixes.{told_of}
 use Rattle.history_laws.proofs.Going.{only_job}
@@ -37,14 +36,14 @@ use Rattle.history_laws.proofs.Histories.{IsReached, enters, traced_reached}
 use Rattle.history_laws.proofs.JobKnows.{HasPart, StageKnows, WorkKnows}
 use Rattle.history_laws.proofs.JobLeads.{sync_leads, work_leads}
 use Rattle.history_laws.proofs.JobSteps.{gives_up}
-use Rattle.history_laws.proofs.Knowing.{IsKept, Said}
+use Rattle.history_laws.proofs.Knowing.{IsKept, Said, waits_there}
 use Rattle.history_laws.proofs.Moments.{prefix_cut, prefix_is, live_part, log_of, traced_count}
 use Rattle.history_laws.proofs.Reports.{JobsKnow}
 use Rattle.history_laws.proofs.Stepped.{AreMids, Comes, cut, doubt_by, mid_at, more, said_after}
 
--- what a history says, where a change may wait only of the paths of which one waits now
-abbrev doubting : Said → CallLog → Said
-doubting told log = record told { doubt = name_waits log }
+-- what a history says, where a change may wait only of the paths of which one waits now, and a mode only where one does
+abbrev pub doubting : Said → CallLog → Said
+doubting told log = record told { doubt = name_waits log; modes = node_waits log }
 
 module _ (told : Said) (log : CallLog) where
   part_doubting : (marks : Marks) (s : FileSystem) (target part : Route) (i : ℕ) → HasPart told marks s target part i → HasPart (doubting told log) marks s target part i
@@ -68,17 +67,21 @@ module _ (told : Said) (log : CallLog) where
   stage_doubting marks s course c (Left part) (i, has) = (i, part_doubting marks s c.target part i has)
   stage_doubting marks s course c Decided k = k
 
-  work_doubting : (dirty : List Route) (marks : Marks) (now : CallLog) (course : Course) (work : Work) → WorkKnows told dirty marks now course work → WorkKnows (doubting told log) dirty marks now course work
+  pub work_doubting : (dirty : List Route) (marks : Marks) (now : CallLog) (course : Course) (work : Work) → WorkKnows told dirty marks now course work → WorkKnows (doubting told log) dirty marks now course work
   work_doubting dirty marks now course (Copy c) (name, listed, stage) = (name, listed, stage_doubting marks (current now) course c c.stage stage)
   work_doubting dirty marks now course (Delete d) k = k
   work_doubting dirty marks now course (Make w) k = k
+  work_doubting dirty marks now course (SetMode s) k = k
 
-  kept_doubting : (dirty : List Route) (marks : Marks) → IsKept told dirty marks log → IsKept (doubting told log) dirty marks log
+  pub kept_doubting : (dirty : List Route) (marks : Marks) → IsKept told dirty marks log → IsKept (doubting told log) dirty marks log
   kept_doubting dirty marks kept = record {
     known = record {
       guarded = kept.known.guarded;
       files = kept.known.files;
-      moded = kept.known.moded;
+      moded = λ i before is unclean.
+          let h = kept.known.moded i before is unclean in
+          record { path = h.path; leads = h.leads; out = h.out; listed = h.listed; told = waits_there log h.path i h.leads unclean; shown = h.shown };
+      calm = kept.known.calm;
       folders = kept.known.folders;
       aside = kept.known.aside;
       was_there = kept.known.was_there;
@@ -91,6 +94,7 @@ module _ (told : Said) (log : CallLog) where
     };
     aside = kept.aside;
     was = kept.was;
+    modes = kept.modes;
   }
 
 neither : (a b : Bool) → a ≡ false → b ≡ false → (a || b) ≡ true → ⊥
@@ -120,24 +124,32 @@ unnamed_sure Barrier part before path sure unnamed other = sure
 unnamed_sure (Troubled trouble) part before path sure unnamed other = sure
 unnamed_sure (Ended ending left) part before path sure unnamed other = sure
 
--- from one log to another no change of this path waits, before each call and at the end
-pub record IsStill (path : Route) (before now : CallLog) : Type 0 where
+-- from one log to another nothing of a kind waits, before each call and at the end
+pub record IsStill (waits : CallLog → Bool) (before now : CallLog) : Type 0 where
   pub made : List Change
   pub now_is : now ≡ more before made
   pub said : Said
-  pub sure : said.doubt path ≡ false
   pub mids : AreMids said before made
-  pub after : name_waits now path ≡ false
+  pub sure : (dirty : List Route) (marks : Marks) (log : CallLog) → IsKept said dirty marks log → waits log ≡ false
+  pub after : waits now ≡ false
+
+-- no change of this path's name
+abbrev NameStill : Route → CallLog → CallLog → Type 0
+NameStill path before now = IsStill (λ log. name_waits log path) before now
+
+-- nor does one where none is said to
+pub unsaid : (said : Said) (path : Route) → said.doubt path ≡ false → (dirty : List Route) (marks : Marks) (log : CallLog) → IsKept said dirty marks log → name_waits log path ≡ false
+unsaid said path sure dirty marks log kept = false_from_ne_true _ (λ waits. both_ways _ sure (kept.known.doubts path waits))
 
 still_by : (told : Said) (dirty_after : List Route) (before now : CallLog) (did : Did) (work : Work) (knows : Marks → Type 0) (path : Route) → name_waits before path ≡ false → names did path ≡ false
-    → (told.part ≡ Some path → ⊥) → Comes (doubting told before) (said_after now did work (doubting told before)) dirty_after before now knows → IsStill path before now
+    → (told.part ≡ Some path → ⊥) → Comes (doubting told before) (said_after now did work (doubting told before)) dirty_after before now knows → NameStill path before now
 still_by told dirty_after before now did work knows path sure unnamed other come = record {
   made = come.made;
   now_is = come.now_is;
   said = doubting told before;
-  sure = sure;
   mids = come.mids;
-  after = false_from_ne_true _ (λ waits. both_ways _ (unnamed_sure did told.part (name_waits before) path sure unnamed other) (come.kept.known.doubts path waits));
+  sure = unsaid (doubting told before) path sure;
+  after = unsaid (said_after now did work (doubting told before)) path (unnamed_sure did told.part (name_waits before) path sure unnamed other) dirty_after come.marks now come.kept;
 }
 
 module _ (opening : CallLog) (older : List Entry) (was : Stand) (before : CallLog) (r : IsReached opening older was before) (path : Route) (sure : name_waits before path ≡ false) (other : r.part ≡ Some path → ⊥) where
@@ -145,7 +157,7 @@ module _ (opening : CallLog) (older : List Entry) (was : Stand) (before : CallLo
   told = told_of opening before older r.part
 
   step_still : (dirty_after : List Route) (now : CallLog) (did : Did) (job : Running) (after : Option Running) → was.jobs ≡ job ∷ [] → names did path ≡ false → StepLeads job did after was.dirty dirty_after before now
-      → IsStill path before now
+      → NameStill path before now
   step_still dirty_after now did job after jobs_is unnamed leads = by leads
     where
       kept : IsKept (doubting told before) was.dirty r.marks before
@@ -154,7 +166,7 @@ module _ (opening : CallLog) (older : List Entry) (was : Stand) (before : CallLo
       knows : WorkKnows (doubting told before) was.dirty r.marks before job.course job.work
       knows = work_doubting told before was.dirty r.marks before job.course job.work (subst (λ js. JobsKnow told was.dirty r.marks before js) jobs_is r.knows)
 
-      by : StepLeads job did after was.dirty dirty_after before now → IsStill path before now
+      by : StepLeads job did after was.dirty dirty_after before now → NameStill path before now
       by (inl (new, inl works, after_is)) =
           still_by told dirty_after before now did job.work _ path sure unnamed other (work_leads (doubting told before) was.dirty dirty_after r.marks before now kept job new did knows works)
       by (inl (new, inr syncs, after_is)) =
@@ -163,17 +175,17 @@ module _ (opening : CallLog) (older : List Entry) (was : Stand) (before : CallLo
           still_by told dirty_after before now did job.work _ path sure unnamed other
           (gives_up (doubting told before) was.dirty dirty_after r.marks before now kept job.work job.course did knows gives.did_is gives.same gives.none)
 
-  none_still : (now : CallLog) → now ≡ before → IsStill path before now
+  none_still : (now : CallLog) → now ≡ before → NameStill path before now
   none_still now same = record {
     made = [];
     now_is = same ∙ ap (log_of before) (sym (append-nil before.changes));
     said = doubting told before;
-    sure = sure;
     mids = tt;
+    sure = unsaid (doubting told before) path sure;
     after = subst (λ (l : CallLog). name_waits l path ≡ false) (sym same) sure;
   }
 
-  pub event_still : (what : Event) (after : Stand) (now : CallLog) → EventLeads was what after before now → names_path what path ≡ false → IsStill path before now
+  pub event_still : (what : Event) (after : Stand) (now : CallLog) → EventLeads was what after before now → names_path what path ≡ false → NameStill path before now
   event_still (Step id did) after now s unnamed = step_still after.dirty now did s.job s.new (only_job id was.jobs s.job told was.dirty r.marks before s.its r.knows).0 unnamed s.leads
   event_still (event.Began id plan background) after now s unnamed = none_still now s.now_is
   event_still (Order id order) after now s unnamed = none_still now s.now_is
@@ -246,29 +258,25 @@ since_longer older [] path same = let n = ap (λ (xs : List Entry). length xs) s
 since_longer older (e ∷ g) path (inl same) = let n = ap (λ (xs : List Entry). length xs) same in omega (arith, n)
 since_longer older (e ∷ g) path (inr (unnamed, since)) = let n = since_longer older g path since in omega (arith, n)
 
-module _ (opening : CallLog) (tree : IsTree (current opening)) (settled : all_settled opening.changes ≡ true) (end : CallLog) (older : List Entry) (path : Route)
-    (sure : name_waits (log_prefix opening (calls_in older) end) path ≡ false) (no_part : IsLivePart (live_jobs older) path → ⊥) where
-  -- after these entries no change of the path waits, and it is no live job's part
+module _ (opening : CallLog) (tree : IsTree (current opening)) (settled : all_settled opening.changes ≡ true) (end : CallLog) (older : List Entry) (path : Route) (waits : CallLog → Bool) (Excepted : List Entry → Type 0)
+    (step : (e : Entry) (g : List Entry) (was : Stand) (before : CallLog) (after : Stand) (now : CallLog) → IsTraced opening g was before → EventLeads was e.what after before now → names_path e.what path ≡ false
+    → waits before ≡ false → (Excepted g → ⊥) → IsStill waits before now) (apart : (e : Entry) (g : List Entry) → names_path e.what path ≡ false → Excepted (e ∷ g) → Excepted g)
+    (sure : waits (log_prefix opening (calls_in older) end) ≡ false) (no_part : Excepted older → ⊥) where
+  -- after these entries nothing waits, and the path isn't excepted
   abbrev IsSure : List Entry → CallLog → Type 0
-  IsSure g now = (name_waits now path ≡ false) × (IsLivePart (live_jobs g) path → ⊥)
+  IsSure g now = (waits now ≡ false) × (Excepted g → ⊥)
 
   at_older : (g : List Entry) (stand : Stand) (now : CallLog) (rest : List Change) → older ≡ g → IsTraced opening g stand now → end ≡ more now rest → IsSure g now
   at_older g stand now rest same traced end_is =
       let n = traced_count opening now g stand traced in
       let calls : calls_in older ≡ calls_in g = ap calls_in same in (
-        subst (λ (l : CallLog). name_waits l path ≡ false) (prefix_is opening end (calls_in older) now rest end_is (omega (arith, n, calls))) sure,
-        subst (λ x. IsLivePart (live_jobs x) path → ⊥) same no_part,
+        subst (λ (l : CallLog). waits l ≡ false) (prefix_is opening end (calls_in older) now rest end_is (omega (arith, n, calls))) sure,
+        subst (λ x. Excepted x → ⊥) same no_part,
       )
 
   -- what came before an entry, in the log of the whole
   earlier : (before now : CallLog) (made rest : List Change) → now ≡ more before made → end ≡ more now rest → end ≡ more before (made ++ rest)
   earlier before now made rest now_is end_is = end_is ∙ (ap (λ (l : CallLog). more l rest) now_is ∙ ap (log_of before) (append_assoc before.changes made rest))
-
-  still_then : (e : Entry) (g : List Entry) (was : Stand) (before : CallLog) (after : Stand) (now : CallLog) → IsTraced opening g was before → EventLeads was e.what after before now → names_path e.what path ≡ false
-      → IsSure g before → IsStill path before now
-  still_then e g was before after now traced leads unnamed s =
-      let r = traced_reached opening tree settled g was before traced in
-      event_still opening g was before r path s.0 (λ is. s.1 (live_part was.jobs (told_of opening before g r.part) was.dirty r.marks before (live_jobs g) path r.knows r.live is)) e.what after now leads unnamed
 
   sure_after : (g : List Entry) (stand : Stand) (now : CallLog) (rest : List Change) → IsTraced opening g stand now → end ≡ more now rest → IsUnnamedSince older path g → IsSure g now
   sure_after [] stand now rest traced end_is same = at_older [] stand now rest same traced end_is
@@ -277,34 +285,34 @@ module _ (opening : CallLog) (tree : IsTree (current opening)) (settled : all_se
       let r = traced_reached opening tree settled g was before traced in
       let n = enters opening g e.calls was before r e.what f.after now f.leads f.counts in
       let s = sure_after g was before (n.made ++ rest) traced (earlier before now n.made rest n.now_is end_is) since in
-      let still = still_then e g was before f.after now traced f.leads unnamed s in
-      (still.after, λ is. s.1 (event_part path e.what (live_jobs g) unnamed is))
+      let still = step e g was before f.after now traced f.leads unnamed s.0 s.1 in
+      (still.after, λ is. s.1 (apart e g unnamed is))
 
   -- within an entry
-  sure_within : (calls : ℕ) (before now : CallLog) (rest : List Change) → IsStill path before now → end ≡ more now rest → length before.changes ≤ length opening.changes + calls → length opening.changes + calls ≤ length now.changes
-      → name_waits (log_prefix opening calls end) path ≡ false
+  sure_within : (calls : ℕ) (before now : CallLog) (rest : List Change) → IsStill waits before now → end ≡ more now rest → length before.changes ≤ length opening.changes + calls → length opening.changes + calls ≤ length now.changes
+      → waits (log_prefix opening calls end) ≡ false
   sure_within calls before now rest still end_is least most =
       let count : ℕ = length opening.changes + calls in
       let at : log_prefix opening calls end ≡ cut (more before still.made) count = prefix_cut opening end calls now rest end_is most ∙ ap (λ (l : CallLog). cut l count) still.now_is in
       elim (mid_at still.said still.made before count still.mids least (subst (λ (l : CallLog). count ≤ length l.changes) still.now_is most)) [
-        | inl whole ↦ subst (λ (l : CallLog). name_waits l path ≡ false) (sym (at ∙ (whole ∙ sym still.now_is))) still.after
-        | inr mid ↦ subst (λ (l : CallLog). name_waits l path ≡ false) (sym at) (false_from_ne_true _ (λ waits. both_ways _ still.sure (mid.2.known.doubts path waits)))
+        | inl whole ↦ subst (λ (l : CallLog). waits l ≡ false) (sym (at ∙ (whole ∙ sym still.now_is))) still.after
+        | inr mid ↦ subst (λ (l : CallLog). waits l ≡ false) (sym at) (still.sure mid.0 mid.1 (cut (more before still.made) count) mid.2)
       ]
 
-  sure_moment : (newest standing coming : List Entry) (stand : Stand) (calls : ℕ) (now : CallLog) (rest : List Change) → IsTraced opening newest stand now → end ≡ more now rest → IsMoment newest standing coming calls
-      → IsUnnamedSince older path standing → IsUnnamedSince older path coming → name_waits (log_prefix opening calls end) path ≡ false
+  pub sure_moment : (newest standing coming : List Entry) (stand : Stand) (calls : ℕ) (now : CallLog) (rest : List Change) → IsTraced opening newest stand now → end ≡ more now rest → IsMoment newest standing coming calls
+      → IsUnnamedSince older path standing → IsUnnamedSince older path coming → waits (log_prefix opening calls end) ≡ false
   sure_moment [] standing coming stand calls now rest traced end_is (standing_is, coming_is, calls_is) since later =
       let n = traced_count opening now [] stand traced in
-      subst (λ (l : CallLog). name_waits l path ≡ false) (sym (prefix_is opening end calls now rest end_is (omega (arith, n, calls_is))))
+      subst (λ (l : CallLog). waits l ≡ false) (sym (prefix_is opening end calls now rest end_is (omega (arith, n, calls_is))))
       (sure_after [] stand now rest traced end_is (subst (IsUnnamedSince older path) standing_is since)).0
   sure_moment (e ∷ g) standing coming stand calls now rest traced end_is (inl (standing_is, coming_is, calls_is)) since later =
       let n = traced_count opening now (e ∷ g) stand traced in
-      subst (λ (l : CallLog). name_waits l path ≡ false) (sym (prefix_is opening end calls now rest end_is (omega (arith, n, calls_is))))
+      subst (λ (l : CallLog). waits l ≡ false) (sym (prefix_is opening end calls now rest end_is (omega (arith, n, calls_is))))
       (sure_after (e ∷ g) stand now rest traced end_is (subst (IsUnnamedSince older path) standing_is since)).0
   sure_moment (e ∷ g) standing coming stand calls now rest (was, before, traced, f) end_is (inr (inl (standing_is, coming_is, least, most))) since later =
       by (subst (IsUnnamedSince older path) coming_is later)
     where
-      by : IsUnnamedSince older path (e ∷ g) → name_waits (log_prefix opening calls end) path ≡ false
+      by : IsUnnamedSince older path (e ∷ g) → waits (log_prefix opening calls end) ≡ false
       by (inl same) =
           let longer = since_longer older g path (subst (IsUnnamedSince older path) standing_is since) in
           let n = ap (λ (xs : List Entry). length xs) same in
@@ -315,12 +323,21 @@ module _ (opening : CallLog) (tree : IsTree (current opening)) (settled : all_se
           let s = sure_after g was before (n.made ++ rest) traced (earlier before now n.made rest n.now_is end_is) more_since in
           let b = traced_count opening before g was traced in
           let c = f.counts in
-          sure_within calls before now rest (still_then e g was before f.after now traced f.leads unnamed s) end_is (omega (arith, b, least)) (omega (arith, c, most))
+          sure_within calls before now rest (step e g was before f.after now traced f.leads unnamed s.0 s.1) end_is (omega (arith, b, least)) (omega (arith, c, most))
   sure_moment (e ∷ g) standing coming stand calls now rest (was, before, traced, f) end_is (inr (inr before_that)) since later =
       let r = traced_reached opening tree settled g was before traced in
       let n = enters opening g e.calls was before r e.what f.after now f.leads f.counts in
       sure_moment g standing coming was calls before (n.made ++ rest) traced (earlier before now n.made rest n.now_is end_is) before_that since later
 
-pub stays_law : StaysLaw
-stays_law opening now newest older standing coming stand calls path tree settled traced moment since later sure no_part =
-    sure_moment opening tree settled now older path sure no_part newest standing coming stand calls now [] traced (ap (log_of now) (sym (append-nil now.changes))) moment since later
+module _ (opening now : CallLog) (newest older standing coming : List Entry) (stand : Stand) (calls : ℕ) (path : Route) (tree : IsTree (current opening)) (settled : all_settled opening.changes ≡ true) where
+  name_step : (e : Entry) (g : List Entry) (was : Stand) (before : CallLog) (after : Stand) (now : CallLog) → IsTraced opening g was before → EventLeads was e.what after before now → names_path e.what path ≡ false
+      → name_waits before path ≡ false → (IsLivePart (live_jobs g) path → ⊥) → NameStill path before now
+  name_step e g was before after now traced leads unnamed sure no_part =
+      let r = traced_reached opening tree settled g was before traced in
+      event_still opening g was before r path sure (λ is. no_part (live_part was.jobs (told_of opening before g r.part) was.dirty r.marks before (live_jobs g) path r.knows r.live is)) e.what after now leads unnamed
+
+  pub names_stay : IsTraced opening newest stand now → IsMoment newest standing coming calls → IsUnnamedSince older path standing → IsUnnamedSince older path coming
+      → name_waits (log_prefix opening (calls_in older) now) path ≡ false → (IsLivePart (live_jobs older) path → ⊥) → name_waits (log_prefix opening calls now) path ≡ false
+  names_stay traced moment since later sure no_part =
+      sure_moment opening tree settled now older path (λ l. name_waits l path) (λ g. IsLivePart (live_jobs g) path) name_step (λ e g unnamed is. event_part path e.what (live_jobs g) unnamed is) sure no_part
+      newest standing coming stand calls now [] traced (ap (log_of now) (sym (append-nil now.changes))) moment since later

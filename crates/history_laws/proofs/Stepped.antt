@@ -6,11 +6,13 @@ use Rattle.std.proofs.Math.Seq.{take-append_seam, take-length}
 use Rattle.mc_text.specs.Routes.{Route, same_path}
 use Rattle.tree_trait.specs.Change.{Change, CallLog, with_change}
 use Rattle.crash_law.specs.Guarded.{Marks}
-use Rattle.job_reports.specs.Jobs.{folder_changed}
+use Rattle.job_reports.specs.Jobs.{Item, folder_changed}
+use Rattle.job_reports.specs.Paths.{folder_of}
 use Rattle.job_reports.specs.declared.report.Did.{Did}
 use Rattle.job_reports.specs.declared.report.Did.TheVariants.{Began, Chunk, Placed, Removed, Made, Set, Kept, Skipped, Cleaned, Barrier, Troubled, Ended}
 use Rattle.copy_move.specs.declared.work.Work.{Work}
 use Rattle.history_laws.specs.Replayed.{replayed_step, keeping}
+use Rattle.history_laws.specs.Staying.{may_change}
 use Rattle.session_history.specs.Named.{changed_by, named_by}
 use Rattle.history_laws.proofs.Knowing.{Said, IsKnown, IsKept, settled_kept, settled_marks}
 use Rattle.history_laws.proofs.Sources.{item_in}
@@ -102,6 +104,36 @@ folders_by Barrier folder before = before
 folders_by (Troubled trouble) folder before = before
 folders_by (Ended ending left) folder before = before
 
+-- of which paths a mode may wait then
+abbrev pub modes_by : Did → (Route → Bool) → Route → Bool
+modes_by (Set path) before = λ p. before p || same_path p path
+modes_by (Began made) before = before
+modes_by (Chunk count) before = before
+modes_by (Placed path) before = before
+modes_by (Removed path) before = before
+modes_by (Made path) before = before
+modes_by (Kept kept) before = before
+modes_by (Skipped path cause) before = before
+modes_by (Cleaned gone) before = before
+modes_by Barrier before = before
+modes_by (Troubled trouble) before = before
+modes_by (Ended ending left) before = before
+
+-- in the folders of a job's first change no mode waits from then on, until one is set there
+abbrev pub calm_by : Did → Item → (Route → Bool) → Route → Bool
+calm_by (Began made) item before = λ p. may_change item p || before p
+calm_by (Removed path) item before = λ p. may_change item p || before p
+calm_by (Made path) item before = λ p. may_change item p || before p
+calm_by (Set path) item before = λ p. before p && not (same_path p (folder_of path))
+calm_by (Placed path) item before = before
+calm_by (Cleaned gone) item before = before
+calm_by (Chunk count) item before = before
+calm_by (Kept kept) item before = before
+calm_by (Skipped path cause) item before = before
+calm_by Barrier item before = before
+calm_by (Troubled trouble) item before = before
+calm_by (Ended ending left) item before = before
+
 abbrev pub said_after : CallLog → Did → Work → Said → Said
 said_after now did work told = record {
   tree = replayed_step now did (Some (item_in work)) told.tree;
@@ -110,6 +142,8 @@ said_after now did work told = record {
   part = part_after did told.part;
   doubt = doubt_by did told.part told.doubt;
   folders = folders_by did (folder_changed (item_in work)) told.folders;
+  modes = modes_by did told.modes;
+  calm = calm_by did (item_in work) told.calm;
 }
 
 -- What a step comes to.

@@ -1,6 +1,6 @@
 -- A job whose history tells of no change has begun none, as far as its work tells.
 use Rattle.std.proofs.Common.{◌≡◌, ℕ, Bool, true, false, [], ◌∷◌, refl, sym, ◌∙◌, ap, Option, Some, None}
-use Rattle.std.specs.Prelude.{if◌then◌else◌, is_some, ◌&&◌}
+use Rattle.std.specs.Prelude.{if◌then◌else◌, is_some, nat_le, ◌&&◌}
 use Rattle.std.proofs.lemmas.Bool.{true≢false}
 use Rattle.mc_text.specs.Routes.{Route, parent_of, same_path}
 use Rattle.job_reports.specs.declared.report.Did.{Did}
@@ -9,14 +9,21 @@ use Rattle.copy_move.specs.declared.making.MakingStage.{MakingStage}
 use Rattle.copy_move.specs.declared.making.MakingStage.TheVariants as making
 use Rattle.job_reports.specs.declared.job.Job.{Job}
 use Rattle.job_reports.specs.declared.job.Job.TheVariants as plan
+use Rattle.job_reports.specs.Jobs.{is_link_text}
 use Rattle.file_copy.specs.Copying as copying
 use Rattle.tree_deletion.specs.declared.deletion.Stage.{Stage}
 use Rattle.tree_deletion.specs.declared.deletion.Stage.TheVariants.{Begin, Going, Sync}
 use Rattle.tree_deletion.specs.Standing.{after_item}
+use Rattle.copy_move.specs.declared.new_thing.NewThing.{NewThing}
+use Rattle.copy_move.specs.declared.new_thing.NewThing.TheVariants as thing
 use Rattle.copy_move.specs.declared.work.Work.{Work}
-use Rattle.copy_move.specs.declared.work.Work.TheVariants.{Copy, Delete, Make}
+use Rattle.copy_move.specs.declared.work.Work.TheVariants.{Copy, Delete, Make, SetMode}
 use Rattle.copy_move.specs.Makings as makings
-use Rattle.copy_move.specs.Jobs.{JobTells, Running, copies, deletes, first_work, makes}
+use Rattle.copy_move.specs.ModeSettings as modes
+use Rattle.mode_setting.specs.declared.setting.Stage.{Stage as SettingStage}
+use Rattle.mode_setting.specs.declared.setting.Stage.TheVariants as setting
+use Rattle.mode_setting.specs.Settings as settings
+use Rattle.copy_move.specs.Jobs.{JobTells, Running, copies, deletes, first_work, makes, sets}
 use Rattle.job_reports.specs.Reports.{ends}
 use Rattle.copy_move.specs.Told.{after_step, cleaned, placed, skipped, spared, synced, told, work_told}
 use Rattle.copy_move.specs.declared.run.Course.{Course}
@@ -34,11 +41,13 @@ abbrev pub has_begun : Work → Bool
 has_begun (Copy c) = copying.is_dirty c.folder
 has_begun (Delete d) = is_going d.stage
 has_begun (Make m) = makings.is_dirty m.stage
+has_begun (SetMode s) = settings.is_dirty s.stage
 
 told_begun : (work : Work) → has_begun (work_told work) ≡ has_begun work
 told_begun (Copy c) = refl
 told_begun (Delete d) = refl
 told_begun (Make m) = refl
+told_begun (SetMode s) = refl
 
 item_begun : (top path : Route) (stage : Stage) → is_going stage ≡ false → is_going (after_item top path stage) ≡ false
 item_begun top path stage clean = by (same_path path top)
@@ -59,30 +68,45 @@ synced_making making.Sync = refl
 synced_making making.Finish = refl
 synced_making making.PassedOver = refl
 
+pub skip_setting : (stage : SettingStage) → settings.is_dirty (settings.skipped stage) ≡ settings.is_dirty stage
+skip_setting setting.Give = refl
+skip_setting setting.Sync = refl
+skip_setting setting.Done = refl
+
+synced_setting : (stage : SettingStage) → settings.is_dirty (modes.after_sync stage) ≡ false
+synced_setting setting.Give = refl
+synced_setting setting.Sync = refl
+synced_setting setting.Done = refl
+
 skipped_begun : (path : Route) (work : Work) → has_begun work ≡ false → has_begun (skipped path work) ≡ false
 skipped_begun path (Copy c) clean = clean
 skipped_begun path (Delete d) clean = item_begun d.path path d.stage clean
 skipped_begun path (Make m) clean = skip_making m.stage ∙ clean
+skipped_begun path (SetMode s) clean = skip_setting s.stage ∙ clean
 
 spared_begun : (path : Route) (work : Work) → has_begun work ≡ false → has_begun (spared path work) ≡ false
 spared_begun path (Copy c) clean = clean
 spared_begun path (Delete d) clean = item_begun d.path path d.stage clean
 spared_begun path (Make m) clean = clean
+spared_begun path (SetMode s) clean = clean
 
 placed_begun : (work : Work) → has_begun (placed work) ≡ has_begun work
 placed_begun (Copy c) = refl
 placed_begun (Delete d) = refl
 placed_begun (Make m) = refl
+placed_begun (SetMode s) = refl
 
 cleaned_begun : (course : Course) (work : Work) → has_begun (cleaned course work) ≡ has_begun work
 cleaned_begun course (Copy c) = refl
 cleaned_begun course (Delete d) = refl
 cleaned_begun course (Make m) = refl
+cleaned_begun course (SetMode s) = refl
 
 synced_begun : (work : Work) → has_begun work ≡ false → has_begun (synced work) ≡ false
 synced_begun (Copy c) clean = refl
 synced_begun (Delete d) clean = clean
 synced_begun (Make m) clean = synced_making m.stage
+synced_begun (SetMode s) clean = synced_setting s.stage
 
 some_job : (a b : Running) → (let o : Option Running = Some a in o) ≡ Some b → has_begun b.work ≡ has_begun a.work
 some_job a b h = let e : a ≡ b = cc in ap (λ (x : Running). has_begun x.work) (sym e)
@@ -111,13 +135,17 @@ deletes_clean : (path : Route) (w : Work) (b : Bool) → (let o : Option Work = 
 deletes_clean path w true is = let e : deletes path ≡ w = cc in ap has_begun (sym e)
 deletes_clean path w false is = absurd (let f : ⊥ = cc in f)
 
-makes_clean : (path : Route) (w : Work) (b : Bool) → (let o : Option Work = if◌then◌else◌ b (Some (makes path)) None in o) ≡ Some w → has_begun w ≡ false
-makes_clean path w true is = let e : makes path ≡ w = cc in ap has_begun (sym e)
-makes_clean path w false is = absurd (let f : ⊥ = cc in f)
+makes_clean : (new : NewThing) (path : Route) (w : Work) (b : Bool) → (let o : Option Work = if◌then◌else◌ b (Some (makes new path)) None in o) ≡ Some w → has_begun w ≡ false
+makes_clean new path w true is = let e : makes new path ≡ w = cc in ap has_begun (sym e)
+makes_clean new path w false is = absurd (let f : ⊥ = cc in f)
 
 copies_clean : (id : ℕ) (source target : Route) (w : Work) (b : Bool) → (let o : Option Work = if◌then◌else◌ b (Some (copies id source target)) None in o) ≡ Some w → has_begun w ≡ false
 copies_clean id source target w true is = let e : copies id source target ≡ w = cc in ap has_begun (sym e)
 copies_clean id source target w false is = absurd (let f : ⊥ = cc in f)
+
+sets_clean : (path : Route) (mode : ℕ) (w : Work) (b : Bool) → (let o : Option Work = if◌then◌else◌ b (Some (sets path mode)) None in o) ≡ Some w → has_begun w ≡ false
+sets_clean path mode w true is = let e : sets path mode ≡ w = cc in ap has_begun (sym e)
+sets_clean path mode w false is = absurd (let f : ⊥ = cc in f)
 
 pub first_clean : (id : ℕ) (job : Job) (w : Work) → first_work id job ≡ Some w → has_begun w ≡ false
 first_clean id (plan.Delete []) w is = absurd (let f : ⊥ = cc in f)
@@ -126,4 +154,8 @@ first_clean id (plan.Delete (path ∷ more ∷ paths)) w is = absurd (let f : �
 first_clean id (plan.Copy []) w is = absurd (let f : ⊥ = cc in f)
 first_clean id (plan.Copy (pair ∷ [])) w is = copies_clean id pair.source pair.target w (is_some (parent_of pair.source) && is_some (parent_of pair.target)) is
 first_clean id (plan.Copy (pair ∷ more ∷ pairs)) w is = absurd (let f : ⊥ = cc in f)
-first_clean id (plan.MakeFolder path) w is = makes_clean path w (is_some (parent_of path)) is
+first_clean id (plan.MakeFolder path) w is = makes_clean thing.Folder path w (is_some (parent_of path)) is
+first_clean id (plan.MakeLink path text) w is = makes_clean (thing.Link text) path w (is_some (parent_of path) && is_link_text text) is
+first_clean id (plan.SetMode [] mode) w is = absurd (let f : ⊥ = cc in f)
+first_clean id (plan.SetMode (path ∷ []) mode) w is = sets_clean path mode w (is_some (parent_of path) && nat_le mode 0o7777) is
+first_clean id (plan.SetMode (path ∷ more ∷ paths) mode) w is = absurd (let f : ⊥ = cc in f)

@@ -8,7 +8,7 @@ use Rattle.tree_trait.specs.CrashImages.{Among}
 use Rattle.tree_trait.proofs.Visible.{same_path-self}
 use Rattle.job_reports.specs.declared.report.Did.{Did}
 use Rattle.job_reports.specs.declared.report.Did.TheVariants.{Began, Chunk, Placed, Removed, Made, Set, Kept, Skipped, Cleaned, Barrier, Troubled, Ended}
-use Rattle.job_reports.specs.Jobs.{Item, Copies, Removes, Makes}
+use Rattle.job_reports.specs.Jobs.{Item, Copies, Removes, Makes, MakesLink, Sets}
 use Rattle.file_copy.specs.Copied.{copied}
 use Rattle.session_history.specs.declared.history.Event.{Event}
 use Rattle.session_history.specs.declared.history.Event.TheVariants.{Key, Look, Sought, Order, Step, Closed}
@@ -16,7 +16,7 @@ use Rattle.session_history.specs.declared.history.Event.TheVariants as event
 use Rattle.session_history.specs.declared.history.Entry.{Entry}
 use Rattle.session_history.specs.LiveJobs.{LiveJob, live_jobs, live_item}
 use Rattle.session_history.specs.Named.{IsUnnamedSince, changed_by, named_by, names, names_path}
-use Rattle.history_laws.specs.Replayed.{keeping, log_prefix, new_folder, placed_by, replayed_event, replayed_step, replayed_tree, set_by, with_mode_of}
+use Rattle.history_laws.specs.Replayed.{keeping, log_prefix, made_by, placed_by, replayed_event, replayed_step, replayed_tree, set_by, with_mode, with_mode_of}
 use Rattle.history_laws.proofs.Deleted.{put_off}
 use Rattle.history_laws.proofs.Owing.{in_filter}
 
@@ -25,12 +25,16 @@ placed_unnamed : (item : Option Item) (target : Route) (v : View) (path : Route)
 placed_unnamed (Some (Copies source to)) target v path unnamed = put_off v target (Rattle.std.specs.Option.option_map copied (v source).value) path unnamed
 placed_unnamed (Some (Removes file)) target v path unnamed = refl
 placed_unnamed (Some (Makes folder)) target v path unnamed = refl
+placed_unnamed (Some (MakesLink link text)) target v path unnamed = refl
+placed_unnamed (Some (Sets thing mode)) target v path unnamed = refl
 placed_unnamed None target v path unnamed = refl
 
 set_unnamed : (item : Option Item) (changed : Route) (v : View) (path : Route) → same_path path changed ≡ false → set_by item changed v path ≡ v path
 set_unnamed (Some (Copies source target)) changed v path unnamed = put_off v changed (Rattle.std.specs.Option.option_map (with_mode_of (v source).value) (v changed).value) path unnamed
 set_unnamed (Some (Removes file)) changed v path unnamed = refl
 set_unnamed (Some (Makes folder)) changed v path unnamed = refl
+set_unnamed (Some (MakesLink link text)) changed v path unnamed = refl
+set_unnamed (Some (Sets thing mode)) changed v path unnamed = put_off v changed (Rattle.std.specs.Option.option_map (with_mode mode) (v changed).value) path unnamed
 set_unnamed None changed v path unnamed = refl
 
 pub step_unnamed : (log : CallLog) (did : Did) (item : Option Item) (v : View) (path : Route) → names did path ≡ false → replayed_step log did item v path ≡ v path
@@ -41,7 +45,7 @@ step_unnamed log (Ended ending None) item v path unnamed = refl
 step_unnamed log (Began part) item v path unnamed = refl
 step_unnamed log (Chunk count) item v path unnamed = refl
 step_unnamed log (Set changed) item v path unnamed = set_unnamed item changed v path unnamed
-step_unnamed log (Made folder) item v path unnamed = put_off v folder (Some new_folder) path unnamed
+step_unnamed log (Made folder) item v path unnamed = put_off v folder (Some (made_by item)) path unnamed
 step_unnamed log (Kept kept) item v path unnamed = refl
 step_unnamed log (Skipped file cause) item v path unnamed = refl
 step_unnamed log (Cleaned part) item v path unnamed = refl

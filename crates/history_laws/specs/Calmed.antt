@@ -4,16 +4,16 @@ use Rattle.std.specs.Prelude.{◌≡◌, ◌⊎◌, ℕ, true, false, List, ◌�
 use Rattle.mc_text.specs.Routes.{Route}
 use Rattle.tree_trait.specs.Shape.{IsTree}
 use Rattle.tree_trait.specs.Change.{CallLog, current}
-use Rattle.tree_trait.specs.CrashImages.{all_settled}
+use Rattle.tree_trait.specs.CrashImages.{Among, all_settled}
 use Rattle.job_reports.specs.declared.report.Did.{Did}
 use Rattle.job_reports.specs.Paths.{folder_of}
 use Rattle.session_history.specs.declared.history.Event.TheVariants.{Step}
 use Rattle.session_history.specs.declared.history.Entry.{Entry}
 use Rattle.job_reports.specs.Jobs.{Item, folder_changed}
-use Rattle.history_laws.specs.Doubt.{name_waits}
+use Rattle.history_laws.specs.Doubt.{name_waits, node_waits}
 use Rattle.session_history.specs.LiveJobs.{live_jobs, live_item}
 use Rattle.history_laws.specs.Owed.{IsApart}
-use Rattle.session_history.specs.Named.{begins_change, has_changed, names_path}
+use Rattle.session_history.specs.Named.{begins_change, has_changed, named_parts, names_path}
 use Rattle.history_laws.specs.Replayed.{log_prefix}
 use Rattle.session_history.specs.Entries.{IsMoment, calls_in}
 use Rattle.history_laws.specs.Traces.{IsTraced, Stand}
@@ -30,12 +30,14 @@ pub record HasBegun (e : Entry) (older : List Entry) (folder : Route) : Type 0 w
   pub within : folder ≡ folder_changed item
 
 -- When such an entry has come to stand, a path of whose name a change isn't on the disk yet is one that this entry names, or its
--- folder lies on another mount, or was removed.
-abbrev pub CalmsOthers : CallLog → CallLog → List Entry → Type 0
-CalmsOthers opening now newest =
-    (e : Entry) (older : List Entry) (folder path : Route)
-    → HasBegun e older folder → IsMoment newest (e ∷ older) (e ∷ older) e.calls → name_waits (log_prefix opening e.calls now) path ≡ true
-    → (names_path e.what path ≡ true) ⊎ IsApart (log_prefix opening (calls_in older) now) folder (folder_of path)
+-- folder lies on another mount, or was removed. One of which a mode isn't, parts aside, is one that it names, or lies itself on another mount.
+pub record CalmsOthers (opening now : CallLog) (newest : List Entry) : Type 0 where
+  pub names : (e : Entry) (older : List Entry) (folder path : Route)
+      → HasBegun e older folder → IsMoment newest (e ∷ older) (e ∷ older) e.calls → name_waits (log_prefix opening e.calls now) path ≡ true
+      → (names_path e.what path ≡ true) ⊎ IsApart (log_prefix opening (calls_in older) now) folder (folder_of path)
+  pub modes : (e : Entry) (older : List Entry) (folder path : Route)
+      → HasBegun e older folder → IsMoment newest (e ∷ older) (e ∷ older) e.calls → (Among (named_parts older) path → ⊥) → node_waits (log_prefix opening e.calls now) path ≡ true
+      → (names_path e.what path ≡ true) ⊎ IsApart (log_prefix opening (calls_in older) now) folder path
 
 abbrev pub CalmLaw : Type 0
 CalmLaw = (opening now : CallLog) (newest : List Entry) (stand : Stand)

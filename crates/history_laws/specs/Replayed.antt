@@ -2,7 +2,7 @@
 use Rattle.std.specs.Prelude.{ℕ, ◌+◌, List, [], ◌∷◌, length, take, Option, Some, None}
 use Rattle.std.specs.Option.{option_map}
 use Rattle.mc_text.specs.Routes.{Route}
-use Rattle.mc_text.specs.declared.kind.Kind.TheVariants.{Folder}
+use Rattle.mc_text.specs.declared.kind.Kind.TheVariants.{Folder, Link}
 use Rattle.tree_trait.specs.FileSystem.{Value, View, put, value_at, visible_tree}
 use Rattle.tree_trait.specs.Change.{CallLog, current}
 use Rattle.job_reports.specs.declared.report.Did.{Did}
@@ -13,7 +13,7 @@ use Rattle.session_history.specs.declared.history.Event.{Event}
 use Rattle.session_history.specs.declared.history.Event.TheVariants.{Key, Look, Sought, Order, Step, Closed}
 use Rattle.session_history.specs.declared.history.Event.TheVariants as event
 use Rattle.session_history.specs.declared.history.Entry.{Entry}
-use Rattle.job_reports.specs.Jobs.{Item, Copies, Removes, Makes, new_folder_mode}
+use Rattle.job_reports.specs.Jobs.{Item, Copies, Removes, Makes, MakesLink, Sets, new_folder_mode}
 use Rattle.session_history.specs.LiveJobs.{LiveJob, live_jobs, live_item}
 
 -- the log as it was when so many calls had been made since the opening
@@ -25,6 +25,8 @@ abbrev pub placed_by : Option Item → Route → View → View
 placed_by (Some (Copies source target)) path v = put v path (option_map copied (v source).value)
 placed_by (Some (Removes file)) path v = v
 placed_by (Some (Makes folder)) path v = v
+placed_by (Some (MakesLink link text)) path v = v
+placed_by (Some (Sets thing mode)) path v = v
 placed_by None path v = v
 
 -- a thing with the mode of another, where there is one
@@ -32,19 +34,38 @@ abbrev pub with_mode_of : Option Value → Value → Value
 with_mode_of None x = x
 with_mode_of (Some from) x = record x { mode = from.mode }
 
--- a folder that was copied is given its source's mode
+-- a thing with this mode
+abbrev pub with_mode : ℕ → Value → Value
+with_mode mode x = record x { mode = mode }
+
+-- a folder that was copied is given its source's mode, and a thing whose mode is set that one
 abbrev pub set_by : Option Item → Route → View → View
 set_by (Some (Copies source target)) path v = put v path (option_map (with_mode_of (v source).value) (v path).value)
 set_by (Some (Removes file)) path v = v
 set_by (Some (Makes folder)) path v = v
+set_by (Some (MakesLink link text)) path v = v
+set_by (Some (Sets thing mode)) path v = put v path (option_map (with_mode mode) (v path).value)
 set_by None path v = v
 
 -- what stands where a folder was made
 abbrev pub new_folder : Value
 new_folder = record { kind = Folder; bytes = []; mode = new_folder_mode; unnamed = 0 }
 
+-- what stands where a link was made
+abbrev pub new_link : List ℕ → Value
+new_link text = record { kind = Link; bytes = text; mode = 0; unnamed = 0 }
+
+-- what a job makes at a path: the link that it is to make, or a folder
+abbrev pub made_by : Option Item → Value
+made_by (Some (MakesLink link text)) = new_link text
+made_by (Some (Makes folder)) = new_folder
+made_by (Some (Copies source target)) = new_folder
+made_by (Some (Removes file)) = new_folder
+made_by (Some (Sets thing mode)) = new_folder
+made_by None = new_folder
+
 -- What a step makes of the tree, which has this log then: a removed path has nothing any more, one that was made an empty
--- folder, one that was given a mode has that, and a part that an end names is from then on what it then is.
+-- folder or a link, one that was given a mode has that, and a part that an end names is from then on what it then is.
 abbrev pub replayed_step : CallLog → Did → Option Item → View → View
 replayed_step log (Removed path) item v = put v path None
 replayed_step log (Placed path) item v = placed_by item path v
@@ -53,7 +74,7 @@ replayed_step log (Ended ending None) item v = v
 replayed_step log (Began part) item v = v
 replayed_step log (Chunk count) item v = v
 replayed_step log (Set path) item v = set_by item path v
-replayed_step log (Made path) item v = put v path (Some new_folder)
+replayed_step log (Made path) item v = put v path (Some (made_by item))
 replayed_step log (Kept kept) item v = v
 replayed_step log (Skipped path cause) item v = v
 replayed_step log (Cleaned part) item v = v

@@ -18,7 +18,7 @@ use Rattle.copy_move.specs.declared.run.Course.TheVariants.{GoesOn}
 use Rattle.copy_move.specs.Jobs.{Running, JobTells, JobCalls, answered, closed_job, first_work, is_fresh, part_of}
 use Rattle.job_reports.specs.Reports.{ends}
 use Rattle.copy_move.specs.Settling.{NoneOwed}
-use Rattle.copy_move.specs.Steps.{LeavesDirty, SyncsFolder, WalksOn}
+use Rattle.copy_move.specs.Steps.{LeavesDirty, SyncsOwed, WalksOn}
 use Rattle.session_history.specs.Entries.{is_closed}
 use Rattle.copy_move.specs.Told.{running}
 
@@ -55,13 +55,13 @@ pub record WorkLeads (job : Running) (did : Did) (new : Running) (dirty dirty_af
   pub leaves : LeavesDirty job.course job.work did new.work dirty dirty_after (Some log) (Some now)
   pub walks : (calls : ℕ) × (faults : ℕ) × (faults_after : ℕ) × WalksOn job.course job.work new.work did calls dirty dirty_after (Some log) (Some now) faults faults_after
 
--- a job that has changed nothing yet syncs a folder that an ended job left, or waits where that is refused
+-- a job that has changed nothing yet syncs what an ended job left dirty, or waits where that is refused
 pub record SyncLeads (job : Running) (did : Did) (new : Running) (dirty dirty_after : List Route) (log now : CallLog) : Type 0 where
   pub goes : job.course ≡ GoesOn
   pub fresh : is_fresh job.work ≡ true
-  pub folder : Route
-  pub owed : Among dirty folder
-  pub synced : SyncsFolder job folder did new dirty dirty_after (Some log) (Some now)
+  pub path : Route
+  pub owed : Among dirty path
+  pub synced : SyncsOwed job path did new dirty dirty_after (Some log) (Some now)
 
 -- a job ends out of memory for the entry, and makes no call
 pub record GivesUp (job : Running) (did : Did) (dirty dirty_after : List Route) (log now : CallLog) : Type 0 where

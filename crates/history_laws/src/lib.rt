@@ -18,13 +18,13 @@ pub fn what_a_session_shows()
     ensures { ReplayLaw }
 {}
 
-/// A path of which a change isn't on the disk yet lies in a dirty folder.
+/// A path of which a change isn't on the disk yet lies in a dirty folder, and one whose mode isn't is itself dirty.
 pub fn where_doubt_lies()
     ensures { OwedLaw }
 {}
 
 /// Once a job has made its first change, each change that isn't on the disk yet is in a folder of its own, on another mount, or in a folder
-/// that was removed.
+/// that was removed; and so is a mode, of the path itself.
 pub fn what_a_first_change_leaves_in_doubt()
     ensures { FirstChangeLaw }
 {}
@@ -40,7 +40,7 @@ pub fn what_a_finished_job_leaves()
     ensures { FinishedLaw }
 {}
 
-/// A path of which no change waits for a sync waits for none at any later moment, inside a call too, until an entry names it.
+/// A path of which no change waits for a sync waits for none at any later moment, inside a call too, until an entry names it; nor does a mode.
 pub fn what_stays_on_the_disk()
     ensures { StaysLaw }
 {}

@@ -10,8 +10,8 @@ use Rattle.job_reports.specs.Paths.{folder_of}
 abbrev pub is_link_text : List ℕ → Bool
 is_link_text text = (nat_le 1 (length text) && nat_le (length text) 4095) && not (list_any (λ byte. byte == 0) text)
 
--- A job of one path or pair. Other plans aren't worked yet, nor any that sets modes; and the root, which no folder holds, is neither
--- copied, deleted nor made.
+-- A job of one path or pair. Other plans aren't worked yet; and the root, which no folder holds, is neither copied, deleted, made nor
+-- given a mode. A mode has twelve bits.
 abbrev pub is_workable : Job → Bool
 is_workable (Delete []) = false
 is_workable (Delete (path ∷ [])) = is_some (parent_of path)
@@ -21,7 +21,9 @@ is_workable (Copy (pair ∷ [])) = is_some (parent_of pair.source) && is_some (p
 is_workable (Copy (pair ∷ more ∷ pairs)) = false
 is_workable (MakeFolder path) = is_some (parent_of path)
 is_workable (MakeLink path text) = is_some (parent_of path) && is_link_text text
-is_workable (SetMode paths mode) = false
+is_workable (SetMode [] mode) = false
+is_workable (SetMode (path ∷ []) mode) = is_some (parent_of path) && nat_le mode 0o7777
+is_workable (SetMode (path ∷ more ∷ paths) mode) = false
 
 -- what a job works on: a file that is copied to a target, a thing that is removed, a folder or a link that is made, or a thing that is
 -- given a mode

@@ -1,12 +1,10 @@
 -- The entries of a desk, one kind at a time: each may follow.
-use Rattle.std.proofs.Common.{◌≡◌, ◌⊎◌, ℕ, ◌+◌, ◌-◌, ◌≤◌, Bool, true, false, ◌||◌, List, [], ◌∷◌, length, refl, sym, ◌∙◌, ap, subst, inl, inr, Option, Some, None, IsSome, Ok, Err, arith}
+use Rattle.std.proofs.Common.{◌≡◌, ◌⊎◌, ℕ, ◌+◌, ◌-◌, ◌≤◌, Bool, true, false, ◌||◌, List, [], ◌∷◌, length, refl, sym, ◌∙◌, ap, subst, inl, inr, Option, Some, None, IsSome, arith}
 use Rattle.std.specs.Prelude.{if◌then◌else◌, map, option_and_then}
 use Rattle.std.specs.Option.{option_map, option_map_or}
 use Rattle.std.proofs.lemmas.Bool.{eq-eqb}
 use Rattle.key_screen.specs.declared.keys.Key.{Key as KeyType}
 use Rattle.mc_text.specs.Routes.{Route}
-use Rattle.tree_trait.specs.declared.calls.TreeError.{TreeError}
-use Rattle.tree_trait.specs.Calls.{SyncFolder}
 use Rattle.tree_trait.specs.Change.{CallLog}
 use Rattle.tree_trait.specs.Answers.{IfKnown, HasRisen}
 use Rattle.job_reports.specs.CallRuns.{HasMore}
@@ -26,11 +24,11 @@ use Rattle.job_reports.specs.Reports.{ends}
 use Rattle.copy_move.specs.Told.{after_step, if_closed, running, told}
 use Rattle.copy_move.specs.declared.work.Work.{Work}
 use Rattle.copy_move.specs.declared.run.Course.TheVariants.{OwedSyncFailed}
-use Rattle.job_reports.specs.Stops.{cause_of, trouble_at}
-use Rattle.copy_move.specs.Steps.{OwnStep, RunStep, OwedSyncStep, SyncsFolder, step_made}
+use Rattle.copy_move.specs.Steps.{OwnStep, RunStep, OwedSyncStep, SyncsOwed, step_made}
 use Rattle.session_history.specs.Refusals.{AreRefused}
 use Rattle.history_laws.specs.Traces.{IsUnclaimed, EventLeads, IsJob, Stand, StepLeads, before_others, begun, ordered, with_job}
-use Rattle.copy_move.proofs.StillTelling.{StillTells, performs_tells, step_tells}
+use Rattle.copy_move.proofs.OwedSyncs.{owed_tells}
+use Rattle.copy_move.proofs.StillTelling.{StillTells, step_tells}
 use Rattle.copy_move.proofs.Telling.{answered_told, began_told, closed_told, fresh_told, step_told, sync_told}
 use Rattle.history_laws.proofs.Owing.{step_law}
 use Rattle.history_laws.proofs.Reports.{with_one}
@@ -389,7 +387,7 @@ module _ (contents contents_after : Option CallLog) (faults : ℕ) (old new : Se
       told_is : old.tally.job ≡ Some (told live)
       told_is = tells ∙ ap (option_map told) is
 
-  -- the sync of a folder that an ended job left
+  -- the sync of what an ended job left dirty
   pub adds_settled : (live stepped : Running) (did : Did) (made calls before after : ℕ) → old.job ≡ Some live → old.tally.job ≡ option_map told old.job
       → OwedSyncStep (step_made live stepped did made old.dirty new.dirty contents contents_after before after) → calls ≡ old.tally.calls + made
       → new.newest ≡ entry seat calls count 0 (Step live.id did) ∷ old.newest
@@ -402,7 +400,7 @@ module _ (contents contents_after : Option CallLog) (faults : ℕ) (old new : Se
     more = more;
     tally = tally ∙ stepped_tally old.tally _ _ _ _ calls
         (ap (option_map told) (job ∙ ap (if_closed old.tally.closed) goes_on) ∙ (closed_told old.tally.closed (Some stepped)
-        ∙ ap (if_closed old.tally.closed) (sync_told live s.folder did (Some stepped) s.fresh reported ∙ sym (ap (λ j. option_and_then (after_step did) j) told_is)))) (unseen_step live.id did old.tally.has_unseen_end);
+        ∙ ap (if_closed old.tally.closed) (sync_told live did (Some stepped) s.fresh reported ∙ sym (ap (λ j. option_and_then (after_step did) j) told_is)))) (unseen_step live.id did old.tally.has_unseen_end);
     told = ap (λ (t : Tally). t.job) tally;
     timely = may_end old settled;
     counts = record {
@@ -415,7 +413,7 @@ module _ (contents contents_after : Option CallLog) (faults : ℕ) (old new : Se
     leads = (same_noted old new screen quit, (told live, told_is, refl, inr (inr (s.goes, fresh_told live.work ∙ s.fresh, reports s.synced))));
     sought = tt;
     caused = λ log known. tt;
-    traced = step_traced live stepped did made calls before after is (inr s) calls_is job s.counted (λ log known. tells_on log known s.synced);
+    traced = step_traced live stepped did made calls before after is (inr s) calls_is job s.counted (λ log known. owed_tells live stepped s.path did old.dirty new.dirty contents contents_after log known s.synced);
     unknown = s.unknown;
   }
     where
@@ -423,7 +421,7 @@ module _ (contents contents_after : Option CallLog) (faults : ℕ) (old new : Se
       told_is = tells ∙ ap (option_map told) is
 
       Syncs : Type 0
-      Syncs = SyncsFolder live s.folder did stepped old.dirty new.dirty contents contents_after
+      Syncs = SyncsOwed live s.path did stepped old.dirty new.dirty contents contents_after
 
       not_ended : Syncs → ends did ≡ false
       not_ended (inl h) = ap ends h.did_is
@@ -432,20 +430,16 @@ module _ (contents contents_after : Option CallLog) (faults : ℕ) (old new : Se
       goes_on : (if ends did then None else Some stepped) ≡ Some stepped
       goes_on = ap (λ b. if b then None else Some stepped) (not_ended s.synced)
 
-      report : Syncs → ((did ≡ Barrier) × (Some stepped ≡ Some live)) ⊎ ((e : TreeError) × (did ≡ Troubled (trouble_at e s.folder true)) × (Some stepped ≡ Some (record live { course = OwedSyncFailed (cause_of e) })))
+      report : Syncs → ((did ≡ Barrier) × (Some stepped ≡ Some live)) ⊎ ((trouble : Trouble) × (did ≡ Troubled trouble) × (trouble.barrier ≡ true) × (Some stepped ≡ Some (record live { course = OwedSyncFailed trouble.cause })))
       report (inl h) = inl (h.did_is, ap Some h.new_is)
-      report (inr h) = inr (h.error, h.did_is, ap Some h.new_is)
+      report (inr h) = inr (h.trouble, h.did_is, h.barred, ap Some h.new_is)
 
-      reported : ((did ≡ Barrier) × (Some stepped ≡ Some live)) ⊎ ((e : TreeError) × (did ≡ Troubled (trouble_at e s.folder true)) × (Some stepped ≡ Some (record live { course = OwedSyncFailed (cause_of e) })))
+      reported : ((did ≡ Barrier) × (Some stepped ≡ Some live)) ⊎ ((trouble : Trouble) × (did ≡ Troubled trouble) × (trouble.barrier ≡ true) × (Some stepped ≡ Some (record live { course = OwedSyncFailed trouble.cause })))
       reported = report s.synced
 
       reports : Syncs → (did ≡ Barrier) ⊎ ((trouble : Trouble) × (did ≡ Troubled trouble) × (trouble.barrier ≡ true))
       reports (inl h) = inl h.did_is
-      reports (inr h) = inr (trouble_at h.error s.folder true, h.did_is, refl)
-
-      tells_on : (log : CallLog) → contents ≡ Some log → Syncs → StillTells contents_after
-      tells_on log known (inl h) = performs_tells log (SyncFolder s.folder) (Ok tt) contents_after (h.called log known)
-      tells_on log known (inr h) = performs_tells log (SyncFolder s.folder) (Err h.error) contents_after (h.called log known)
+      reports (inr h) = inr (h.trouble, h.did_is, h.barred)
 
   -- the end of a job that ran out of memory
   pub adds_given_up : (live : Running) (part : Option Route) → old.job ≡ Some live → old.tally.job ≡ option_map told old.job → waits_on live.course ≡ false → part ≡ part_of live.work

@@ -6,7 +6,7 @@ use Rattle.file_copy.specs.declared.stage.Stage.{Stage}
 use Rattle.file_copy.specs.declared.stage.Stage.TheVariants.{Begin, Fill, Clean, Left, Decided}
 use Rattle.file_copy.specs.Copying as copying
 use Rattle.copy_move.specs.declared.work.Work.{Work}
-use Rattle.copy_move.specs.declared.work.Work.TheVariants.{Copy, Delete, Make}
+use Rattle.copy_move.specs.declared.work.Work.TheVariants.{Copy, Delete, Make, SetMode}
 use Rattle.copy_move.specs.declared.run.Course.{Course}
 use Rattle.copy_move.specs.declared.run.Course.TheVariants.{GoesOn, InTrouble, OwedSyncFailed, Skips, Ends}
 use Rattle.mc_text.specs.Routes.{Route}
@@ -29,6 +29,7 @@ pub barrier_told : (work : Work) → at_barrier (work_told work) ≡ at_barrier 
 barrier_told (Copy c) = stage_barrier c.stage
 barrier_told (Delete d) = refl
 barrier_told (Make m) = refl
+barrier_told (SetMode s) = refl
 
 stage_part : (stage : Stage) → copying.part_at (stage_told stage) ≡ copying.part_at stage
 stage_part Begin = refl
@@ -41,6 +42,7 @@ work_part : (work : Work) → part_of (work_told work) ≡ part_of work
 work_part (Copy c) = stage_part c.stage
 work_part (Delete d) = refl
 work_part (Make m) = refl
+work_part (SetMode s) = refl
 
 pub part_told : (job : Running) → part_of (told job).work ≡ part_of job.work
 part_told job = work_part job.work
@@ -64,11 +66,13 @@ kind_told : (work : Work) → kind_of (work_told work) ≡ kind_of work
 kind_told (Copy c) = refl
 kind_told (Delete d) = refl
 kind_told (Make m) = refl
+kind_told (SetMode s) = refl
 
 path_told : (work : Work) → path_of (work_told work) ≡ path_of work
 path_told (Copy c) = refl
 path_told (Delete d) = refl
 path_told (Make m) = refl
+path_told (SetMode s) = refl
 
 abbrev row_with : Running → Option Trouble → JobKind → Route → JobRow
 row_with job t kind path =

@@ -12,7 +12,7 @@ use Rattle.file_copy.specs.Copying as copying
 use Rattle.session_history.specs.declared.history.Event.TheVariants.{Step}
 use Rattle.session_history.specs.declared.history.Entry.{Entry}
 use Rattle.copy_move.specs.declared.work.Work.{Work}
-use Rattle.copy_move.specs.declared.work.Work.TheVariants.{Copy, Delete, Make}
+use Rattle.copy_move.specs.declared.work.Work.TheVariants.{Copy, Delete, Make, SetMode}
 use Rattle.copy_move.specs.declared.run.Course.{Course}
 use Rattle.copy_move.specs.declared.run.Course.TheVariants.{GoesOn, InTrouble, OwedSyncFailed, Skips, Ends}
 use Rattle.copy_move.specs.Deletions.{Deleting, DeletionLeaves}
@@ -21,13 +21,14 @@ use Rattle.copy_move.specs.DeletionSteps.{after_try}
 use Rattle.copy_move.specs.declared.making.MakingStage.{MakingStage}
 use Rattle.copy_move.specs.declared.making.MakingStage.TheVariants as making
 use Rattle.copy_move.specs.Makings as makings
+use Rattle.mode_setting.specs.Settings as settings
 use Rattle.copy_move.specs.Jobs.{Running, TellsOn, WorkTells}
 use Rattle.copy_move.specs.Settling.{WorkLeaves, is_own, with_change}
 use Rattle.tree_deletion.specs.Folders.{joined}
 use Rattle.tree_trait.proofs.Visible.{same_path-self}
 use Rattle.job_reports.specs.Paths.{folder_of, without}
 use Rattle.copy_move.specs.Steps.{LeavesDirty, RunStep, step_made}
-use Rattle.history_laws.proofs.Owing.{own_folder}
+use Rattle.history_laws.proofs.Intact.{own_folder}
 use Rattle.mc_desk.specs.Desks.{HasRemoved, HasSynced, JoinsDirty, MovesDirty, RemovesDirty}
 use Rattle.mc_desk.proofs.Adding.{entry}
 
@@ -49,6 +50,12 @@ making_finishes m new Finished part t = (refl, making_clean m.stage t.0)
 making_finishes m new Aborted part t = absurd t
 making_finishes m new Killed part t = absurd t
 making_finishes m new NoMemory part t = absurd t
+
+setting_finishes : (s new : settings.Setting) (ending : Ending) (part : Option Route) → settings.Tells s (Ended ending part) new → (ending ≡ Finished) × (settings.is_dirty s.stage ≡ false)
+setting_finishes s new Finished part t = (refl, ap settings.is_dirty t.0)
+setting_finishes s new Aborted part t = absurd t
+setting_finishes s new Killed part t = absurd t
+setting_finishes s new NoMemory part t = absurd t
 
 -- a dirty folder is clean only after the report of its sync
 copy_synced : (c new : copying.Copying) (did : Did) → copying.Tells c did new → copying.is_dirty c.folder ≡ true → copying.is_dirty new.folder ≡ false → did ≡ Barrier
@@ -79,6 +86,21 @@ making_synced m new (Kept kept) t was now = absurd t
 making_synced m new (Skipped path cause) t was now = absurd t
 making_synced m new (Cleaned part) t was now = absurd t
 
+-- so is a thing that was given a mode
+setting_synced : (s new : settings.Setting) (did : Did) → settings.Tells s did new → settings.is_dirty s.stage ≡ true → settings.is_dirty new.stage ≡ false → did ≡ Barrier
+setting_synced s new Barrier t was now = refl
+setting_synced s new (Set path) t was now = absurd (true≢false (sym was ∙ ap settings.is_dirty t.0))
+setting_synced s new (Troubled trouble) t was now = absurd (true≢false (sym was ∙ (sym (ap (λ (n : settings.Setting). settings.is_dirty n.stage) t.1) ∙ now)))
+setting_synced s new (Ended ending part) t was now = absurd (true≢false (sym was ∙ (setting_finishes s new ending part t).1))
+setting_synced s new (Began part) t was now = absurd t
+setting_synced s new (Chunk count) t was now = absurd t
+setting_synced s new (Placed path) t was now = absurd t
+setting_synced s new (Removed path) t was now = absurd t
+setting_synced s new (Made path) t was now = absurd t
+setting_synced s new (Kept path) t was now = absurd t
+setting_synced s new (Skipped path cause) t was now = absurd t
+setting_synced s new (Cleaned part) t was now = absurd t
+
 module _ (job : Option Running) (newest older : List Entry) (dirty dirty_after : List Route) (seat calls count shown number : ℕ) (did : Did) (more : newest ≡ entry seat calls count shown (Step number did) ∷ older) where
   abbrev Moves : Type 0
   Moves = MovesDirty job newest dirty dirty_after
@@ -92,7 +114,7 @@ module _ (job : Option Running) (newest older : List Entry) (dirty dirty_after :
   removes : (path : Route) → did ≡ Removed path → dirty_after ≡ without path (joined (folder_of path) dirty) → Moves
   removes path is left = inr (inr (inl (record { path = path; removed = subst (λ es. HasRemoved es path) (sym more) (number, ap (Step number) is); leaves = left })))
 
-  -- the one folder in which a copy or a making changes names
+  -- the one folder in which a copy or a making changes names, or the thing that is given a mode
   folder_moves : (live : Running) (folder : Route) → job ≡ Some live → is_own live.work folder ≡ true → (was now : Bool) → (was ≡ true → now ≡ false → did ≡ Barrier) → dirty_after ≡ with_change was now folder dirty → Moves
   folder_moves live folder is own false true reports left = joins live folder is own left
   folder_moves live folder is own true false reports left = synced folder (reports refl refl) left
@@ -124,6 +146,7 @@ module _ (job : Option Running) (newest older : List Entry) (dirty dirty_after :
       begun (Copy x) = copying.is_dirty x.folder
       begun (Delete d) = false
       begun (Make m) = false
+      begun (SetMode s) = false
   work_moves live (Make m) (Make w) (Make new) before after is work same t h =
       folder_moves live (folder_of m.path) is (subst (λ x. is_own x (folder_of m.path) ≡ true) (sym work) (same_path-self (folder_of m.path))) (makings.is_dirty m.stage) (makings.is_dirty new.stage)
       (λ was now. making_synced m w did t was (ap begun same ∙ now)) h
@@ -132,6 +155,28 @@ module _ (job : Option Running) (newest older : List Entry) (dirty dirty_after :
       begun (Copy x) = false
       begun (Delete d) = false
       begun (Make x) = makings.is_dirty x.stage
+      begun (SetMode s) = false
+  work_moves live (SetMode s) (SetMode w) (SetMode new) before after is work same t h =
+      folder_moves live s.path is (subst (λ x. is_own x s.path ≡ true) (sym work) (same_path-self s.path)) (settings.is_dirty s.stage) (settings.is_dirty new.stage)
+      (λ was now. setting_synced s w did t was (ap begun same ∙ now)) h
+    where
+      begun : Work → Bool
+      begun (Copy x) = false
+      begun (Delete d) = false
+      begun (Make m) = false
+      begun (SetMode x) = settings.is_dirty x.stage
+  work_moves live (SetMode s) (Copy w) new before after is work same t h = absurd t
+  work_moves live (SetMode s) (Delete w) new before after is work same t h = absurd t
+  work_moves live (SetMode s) (Make w) new before after is work same t h = absurd t
+  work_moves live (SetMode s) (SetMode w) (Copy new) before after is work same t h = absurd h
+  work_moves live (SetMode s) (SetMode w) (Delete new) before after is work same t h = absurd h
+  work_moves live (SetMode s) (SetMode w) (Make new) before after is work same t h = absurd h
+  work_moves live (Copy c) (SetMode w) new before after is work same t h = absurd t
+  work_moves live (Copy c) (Copy w) (SetMode new) before after is work same t h = absurd h
+  work_moves live (Delete d) (SetMode w) new before after is work same t h = absurd t
+  work_moves live (Delete d) (Delete w) (SetMode new) before after is work same t h = absurd h
+  work_moves live (Make m) (SetMode w) new before after is work same t h = absurd t
+  work_moves live (Make m) (Make w) (SetMode new) before after is work same t h = absurd h
   work_moves live (Copy c) (Copy w) (Make new) before after is work same t h = absurd h
   work_moves live (Copy c) (Make w) new before after is work same t h = absurd t
   work_moves live (Delete d) (Make w) new before after is work same t h = absurd t
@@ -163,7 +208,7 @@ module _ (job : Option Running) (newest older : List Entry) (dirty dirty_after :
 
   pub run_moves : (unclaimed : Route → Type 0) (live stepped : Running) (made : ℕ) (before after : Option CallLog) (f0 f1 : ℕ) → job ≡ Some live
       → RunStep unclaimed (step_made live stepped did made dirty dirty_after before after f0 f1) → Moves
-  run_moves unclaimed live stepped made before after f0 f1 is (inr s) = elim s.synced [ inl h ↦ synced s.folder h.did_is h.dirty_is | inr h ↦ inl h.dirty_is ]
+  run_moves unclaimed live stepped made before after f0 f1 is (inr s) = elim s.synced [ inl h ↦ synced s.path h.did_is h.dirty_is | inr h ↦ inl h.dirty_is ]
   run_moves unclaimed live stepped made before after f0 f1 is (inl o) = by live.course o.own.tells o.leaves
     where
       by : (course : Course) → TellsOn course live did stepped → LeavesDirty course live.work did stepped.work dirty dirty_after before after → Moves

@@ -16,7 +16,7 @@ use Rattle.file_copy.specs.declared.stage.FolderState.{FolderState}
 use Rattle.file_copy.specs.declared.stage.FolderState.TheVariants.{Synced, Dirty}
 use Rattle.file_copy.specs.LastSteps.{last_steps}
 use Rattle.copy_move.specs.declared.work.Work.{Work}
-use Rattle.copy_move.specs.declared.work.Work.TheVariants.{Copy, Delete, Make}
+use Rattle.copy_move.specs.declared.work.Work.TheVariants.{Copy, Delete, Make, SetMode}
 use Rattle.copy_move.specs.declared.run.Course.{Course}
 use Rattle.copy_move.specs.declared.run.Course.TheVariants.{GoesOn, InTrouble, OwedSyncFailed, Skips, Ends}
 use Rattle.copy_move.specs.Jobs.{Running, closed_course}
@@ -25,14 +25,16 @@ use Rattle.copy_move.specs.declared.making.MakingStage.{MakingStage}
 use Rattle.copy_move.specs.declared.making.MakingStage.TheVariants as making
 use Rattle.copy_move.specs.Deletions.{Deleting, DeletionLeaves}
 use Rattle.copy_move.specs.Makings as makings
+use Rattle.mode_setting.specs.declared.setting.Stage.{Stage as SettingStage}
+use Rattle.mode_setting.specs.declared.setting.Stage.TheVariants as setting
+use Rattle.mode_setting.specs.Settings as settings
 use Rattle.copy_move.specs.DeletionSteps.{after_try}
-use Rattle.copy_move.specs.Ranks.{copy_rank, last_making_steps, last_rank, making_rank, rank_at, rank_on, rank_with, work_rank}
+use Rattle.copy_move.specs.Ranks.{copy_rank, last_making_steps, last_rank, last_setting_steps, making_rank, rank_at, rank_on, rank_with, setting_rank, work_rank}
 use Rattle.file_copy.specs.Copying as copying
 use Rattle.tree_deletion.specs.Folders.{joined}
-use Rattle.job_reports.specs.Stops.{cause_of}
 use Rattle.copy_move.specs.Settling.{WorkLeaves, with_change}
 use Rattle.job_reports.specs.Paths.{folder_of, without}
-use Rattle.copy_move.specs.Steps.{LeavesDirty, RunStep, OwedSyncStep, SyncsFolder, step_made}
+use Rattle.copy_move.specs.Steps.{LeavesDirty, RunStep, OwedSyncStep, SyncsOwed, step_made}
 use Rattle.copy_move.specs.Told.{if_closed}
 use Rattle.copy_move.proofs.DeletionRuns.{fewer, one_fewer}
 use Rattle.copy_move.proofs.Falling.{trouble_falls}
@@ -75,15 +77,27 @@ some_making_try making.Sync = omega arith
 some_making_try making.Finish = omega arith
 some_making_try making.PassedOver = omega arith
 
+some_setting : (stage : SettingStage) → 0 < setting_rank stage
+some_setting setting.Give = omega arith
+some_setting setting.Sync = omega arith
+some_setting setting.Done = omega arith
+
+some_setting_try : (stage : SettingStage) → 0 < last_setting_steps stage
+some_setting_try setting.Give = omega arith
+some_setting_try setting.Sync = omega arith
+some_setting_try setting.Done = omega arith
+
 some_end : (work : Work) → 0 < last_rank work
 some_end (Copy c) = some_last c.stage c.folder
 some_end (Delete d) = omega arith
 some_end (Make m) = some_making_try m.stage
+some_end (SetMode s) = some_setting_try s.stage
 
 some_work : (work : Work) → 0 < work_rank work
 some_work (Copy c) = some_copy c.stage c.folder
 some_work (Delete d) = omega arith
 some_work (Make m) = some_making m.stage
+some_work (SetMode s) = some_setting s.stage
 
 -- a live job has steps left
 some_steps : (course : Course) (work : Work) → 0 < rank_on course work
@@ -93,6 +107,7 @@ some_steps (OwedSyncFailed cause) work = some_end work
 some_steps (Skips cause) (Copy c) = omega arith
 some_steps (Skips cause) (Delete d) = omega arith
 some_steps (Skips cause) (Make m) = omega arith
+some_steps (Skips cause) (SetMode s) = omega arith
 some_steps (Ends ending) work = some_end work
 
 -- a job that waits is counted as one that is aborted
@@ -101,9 +116,11 @@ closed_rank GoesOn work dirty = omega arith
 closed_rank (InTrouble cause) (Copy c) dirty = omega arith
 closed_rank (InTrouble cause) (Delete d) dirty = omega arith
 closed_rank (InTrouble cause) (Make m) dirty = omega arith
+closed_rank (InTrouble cause) (SetMode s) dirty = omega arith
 closed_rank (OwedSyncFailed cause) (Copy c) dirty = omega arith
 closed_rank (OwedSyncFailed cause) (Delete d) dirty = omega arith
 closed_rank (OwedSyncFailed cause) (Make m) dirty = omega arith
+closed_rank (OwedSyncFailed cause) (SetMode s) dirty = omega arith
 closed_rank (Skips cause) work dirty = omega arith
 closed_rank (Ends ending) work dirty = omega arith
 
@@ -149,6 +166,13 @@ work_more (Copy c) (Make new) did dirty dirty_after before after h = absurd h
 work_more (Delete d) (Make new) did dirty dirty_after before after h = absurd h
 work_more (Make m) (Copy new) did dirty dirty_after before after h = absurd h
 work_more (Make m) (Delete new) did dirty dirty_after before after h = absurd h
+work_more (Copy c) (SetMode new) did dirty dirty_after before after h = absurd h
+work_more (Delete d) (SetMode new) did dirty dirty_after before after h = absurd h
+work_more (Make m) (SetMode new) did dirty dirty_after before after h = absurd h
+work_more (SetMode s) (Copy new) did dirty dirty_after before after h = absurd h
+work_more (SetMode s) (Delete new) did dirty dirty_after before after h = absurd h
+work_more (SetMode s) (Make new) did dirty dirty_after before after h = absurd h
+work_more (SetMode s) (SetMode new) did dirty dirty_after before after h = subst (λ xs. length xs ≤ length dirty + 1) (sym h) (one_more (settings.is_dirty s.stage) (settings.is_dirty new.stage) s.path dirty)
 work_more (Make m) (Make new) did dirty dirty_after before after h = subst (λ xs. length xs ≤ length dirty + 1) (sym h) (one_more (makings.is_dirty m.stage) (makings.is_dirty new.stage) (folder_of m.path) dirty)
 work_more (Delete d) (Copy new) did dirty dirty_after before after h = absurd h
 work_more (Delete d) (Delete new) did dirty dirty_after before after h = deletion_more d did dirty dirty_after before after h
@@ -160,22 +184,22 @@ leaves_more (OwedSyncFailed cause) old new did dirty dirty_after before after h 
 leaves_more (Skips cause) old new did dirty dirty_after before after h = let same = ap length h in omega (arith, same)
 leaves_more (Ends ending) old new did dirty dirty_after before after h = subst (λ d. length d ≤ length dirty + 1) (sym h.dirty_is) (tried_more did h.refusal h.folder dirty)
 
--- the sync of a folder that an ended job left leaves the job where it stood, or waiting
+-- the sync of what an ended job left dirty leaves the job where it stood, or waiting
 settled_falls : (closed : Bool) (job stepped : Running) (did : Did) (made : ℕ) (dirty dirty_after : List Route) (before after : Option CallLog) (f0 f1 : ℕ) → OwedSyncStep (step_made job stepped did made dirty dirty_after before after f0 f1)
     → rank_with dirty_after (if_closed closed (if ends did then None else Some stepped)) < rank_with dirty (Some job)
 settled_falls closed job stepped did made dirty dirty_after before after f0 f1 s = by s.synced
   where
-    by : SyncsFolder job s.folder did stepped dirty dirty_after before after → rank_with dirty_after (if_closed closed (if ends did then None else Some stepped)) < rank_with dirty (Some job)
+    by : SyncsOwed job s.path did stepped dirty dirty_after before after → rank_with dirty_after (if_closed closed (if ends did then None else Some stepped)) < rank_with dirty (Some job)
     by (inl h) =
-        let less = one_fewer s.folder dirty s.owed in
-        let count : length dirty_after ≡ length (without s.folder dirty) = ap length h.dirty_is in
+        let less = one_fewer s.path dirty s.owed in
+        let count : length dirty_after ≡ length (without s.path dirty) = ap length h.dirty_is in
         let goes : rank_at dirty job.course job.work ≡ rank_at dirty GoesOn job.work = ap (λ c. rank_at dirty c job.work) s.goes in
         let on : rank_at dirty_after job.course job.work ≡ rank_at dirty_after GoesOn job.work = ap (λ c. rank_at dirty_after c job.work) s.goes in
         let same : rank_at dirty_after stepped.course stepped.work ≡ rank_at dirty_after job.course job.work = ap (λ (j : Running). rank_at dirty_after j.course j.work) h.new_is in
         rank_left closed job stepped did dirty dirty_after (omega (arith, less, count)) (λ going. omega (arith, less, count, goes, on, same))
     by (inr h) =
         let count : length dirty_after ≡ length dirty = ap length h.dirty_is in
-        let waits : rank_at dirty_after stepped.course stepped.work ≡ rank_at dirty_after (OwedSyncFailed (cause_of h.error)) job.work = ap (λ (j : Running). rank_at dirty_after j.course j.work) h.new_is in
+        let waits : rank_at dirty_after stepped.course stepped.work ≡ rank_at dirty_after (OwedSyncFailed h.trouble.cause) job.work = ap (λ (j : Running). rank_at dirty_after j.course j.work) h.new_is in
         let goes : rank_at dirty job.course job.work ≡ rank_at dirty GoesOn job.work = ap (λ c. rank_at dirty c job.work) s.goes in
         let low = trouble_falls job.work in
         rank_left closed job stepped did dirty dirty_after (omega (arith, count)) (λ going. omega (arith, count, waits, goes, low))

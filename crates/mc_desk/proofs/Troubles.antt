@@ -24,7 +24,7 @@ use Rattle.session_history.specs.Entries.{is_closed}
 use Rattle.copy_move.specs.declared.making.MakingStage.{MakingStage}
 use Rattle.copy_move.specs.declared.making.MakingStage.TheVariants as making
 use Rattle.copy_move.specs.declared.work.Work.{Work}
-use Rattle.copy_move.specs.declared.work.Work.TheVariants.{Copy, Delete, Make}
+use Rattle.copy_move.specs.declared.work.Work.TheVariants.{Copy, Delete, Make, SetMode}
 use Rattle.copy_move.specs.declared.run.Course.{Course}
 use Rattle.copy_move.specs.declared.run.Course.TheVariants.{GoesOn, InTrouble, OwedSyncFailed, Skips, Ends}
 use Rattle.copy_move.specs.Makings as makings
@@ -65,6 +65,13 @@ work_barrier (Make m) (Copy new) trouble t = absurd t
 work_barrier (Make m) (Delete new) trouble t = absurd t
 work_barrier (Delete d) (Delete new) trouble t = t.0
 work_barrier (Make m) (Make new) trouble t = making_barrier m.stage m.path trouble t.0
+work_barrier (Copy c) (SetMode new) trouble t = absurd t
+work_barrier (Delete d) (SetMode new) trouble t = absurd t
+work_barrier (Make m) (SetMode new) trouble t = absurd t
+work_barrier (SetMode s) (Copy new) trouble t = absurd t
+work_barrier (SetMode s) (Delete new) trouble t = absurd t
+work_barrier (SetMode s) (Make new) trouble t = absurd t
+work_barrier (SetMode s) (SetMode new) trouble t = t.0
 
 no_winding : (ending : Ending) (old new : Work) (trouble : Trouble) → WorkWinds ending old (Troubled trouble) new → ⊥
 no_winding ending (Copy c) (Copy new) trouble t = t
@@ -76,6 +83,13 @@ no_winding ending (Make m) (Copy new) trouble t = t
 no_winding ending (Make m) (Delete new) trouble t = t
 no_winding ending (Delete d) (Delete new) trouble t = t
 no_winding ending (Make m) (Make new) trouble t = t
+no_winding ending (Copy c) (SetMode new) trouble t = t
+no_winding ending (Delete d) (SetMode new) trouble t = t
+no_winding ending (Make m) (SetMode new) trouble t = t
+no_winding ending (SetMode s) (Copy new) trouble t = t
+no_winding ending (SetMode s) (Delete new) trouble t = t
+no_winding ending (SetMode s) (Make new) trouble t = t
+no_winding ending (SetMode s) (SetMode new) trouble t = t
 
 tells_barrier : (course : Course) (old new : Running) (trouble : Trouble) → TellsOn course old (Troubled trouble) new → trouble.barrier ≡ at_barrier old.work
 tells_barrier GoesOn old new trouble (work, tells, is) = work_barrier old.work work trouble tells
@@ -85,7 +99,7 @@ tells_barrier (Skips cause) old new trouble (inl (path, work, did, passes, is)) 
 tells_barrier (Skips cause) old new trouble (inr (did, is)) = let same : trouble ≡ out_of_memory_at (at_barrier old.work) = cc in ap (λ (t : Trouble). t.barrier) same
 tells_barrier (Ends ending) old new trouble (work, winds, is) = absurd (no_winding ending old.work work trouble winds)
 
--- a trouble is at a barrier where its job's next call is, or where a folder that an ended job left was to be synced
+-- a trouble is at a barrier where its job's next call is, or where what an ended job left dirty was to be synced
 step_barrier : (live : Running) (trouble : Trouble) → IsAllowedStep live (Troubled trouble) → (is_fresh live.work && trouble.barrier) ≡ false → trouble.barrier ≡ at_barrier live.work
 step_barrier live trouble (inl (old, new, is, tells)) apart =
     tells_barrier old.course old new trouble tells ∙ (sym (barrier_told old.work) ∙ ap (λ (j : Running). at_barrier j.work) is)

@@ -21,7 +21,7 @@ use Rattle.job_reports.specs.declared.row.JobState.TheVariants.{Ready, Troubled}
 use Rattle.job_reports.specs.Reports.{passes_over}
 use Rattle.job_reports.specs.declared.report.Cause.{Cause}
 use Rattle.copy_move.specs.declared.work.Work.{Work}
-use Rattle.copy_move.specs.declared.work.Work.TheVariants.{Copy, Delete, Make}
+use Rattle.copy_move.specs.declared.work.Work.TheVariants.{Copy, Delete, Make, SetMode}
 use Rattle.copy_move.specs.declared.run.Course.{Course}
 use Rattle.copy_move.specs.declared.run.Course.TheVariants.{GoesOn, InTrouble, OwedSyncFailed, Skips, Ends}
 use Rattle.copy_move.specs.Jobs.{MayAnswer, Running, answered, answered_on, first_work, is_barred, kind_of, path_of, taken_anew, waits_on, with_skips}
@@ -111,11 +111,13 @@ still_does course answer job t = go course answer
     anew (Copy c) = refl
     anew (Delete d) = refl
     anew (Make m) = refl
+    anew (SetMode s) = refl
 
     skipping : (cause : Cause) (work : Work) → row (with_skips cause work) ≡ row work
     skipping cause (Copy c) = refl
     skipping cause (Delete d) = refl
     skipping cause (Make m) = refl
+    skipping cause (SetMode s) = refl
 
     go : (course : Course) (answer : Answer) → ready_row (row_of (answered_on course answer job) t) ≡ ready_row (row_of job t)
     go (InTrouble cause) Retry = anew job.work

@@ -28,7 +28,7 @@ pub(crate) fn set_mode<T: Tree>(
 }
 
 /// Syncs what stands at a path, after a look at what it is.
-pub(crate) fn sync_thing<T: Tree>(alloc: Global, tree: &mut T, path: &Path) -> Result<u64, Stop>
+pub fn sync_thing<T: Tree>(alloc: Global, tree: &mut T, path: &Path) -> Result<u64, Stop>
     ensures { SyncRan path.now result (T.contents tree.old) (T.contents tree.new)
         (T.fault_count tree.old) (T.fault_count tree.new) }
 {

@@ -5,4 +5,5 @@ mod calls;
 mod setting;
 mod work;
 
+pub use calls::sync_thing;
 pub use setting::{ModeSetting, Stage};

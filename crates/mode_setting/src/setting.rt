@@ -1,5 +1,7 @@
 //! The setting of one thing's mode.
-ghost use Rattle.std.specs.Prelude.{◌≡◌, ◌≤◌};
+ghost use Rattle.std.specs.Prelude.{◌≡◌, ◌≤◌, Some};
+ghost use Rattle.mc_text.specs.Routes.{parent_of};
+ghost use Rattle.job_reports.specs.Paths.{folder_of};
 ghost use Rattle.mode_setting.specs.Settings.{at_barrier, is_dirty, is_fresh, setting, skipped as skipped_to};
 ghost use Rattle.mode_setting.specs.SettingSteps.{Skips, StepsOn, Winds};
 
@@ -25,29 +27,33 @@ pub enum Stage {
 #[derive(Debug, Drop)]
 pub struct ModeSetting {
     path: Path,
+    folder: Path,
     mode: u16,
     stage: Stage,
 }
 
 impl Model for ModeSetting {
-    ghost use Rattle.std.specs.Prelude.{◌≤◌};
+    ghost use Rattle.std.specs.Prelude.{◌≡◌, ◌≤◌, Some};
+    ghost use Rattle.mc_text.specs.Routes.{parent_of};
     ghost use Rattle.mode_setting.specs.Settings.{Setting, setting};
 
     ghost Value = { Setting };
 
     ghost view = { λ s. setting s.path s.mode s.stage };
 
-    ghost invariant = { λ s. s.mode ≤ 0o7777 };
+    ghost invariant = { λ s. (s.mode ≤ 0o7777) × (parent_of s.path ≡ Some s.folder) };
 }
 
 impl ModeSetting {
-    /// The setting of a mode of twelve bits.
-    pub fn new(path: Path, mode: u16) -> ModeSetting
-        requires { mode ≤ 0o7777 }
+    /// The setting of a mode of twelve bits, of a thing that lies in this folder.
+    pub fn new(path: Path, folder: Path, mode: u16) -> ModeSetting
+        requires within { parent_of path ≡ Some folder }
+        requires bits { mode ≤ 0o7777 }
         ensures { result ≡ setting path mode Stage.Give }
     {
         ModeSetting {
             path,
+            folder,
             mode,
             stage: Stage::Give,
         }
@@ -103,6 +109,13 @@ impl ModeSetting {
         ensures { result.now ≡ self.now.path }
     {
         &self.path
+    }
+
+    /// The folder that holds it.
+    pub fn folder(&self) -> &Path
+        ensures { result.now ≡ folder_of self.now.path }
+    {
+        &self.folder
     }
 
     /// Whether the mode was given, and no sync has brought it onto the disk.

@@ -33,8 +33,17 @@ pub fn tell_steps<T: Tree>(page: &mut Page, tree: &mut T, mode: u16, answer: Ans
     requires { mode ≤ 0o7777 }
 {
     match Path::parse(page.alloc(), THING) {
-        Ok(path) => step_through(page, tree, ModeSetting::new(path, mode), answer),
+        Ok(path) => tell_steps_at(page, tree, path, mode, answer),
         Err(_error) => page.fail(),
+    }
+}
+
+fn tell_steps_at<T: Tree>(page: &mut Page, tree: &mut T, path: Path, mode: u16, answer: Answer)
+    requires { mode ≤ 0o7777 }
+{
+    match path.parent(page.alloc()) {
+        Ok(Some(folder)) => step_through(page, tree, ModeSetting::new(path, folder, mode), answer),
+        _ => page.fail(),
     }
 }
 

@@ -12,7 +12,7 @@ use Rattle.tree_copy.specs.declared.report.CopyDid.{CopyDid}
 use Rattle.tree_copy.specs.Skipping.{Skips, retried}
 use Rattle.tree_copy.specs.Standing.{Seen, begun, target_name}
 use Rattle.tree_copy.specs.Steps.{CopySteps}
-use Rattle.history_laws.specs.Doubt.{is_unsettled}
+use Rattle.history_laws.specs.Doubt.{way_waits}
 use Rattle.history_laws.proofs.FilledFolders.{IsFilling}
 use Rattle.history_laws.proofs.Resting.{IsOfFiles}
 use Rattle.subtree_laws.specs.AtWork.{ItemKnown, PartsApart}
@@ -44,4 +44,4 @@ pub record SkipLaw : Type 0 where
 abbrev pub MetLaw : Type 0
 MetLaw =
     (log : CallLog) (c : Seen) (name : List ℕ) (names : List (List ℕ)) → FoldersKnown log c → is_around_dirty c.levels.around ≡ false → c.levels.inner.names.names ≡ name ∷ names
-    → is_unsettled log (target_name c name ∷ c.levels.inner.copy.target) ≡ false
+    → way_waits log (target_name c name ∷ c.levels.inner.copy.target) ≡ false

@@ -1,6 +1,6 @@
 //! Folders with a change of names that no sync has brought onto the disk. The folder of a name joins them before the name is
 //! changed, and leaves them with its sync, or where it is gone itself; that of a job that ended without one stays, until a later
-//! job syncs it.
+//! job syncs it. A thing that is given a mode, a file too, stands among them in the same way.
 ghost use Rattle.std.specs.Prelude.{◌≡◌, ◌+◌, ◌<◌, ◌^◌, ◌-◌, ◌||◌, [], length, remove, slice_get, take, true, Some, IfNone, IfOk, IfSome, OnErr, OnOk, if◌then◌else◌};
 ghost use Rattle.job_reports.specs.Paths.{without};
 ghost use Rattle.tree_deletion.specs.Folders.{IsOwn, IsOwnAt, NoneBetween, NoneOf, is_of, is_one_of, joined};

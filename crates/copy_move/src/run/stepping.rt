@@ -1,4 +1,4 @@
-//! What a step of a job does, by its course: a piece of its work, the sync of a folder that an ended job left, a skip, or one
+//! What a step of a job does, by its course: a piece of its work, the sync of what an ended job left dirty, a skip, or one
 //! of its last steps.
 ghost use Rattle.std.specs.Prelude.{◌≡◌, true};
 ghost use Rattle.tree_trait.specs.Change.{current};
@@ -10,10 +10,11 @@ ghost use Rattle.copy_move.specs.Steps.{OwedSyncStep, OwnStep, RunStep, SkipStep
 
 use super::{Course, Run};
 use crate::owed::first_owed;
-use crate::reports::{cause_of, refused, with_call, without_call};
+use crate::reports::without_call;
 use file_copy::PartTest;
 use job_reports::{Cause, Did, Ending, StepResult, out_of_memory};
 use mc_text::Path;
+use mode_setting::sync_thing;
 use std::alloc::Global;
 use tree_deletion::Dirty;
 use tree_trait::Tree;
@@ -48,8 +49,8 @@ impl Run {
         }
     }
 
-    /// The step of a job that has changed nothing yet: it syncs a folder that an ended job left there, or may make its first change
-    /// where there is none.
+    /// The step of a job that has changed nothing yet: it syncs what an ended job left dirty there, or may make its first change where
+    /// there is nothing.
     fn begin<T: Tree, P: PartTest>(
         &mut self,
         alloc: Global,
@@ -75,24 +76,24 @@ impl Run {
         let Some(owed) = first_owed(dirty, alloc, tree, &self.work) else {
             return self.work_on(alloc, tree, parts, dirty);
         };
-        let Ok(folder) = owed.copy(alloc) else {
+        let Ok(owed) = owed.copy(alloc) else {
             self.course = Course::OwedSyncFailed(Cause::Memory);
             return without_call(Did::Troubled(out_of_memory(true)));
         };
-        self.sync_owed_folder(alloc, tree, dirty, folder)
+        self.sync_owed(alloc, tree, dirty, owed)
     }
 
-    /// Syncs a folder that an ended job left.
-    fn sync_owed_folder<T: Tree>(
+    /// Syncs what stands at a path that an ended job left dirty, as what it is.
+    fn sync_owed<T: Tree>(
         &mut self,
         alloc: Global,
         tree: &mut T,
         dirty: &mut Dirty,
-        folder: Path,
+        owed: Path,
     ) -> StepResult
         requires course { self.old.course ≡ Course.GoesOn }
         requires fresh { is_fresh self.old.work ≡ true }
-        requires owed { Among dirty.old folder }
+        requires owed { Among dirty.old owed }
         ensures steps { OwedSyncStep (record {
           old = self.old;
           new = self.new;
@@ -106,19 +107,25 @@ impl Run {
           faults_after = T.fault_count tree.new;
         }) }
     {
-        match tree.sync_folder(alloc, &folder) {
-            Ok(()) => {
-                dirty.remove(&folder);
-                with_call(Did::Barrier)
+        match sync_thing(alloc, tree, &owed) {
+            Ok(calls) => {
+                dirty.remove(&owed);
+                StepResult {
+                    did: Did::Barrier,
+                    calls,
+                }
             }
-            Err(error) => {
-                self.course = Course::OwedSyncFailed(cause_of(error));
-                refused(error, folder, true)
+            Err(stop) => {
+                self.course = Course::OwedSyncFailed(stop.trouble.cause);
+                StepResult {
+                    did: Did::Troubled(stop.trouble),
+                    calls: stop.calls,
+                }
             }
         }
     }
 
-    /// The next piece of the work. One that may make the first change comes only where no dirty folder is owed.
+    /// The next piece of the work. One that may make the first change comes only where nothing dirty is owed.
     fn work_on<T: Tree, P: PartTest>(
         &mut self,
         alloc: Global,

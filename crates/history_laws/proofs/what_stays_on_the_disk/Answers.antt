@@ -1,4 +1,4 @@
-use Rattle.history_laws.proofs.Staying.{stays_law}
+use Rattle.history_laws.proofs.ModesStay.{stays_law}
 use Rattle.history_laws.proofs.what_stays_on_the_disk.Goals as goal
 
 pub returns : goal.returns

@@ -1,12 +1,12 @@
--- A dirty folder is synced first, or there is none on that mount.
+-- What is dirty is synced first, or nothing is owed.
 use Rattle.std.proofs.Common.{◌≡◌, true, ap, ◌∙◌, refl, inl, inr}
-use Rattle.tree_trait.specs.declared.calls.TreeError.TheVariants as refused
 use Rattle.job_reports.specs.declared.report.StepResult.{StepResult}
 use Rattle.job_reports.specs.declared.report.Cause.TheVariants.{Memory}
 use Rattle.job_reports.specs.declared.report.Did.TheVariants.{Troubled}
 use Rattle.copy_move.specs.declared.run.Course.TheVariants.{OwedSyncFailed}
 use Rattle.copy_move.specs.Jobs.{Running}
-use Rattle.copy_move.proofs.FolderSteps.{own_later, refused_folder, settling_later}
+use Rattle.copy_move.proofs.FolderSteps.{own_later, settling_later}
+use Rattle.copy_move.proofs.OwedSyncs.{owed_unmade}
 use Rattle.copy_move.proofs.run.Run.begin.Goals as goal
 
 pub returns-in_default : goal.returns-in_default
@@ -16,11 +16,11 @@ returns-in_default g c =
 pub returns-in_default-copy : goal.returns-in_default-copy
 returns-in_default-copy g c =
     record {
-      steps = inr (refused_folder c.in-Some.owed.now _ _ _ c.requires.course c.requires.fresh c.in-Some.ensures.owed _ _ _ _ (λ h. c.first_owed.ensures.same ∙ h) c.first_owed.ensures.later refused.Memory _ _ _
+      steps = inr (owed_unmade c.in-Some.owed.now _ _ _ c.requires.course c.requires.fresh c.in-Some.ensures.owed _ _ _ _ _ _ _
           (ap (λ (s : StepResult). s.did) c.without_call.ensures ∙ ap Troubled c.out_of_memory.ensures) (ap (λ (s : StepResult). s.calls) c.without_call.ensures)
-          (ap (λ (j : Running). let k : Running = record j { course = OwedSyncFailed Memory } in k) c.self.view_is) refl (λ log known. c.first_owed.ensures.same ∙ known) (λ h. absurd cc));
+          (ap (λ (j : Running). let k : Running = record j { course = OwedSyncFailed Memory } in k) c.self.view_is) refl c.first_owed.ensures.same c.first_owed.ensures.later);
     }
 
 pub returns : goal.returns
 returns g c =
-    record { steps = inr (settling_later _ _ _ _ _ _ _ _ _ _ _ _ c.first_owed.ensures.same c.first_owed.ensures.later c.sync_owed_folder.ensures.steps) }
+    record { steps = inr (settling_later _ _ _ _ _ _ _ _ _ _ _ _ c.first_owed.ensures.same c.first_owed.ensures.later c.sync_owed.ensures.steps) }

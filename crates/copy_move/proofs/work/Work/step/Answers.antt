@@ -2,6 +2,7 @@
 use Rattle.std.proofs.Common.{◌≡◌, true}
 use Rattle.copy_move.proofs.FolderSteps.{deletion_steps}
 use Rattle.copy_move.proofs.MakingFolders.{making_steps}
+use Rattle.copy_move.proofs.ModeSteps.{setting_steps}
 use Rattle.copy_move.proofs.work.Work.step.Goals as goal
 
 pub returns-in-Delete-clause-steps : goal.returns-in-Delete-clause-steps
@@ -13,3 +14,7 @@ returns-in-Copy-clause-steps g c = rw c.in-Copy.is c.step_copy.ensures.steps
 pub returns-in-Make-clause-steps : goal.returns-in-Make-clause-steps
 returns-in-Make-clause-steps g c =
     rw c.in-Make.is (making_steps (λ path. g.P.PartTest.is_free c.args.parts.now path ≡ true) _ _ _ _ _ _ _ _ _ _ c.step_making.ensures.steps c.step_making.ensures.leaves)
+
+pub returns-in-SetMode-clause-steps : goal.returns-in-SetMode-clause-steps
+returns-in-SetMode-clause-steps g c =
+    rw c.in-SetMode.is (setting_steps (λ path. g.P.PartTest.is_free c.args.parts.now path ≡ true) _ _ _ _ _ _ _ _ _ _ c.step_setting.ensures.steps c.step_setting.ensures.leaves)

@@ -1,6 +1,7 @@
 -- So is a last step.
 use Rattle.copy_move.proofs.FolderSteps.{deletion_winds_up}
 use Rattle.copy_move.proofs.MakingFolders.{making_winds_up}
+use Rattle.copy_move.proofs.ModeSteps.{setting_winds_up}
 use Rattle.copy_move.proofs.work.Work.wind_up.Goals as goal
 
 pub returns-in-Delete : goal.returns-in-Delete
@@ -8,3 +9,6 @@ returns-in-Delete g c = rw c.in-Delete.is (deletion_winds_up c.args.ending _ _ _
 
 pub returns-in-Make : goal.returns-in-Make
 returns-in-Make g c = rw c.in-Make.is (making_winds_up c.args.ending _ _ _ _ _ _ _ _ _ _ _ c.wind_up_making.ensures.winds c.wind_up_making.ensures.tries)
+
+pub returns-in-SetMode : goal.returns-in-SetMode
+returns-in-SetMode g c = rw c.in-SetMode.is (setting_winds_up c.args.ending _ _ _ _ _ _ _ _ _ c.wind_up_setting.ensures.winds c.wind_up_setting.ensures.tries)

@@ -1,4 +1,4 @@
--- The making of an empty folder.
+-- The making of a new thing: an empty folder or a link.
 use Rattle.std.proofs.Common.{◌≡◌, ◌⊎◌, ℕ, ◌<◌, Bool, true, false, not, ◌&&◌, List, [], ◌∷◌, ◌++◌, length, refl, sym, ◌∙◌, ap, subst, inl, inr, Option, Some, None, arith, cond, length-append}
 use Rattle.std.specs.Prelude.{is_some, option_and_then, ◌==◌}
 use Rattle.std.specs.Option.{option_map, option_map_or}
@@ -10,22 +10,22 @@ use Rattle.tree_trait.specs.declared.file_system.Node.{Node}
 use Rattle.tree_trait.specs.FileSystem.{Spot, lookup, find, node, starts_mount, value, visible_tree}
 use Rattle.tree_trait.specs.Refusals.{is_folder}
 use Rattle.tree_trait.specs.Change.{Change, Makes, CallLog, current, with_change}
-use Rattle.tree_trait.specs.CrashImages.{says, same_name, Among}
+use Rattle.tree_trait.specs.CrashImages.{is_clean, says, same_name, Among}
 use Rattle.tree_trait.proofs.Kept.{folder_there}
 use Rattle.tree_trait.proofs.Finding.{find-once, same_name-true, same_name-self}
 use Rattle.tree_trait.proofs.Names.{count_after, count-after_change}
 use Rattle.tree_trait.proofs.Visible.{same_path-true}
 use Rattle.tree_trait.proofs.Steady.{at}
-use Rattle.crash_law.specs.Guarded.{Marks, IsNaming}
+use Rattle.crash_law.specs.Guarded.{Marks, IsNaming, with_mode}
 use Rattle.crash_law.proofs.Guarding.{settle_law, find_same, found_at, naming_law}
 use Rattle.crash_law.proofs.Leading.{current_more}
 use Rattle.crash_law.proofs.Making.{making_law}
 use Rattle.crash_law.proofs.Syncing.{unaltered_law}
 use Rattle.crash_law.proofs.Tops.{under_made, none_below}
-use Rattle.history_laws.specs.Doubt.{is_pending, is_unsettled, name_waits}
+use Rattle.history_laws.specs.Doubt.{is_pending, way_waits, name_waits}
 use Rattle.history_laws.proofs.Pending.{pending_less, within_more}
-use Rattle.history_laws.proofs.Knowing.{Said, IsKnown, IsUnreached, held}
-use Rattle.history_laws.proofs.Quiet.{held_same, kind_same, mount_same, mounts_same, shows_same, was_bare}
+use Rattle.history_laws.proofs.Knowing.{HasMode, HasNoMode, IsCalmIn, IsKnown, IsUnreached, Said, held}
+use Rattle.history_laws.proofs.Quiet.{held_same, kind_same, mount_same, mounts_same, shows_same, starts_same, unclean_before, was_bare}
 use Rattle.history_laws.proofs.Resting.{IsSureFolder, folder_at_of, mounted, stands_at, sure_still, unborn_more}
 use Rattle.history_laws.proofs.Changing.{folder_anchored, off_itself, said_one, some_none, some_is}
 
@@ -40,12 +40,12 @@ low : (a b : Bool) → b ≡ false → (a && b) ≡ false
 low true b h = h
 low false b h = refl
 
-module _ (told : Said) (dirty : List Route) (marks : Marks) (log : CallLog) (known : IsKnown told dirty marks log) where
+module _ (told : Said) (dirty : List Route) (marks : Marks) (log : CallLog) (known : IsKnown told dirty marks log) (new_mode : marks.modes (new_node log) ≡ None) where
   abbrev n : ℕ
   n = new_node log
 
-  born : (i : ℕ) (b : Bool) → (i == n) ≡ b → (not b && marks.loose i) ≡ false → ((marks.loose i ≡ false) × (marks.modes i ≡ marks.modes i)) ⊎ ((Rattle.tree_trait.specs.CrashImages.is_clean i log.changes ≡ true) × (marks.modes i ≡ None))
-  born i true same h = let e = eqb-true i n same in inr (known.files.unborn i (omega (arith, e)), known.moded i)
+  born : (i : ℕ) (b : Bool) → (i == n) ≡ b → (not b && marks.loose i) ≡ false → ((marks.loose i ≡ false) × (marks.modes i ≡ marks.modes i)) ⊎ ((is_clean i log.changes ≡ true) × (marks.modes i ≡ None))
+  born i true same h = let e = eqb-true i n same in inr (known.files.unborn i (omega (arith, e)), subst (λ k. marks.modes k ≡ None) (sym e) new_mode)
   born i false other h = inl (h, refl)
 
   unnamed : (i : ℕ) (b : Bool) → (i == n) ≡ b → (not b && marks.roams i) ≡ false → (marks.roams i ≡ false) ⊎ Rattle.crash_law.specs.Guarded.HasOneName log i
@@ -61,7 +61,8 @@ module _ (told : Said) (dirty : List Route) (marks : Marks) (log : CallLog) (kno
       places = λ i stays. unnamed i (i == n) refl stays;
     });
     files = known.files;
-    moded = known.moded;
+    moded = λ i before is unclean. let h = known.moded i before is unclean in record { path = h.path; leads = h.leads; out = h.out; listed = h.listed; told = h.told; shown = h.shown };
+    calm = known.calm;
     folders = λ i is. let k = known.folders i is in (low _ _ k.0, low _ _ k.1);
     aside = known.aside;
     was_there = λ p i out is. let t = known.was_there p i out is in (t.0, low _ _ t.1);
@@ -73,14 +74,13 @@ module _ (told : Said) (dirty : List Route) (marks : Marks) (log : CallLog) (kno
     stand = known.stand;
   }
 
--- A folder is made where nothing stood, in one that isn't in doubt; and what the history says then.
-pub record MakesFolder (told after : Said) (marks : Marks) (log : CallLog) (name : List ℕ) (up : Route) (f : ℕ) (made : Node) : Type 0 where
+-- A thing is made where nothing stood, in a folder that isn't in doubt; and what the history says then.
+pub record MakesThing (told after : Said) (marks : Marks) (log : CallLog) (name : List ℕ) (up : Route) (f : ℕ) (made : Node) : Type 0 where
   pub none : told.part ≡ None
   pub firm : IsSureFolder log up
   pub at : find (current log) up ≡ Some f
   pub holds : is_folder (node (current log) f) ≡ true
   pub free : lookup (current log).names f name ≡ None
-  pub folder : is_folder made ≡ true
   pub was : marks.was (name ∷ up) ≡ None
   pub named : (p : Route) → marks.aside p ≡ true → Among after.named p
   pub off : (p : Route) → same_path p (name ∷ up) ≡ false → (after.tree p ≡ told.tree p) × (after.earlier p ≡ told.earlier p)
@@ -90,9 +90,12 @@ pub record MakesFolder (told after : Said) (marks : Marks) (log : CallLog) (name
   pub doubts : (p : Route) → told.doubt p ≡ true → after.doubt p ≡ true
   pub doubted : after.doubt (name ∷ up) ≡ true
   pub folders : (p : Route) → after.folders p ≡ true → (told.folders p ≡ true) ⊎ (p ≡ up)
+  pub modes : (p : Route) → told.modes p ≡ true → after.modes p ≡ true
+  pub calm : (p : Route) → after.calm p ≡ true → (told.calm p ≡ true) ⊎ IsCalmIn marks (current log) p
+  pub new_mode : marks.modes (length (current log).nodes) ≡ None
 
 module _ (told after : Said) (dirty dirty_after : List Route) (marks : Marks) (log : CallLog) (was_known : IsKnown told dirty marks log) (name : List ℕ) (up : Route) (f : ℕ) (made : Node)
-    (m : MakesFolder told after marks log name up f made) (listed : Among dirty_after up) (more : (q : Route) → Among dirty q → Among dirty_after q) where
+    (m : MakesThing told after marks log name up f made) (listed : Among dirty_after up) (more : (q : Route) → Among dirty q → Among dirty_after q) where
   abbrev makes : Change
   makes = Makes f name made
 
@@ -109,7 +112,7 @@ module _ (told after : Said) (dirty dirty_after : List Route) (marks : Marks) (l
   marked = marks_born marks new
 
   known : IsKnown told dirty marked log
-  known = born_known told dirty marks log was_known
+  known = born_known told dirty marks log was_known m.new_mode
 
   naming : IsNaming marked log makes
   naming = making_law marked log up name f made known.guarded (record {
@@ -117,7 +120,7 @@ module _ (told after : Said) (dirty dirty_after : List Route) (marks : Marks) (l
     folder = m.holds;
     free = m.free;
     was = λ out. m.was;
-    solid = λ out. inr m.folder;
+    solid = λ out. inl (ap (λ b. not b && marks.loose new) (eq-eqb new new refl));
   })
 
   no_longer : (rest : Route) → up ≡ rest ++ name ∷ up → ⊥
@@ -148,7 +151,7 @@ module _ (told after : Said) (dirty dirty_after : List Route) (marks : Marks) (l
   was_free : find (current log) path ≡ None
   was_free = ap (option_and_then (λ g. lookup (current log).names g name)) m.at ∙ m.free
 
-  -- nothing is in the new folder
+  -- nothing is in the new thing
   none_new : (k : List ℕ) → lookup (current log).names new k ≡ None
   none_new k = by (lookup (current log).names new k) refl
     where
@@ -212,7 +215,7 @@ module _ (told after : Said) (dirty dirty_after : List Route) (marks : Marks) (l
     | inr said ↦ both_ways _ (subst (λ j. is_folder (node (current now) j) ≡ false) (sym (says_it i k said).0) bare) (kind_same log makes f f_there ∙ m.holds)
   ]
 
-  -- no name of the new folder waits
+  -- no name in the new thing waits
   none_waits_new : (k : List ℕ) → is_pending new k log.changes ≡ true → ⊥
   none_waits_new k waits = both_ways _ (known.files.bare new k (false_from_ne_true _ (λ is. let there = folder_there (current log).nodes new is in absurd (omega (arith, there))))) waits
 
@@ -269,13 +272,31 @@ module _ (told after : Said) (dirty dirty_after : List Route) (marks : Marks) (l
   held_still : (p : Route) → marks.aside p ≡ false → held (current now) (marks.was p) ≡ held (current log) (marks.was p)
   held_still p out = held_same log makes (marks.was p) (λ i is. unaltered i (known.was_there p i out is).0)
 
-  was_shown : (p : Route) → marks.aside p ≡ false → (marks.was p ≡ find (current now) p) ⊎ (held (current now) (marks.was p) ≡ (after.earlier p).value)
+  was_shown : (p : Route) → marks.aside p ≡ false → (marks.was p ≡ find (current now) p) ⊎ ((held (current now) (marks.was p) ≡ (after.earlier p).value) × HasNoMode marks (marks.was p))
   was_shown p out = elim (where_is p) [
-    | inl here ↦ inr (ap (held (current now)) (ap marks.was here ∙ m.was) ∙ sym (ap (λ q. (after.earlier q).value) here ∙ m.earlier))
+    | inl here ↦ inr (ap (held (current now)) (ap marks.was here ∙ m.was) ∙ sym (ap (λ q. (after.earlier q).value) here ∙ m.earlier), λ i is. some_none i (sym is ∙ (ap marks.was here ∙ m.was)))
     | inr off ↦ elim (known.was_shown p out) [
       | inl same ↦ inl (same ∙ sym (off_path p off))
-      | inr shown ↦ inr (held_still p out ∙ (shown ∙ sym (ap (λ (s : Spot). s.value) (m.off p off).1)))
+      | inr shown ↦ inr (held_still p out ∙ (shown.0 ∙ sym (ap (λ (s : Spot). s.value) (m.off p off).1)), shown.1)
     ]
+  ]
+
+  moded_still : (i before : ℕ) → HasMode told dirty marked log i before → HasMode after dirty_after marked now i before
+  moded_still i before h =
+      let off = elsewhere h.path i h.leads in
+      record {
+        path = h.path;
+        leads = stays h.path i h.leads;
+        out = h.out;
+        listed = more h.path h.listed;
+        told = m.modes h.path h.told;
+        shown = ap (λ (s : Spot). s.value) (m.off h.path off).1 ∙ (h.shown ∙ ap (λ n. Some (value (with_mode before n))) (sym (unaltered i (known.guarded.there h.path i (found_at log h.path (Some i) h.leads)))));
+      }
+
+  calm_was : (p : Route) → IsCalmIn marks (current log) p → IsCalmIn marks (current now) p
+  calm_was p calm k i there = elim (where_is (k ∷ p)) [
+    | inl here ↦ inl (subst (λ j. marks.modes j ≡ None) (sym (some_is new i (sym path_leads ∙ (ap (find (current now)) (sym here) ∙ there)))) m.new_mode)
+    | inr off ↦ elim (calm k i (sym (off_path (k ∷ p) off) ∙ there)) [ inl none ↦ inl none | inr begins ↦ inr (starts_same log makes i ∙ begins) ]
   ]
 
   no_mount : starts_mount (current now) new ≡ false
@@ -302,7 +323,7 @@ module _ (told after : Said) (dirty dirty_after : List Route) (marks : Marks) (l
   ]
 
   -- a folder that isn't in doubt stays so
-  folder_sure : (p : Route) (j : ℕ) → find (current log) p ≡ Some j → is_folder (node (current log) j) ≡ true → is_unsettled log p ≡ false → is_unsettled now p ≡ false
+  folder_sure : (p : Route) (j : ℕ) → find (current log) p ≡ Some j → is_folder (node (current log) j) ≡ true → way_waits log p ≡ false → way_waits now p ≡ false
   folder_sure p j there folder sure = sure_still log makes known.guarded.tree
       (λ q g h before holds then. let e : (let o : Option ℕ = Some g in o) ≡ Some h = sym (stays q g before) ∙ then in cc)
       (λ g k j said before then holds.
@@ -321,7 +342,7 @@ module _ (told after : Said) (dirty dirty_after : List Route) (marks : Marks) (l
   stand : (p : Route) → after.folders p ≡ true → IsSureFolder now p
   stand p there = elim (m.folders p there) [ inl before ↦ firm_still p (known.stand p before) | inr here ↦ firm_still p (subst (λ q. IsSureFolder log q) (sym here) m.firm) ]
 
-  mounts_sure : (p : Route) → (visible_tree (current now) p).is_mount ≡ true → is_unsettled now p ≡ false
+  mounts_sure : (p : Route) → (visible_tree (current now) p).is_mount ≡ true → way_waits now p ≡ false
   mounts_sure p on = elim (where_is p) [
     | inl here ↦ absurd (both_ways _ (ap (λ q. (visible_tree (current now) q).is_mount) here ∙ ap (λ (s : Spot). s.is_mount) path_shown) on)
     | inr off ↦
@@ -330,8 +351,8 @@ module _ (told after : Said) (dirty dirty_after : List Route) (marks : Marks) (l
         folder_sure p there.i there.at there.folder (known.files.mounts p before)
   ]
 
-  pub folder_made_known : IsKnown after dirty_after marked now
-  folder_made_known = record {
+  pub thing_made_known : IsKnown after dirty_after marked now
+  thing_made_known = record {
     guarded = naming_law marked log makes known.guarded naming;
     files = record {
       within = within_more log.changes makes refl known.files.within;
@@ -339,7 +360,8 @@ module _ (told after : Said) (dirty dirty_after : List Route) (marks : Marks) (l
       unborn = unborn_more log makes (λ i past. naming.bytes i) naming.count known.files.unborn;
       mounts = mounts_sure;
     };
-    moded = known.moded;
+    moded = λ i before is unclean. moded_still i before (known.moded i before is (unclean_before log makes i refl unclean));
+    calm = λ p there. elim (m.calm p there) [ inl before ↦ calm_was p (known.calm p before) | inr calm ↦ calm_was p calm ];
     folders = folder_marks;
     aside = m.named;
     was_there = λ p i out is. let t = known.was_there p i out is in let n = naming.count in let l = t.0 in (omega (arith, n, l), t.1);

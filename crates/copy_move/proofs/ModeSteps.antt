@@ -1,0 +1,214 @@
+-- What the steps of a setting make of what is dirty.
+use Rattle.std.proofs.Common.{◌≡◌, ℕ, ◌+◌, ◌<◌, ◌≤◌, true, false, List, length, refl, sym, ◌∙◌, ap, subst, inl, inr, Option, Some, None, arith}
+use Rattle.std.proofs.lemmas.Bool.{true≢false, false≢true}
+use Rattle.mc_text.specs.Routes.{Route}
+use Rattle.tree_trait.specs.Change.{CallLog}
+use Rattle.tree_trait.proofs.Visible.{same_path-self}
+use Rattle.job_reports.specs.declared.report.Cause.{Cause}
+use Rattle.job_reports.specs.declared.report.Cause.TheVariants.{Memory}
+use Rattle.job_reports.specs.declared.report.Ending.{Ending}
+use Rattle.job_reports.specs.declared.report.Ending.TheVariants.{Finished, Aborted, Killed, NoMemory}
+use Rattle.job_reports.specs.declared.report.Did.{Did}
+use Rattle.job_reports.specs.declared.report.Did.TheVariants.{Began, Chunk, Placed, Removed, Made, Set, Kept, Skipped, Cleaned, Barrier, Troubled, Ended}
+use Rattle.job_reports.specs.declared.report.LastStepResult.{LastStepResult}
+use Rattle.job_reports.specs.Reports.{ends}
+use Rattle.job_reports.specs.Stops.{out_of_memory_at}
+use Rattle.job_reports.proofs.Runs.{no_more}
+use Rattle.mode_setting.specs.declared.setting.Stage.{Stage}
+use Rattle.mode_setting.specs.declared.setting.Stage.TheVariants.{Give, Sync, Done}
+use Rattle.mode_setting.specs.Settings.{Setting, Tells, at_barrier, is_dirty, is_fresh, skipped}
+use Rattle.mode_setting.specs.SettingSteps.{SettingStops, Skips, StepsOn, SyncTried, Winds}
+use Rattle.copy_move.specs.declared.work.Work.TheVariants.{SetMode}
+use Rattle.copy_move.specs.declared.run.Course.TheVariants.{GoesOn, InTrouble}
+use Rattle.copy_move.specs.DeletionSteps.{after_try}
+use Rattle.copy_move.specs.Jobs.{course_after}
+use Rattle.copy_move.specs.ModeSettings.{LastSettingCalls, SettingLeaves}
+use Rattle.copy_move.specs.ModeSettings as modes
+use Rattle.copy_move.specs.Ranks.{last_rank, last_setting_steps, rank_on, setting_rank, tries_left, work_rank}
+use Rattle.copy_move.specs.Settling.{with_change}
+use Rattle.copy_move.specs.Steps.{WorkSkips, WorkSteps, WorkWindsUp}
+use Rattle.copy_move.proofs.DeletionRuns.{met_by}
+use Rattle.copy_move.proofs.Falling.{setting_tried_low, waiting_falls}
+use Rattle.copy_move.proofs.FolderSteps.{one_more, same_log, tried_more, tries_after, weighs_less}
+
+-- a setting stays at its path
+pub setting_stays : (s new : Setting) (did : Did) → Tells s did new → new.path ≡ s.path
+setting_stays s new (Set path) (at, path_is, is) = ap (λ (n : Setting). n.path) is
+setting_stays s new Barrier (at, is) = ap (λ (n : Setting). n.path) is
+setting_stays s new (Troubled trouble) t = ap (λ (n : Setting). n.path) t.1
+setting_stays s new (Ended Finished part) (at, none, is) = ap (λ (n : Setting). n.path) is
+setting_stays s new (Ended Aborted part) t = absurd t
+setting_stays s new (Ended Killed part) t = absurd t
+setting_stays s new (Ended NoMemory part) t = absurd t
+setting_stays s new (Began part) t = absurd t
+setting_stays s new (Chunk count) t = absurd t
+setting_stays s new (Placed path) t = absurd t
+setting_stays s new (Removed path) t = absurd t
+setting_stays s new (Made path) t = absurd t
+setting_stays s new (Kept path) t = absurd t
+setting_stays s new (Skipped path cause) t = absurd t
+setting_stays s new (Cleaned part) t = absurd t
+
+pub setting_winds_there : (ending : Ending) (s new : Setting) (last : LastStepResult) (before after : Option CallLog) (f0 f1 : ℕ) → Winds ending s new last before after f0 f1 → new.path ≡ s.path
+setting_winds_there ending s new last before after f0 f1 (inl w) = ap (λ (n : Setting). n.path) w.1
+setting_winds_there ending s new last before after f0 f1 (inr w) = ap (λ (n : Setting). n.path) w.1
+
+-- what was given its mode before, and is synced, isn't given one again
+pub clean_setting : (s new : Setting) (did : Did) → Tells s did new → is_fresh s.stage ≡ false → is_dirty s.stage ≡ false → is_dirty new.stage ≡ false
+clean_setting s new (Set path) (at, path_is, is) changed clean = absurd (true≢false (sym (ap is_fresh at) ∙ changed))
+clean_setting s new Barrier (at, is) changed clean = ap (λ (n : Setting). is_dirty n.stage) is
+clean_setting s new (Troubled trouble) t changed clean = ap (λ (n : Setting). is_dirty n.stage) t.1 ∙ clean
+clean_setting s new (Ended Finished part) (at, none, is) changed clean = ap (λ (n : Setting). is_dirty n.stage) is ∙ clean
+clean_setting s new (Ended Aborted part) t changed clean = absurd t
+clean_setting s new (Ended Killed part) t changed clean = absurd t
+clean_setting s new (Ended NoMemory part) t changed clean = absurd t
+clean_setting s new (Began part) t changed clean = absurd t
+clean_setting s new (Chunk count) t changed clean = absurd t
+clean_setting s new (Placed path) t changed clean = absurd t
+clean_setting s new (Removed path) t changed clean = absurd t
+clean_setting s new (Made path) t changed clean = absurd t
+clean_setting s new (Kept path) t changed clean = absurd t
+clean_setting s new (Skipped path cause) t changed clean = absurd t
+clean_setting s new (Cleaned part) t changed clean = absurd t
+
+-- one that has given no mode has left nothing dirty
+pub fresh_setting : (stage : Stage) → is_fresh stage ≡ true → is_dirty stage ≡ false
+fresh_setting Give h = refl
+fresh_setting Sync h = absurd (false≢true h)
+fresh_setting Done h = absurd (false≢true h)
+
+dirty_at : (stage : Stage) → is_dirty stage ≡ true → stage ≡ Sync
+dirty_at Sync h = refl
+dirty_at Give h = absurd (false≢true h)
+dirty_at Done h = absurd (false≢true h)
+
+-- each step leaves fewer
+pub setting_falls : (old new : Setting) (did : Did) → Tells old did new → ends did ≡ false → rank_on (course_after did) (SetMode new) < work_rank (SetMode old)
+setting_falls old new (Set path) (at, path_is, is) h =
+    subst (λ (n : Setting). setting_rank n.stage < setting_rank old.stage) (sym is) (subst (λ s. 5 < setting_rank s) (sym at) (omega arith))
+setting_falls old new Barrier (at, is) h =
+    subst (λ (n : Setting). setting_rank n.stage < setting_rank old.stage) (sym is) (subst (λ s. 4 < setting_rank s) (sym at) (omega arith))
+setting_falls old new (Troubled trouble) (at, is) h =
+    subst (λ (n : Setting). last_setting_steps n.stage < setting_rank old.stage) (sym is) (setting_tried_low old.stage)
+setting_falls old new (Ended ending part) t h = absurd (true≢false h)
+setting_falls old new (Began part) t h = absurd t
+setting_falls old new (Chunk count) t h = absurd t
+setting_falls old new (Placed path) t h = absurd t
+setting_falls old new (Removed path) t h = absurd t
+setting_falls old new (Made path) t h = absurd t
+setting_falls old new (Kept path) t h = absurd t
+setting_falls old new (Skipped path cause) t h = absurd t
+setting_falls old new (Cleaned part) t h = absurd t
+
+-- so does one that keeps its mode
+unset_falls : (stage : Stage) → setting_rank (skipped stage) < 10
+unset_falls Give = omega arith
+unset_falls Sync = omega arith
+unset_falls Done = omega arith
+
+-- a step
+module _ (unclaimed : Route → Type 0) (s new : Setting) (did : Did) (calls : ℕ) (dirty dirty_after : List Route) (before after : Option CallLog) (f0 f1 : ℕ) where
+  pub setting_steps : StepsOn s new did calls before after f0 f1 → dirty_after ≡ with_change (is_dirty s.stage) (is_dirty new.stage) s.path dirty
+      → WorkSteps unclaimed (SetMode s) (SetMode new) did calls dirty dirty_after before after f0 f1
+  setting_steps made leaves = record {
+    tells = made.tells;
+    walks = tt;
+    called = made.called;
+    leaves = leaves;
+    counted = made.counted;
+    few = let few = made.few in omega (arith, few);
+    unknown = made.unknown;
+    later = made.later;
+    fault = λ h. made.fault (met_by GoesOn (λ d. Tells s d new) did (λ path cause x. x) made.tells h);
+    falls = λ going.
+        let low = setting_falls s new did made.tells going in
+        let more = subst (λ xs. length xs ≤ length dirty + 1) (sym leaves) (one_more (is_dirty s.stage) (is_dirty new.stage) s.path dirty) in
+        weighs_less (rank_on (course_after did) (SetMode new)) (setting_rank s.stage) (length dirty_after) (length dirty) (tries_left (course_after did) (SetMode new) dirty_after) low more (tries_after did (SetMode new) dirty_after);
+  }
+
+-- there was no memory to remember the thing: no call was made
+pub none_given : (s : Setting) (did : Did) (calls : ℕ) (contents : Option CallLog) (f : ℕ) → is_fresh s.stage ≡ true → did ≡ Troubled (out_of_memory_at false) → calls ≡ 0 → StepsOn s s did calls contents contents f f
+none_given s did calls contents f fresh is count =
+    subst (λ d. StepsOn s s d calls contents contents f f) (sym is)
+    (subst (λ n. StepsOn s s (Troubled (out_of_memory_at false)) n contents contents f f) (sym count) (record {
+      tells = (barred s.stage fresh, refl);
+      called = λ log known. stops log s.stage fresh known;
+      counted = λ log known now has. same_log log now contents known has;
+      few = omega arith;
+      unknown = λ h. h;
+      later = omega arith;
+      fault = λ h. absurd cc;
+    }))
+  where
+    barred : (stage : Stage) → is_fresh stage ≡ true → false ≡ at_barrier stage
+    barred Give h = refl
+    barred Sync h = absurd (false≢true h)
+    barred Done h = absurd (false≢true h)
+
+    stops : (log : CallLog) (stage : Stage) → is_fresh stage ≡ true → contents ≡ Some log → SettingStops s stage Memory None log contents
+    stops log Give h known = (refl, (0, omega arith, known))
+    stops log Sync h known = absurd (false≢true h)
+    stops log Done h known = absurd (false≢true h)
+
+-- a last step
+module _ (ending : Ending) (s new : Setting) (last : LastStepResult) (dirty dirty_after : List Route) (before after : Option CallLog) (f0 f1 : ℕ) where
+  abbrev WindsUp : LastStepResult → Type 0
+  WindsUp l = WorkWindsUp ending (SetMode s) (SetMode new) l.did l.calls l.left dirty dirty_after before after f0 f1
+
+  -- the sync that is owed was tried
+  sync_tried : s.stage ≡ Sync → new ≡ record s { stage = Done } → SyncTried s.path last before after f0 f1 → dirty_after ≡ after_try last.did last.left s.path dirty → WindsUp last
+  sync_tried at is tried leaves = record {
+    tells = subst (λ d. modes.Winds ending s d new) (sym tried.did) (at, is);
+    walks = tt;
+    called = λ log known. subst (λ d. LastSettingCalls s d log after) (sym tried.did) (last.left, tried.told log known);
+    folder = s.path;
+    own = same_path-self s.path;
+    dirty_is = leaves;
+    synced = λ log known. subst (λ d. SettingLeaves s d last.left log after) (sym tried.did) (tried.told log known);
+    counted = tried.counted;
+    few = let few = tried.few in omega (arith, few);
+    unknown = tried.unknown;
+    later = tried.later;
+    fault = tried.fault;
+    falls = λ going.
+        let low : last_rank (SetMode new) < last_rank (SetMode s) =
+        subst (λ (n : Setting). last_setting_steps n.stage < last_setting_steps s.stage) (sym is) (subst (λ stage. 1 < last_setting_steps stage) (sym at) (omega arith)) in
+        let more = subst (λ xs. length xs ≤ length dirty + 1) (sym leaves) (tried_more last.did last.left s.path dirty) in
+        omega (arith, low, more);
+  }
+
+  -- none is owed, and the job ends
+  ends_at_once : is_dirty s.stage ≡ false → new ≡ s → after ≡ before → f1 ≡ f0 → dirty_after ≡ dirty → WindsUp (record { did = Ended ending None; calls = 0; left = None })
+  ends_at_once clean is same faults leaves = record {
+    tells = (clean, refl, refl, is);
+    walks = tt;
+    called = λ log known. same ∙ known;
+    folder = s.path;
+    own = same_path-self s.path;
+    dirty_is = leaves;
+    synced = λ log known. refl;
+    counted = λ log known now has. no_more log now (sym known ∙ (sym same ∙ has));
+    few = omega arith;
+    unknown = λ none. same ∙ none;
+    later = omega (arith, faults);
+    fault = λ h. absurd cc;
+    falls = λ going. absurd (true≢false going);
+  }
+
+  pub setting_winds_up : Winds ending s new last before after f0 f1 → dirty_after ≡ after_try last.did last.left s.path dirty → WindsUp last
+  setting_winds_up (inl (dirty_is, is, tried)) leaves = sync_tried (dirty_at s.stage dirty_is) is tried leaves
+  setting_winds_up (inr (clean, is, last_is, same, faults)) leaves =
+      subst WindsUp (sym last_is) (ends_at_once clean is same faults (leaves ∙ ap (λ (l : LastStepResult). after_try l.did l.left s.path dirty) last_is))
+
+-- a skip
+pub setting_skips : (cause : Cause) (s new : Setting) (did : Did) → Skips cause s did new → WorkSkips cause (SetMode s) did (SetMode new)
+setting_skips cause s new did (inl (did_is, new_is)) = record {
+  walks = tt;
+  skips = inl (s.path, did_is, (refl, new_is));
+  falls = subst (λ d. rank_on (course_after d) (SetMode new) < 10) (sym did_is) (subst (λ (n : Setting). setting_rank n.stage < 10) (sym new_is) (unset_falls s.stage));
+}
+setting_skips cause s new did (inr (did_is, new_is)) = record {
+  walks = tt;
+  skips = inr (did_is, ap SetMode new_is);
+  falls = subst (λ d. rank_on (course_after d) (SetMode new) < 10) (sym did_is) (subst (λ (n : Setting). rank_on (InTrouble Memory) (SetMode n) < 10) (sym new_is) (waiting_falls (SetMode s)));
+}
