@@ -26,7 +26,7 @@ UP, DOWN, HOME, END, TAB, INSERT = b"\x1b[A", b"\x1b[B", b"\x1b[H", b"\x1b[F", b
 BACK, FORWARD, AGAIN, SWAP = b"\x1by", b"\x1bu", b"\x12", b"\x15"
 F1, F3, F5, F7, F8, F9, F10, ENTER, ESCAPE = b"\x1bOP", b"\x1bOR", b"\x1b[15~", b"\x1b[18~", b"\x1b[19~", b"\x1b[20~", b"\x1b[21~", b"\r", b"\x1b\x1b"
 EMPTY, HIDDEN, FIND = b"\x15", b"\x1b.", b"\x1b?"
-LINK = [b"\x18", b"s"]
+LINK, MODE = [b"\x18", b"s"], [b"\x18", b"c"]
 COPY = [DOWN, F5, ENTER, ENTER]
 USAGE = b"usage: mc [-b] [-V] [-h] [-P FILE] [-v FILE | -e FILE | --drill N | DIR1 [DIR2]]"
 KEYS = b"F1 help  F2 menu  F3 view  F4 edit  F5 copy  F6 move  F7 mkdir  F8 delete  F9 options  F10 quit"
@@ -640,6 +640,27 @@ def check_links(program, base, check):
         check("each line is shut without a link", status == 0 and told.screens[len(keys)].rows() == told.screens[0].rows() and sorted(os.listdir(folder)) == ["a", "l"])
 
 
+def check_modes(program, base, check):
+    """Modes that are given by keys, of a file and of a folder, and what has none."""
+    folder = os.path.join(base, "modes")
+    os.makedirs(os.path.join(folder, "d"))
+    make_file(os.path.join(folder, "x"), 3, 0o644)
+    os.symlink("x", os.path.join(folder, "l"))
+    mode = lambda name: stat.S_IMODE(os.lstat(os.path.join(folder, name)).st_mode)
+    status, told, same = run(program, [folder, base], [END] + MODE + [b"0", b"6", b"0", b"0", ENTER, F10])
+    before, _, asks, *_, typed, given = told.screens[1:9]
+    check("C-x c asks for a mode", asks.rows() == with_box(before.rows(), ["Mode", "-rw-r--r--", "0644"]))
+    check("digits are shifted in", typed.rows() == with_box(before.rows(), ["Mode", "-rw-------", "0600"]))
+    check("Enter gives it", status == 0 and same and mode("x") == 0o600 and given.rows() == before.rows())
+
+    status, _, _ = run(program, [folder, base], [DOWN] + MODE + [b"1", b"7", b"5", b"0", ENTER, F10])
+    check("a folder is given a mode, with its sticky bit", status == 0 and mode("d") == 0o1750)
+
+    for keys, words in [([END, UP] + MODE + [ENTER, b"s"], b"special file"), (MODE + [ENTER], b"nothing selected"), ([END] + MODE + [b"7", ESCAPE], b"Mode")]:
+        status, told, _ = run(program, [folder, base], keys + [F10])
+        check(f"no mode is given: {words.decode()}", status == 0 and words in told and mode("x") == 0o600 and mode("d") == 0o1750)
+
+
 def check_closed_folder(program, base, check):
     """A folder that may not be read is refused, over the panel as it was."""
     user, program = for_somebody(program, base)
@@ -926,6 +947,7 @@ def main():
         check_big_home(program, base, check)
         check_new_folders(program, base, check)
         check_links(program, base, check)
+        check_modes(program, base, check)
         check_closed_folder(program, base, check)
         check_long_path(program, base, check)
         check_dirty_folder(program, base, check)

@@ -7,7 +7,7 @@ use Rattle.job_reports.specs.declared.answer.Answer.{Answer}
 use Rattle.job_reports.specs.declared.answer.Answer.TheVariants.{Retry, Skip, SkipAll, Abort}
 use Rattle.mc_dialogs.specs.declared.shut.Shut.{Shut}
 use Rattle.mc_dialogs.specs.declared.shut.Shut.TheVariants.{Stay, Closed}
-use Rattle.mc_dialogs.specs.declared.shut.Reply.TheVariants.{Line, Letter}
+use Rattle.mc_dialogs.specs.declared.shut.Reply.TheVariants.{Line, Letter, Mode}
 use Rattle.mc_dialogs.specs.QuestionKeys.{letters_shut}
 use Rattle.box_words.specs.declared.replies.DeleteReply.{DeleteReply}
 use Rattle.box_words.specs.declared.replies.DeleteReply.TheVariants as delete
@@ -15,6 +15,8 @@ use Rattle.box_words.specs.declared.replies.TroubleReply.{TroubleReply}
 use Rattle.box_words.specs.declared.replies.TroubleReply.TheVariants as trouble
 use Rattle.box_words.specs.declared.replies.LineReply.{LineReply}
 use Rattle.box_words.specs.declared.replies.LineReply.TheVariants as line
+use Rattle.box_words.specs.declared.replies.ModeReply.{ModeReply}
+use Rattle.box_words.specs.declared.replies.ModeReply.TheVariants as mode
 
 -- the letters of the delete box: `y` deletes, `g` too, until jobs run in the background, and `n` doesn't
 abbrev pub delete_letters : List ℕ
@@ -54,6 +56,12 @@ abbrev pub line_reply : Shut → LineReply
 line_reply Stay = line.Stays
 line_reply (Closed (Line text background)) = line.Takes text
 line_reply (Closed other) = line.Shuts
+
+-- what the answer of a mode box comes to
+abbrev pub mode_reply : Shut → ModeReply
+mode_reply Stay = mode.Stays
+mode_reply (Closed (Mode bits)) = mode.Takes bits
+mode_reply (Closed other) = mode.Shuts
 
 -- the keys that close a message
 abbrev pub closes_message : Base → Bool

@@ -1,5 +1,5 @@
 -- The lines of the boxes that stand over the panels.
-use Rattle.std.specs.Prelude.{ℕ, Bool, true, false, List, [], ◌∷◌, ◌++◌, Option, Some, None, codes}
+use Rattle.std.specs.Prelude.{ℕ, ◌%◌, Bool, true, false, List, [], ◌∷◌, ◌++◌, Option, Some, None, codes}
 use Rattle.std.specs.Option.{option_map_or}
 use Rattle.mc_text.specs.Routes.{Route, path_text, spelled}
 use Rattle.job_reports.specs.declared.report.Trouble.{Trouble}
@@ -10,6 +10,7 @@ use Rattle.session_history.specs.declared.refusal.PlanError.TheVariants.{NoSelec
 use Rattle.session_history.specs.declared.refusal.Refusal.{Refusal}
 use Rattle.session_history.specs.declared.refusal.Refusal.TheVariants.{Tree, Read, Resolve, Plan, Begin, Typed}
 use Rattle.mc_dialogs.specs.InputKeys.{InputState}
+use Rattle.mc_dialogs.specs.ModeKeys.{ModeState}
 use Rattle.box_words.specs.declared.message.Message.{Message}
 use Rattle.box_words.specs.declared.message.Message.TheVariants.{Refused, PartLeft, OutOfMemory, Help}
 use Rattle.box_words.specs.Causes.{refusal_words, trouble_words}
@@ -100,6 +101,10 @@ target_text folder = spelled folder ++ codes "/"
 -- the line that asks for the destination, as it opens
 abbrev pub target_line : Route → InputState
 target_line folder = record { title = codes "Copy to"; before = target_text folder; behind = [] }
+
+-- the box that asks for a mode, as it opens; a mode has four octal digits
+abbrev pub mode_box : ℕ → ModeState
+mode_box mode = record { title = codes "Mode"; mode = mode % 4096 }
 
 -- the path of a thing in a folder, however long it is
 abbrev pub thing_text : Route → List ℕ → List ℕ

@@ -2,12 +2,12 @@
 ghost use Rattle.std.specs.Prelude.{◌≡◌, ◌∷◌, ◌++◌, [], IfOk};
 ghost use Rattle.std.specs.Option.{option_map_or};
 ghost use Rattle.mc_text.specs.Routes.{path_text as path_text_of};
-ghost use Rattle.box_words.specs.BoxLines.{delete_lines as lines_of_deletion, folder_line as line_of_folder, link_name_line as line_of_link_name, link_text_line as line_of_link_text, mask_line as line_of_mask, message_lines as lines_of_message, path_lines, plan_path, resolve_path, target_line as line_of_target, target_text as text_of_target, thing_text as text_of_thing, trouble_letter_words, trouble_lines as lines_of_trouble};
+ghost use Rattle.box_words.specs.BoxLines.{delete_lines as lines_of_deletion, folder_line as line_of_folder, link_name_line as line_of_link_name, link_text_line as line_of_link_text, mask_line as line_of_mask, message_lines as lines_of_message, mode_box as box_of_mode, path_lines, plan_path, resolve_path, target_line as line_of_target, target_text as text_of_target, thing_text as text_of_thing, trouble_letter_words, trouble_lines as lines_of_trouble};
 
 use crate::causes::{refusal_text, trouble_text};
 use crate::message::Message;
 use job_reports::Trouble;
-use mc_dialogs::InputLine;
+use mc_dialogs::{InputLine, ModeBox};
 use mc_text::{Name, NoMemory, Path, Rows, Text};
 use resolving::ResolveError;
 use session_history::{PlanError, Refusal};
@@ -204,6 +204,13 @@ pub fn link_name_line(alloc: Global) -> Result<InputLine, NoMemory>
     ensures { IfOk result (λ line. line ≡ line_of_link_name) }
 {
     InputLine::new(alloc, "Link name", "")
+}
+
+/// The box that asks for a mode, and has this one at first.
+pub fn mode_box(alloc: Global, mode: u16) -> Result<ModeBox, NoMemory>
+    ensures { IfOk result (λ asked. asked ≡ box_of_mode mode) }
+{
+    ModeBox::new(alloc, "Mode", mode)
 }
 
 /// The path of a thing in a folder, however long it is.

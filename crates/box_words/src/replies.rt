@@ -1,6 +1,6 @@
 //! What the boxes' answers to a key come to.
 ghost use Rattle.std.specs.Prelude.{◌≡◌};
-ghost use Rattle.box_words.specs.BoxKeys.{closes_message as does_close, delete_letters, delete_reply as delete_reply_of, delete_reply_to as deletes_by, letter_answer, line_reply as line_reply_of, trouble_letters as letters_of, trouble_reply as trouble_reply_of, trouble_reply_to as answers_by};
+ghost use Rattle.box_words.specs.BoxKeys.{closes_message as does_close, delete_letters, delete_reply as delete_reply_of, delete_reply_to as deletes_by, letter_answer, line_reply as line_reply_of, mode_reply as mode_reply_of, trouble_letters as letters_of, trouble_reply as trouble_reply_of, trouble_reply_to as answers_by};
 
 use job_reports::Answer;
 use key_screen::{Base, Key};
@@ -32,6 +32,14 @@ pub enum LineReply {
     Stays,
     Shuts,
     Takes(Text),
+}
+
+/// What becomes of a mode box.
+#[derive(Clone, Copy, Debug, Drop, PartialEq, Eq)]
+pub enum ModeReply {
+    Stays,
+    Shuts,
+    Takes(u16),
 }
 
 /// What a key makes of the delete box. Until jobs run in the background `g` does as `y`.
@@ -94,6 +102,17 @@ pub fn line_reply(shut: Shut) -> LineReply
         Shut::Stay => LineReply::Stays,
         Shut::Closed(Reply::Line { text, .. }) => LineReply::Takes(text),
         Shut::Closed(_) => LineReply::Shuts,
+    }
+}
+
+/// What a mode box's answer comes to.
+pub fn mode_reply(shut: Shut) -> ModeReply
+    ensures { result ≡ mode_reply_of shut }
+{
+    match shut {
+        Shut::Stay => ModeReply::Stays,
+        Shut::Closed(Reply::Mode(mode)) => ModeReply::Takes(mode),
+        Shut::Closed(_) => ModeReply::Shuts,
     }
 }
 

@@ -8,14 +8,14 @@ use Rattle.tree_trait.specs.declared.calls.TreeError.{TreeError}
 use Rattle.tree_trait.specs.declared.calls.TreeError.TheVariants.{Missing}
 use Rattle.tree_trait.specs.declared.calls.Meta.{Meta}
 use Rattle.tree_trait.specs.Calls.{Stat}
-use Rattle.tree_trait.specs.FileSystem.{node, value, View, visible_tree}
+use Rattle.tree_trait.specs.FileSystem.{node, value, Value, View, visible_tree}
 use Rattle.tree_trait.specs.Refusals.{refusal_of}
 use Rattle.tree_trait.specs.Change.{CallLog, current}
 use Rattle.tree_trait.specs.Answers.{IsMeta, IfKnown, Reads}
 use Rattle.tree_trait.proofs.Walking.{stat-found}
 use Rattle.job_reports.proofs.PermittedCalls.{stat_missing}
 use Rattle.job_plans.specs.declared.choosing.Opens.{Opens}
-use Rattle.job_plans.specs.Copies.{IsTaken, IsVacant, MayAsk, is_spot_of, may_open}
+use Rattle.job_plans.specs.Copies.{HasMode, IsTaken, IsVacant, MayAsk, is_spot_of, may_open}
 use Rattle.job_plans.specs.Reading.{sight}
 
 -- what `stat` says of a path is what can be seen there
@@ -41,12 +41,26 @@ may_ask box (Some log) path meta asks near reads kind =
     let r = reads log refl in
     first_decides _ _ asks (spot_kind box log path meta r.0 r.1 ∙ kind) (le_true _ _ near)
 
+-- a thing has the mode that a look at it tells
+has_mode : (contents : Option CallLog) (path : Route) (meta : Meta)
+    → IfKnown contents (λ log. Reads log (Stat path) (let r : Result Meta TreeError = Ok meta in r) (IsMeta (current log) path))
+    → HasMode (sight contents) path meta.mode
+has_mode None path meta reads = tt
+has_mode (Some log) path meta reads =
+    let r = reads log refl in
+    let at = stat-found (current log) path r.0 in
+    subst (λ (i : Option ℕ). option_map (λ (v : Value). v.mode) (option_map (λ i. value (node (current log) i)) i) ≡ Some meta.mode) (sym at)
+    (ap (λ (mode : ℕ). Some mode) (sym r.1.mode))
+
 pub thing_look : (box : Opens) (contents : Option CallLog) (wanted path : Route) (meta : Meta) → path ≡ wanted → length (spelled wanted) ≤ 4096
     → IfKnown contents (λ log. Reads log (Stat path) (let r : Result Meta TreeError = Ok meta in r) (IsMeta (current log) path)) → may_open box meta.kind ≡ true
-    → MayAsk box (sight contents) wanted true × (path ≡ wanted)
+    → MayAsk box (sight contents) wanted true × HasMode (sight contents) wanted meta.mode × (path ≡ wanted)
 thing_look box contents wanted path meta same close reads kind =
-    let near : length (spelled path) ≤ 4096 = subst (λ (q : Route). length (spelled q) ≤ 4096) (sym same) close in
-    (subst (λ q. MayAsk box (sight contents) q true) same (may_ask box contents path meta true near reads kind), same)
+    let near : length (spelled path) ≤ 4096 = subst (λ (q : Route). length (spelled q) ≤ 4096) (sym same) close in (
+      subst (λ q. MayAsk box (sight contents) q true) same (may_ask box contents path meta true near reads kind),
+      subst (λ q. HasMode (sight contents) q meta.mode) same (has_mode contents path meta reads),
+      same,
+    )
 
 -- something stands where a look was answered
 pub taken : (contents : Option CallLog) (path : Route) (result : Result Meta TreeError)

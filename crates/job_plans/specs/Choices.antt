@@ -12,14 +12,14 @@ use Rattle.job_plans.specs.declared.choosing.Choice.{Choice}
 use Rattle.job_plans.specs.declared.choosing.Choice.TheVariants.{NoSelection, Nothing, Thing, Refused}
 use Rattle.job_plans.specs.declared.copying.JobPlan.{JobPlan}
 use Rattle.job_plans.specs.declared.copying.JobPlan.TheVariants.{Begins, Refuses}
-use Rattle.job_plans.specs.Copies.{IsVacant, MayAsk, copy_plan}
+use Rattle.job_plans.specs.Copies.{HasMode, IsVacant, MayAsk, copy_plan}
 use Rattle.job_plans.specs.CopyPlans.{IsBlocked}
 
--- a thing may be asked of by a box, or not, or the look at it was refused
+-- a thing may be asked of by a box, and has this mode, or may not, or the look at it was refused
 abbrev pub IsLook : Opens → Option View → Route → Choice → Type 0
 IsLook box tree path NoSelection = ⊥
 IsLook box tree path Nothing = MayAsk box tree path false
-IsLook box tree path (Thing chosen) = MayAsk box tree path true × (chosen.path ≡ path)
+IsLook box tree path (Thing chosen mode) = MayAsk box tree path true × HasMode tree path mode × (chosen.path ≡ path)
 IsLook box tree path (Refused refused e) = refused ≡ path
 
 -- of what is selected in a folder: there is nothing; or one thing, which is looked at; or there are several
@@ -32,7 +32,7 @@ IsChoice box tree folder (name ∷ other ∷ more) choice = choice ≡ Nothing
 abbrev pub choice_refusals : Choice → List Refusal
 choice_refusals NoSelection = []
 choice_refusals Nothing = []
-choice_refusals (Thing chosen) = []
+choice_refusals (Thing chosen mode) = []
 choice_refusals (Refused path e) = Tree path e ∷ []
 
 -- what a copy to a target comes to: the plan, where nothing stands there, or why it is refused

@@ -16,6 +16,7 @@ use tree_trait::{ReadTree, TreeError};
 pub enum Opens {
     Delete,
     SourceMask,
+    Mode,
 }
 
 /// What choosing the thing that is selected comes to.
@@ -25,8 +26,8 @@ pub enum Choice {
     NoSelection,
     /// It is nothing that the box may ask of, it can't be reached, or there are several.
     Nothing,
-    /// A thing that the box may ask of.
-    Thing(Chosen),
+    /// A thing that the box may ask of, and its mode.
+    Thing(Chosen, u16),
     /// A look at it was refused.
     Refused(Path, TreeError),
 }
@@ -71,7 +72,7 @@ fn look_at_thing<T: ReadTree>(
     match tree.stat(alloc, &path) {
         Ok(meta) => {
             if may_ask_of(opens, meta.kind) {
-                Ok(Choice::Thing(Chosen { path }))
+                Ok(Choice::Thing(Chosen { path }, meta.mode))
             } else {
                 Ok(Choice::Nothing)
             }
@@ -81,13 +82,13 @@ fn look_at_thing<T: ReadTree>(
     }
 }
 
-/// Whether a box may ask of a thing of this kind: a file may be copied, and anything deleted.
+/// Whether a box may ask of a thing of this kind: a file may be copied, and anything deleted or given a mode.
 fn may_ask_of(opens: Opens, kind: Kind) -> bool
     ensures { result ≡ may_open opens kind }
 {
     match (opens, kind) {
         (Opens::SourceMask, Kind::File) => true,
         (Opens::SourceMask, Kind::Folder | Kind::Link | Kind::Other) => false,
-        (Opens::Delete, _) => true,
+        (Opens::Delete | Opens::Mode, _) => true,
     }
 }

@@ -1,11 +1,11 @@
 //! The plans of the jobs that a box confirms.
-ghost use Rattle.std.specs.Prelude.{◌≡◌, ◌≢◌, true, IfErr, IfOk, is_some};
+ghost use Rattle.std.specs.Prelude.{◌≡◌, ◌≢◌, ◌<◌, true, IfErr, IfOk, is_some};
 ghost use Rattle.mc_text.specs.Routes.{parent_of};
 ghost use Rattle.tree_trait.specs.Calls.{Stat};
 ghost use Rattle.tree_trait.specs.Change.{current};
 ghost use Rattle.tree_trait.specs.Answers.{HasCause, IfKnown, IsMeta, Reads};
 ghost use Rattle.job_reports.specs.Jobs.{is_workable};
-ghost use Rattle.job_plans.specs.Copies.{IsTaken, IsVacant, copy_plan, delete_plan};
+ghost use Rattle.job_plans.specs.Copies.{IsTaken, IsVacant, copy_plan, delete_plan, mode_plan};
 ghost use Rattle.job_plans.specs.CopyPlans.{CopyLeads, IsOneCopy, copy_request, only_copy, source_of};
 ghost use Rattle.job_plans.specs.Choices.{AfterLook, PlanLeads, plan_refusals};
 ghost use Rattle.job_plans.specs.Places.{is_below_home};
@@ -145,6 +145,17 @@ fn copy_to(alloc: Global, chosen: &Chosen, target: Path) -> Result<Job, NoMemory
     let mut pairs = Vec::new(alloc);
     pairs.push(Pair { source, target })?;
     Ok(Job::Copy(Pairs(pairs)))
+}
+
+/// The setting of a thing's mode.
+pub fn mode_setting_of(alloc: Global, chosen: &Chosen, mode: u16) -> Result<Job, NoMemory>
+    requires { mode < 4096 }
+    ensures planned { IfOk result (λ plan. plan ≡ mode_plan chosen.now.path mode) }
+    ensures workable { IfOk result (λ plan. is_workable plan ≡ true) }
+{
+    let mut paths = Paths::new(alloc);
+    paths.push(chosen.path.copy(alloc)?)?;
+    Ok(Job::SetMode(paths, mode))
 }
 
 /// The deletion of a file.

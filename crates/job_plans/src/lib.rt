@@ -10,6 +10,6 @@ mod new_place;
 mod refused;
 
 pub use choosing::{Choice, Opens, choose};
-pub use copying::{JobPlan, deletion_of, plan_copy};
+pub use copying::{JobPlan, deletion_of, mode_setting_of, plan_copy};
 pub use new_folder::plan_folder;
 pub use new_link::plan_link;

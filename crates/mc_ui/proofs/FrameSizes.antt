@@ -3,6 +3,7 @@ use Rattle.std.proofs.Common.{◌≡◌, ℕ, List, refl, Option, Some, None}
 use Rattle.key_screen.specs.Grids.{CellGrid}
 use Rattle.job_reports.specs.declared.row.JobRow.{JobRow}
 use Rattle.mc_dialogs.specs.ListKeys.{list_lines}
+use Rattle.mc_dialogs.specs.ModeKeys.{mode_lines}
 use Rattle.mc_dialogs.specs.QuestionKeys.{plain_lines}
 use Rattle.box_words.specs.BoxLines.{delete_lines, trouble_lines}
 use Rattle.job_list.specs.JobLists.{jobs_lines}
@@ -14,7 +15,7 @@ use Rattle.find_mode.specs.FindFrames.{found_lines, painted, with_find}
 use Rattle.panel_boxes.specs.declared.panel_box.PanelBox.{PanelBox}
 use Rattle.panel_boxes.specs.declared.panel_box.PanelBox.TheVariants.{Pending, Typed, Options}
 use Rattle.panel_boxes.specs.Paintings.{with_panel_box}
-use Rattle.mc_ui.specs.Boxes.{Box, NoBox, DeleteBox, MaskBox, TargetBox, FolderBox, LinkTextBox, LinkNameBox, TroubleBox, PanelsBox, FindBox, JobsBox}
+use Rattle.mc_ui.specs.Boxes.{Box, NoBox, DeleteBox, MaskBox, TargetBox, FolderBox, LinkTextBox, LinkNameBox, NewModeBox, TroubleBox, PanelsBox, FindBox, JobsBox}
 use Rattle.mc_ui.specs.Frames.{with_over}
 
 panel_lines_same : (asks : PanelBox) (grid : CellGrid) → (with_panel_box asks grid).lines ≡ grid.lines
@@ -51,6 +52,7 @@ over_lines_same (TargetBox path mask typed) rows grid = input_lines_same grid ty
 over_lines_same (FolderBox typed) rows grid = input_lines_same grid typed
 over_lines_same (LinkTextBox typed) rows grid = input_lines_same grid typed
 over_lines_same (LinkNameBox text typed) rows grid = input_lines_same grid typed
+over_lines_same (NewModeBox path asked) rows grid = box_lines_same grid (mode_lines asked)
 over_lines_same (TroubleBox trouble) rows grid = box_lines_same grid (plain_lines (trouble_lines trouble))
 over_lines_same (PanelsBox asks) rows grid = panel_lines_same asks grid
 over_lines_same (FindBox find) rows grid = find_lines_same find grid
@@ -64,6 +66,7 @@ over_columns_same (TargetBox path mask typed) rows grid = input_columns_same gri
 over_columns_same (FolderBox typed) rows grid = input_columns_same grid typed
 over_columns_same (LinkTextBox typed) rows grid = input_columns_same grid typed
 over_columns_same (LinkNameBox text typed) rows grid = input_columns_same grid typed
+over_columns_same (NewModeBox path asked) rows grid = box_columns_same grid (mode_lines asked)
 over_columns_same (TroubleBox trouble) rows grid = box_columns_same grid (plain_lines (trouble_lines trouble))
 over_columns_same (PanelsBox asks) rows grid = panel_columns_same asks grid
 over_columns_same (FindBox find) rows grid = find_columns_same find grid

@@ -6,7 +6,7 @@ use Rattle.key_screen.specs.declared.keys.Base.TheVariants.{Unknown}
 use Rattle.tree_trait.specs.Change.{CallLog}
 use Rattle.job_reports.specs.declared.row.JobRow.{JobRow}
 use Rattle.session_history.specs.declared.refusal.Refusal.{Refusal}
-use Rattle.mc_ui.specs.Boxes.{Box, NoBox, DeleteBox, MaskBox, TargetBox, FolderBox, LinkTextBox, LinkNameBox, TroubleBox, PanelsBox, FindBox, JobsBox}
+use Rattle.mc_ui.specs.Boxes.{Box, NoBox, DeleteBox, MaskBox, TargetBox, FolderBox, LinkTextBox, LinkNameBox, NewModeBox, TroubleBox, PanelsBox, FindBox, JobsBox}
 use Rattle.find_mode.specs.declared.act.FindAct.{FindAct}
 use Rattle.find_mode.specs.FindScreens.{FindScreen}
 use Rattle.find_mode.proofs.UnknownKeys.{unknown_stays as find_stays}
@@ -47,6 +47,8 @@ module _ (contents : Option CallLog) (rows : List JobRow) (refusals : List Refus
   by_box false (LinkTextBox typed) is h = h.1 ∙ kept (LinkTextBox typed) is
   by_box true (LinkNameBox text typed) is h = h.1 ∙ kept (LinkNameBox text typed) is
   by_box false (LinkNameBox text typed) is h = h.1 ∙ kept (LinkNameBox text typed) is
+  by_box true (NewModeBox path asked) is h = h.1 ∙ kept (NewModeBox path asked) is
+  by_box false (NewModeBox path asked) is h = h.1 ∙ kept (NewModeBox path asked) is
   by_box true (TroubleBox trouble) is h = h.1
   by_box false (TroubleBox trouble) is h = h.1
   by_box true (PanelsBox asks) is h = h.1 ∙ kept (PanelsBox asks) is

@@ -4,9 +4,10 @@ use Rattle.mc_text.specs.Routes.{Route}
 use Rattle.job_reports.specs.declared.report.Trouble.{Trouble}
 use Rattle.session_history.specs.declared.refusal.Refusal.{Refusal}
 use Rattle.mc_dialogs.specs.InputKeys.{InputState}
+use Rattle.mc_dialogs.specs.ModeKeys.{ModeState}
 use Rattle.box_words.specs.declared.message.Message.{Message}
 use Rattle.box_words.specs.declared.message.Message.TheVariants.{Refused}
-use Rattle.box_words.specs.BoxLines.{mask_line}
+use Rattle.box_words.specs.BoxLines.{mask_line, mode_box}
 use Rattle.find_mode.specs.FindScreens.{FindScreen}
 use Rattle.job_list.specs.declared.list.JobList.{JobList}
 use Rattle.job_plans.specs.declared.choosing.Opens.{Opens}
@@ -16,8 +17,8 @@ use Rattle.mc_ui.specs.declared.dialog.Dialog.{Dialog}
 use Rattle.mc_ui.specs.declared.dialog.Dialog.TheVariants as dialog
 
 -- What stands over the panels: nothing, or a box that asks whether to delete a file, asks for the source mask of a copy or, with that
--- mask, for its destination, for a new folder, for what a new link is to say or, with that, for its name, tells of a job's trouble, asks
--- what the panels are to do, seeks things and lists what was found, or lists the live jobs.
+-- mask, for its destination, for a new folder, for what a new link is to say or, with that, for its name, or for a thing's mode, tells
+-- of a job's trouble, asks what the panels are to do, seeks things and lists what was found, or lists the live jobs.
 pub data Box : Type 0 where
   NoBox : Box
   DeleteBox : (path : Route) → Box
@@ -26,6 +27,7 @@ pub data Box : Type 0 where
   FolderBox : (typed : InputState) → Box
   LinkTextBox : (typed : InputState) → Box
   LinkNameBox : (text : List ℕ) → (typed : InputState) → Box
+  NewModeBox : (path : Route) → (asked : ModeState) → Box
   TroubleBox : (trouble : Trouble) → Box
   PanelsBox : (asks : PanelBox) → Box
   FindBox : (find : FindScreen) → Box
@@ -40,15 +42,17 @@ seen_box (dialog.CopyTo chosen mask typed) = TargetBox chosen.path mask typed
 seen_box (dialog.MakeFolder typed) = FolderBox typed
 seen_box (dialog.LinkText typed) = LinkTextBox typed
 seen_box (dialog.LinkName text typed) = LinkNameBox text typed
+seen_box (dialog.Mode chosen asked) = NewModeBox chosen.path asked
 seen_box (dialog.Trouble trouble) = TroubleBox trouble
 seen_box (dialog.Panel asks) = PanelsBox asks
 seen_box (dialog.Find find) = FindBox find
 seen_box (dialog.Jobs list) = JobsBox list
 
--- the box that such a key opens
-abbrev pub box_of : Opens → Route → Box
-box_of opens.Delete path = DeleteBox path
-box_of opens.SourceMask path = MaskBox path mask_line
+-- the box that such a key opens on a thing of this mode
+abbrev pub box_of : Opens → Route → ℕ → Box
+box_of opens.Delete path mode = DeleteBox path
+box_of opens.SourceMask path mode = MaskBox path mask_line
+box_of opens.Mode path mode = NewModeBox path (mode_box mode)
 
 -- a trouble's box stands over the panels, in place of another
 abbrev pub with_trouble : Option Trouble → Box → Box

@@ -1,11 +1,20 @@
--- What typing in a line of a copy comes to besides what it makes of the screen.
-use Rattle.std.specs.Prelude.{◌≡◌, ⊤}
+-- What typing in a line, or in a mode box, comes to besides what it makes of the screen.
+use Rattle.std.specs.Prelude.{◌≡◌, ◌<◌, ⊤}
 use Rattle.mc_dialogs.specs.InputKeys.{InputState}
 use Rattle.box_words.specs.declared.replies.LineReply.{LineReply}
 use Rattle.box_words.specs.declared.replies.LineReply.TheVariants as line
+use Rattle.box_words.specs.declared.replies.ModeReply.{ModeReply}
+use Rattle.box_words.specs.declared.replies.ModeReply.TheVariants as asked
+use Rattle.mc_dialogs.specs.ModeKeys.{ModeState}
 
 -- a line is as it was where its text was taken
 abbrev pub StaysWhereTaken : LineReply → InputState → InputState → Type 0
 StaysWhereTaken line.Stays before after = ⊤
 StaysWhereTaken line.Shuts before after = ⊤
 StaysWhereTaken (line.Takes text) before after = after ≡ before
+
+-- a mode that is taken has twelve bits, and its box is as it was
+abbrev pub StaysWhereGiven : ModeReply → ModeState → ModeState → Type 0
+StaysWhereGiven asked.Stays before after = ⊤
+StaysWhereGiven asked.Shuts before after = ⊤
+StaysWhereGiven (asked.Takes mode) before after = (mode < 4096) × (after ≡ before)

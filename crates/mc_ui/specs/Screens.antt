@@ -21,6 +21,7 @@ use Rattle.session_history.specs.declared.refusal.PlanError.TheVariants.{NoSelec
 use Rattle.session_history.specs.declared.refusal.Refusal.{Refusal}
 use Rattle.session_history.specs.declared.refusal.Refusal.TheVariants.{Tree, Read, Resolve, Plan, Begin, Typed}
 use Rattle.mc_dialogs.specs.InputKeys.{InputState, input_after, input_shut}
+use Rattle.mc_dialogs.specs.ModeKeys.{ModeState, mode_after, mode_shut}
 use Rattle.mc_ui.specs.declared.asks.Ask.{Ask}
 use Rattle.mc_ui.specs.declared.asks.Ask.TheVariants as ask
 use Rattle.mc_ui.specs.declared.asks.Told.{Told}
@@ -28,12 +29,15 @@ use Rattle.mc_ui.specs.declared.asks.Told.TheVariants as told
 use Rattle.box_words.specs.declared.message.Message.{Message}
 use Rattle.box_words.specs.declared.message.Message.TheVariants.{Refused, Help}
 use Rattle.job_plans.specs.declared.choosing.Opens.{Opens}
+use Rattle.job_plans.specs.declared.choosing.Opens.TheVariants as opens
 use Rattle.mc_ui.specs.declared.panel_command.KeyCommand.{KeyCommand}
 use Rattle.mc_ui.specs.declared.panel_command.KeyCommand.TheVariants.{Work, ShowHelp, View, Open, AskFolder, OpenPanelBox, Find, Quit, Nothing}
 use Rattle.box_words.specs.declared.replies.DeleteReply.{DeleteReply}
 use Rattle.box_words.specs.declared.replies.DeleteReply.TheVariants as delete
 use Rattle.box_words.specs.declared.replies.LineReply.{LineReply}
 use Rattle.box_words.specs.declared.replies.LineReply.TheVariants as line
+use Rattle.box_words.specs.declared.replies.ModeReply.{ModeReply}
+use Rattle.box_words.specs.declared.replies.ModeReply.TheVariants as asked
 use Rattle.box_words.specs.declared.replies.TroubleReply.{TroubleReply}
 use Rattle.box_words.specs.declared.replies.TroubleReply.TheVariants as trouble
 use Rattle.find_mode.specs.declared.act.FindAct.{FindAct}
@@ -54,15 +58,15 @@ use Rattle.panel_pair.specs.declared.frame.FrameSize.{FrameSize}
 use Rattle.panel_pair.specs.Commands.{CommandDone, CommandReads}
 use Rattle.panel_pair.specs.Frames.{page_of as page_of_lines}
 use Rattle.panel_pair.specs.Pairs.{PairState, untagged_pair}
-use Rattle.box_words.specs.BoxKeys.{closes_message, delete_reply_to, line_reply, trouble_reply_to}
+use Rattle.box_words.specs.BoxKeys.{closes_message, delete_reply_to, line_reply, mode_reply, trouble_reply_to}
 use Rattle.box_words.specs.BoxLines.{folder_line, link_name_line, link_text_line, target_line, thing_text}
 use Rattle.job_plans.specs.Reading.{sight}
-use Rattle.job_plans.specs.Copies.{MayAsk, copy_plan, delete_plan}
+use Rattle.job_plans.specs.Copies.{HasMode, MayAsk, copy_plan, delete_plan, mode_plan}
 use Rattle.job_plans.specs.CopyPlans.{CopyRefused, IsNewCopy}
 use Rattle.job_plans.specs.Folders.{folder_plan}
 use Rattle.job_plans.specs.Links.{IsNewLink, LinkRefused, link_plan}
 use Rattle.job_plans.specs.Places.{IsNewPlace, PlaceRefused}
-use Rattle.mc_ui.specs.Boxes.{Box, NoBox, DeleteBox, MaskBox, TargetBox, FolderBox, LinkTextBox, LinkNameBox, TroubleBox, PanelsBox, FindBox, JobsBox, box_of, first_refusal, with_news, with_refusal, with_trouble}
+use Rattle.mc_ui.specs.Boxes.{Box, NoBox, DeleteBox, MaskBox, TargetBox, FolderBox, LinkTextBox, LinkNameBox, NewModeBox, TroubleBox, PanelsBox, FindBox, JobsBox, box_of, first_refusal, with_news, with_refusal, with_trouble}
 use Rattle.mc_ui.specs.Findings.{find_refusal}
 use Rattle.mc_ui.specs.JobBoxes.{left_by_jobs}
 use Rattle.mc_ui.specs.LiveJobs.{can_answer, none_live, shown_trouble}
@@ -155,9 +159,11 @@ abbrev pub Works : PanelCommand → Option CallLog → List Refusal → Screen �
 Works command contents [] before after = IsDone command contents before after
 Works command contents (refusal ∷ more) before after = IsRefused command contents (refusal ∷ more) before after
 
--- The box is opened on a thing, if it may ask of that; or the look at it was refused, and a message says so.
+-- The box is opened on a thing, with its mode, if it may ask of that; or the look at it was refused, and a message says so.
 abbrev pub AsksOf : Opens → Option TreeView → Route → List Refusal → Screen → Screen → Type 0
-AsksOf box tree path [] before after = (asks : Bool) × MayAsk box tree path asks × (after ≡ (if asks then record before { over = box_of box path } else before))
+AsksOf box tree path [] before after =
+    (MayAsk box tree path false × (after ≡ before))
+    ⊎ ((mode : ℕ) × MayAsk box tree path true × HasMode tree path mode × (after ≡ record before { over = box_of box path mode }))
 AsksOf box tree path (refusal ∷ more) before after =
     (e : TreeError) × (refusal ∷ more ≡ Tree path e ∷ []) × (after ≡ told_refusal (Tree path e) before)
 
@@ -299,6 +305,13 @@ LinkNameLeads (line.Takes name) contents rows text typed refusals before after =
     MatchBool (none_live rows) (PlansLink contents before.panels.current.folder (with_home before.home name) text refusals before after)
     (RefusesFull refusals before after)
 
+-- the mode box's answer: the setting of the mode is planned while no job is live
+abbrev pub ModeLeads : ModeReply → List JobRow → Route → ModeState → List Refusal → Screen → Screen → Type 0
+ModeLeads asked.Stays rows path typed refusals before after = (refusals ≡ []) × (after ≡ record before { over = NewModeBox path typed })
+ModeLeads asked.Shuts rows path typed refusals before after = (refusals ≡ []) × (after ≡ without_box before)
+ModeLeads (asked.Takes mode) rows path typed refusals before after =
+    MatchBool (none_live rows) ((refusals ≡ []) × (after ≡ begun (mode_plan path mode) before)) (RefusesFull refusals before after)
+
 -- a trouble's answer, where the live job can be answered so; without one the job stays as it is
 abbrev pub after_trouble : TroubleReply → List JobRow → Screen → Screen
 after_trouble trouble.Stays rows before = before
@@ -306,8 +319,8 @@ after_trouble trouble.Shuts rows before = without_box before
 after_trouble (trouble.Gives answer) rows before = if can_answer rows answer then record before { over = NoBox; planned = Some (Answers answer) } else before
 
 -- The answer of a box of the panels, over the screen without it: it stays, is shut, or another one stands in its place; or it is shut, and
--- what it asked for is done to the panels, the live jobs are listed, or a new link is asked for; or what was typed is refused, and it
--- stays under a message.
+-- what it asked for is done to the panels, the live jobs are listed, or a new link or a mode is asked for; or what was typed is refused, and
+-- it stays under a message.
 abbrev pub PanelLeads : PanelReply → PanelBox → Option CallLog → List Refusal → Screen → Screen → Type 0
 PanelLeads panel.Stays asks contents refusals cleared after = (refusals ≡ []) × (after ≡ record cleared { over = PanelsBox asks })
 PanelLeads panel.Shuts asks contents refusals cleared after = (refusals ≡ []) × (after ≡ cleared)
@@ -316,6 +329,8 @@ PanelLeads (panel.Does command) asks contents refusals cleared after = Works com
 PanelLeads panel.ListsJobs asks contents refusals cleared after = (refusals ≡ []) × (after ≡ record cleared { over = JobsBox (opened_list cleared.lines) })
 PanelLeads panel.AsksLink asks contents refusals cleared after =
     (refusals ≡ []) × (after ≡ record cleared { over = LinkTextBox (link_asked cleared.panels.current) })
+PanelLeads panel.AsksMode asks contents refusals cleared after =
+    Chooses opens.Mode (sight contents) cleared.panels.current.folder (selection cleared.panels.current) refusals cleared after
 PanelLeads (panel.Refuses error) asks contents refusals cleared after =
     (refusals ≡ Typed error ∷ []) × (after ≡ told_refusal (Typed error) (record cleared { over = PanelsBox asks }))
 
@@ -382,6 +397,8 @@ ByBox (LinkTextBox typed) contents rows key refusals before after =
     LinkTextLeads (line_reply (input_shut typed key)) (input_after typed key) refusals before after
 ByBox (LinkNameBox text typed) contents rows key refusals before after =
     LinkNameLeads (line_reply (input_shut typed key)) contents rows text (input_after typed key) refusals before after
+ByBox (NewModeBox path typed) contents rows key refusals before after =
+    ModeLeads (mode_reply (mode_shut typed key)) rows path (mode_after typed key) refusals before after
 ByBox (TroubleBox trouble) contents rows key refusals before after =
     (refusals ≡ []) × (after ≡ after_trouble (trouble_reply_to trouble.barrier key) rows before)
 ByBox (PanelsBox asks) contents rows key refusals before after =

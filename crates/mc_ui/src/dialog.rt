@@ -3,7 +3,7 @@ use box_words::Chosen;
 use find_mode::FindMode;
 use job_list::JobList;
 use job_reports::Trouble;
-use mc_dialogs::InputLine;
+use mc_dialogs::{InputLine, ModeBox};
 use mc_text::Text;
 use panel_boxes::PanelBox;
 
@@ -23,6 +23,8 @@ pub enum Dialog {
     LinkText(InputLine),
     /// Asks where a new link that says this is to be made, and under which name.
     LinkName(Text, InputLine),
+    /// Asks which mode this thing is to have.
+    Mode(Chosen, ModeBox),
     /// Tells of a job's trouble, and takes an answer.
     Trouble(Trouble),
     /// Asks what the panels are to do.

@@ -107,6 +107,10 @@ fn paint_box_of(
             line.paint(alloc, grid)?;
             Ok(())
         }
+        Dialog::Mode(_, asked) => {
+            asked.paint(alloc, grid)?;
+            Ok(())
+        }
         Dialog::Trouble(trouble) => {
             let lines = trouble_lines(alloc, trouble)?;
             paint_lines(grid, alloc, lines)?;

@@ -14,6 +14,7 @@ mod folder_box;
 mod jobs_box;
 mod link_boxes;
 mod look;
+mod mode_box;
 mod panel_keys;
 mod panel_questions;
 mod seeking;
@@ -242,6 +243,7 @@ impl Ui {
             Dialog::LinkName(text, line) => {
                 self.key_in_link_name(alloc, tree, text, line, rows, key)
             }
+            Dialog::Mode(chosen, asked) => self.key_in_mode(alloc, chosen, asked, rows, key),
             Dialog::Trouble(trouble) => Ok(self.key_in_trouble(alloc, trouble, rows, key)),
             Dialog::Panel(asks) => self.key_in_panel_box(alloc, tree, asks, key),
             Dialog::Find(find) => self.key_in_find(alloc, tree, find, key),

@@ -28,7 +28,7 @@ use Rattle.panel_boxes.specs.declared.panel_box.Asked.TheVariants as asked
 use Rattle.panel_boxes.specs.declared.panel_box.PanelBox.{PanelBox}
 use Rattle.panel_boxes.specs.declared.panel_box.PanelBox.TheVariants.{Pending, Typed, Options}
 use Rattle.panel_boxes.specs.declared.panel_box.PanelReply.{PanelReply}
-use Rattle.panel_boxes.specs.declared.panel_box.PanelReply.TheVariants.{Stays, Shuts, Opens, Does, ListsJobs, AsksLink, Refuses}
+use Rattle.panel_boxes.specs.declared.panel_box.PanelReply.TheVariants.{Stays, Shuts, Opens, Does, ListsJobs, AsksLink, AsksMode, Refuses}
 use Rattle.panel_boxes.specs.Choices.{all_options}
 use Rattle.panel_boxes.specs.Openings.{filter_text, line_of}
 
@@ -99,10 +99,12 @@ options_reply p (Closed other) = Shuts
 
 -- KEYS
 
--- the key behind C-x: `d` compares the panels, `j` lists the live jobs, `s` asks for a new link, and no other does anything
+-- the key behind C-x: `c` asks for a mode, `d` compares the panels, `j` lists the live jobs, `s` asks for a new link, and no other does
+-- anything
 abbrev pub letter_pending : ℕ → PanelReply
 letter_pending code =
-    if code == 100 then Does command.Compare
+    if code == 99 then AsksMode
+    else if code == 100 then Does command.Compare
     else if code == 106 then ListsJobs
     else if code == 115 then AsksLink
     else Shuts

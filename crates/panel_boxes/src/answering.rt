@@ -55,6 +55,7 @@ fn pending_reply(key: Key) -> PanelReply
         return PanelReply::Shuts;
     }
     match key.base {
+        Base::Char('c') => PanelReply::AsksMode,
         Base::Char('d') => PanelReply::Does(PanelCommand::Compare),
         Base::Char('j') => PanelReply::ListsJobs,
         Base::Char('s') => PanelReply::AsksLink,

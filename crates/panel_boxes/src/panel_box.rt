@@ -40,6 +40,8 @@ pub enum PanelReply {
     ListsJobs,
     /// It is shut, and a new link is to be asked for.
     AsksLink,
+    /// It is shut, and a mode is to be asked for.
+    AsksMode,
     /// What was typed can't be taken. The box stays.
     Refuses(TypedError),
 }

@@ -11,7 +11,7 @@ use super::Ui;
 use crate::asks::{Ask, KeyAct};
 use crate::dialog::Dialog;
 use crate::panel_command::{KeyCommand, panel_command};
-use box_words::{Chosen, Message, mask_line};
+use box_words::{Chosen, Message, mask_line, mode_box};
 use job_plans::{Choice, Opens, choose};
 use job_reports::JobRows;
 use key_screen::Key;
@@ -101,7 +101,7 @@ impl Ui {
 
     /// Opens a box on the thing that is selected, if the box may ask of that. Where nothing is selected a message says so; of
     /// several things no box can ask yet.
-    fn open_box<T: ReadTree>(
+    pub(super) fn open_box<T: ReadTree>(
         &mut self,
         alloc: Global,
         tree: &mut T,
@@ -121,8 +121,8 @@ impl Ui {
         match choose(alloc, tree, self.panels().current(), opens)? {
             Choice::NoSelection => self.refuse(alloc, Refusal::Plan(PlanError::NoSelection)),
             Choice::Nothing => Ok(asking_nothing(alloc)),
-            Choice::Thing(chosen) => {
-                self.show_box(opened(alloc, opens, chosen)?);
+            Choice::Thing(chosen, mode) => {
+                self.show_box(opened(alloc, opens, chosen, mode)?);
                 Ok(asking_nothing(alloc))
             }
             Choice::Refused(path, error) => self.refuse(alloc, Refusal::Tree(path, error)),
@@ -155,13 +155,14 @@ impl Ui {
     }
 }
 
-/// The box on a thing.
-fn opened(alloc: Global, opens: Opens, chosen: Chosen) -> Result<Dialog, NoMemory>
-    ensures { IfOk result (λ dialog. seen_box dialog ≡ box_of opens chosen.path) }
+/// The box on a thing of this mode.
+fn opened(alloc: Global, opens: Opens, chosen: Chosen, mode: u16) -> Result<Dialog, NoMemory>
+    ensures { IfOk result (λ dialog. seen_box dialog ≡ box_of opens chosen.path mode) }
 {
     match opens {
         Opens::Delete => Ok(Dialog::Delete(chosen)),
         Opens::SourceMask => Ok(Dialog::SourceMask(chosen, mask_line(alloc)?)),
+        Opens::Mode => Ok(Dialog::Mode(chosen, mode_box(alloc, mode)?)),
     }
 }
 

@@ -13,6 +13,7 @@ use super::panel_keys::asking_nothing;
 use crate::asks::KeyAct;
 use crate::dialog::Dialog;
 use job_list::JobList;
+use job_plans::Opens;
 use key_screen::Key;
 use mc_text::NoMemory;
 use panel_boxes::{Opening, PanelBox, PanelReply};
@@ -76,6 +77,13 @@ impl Ui {
             }
             Ok(PanelReply::AsksLink) => match self.ask_link(alloc) {
                 Ok(()) => Ok(asking_nothing(alloc)),
+                Err(error) => {
+                    self.show_box(Dialog::Panel(asks));
+                    Err(error)
+                }
+            },
+            Ok(PanelReply::AsksMode) => match self.open_box(alloc, tree, Opens::Mode) {
+                Ok(act) => Ok(act),
                 Err(error) => {
                     self.show_box(Dialog::Panel(asks));
                     Err(error)

@@ -31,6 +31,10 @@ pub returns-in_ok-paint-in-LinkName : goal.returns-in_ok-paint-in-LinkName
 returns-in_ok-paint-in-LinkName c =
     subst (λ d. c.paint-in-LinkName.new.grid ≡ with_over (seen_box d) c.args.rows.now c.args.grid.now) (sym c.in-LinkName.is) c.in_ok-paint-in-LinkName.ensures
 
+pub returns-in_ok-paint-in-Mode : goal.returns-in_ok-paint-in-Mode
+returns-in_ok-paint-in-Mode c =
+    subst (λ d. c.paint-in-Mode.new.grid ≡ with_over (seen_box d) c.args.rows.now c.args.grid.now) (sym c.in-Mode.is) c.in_ok-paint-in-Mode.ensures
+
 pub returns-in_ok-paint_lines-in-Trouble : goal.returns-in_ok-paint_lines-in-Trouble
 returns-in_ok-paint_lines-in-Trouble c =
     subst (λ d. c.paint_lines-in-Trouble.new.grid ≡ with_over (seen_box d) c.args.rows.now c.args.grid.now) (sym c.in-Trouble.is)

@@ -1,4 +1,4 @@
--- A key in the box that asks whether to delete looks at no tree.
+-- A key that may be refused nothing but that a job is live looks at no tree.
 use Rattle.std.proofs.Common.{◌≡◌, inl, inr, ℕ, true, List, [], ◌∷◌, refl, sym, subst, Option, Result, Ok, Err, arith}
 use Rattle.std.specs.Prelude.{⊤, IfOk}
 use Rattle.std.proofs.lemmas.Bool.{false≢true}
@@ -22,8 +22,8 @@ no_fault : (f : ℕ) (refusals : List Refusal) → IsFullAtMost refusals → has
 no_fault f refusals (inl is) h = absurd (false≢true (subst (λ r. has_fault r ≡ true) is h))
 no_fault f refusals (inr is) h = absurd (false≢true (subst (λ r. has_fault r ≡ true) is h))
 
-pub delete_reads : (contents : Option CallLog) (f : ℕ) (result : Result KeyAct NoMemory) → IfOk result (λ act. IsFullAtMost act.refusals)
+pub untold_reads : (contents : Option CallLog) (f : ℕ) (result : Result KeyAct NoMemory) → IfOk result (λ act. IsFullAtMost act.refusals)
     → ReadsTree (λ (act : KeyAct). act.refusals) result contents contents f f
-delete_reads contents f (Err e) untold = record { same = refl; later = omega arith; called = λ log is. tt; fault = tt }
-delete_reads contents f (Ok act) untold =
+untold_reads contents f (Err e) untold = record { same = refl; later = omega arith; called = λ log is. tt; fault = tt }
+untold_reads contents f (Ok act) untold =
     record { same = refl; later = omega arith; called = λ log is. are_refused log act.refusals untold; fault = no_fault f act.refusals untold }
