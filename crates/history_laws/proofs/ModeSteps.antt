@@ -1,7 +1,7 @@
 -- Each step of the setting of a mode keeps what is known.
 use Rattle.std.proofs.Common.{◌≡◌, ◌⊎◌, ℕ, Bool, true, false, not, ◌&&◌, List, [], ◌∷◌, refl, sym, ◌∙◌, ap, subst, inl, inr, Option, Some, None, Ok}
 use Rattle.std.specs.Option.{option_map}
-use Rattle.std.proofs.lemmas.Bool.{both_ways, false≢true, or_right}
+use Rattle.std.proofs.lemmas.Bool.{both_ways, false≢true, or_left, or_right}
 use Rattle.mc_text.specs.Routes.{Route, same_path}
 use Rattle.tree_trait.specs.declared.calls.TreeError.{TreeError}
 use Rattle.tree_trait.specs.FileSystem.{Spot, find, lookup, node, value}
@@ -39,8 +39,8 @@ use Rattle.history_laws.proofs.Deleted.{comes_refused, either, put_at, put_off}
 use Rattle.history_laws.proofs.DeletionSteps.{Steps, comes_thing_synced, ends, joined_holds, joined_more, same_dirty}
 use Rattle.history_laws.proofs.JobKnows.{HasName, KnowsAfter, WorkKnows}
 use Rattle.history_laws.proofs.Knowing.{IsKept, IsKnown, Said, settled_marks}
-use Rattle.history_laws.proofs.Resting.{IsSureFolder, folder_at_of}
-use Rattle.history_laws.proofs.SettingModes.{IsMarked, SetsMode, marked, no_way, set_known}
+use Rattle.history_laws.proofs.Resting.{IsSureFolder, folder_at_of, settled_unless}
+use Rattle.history_laws.proofs.SettingModes.{IsMarked, SetsMode, marked, no_mode, no_way, set_known}
 use Rattle.history_laws.proofs.Stepped.{Comes, comes_one, said_after}
 
 -- where nothing is owed by a setting, whatever is dirty is gone
@@ -51,6 +51,10 @@ both_hold : (a b : Bool) → (a && not b) ≡ true → b ≡ false
 both_hold true false h = refl
 both_hold true true h = absurd (false≢true h)
 both_hold false b h = absurd (false≢true h)
+
+and_first : (a b : Bool) → (a && b) ≡ true → a ≡ true
+and_first true b h = refl
+and_first false b h = h
 
 -- a mode is given
 module _ (told : Said) (dirty dirty_after : List Route) (marks : Marks) (log now : CallLog) (kept : IsKept told dirty marks log) (s : Setting) (has : HasName s.path) (none : told.part ≡ None)
@@ -84,22 +88,29 @@ module _ (told : Said) (dirty dirty_after : List Route) (marks : Marks) (log now
   sets : SetsMode told after dirty dirty_after marks log s.path i s.mode
   sets = record {
     at = at;
-    gone = gone;
+    sure = no_way told dirty marks log kept gone s.path;
+    no_mode = no_mode told dirty marks log kept gone s.path i at;
+    once = λ p out was. settled_unless log p (no_way told dirty marks log kept gone p);
     no_part = none;
     none = none;
     listed = subst (λ xs. Among xs s.path) (sym routes) (joined_holds s.path dirty);
     more = λ q among. subst (λ xs. Among xs q) (sym routes) (joined_more s.path q dirty among);
     named = kept.known.aside;
-    off = λ p off. put_off told.tree s.path (option_map (moded_value s.mode) (told.tree s.path).value) p off;
+    off = λ p off. (put_off told.tree s.path (option_map (moded_value s.mode) (told.tree s.path).value) p off, put_off told.earlier s.path (told.tree s.path).value p off);
     shown = put_at told.tree s.path (option_map (moded_value s.mode) (told.tree s.path).value)
         ∙ ap (λ v. (let t : Spot = record (told.tree s.path) { value = option_map (moded_value s.mode) v } in t)) told_value;
     earlier = ap (λ (x : Spot). x.value) (put_at told.earlier s.path (told.tree s.path).value);
+    doubts = λ p waits. or_left _ _ waits;
     folders = λ p there. elim (either (same_path p (folder_of s.path)) (told.folders p) there) [
       | inl same ↦ inr (subst (λ q. IsSureFolder log q) (sym (same_path-true p (folder_of s.path) same)) firm)
       | inr before ↦ inl before
     ];
     modes = or_right _ _ (same_path-self s.path);
-    calm = λ p calm same. both_ways _ (both_hold (told.calm p) (same_path p (folder_of s.path)) calm) (subst (λ q. same_path q (folder_of s.path) ≡ true) (sym same) (same_path-self (folder_of s.path)));
+    modes_more = λ p waits. or_left _ _ waits;
+    calm = λ p calm. (
+      kept.known.calm p (and_first (told.calm p) (not (same_path p (folder_of s.path))) calm),
+      λ same. both_ways _ (both_hold (told.calm p) (same_path p (folder_of s.path)) calm) (subst (λ q. same_path q (folder_of s.path) ≡ true) (sym same) (same_path-self (folder_of s.path))),
+    );
   }
 
   pub mode_given : (knows : Marks → Type 0) → ((m : Marks) → knows m) → Comes told after dirty_after log now knows

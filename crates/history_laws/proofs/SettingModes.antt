@@ -1,50 +1,64 @@
--- A mode is set where nothing that stands is dirty: so no name waits, nor a mode.
-use Rattle.std.proofs.Common.{◌≡◌, ◌⊎◌, ℕ, ◌<◌, ◌≤◌, Bool, true, false, not, ◌&&◌, List, [], ◌∷◌, length, refl, sym, ◌∙◌, ap, subst, inl, inr, Option, Some, None, arith, cond}
+-- A mode is set where nothing of the thing waits: so after a crash it has that mode, or the one before.
+use Rattle.std.proofs.Common.{◌≡◌, ◌⊎◌, ℕ, ◌<◌, Bool, true, false, not, ◌&&◌, ◌||◌, List, [], ◌∷◌, length, refl, sym, ◌∙◌, ap, subst, inl, inr, Option, Some, None, arith, cond}
 use Rattle.std.specs.Prelude.{◌==◌}
 use Rattle.std.specs.Option.{option_map, option_map_or}
-use Rattle.std.proofs.lemmas.Bool.{true≢false, false≢true, both_ways, eqb-true, false_from_ne_true}
+use Rattle.std.proofs.lemmas.Bool.{true≢false, false≢true, both_ways, eqb-true, eq-eqb, false_from_ne_true}
 use Rattle.std.proofs.lemmas.List.{length-set}
 use Rattle.mc_text.specs.Routes.{Route, same_path}
 use Rattle.tree_trait.specs.declared.file_system.FileSystem.{FileSystem}
 use Rattle.tree_trait.specs.FileSystem.{Spot, Value, find, node, starts_mount, value, visible_tree}
+use Rattle.tree_trait.specs.Refusals.{is_folder}
 use Rattle.tree_trait.specs.Shape.{IsTree}
 use Rattle.tree_trait.specs.Change.{Change, Sets, CallLog, current, with_change}
 use Rattle.tree_trait.specs.CrashImages.{Among, is_clean}
 use Rattle.tree_trait.proofs.Finding.{find-once}
 use Rattle.tree_trait.proofs.Kept.{tree_set}
 use Rattle.tree_trait.proofs.Visible.{same_path-self, same_path-true}
-use Rattle.crash_law.specs.Guarded.{Marks, IsGuarded, with_mode}
+use Rattle.crash_law.specs.Possible.{MayFind}
+use Rattle.crash_law.specs.Guarded.{Marks, IsGuarded, IsSettledAt, with_mode}
 use Rattle.crash_law.specs.Modes.{moded}
 use Rattle.crash_law.proofs.Guarding.{found_at, quiet_law, same_quiet, settle_law}
 use Rattle.crash_law.proofs.Leading.{current_more}
 use Rattle.crash_law.proofs.ModeLaws.{setting_law}
 use Rattle.crash_law.proofs.Syncing.{unaltered_law}
+use Rattle.crash_law.proofs.Tops.{path_once}
 use Rattle.job_reports.specs.Paths.{folder_of}
 use Rattle.history_laws.specs.Doubt.{is_pending, name_waits, way_waits}
+use Rattle.history_laws.proofs.Changing.{folder_anchored}
 use Rattle.history_laws.proofs.JobKnows.{none_unlisted}
-use Rattle.history_laws.proofs.Knowing.{HasMode, IsKept, IsKnown, Said, firm_now}
+use Rattle.history_laws.proofs.Knowing.{HasMode, IsCalmIn, IsKept, IsKnown, Said, firm_now, held}
 use Rattle.history_laws.proofs.PartNodes.{moded_node}
-use Rattle.history_laws.proofs.Quiet.{IsNameless, calm_files, calm_firm, calm_tracked, shows_same, starts_same, waits_before, was_folder}
+use Rattle.history_laws.proofs.Quiet.{IsNameless, calm_files, calm_firm, calm_tracked, held_same, shows_same, starts_same, unclean_before, waits_before, was_folder}
 use Rattle.history_laws.proofs.Resting.{IsSureFolder, settled_unless}
 
--- A mode is to be set, and what the history says once it is.
+-- A mode is to be set where nothing of the path waits, nor another mode of what stands there, and what the history says once it is.
 pub record SetsMode (told after : Said) (dirty dirty_after : List Route) (marks : Marks) (log : CallLog) (path : Route) (i mode : ℕ) : Type 0 where
   pub at : find (current log) path ≡ Some i
-  -- whatever is dirty is gone
-  pub gone : (q : Route) → Among dirty q → find (current log) q ≡ None
+  pub sure : way_waits log path ≡ false
+  pub no_mode : marks.modes i ≡ None
+  -- where it stood before some work, no crash may leave it
+  pub once : (p : Route) → marks.aside p ≡ false → marks.was p ≡ Some i → IsSettledAt log p
   pub no_part : told.part ≡ None
   pub none : after.part ≡ None
   pub listed : Among dirty_after path
   pub more : (q : Route) → Among dirty q → Among dirty_after q
   pub named : (p : Route) → marks.aside p ≡ true → Among after.named p
-  pub off : (p : Route) → same_path p path ≡ false → after.tree p ≡ told.tree p
+  pub off : (p : Route) → same_path p path ≡ false → (after.tree p ≡ told.tree p) × (after.earlier p ≡ told.earlier p)
   pub shown : after.tree path ≡ record (told.tree path) { value = Some (value (with_mode mode (node (current log) i))) }
   pub earlier : (after.earlier path).value ≡ (told.tree path).value
+  pub doubts : (p : Route) → told.doubt p ≡ true → after.doubt p ≡ true
   pub folders : (p : Route) → after.folders p ≡ true → (told.folders p ≡ true) ⊎ IsSureFolder log p
   pub modes : after.modes path ≡ true
-  pub calm : (p : Route) → after.calm p ≡ true → p ≡ folder_of path → ⊥
+  pub modes_more : (p : Route) → told.modes p ≡ true → after.modes p ≡ true
+  pub calm : (p : Route) → after.calm p ≡ true → IsCalmIn marks (current log) p × (p ≡ folder_of path → ⊥)
 
--- nothing that stands is dirty
+some_not_none : {A : Type 0} (x : ℕ) → (let o : Option ℕ = None in o) ≡ Some x → A
+some_not_none x h = absurd (let e : ⊥ = cc in e)
+
+some_is : (x y : ℕ) → (let o : Option ℕ = Some x in o) ≡ Some y → y ≡ x
+some_is x y h = cc
+
+-- nothing that stands is dirty: so no name waits, nor a mode
 module _ (told : Said) (dirty : List Route) (marks : Marks) (log : CallLog) (kept : IsKept told dirty marks log) (gone : (q : Route) → Among dirty q → find (current log) q ≡ None) where
   no_name : (p : Route) → name_waits log p ≡ false
   no_name [] = refl
@@ -53,7 +67,7 @@ module _ (told : Said) (dirty : List Route) (marks : Marks) (log : CallLog) (kep
       none : (f : ℕ) → find (current log) up ≡ Some f → (b : Bool) → is_pending f name log.changes ≡ b → is_pending f name log.changes ≡ false
       none f at false is = is
       none f at true is = elim (kept.known.tracked f name is) [
-        | inl t ↦ absurd (let e : (let o : Option ℕ = None in o) ≡ Some f = sym (gone t.0 t.1) ∙ t.2 in let x : ⊥ = cc in x)
+        | inl t ↦ some_not_none f (sym (gone t.0 t.1) ∙ t.2)
         | inr unreached ↦ absurd (unreached up at)
       ]
 
@@ -63,19 +77,24 @@ module _ (told : Said) (dirty : List Route) (marks : Marks) (log : CallLog) (kep
 
   pub no_way : (p : Route) → way_waits log p ≡ false
   no_way [] = refl
-  no_way (name ∷ up) = ap (λ b. Rattle.std.proofs.Common.◌||◌ b (way_waits log up)) (no_name (name ∷ up)) ∙ no_way up
+  no_way (name ∷ up) = ap (λ b. b || way_waits log up) (no_name (name ∷ up)) ∙ no_way up
 
-  no_mode : (p : Route) (i : ℕ) → find (current log) p ≡ Some i → marks.modes i ≡ None
-  no_mode p i at = none_unlisted told dirty marks log kept p i at (λ among. let e : (let o : Option ℕ = None in o) ≡ Some i = sym (gone p among) ∙ at in let x : ⊥ = cc in x)
+  pub no_mode : (p : Route) (i : ℕ) → find (current log) p ≡ Some i → marks.modes i ≡ None
+  no_mode p i at = none_unlisted told dirty marks log kept p i at (λ among. some_not_none i (sym (gone p among) ∙ at))
 
-  -- of no node at all
-  no_mode_at_all : (i : ℕ) → marks.modes i ≡ None
-  no_mode_at_all i = by (marks.modes i) refl (is_clean i log.changes) refl
-    where
-      by : (o : Option ℕ) → marks.modes i ≡ o → (b : Bool) → is_clean i log.changes ≡ b → marks.modes i ≡ None
-      by None is b b_is = is
-      by (Some before) is true clean = kept.modes i clean
-      by (Some before) is false unclean = let h : HasMode told dirty marks log i before = kept.known.moded i before is unclean in no_mode h.path i h.leads
+-- A folder that is on the disk is found after any crash at its path or nowhere, so wherever else it is said to have stood nothing waits.
+pub folder_once : (told : Said) (dirty : List Route) (marks : Marks) (log : CallLog) → IsKnown told dirty marks log → (path : Route) (i : ℕ) → find (current log) path ≡ Some i → is_folder (node (current log) i) ≡ true
+    → way_waits log path ≡ false → (p : Route) → marks.aside p ≡ false → marks.was p ≡ Some i → IsSettledAt log p
+folder_once told dirty marks log known path i at folder sure p out was x found = elim (known.guarded.twofold p x out found) [
+  | inl now ↦ now
+  | inr before ↦
+      let same : p ≡ path = path_once marks log known.guarded path p i (folder_anchored told dirty marks log known path i at folder) at (subst (λ y. MayFind log p y) (before ∙ was) found) in
+      subst (λ q. IsSettledAt log q) (sym same) (settled_unless log path sure) x found
+]
+
+-- In a calm folder no mode waits of what doesn't begin a mount.
+pub calm_mode : (marks : Marks) (s : FileSystem) (name : List ℕ) (up : Route) (i : ℕ) → IsCalmIn marks s up → find s (name ∷ up) ≡ Some i → starts_mount s i ≡ false → marks.modes i ≡ None
+calm_mode marks s name up i calm at inside = elim (calm name i at) [ inl none ↦ none | inr begins ↦ absurd (both_ways _ inside begins) ]
 
 still_out : (a b : Bool) → (a && not b) ≡ false → (a ≡ false) ⊎ (b ≡ true)
 still_out true true h = inr refl
@@ -91,16 +110,35 @@ no_more true true h = refl
 no_more true false h = absurd (false≢true h)
 no_more false b h = refl
 
--- marks that fit once the mode is set: each path has what stands there
+one_of : (a b : Bool) → (a || b) ≡ true → (a ≡ true) ⊎ (b ≡ true)
+one_of true b h = inl refl
+one_of false b h = inr h
+
+neither : (a b : Bool) → (a || b) ≡ false → (a ≡ false) × (b ≡ false)
+neither true b h = absurd (true≢false h)
+neither false b h = (refl, h)
+
+-- what stood there is this node
+abbrev was_it : ℕ → Option ℕ → Bool
+was_it i o = option_map_or (λ j. j == i) o false
+
+was_it-true : (i : ℕ) (o : Option ℕ) → was_it i o ≡ true → o ≡ Some i
+was_it-true i None h = absurd (false≢true h)
+was_it-true i (Some j) h = ap (λ k. Some k) (eqb-true j i h)
+
+was_it-false : (i : ℕ) (o : Option ℕ) → was_it i o ≡ false → o ≡ Some i → ⊥
+was_it-false i o h is = both_ways _ h (subst (λ x. was_it i x ≡ true) (sym is) (eq-eqb i i refl))
+
+-- marks that fit once the mode is set: the thing itself stands nowhere else
 pub record IsMarked (marks new : Marks) (log : CallLog) (path : Route) (i mode : ℕ) : Type 0 where
   pub guarded : IsGuarded new (with_change log (Sets i mode))
   pub aside : (p : Route) → new.aside p ≡ true → marks.aside p ≡ true
-  pub was : (p : Route) → new.was p ≡ find (current log) p
+  pub was : (p : Route) → new.aside p ≡ false → (new.was p ≡ find (current log) p) ⊎ ((new.was p ≡ marks.was p) × (marks.aside p ≡ false) × (marks.was p ≡ Some i → ⊥))
   pub firm : (p : Route) (j : ℕ) → new.aside p ≡ false → find (current log) p ≡ Some j → new.loose j ≡ false
   pub loose : new.loose ≡ marks.loose
   pub roams : new.roams ≡ marks.roams
-  -- the mode of the thing may wait, and no other
-  pub moded : (j before : ℕ) → new.modes j ≡ Some before → (j ≡ i) × (before ≡ (node (current log) i).mode) × (new.aside path ≡ false)
+  -- the mode of the thing may wait now
+  pub moded : (j before : ℕ) → new.modes j ≡ Some before → ((j ≡ i) × (before ≡ (node (current log) i).mode) × (new.aside path ≡ false)) ⊎ ((j ≡ i → ⊥) × (marks.modes j ≡ Some before))
 
 module _ (told after : Said) (dirty dirty_after : List Route) (marks : Marks) (log : CallLog) (path : Route) (i mode : ℕ) (kept : IsKept told dirty marks log) (s : SetsMode told after dirty dirty_after marks log path i mode) where
   abbrev sets : Change
@@ -129,83 +167,99 @@ module _ (told after : Said) (dirty dirty_after : List Route) (marks : Marks) (l
   other p j at off = false_from_ne_true _ (λ same.
       both_ways _ off (subst (λ q. same_path q path ≡ true) (sym (find-once (current log) kept.known.guarded.tree p path i (at ∙ ap (λ k. Some k) (sym (eqb-true i j same))) s.at)) (same_path-self path)))
 
-  -- each path has what stands there
-  abbrev resting : Marks
-  resting = record marks { was = λ p. find (current log) p }
-
-  sure : (p : Route) → way_waits log p ≡ false
-  sure p = no_way told dirty marks log kept s.gone p
-
-  resting_guarded : IsGuarded resting log
-  resting_guarded = settle_law marks resting log kept.known.guarded (record {
-    paths = λ p out. inr (settled_unless log p (sure p));
-    nodes = λ j firm. inl (firm, refl);
-    firm = kept.known.guarded.firm;
-    places = λ j stays. inl stays;
-  })
-
   -- the bytes of the thing may wait: a part that stands
-  loose_marked : marks.loose i ≡ true → IsMarked marks resting log path i mode
+  loose_marked : marks.loose i ≡ true → IsMarked marks marks log path i mode
   loose_marked loose = record {
-    guarded = quiet_law resting log sets resting_guarded (record {
+    guarded = quiet_law marks log sets kept.known.guarded (record {
       tree = nameless.tree;
       names = nameless.names;
       count = nameless.count;
       others = λ j firm. false_from_ne_true _ (λ same. both_ways _ (subst (λ k. marks.loose k ≡ false) (sym (eqb-true i j same)) firm) loose);
     });
     aside = λ p is. is;
-    was = λ p. refl;
+    was = λ p out. inr (refl, out, λ is. both_ways _ (kept.known.was_there p i out is).1 loose);
     firm = λ p j out at. firm_now told dirty marks log kept.known p out j at;
     loose = refl;
     roams = refl;
-    moded = λ j before is. absurd (let none = no_mode_at_all told dirty marks log kept s.gone j in let e : (let o : Option ℕ = None in o) ≡ Some before = sym none ∙ is in let x : ⊥ = cc in x);
+    moded = λ j before is. inr (λ same. some_not_none before (sym s.no_mode ∙ (ap marks.modes (sym same) ∙ is)), is);
   }
 
-  -- it is on the disk, so it stands aside no more
+  -- it is on the disk, so it stands aside no more, and was nowhere else
+  abbrev here_or_was : Route → Bool
+  here_or_was p = same_path p path || was_it i (marks.was p)
+
   abbrev shown_marks : Marks
-  shown_marks = record marks { was = λ p. find (current log) p; aside = λ p. marks.aside p && not (same_path p path) }
+  shown_marks = record marks { was = λ p. cond (here_or_was p) (find (current log) p) (marks.was p); aside = λ p. marks.aside p && not (same_path p path) }
+
+  was_now : (p : Route) → here_or_was p ≡ true → (let m : Marks = shown_marks in m.was p) ≡ find (current log) p
+  was_now p is = ap (λ b. cond b (find (current log) p) (marks.was p)) is
+
+  -- elsewhere it is said of a path what was said
+  as_before : (p : Route) → (marks.aside p && not (same_path p path)) ≡ false → here_or_was p ≡ false → ((let m : Marks = shown_marks in m.was p) ≡ marks.was p) × (marks.aside p ≡ false) × (marks.was p ≡ Some i → ⊥)
+  as_before p out is =
+      let both = neither (same_path p path) (was_it i (marks.was p)) is in (
+        ap (λ b. cond b (find (current log) p) (marks.was p)) is,
+        elim (still_out (marks.aside p) (same_path p path) out) [ inl before ↦ before | inr here ↦ absurd (both_ways _ both.0 here) ],
+        was_it-false i (marks.was p) both.1,
+      )
+
+  settled_here : (p : Route) → same_path p path ≡ true → IsSettledAt log p
+  settled_here p here = subst (λ q. IsSettledAt log q) (sym (same_path-true p path here)) (settled_unless log path s.sure)
+
+  settled_there : (p : Route) → (marks.aside p && not (same_path p path)) ≡ false → here_or_was p ≡ true → IsSettledAt log p
+  settled_there p out is = elim (one_of (same_path p path) (was_it i (marks.was p)) is) [
+    | inl here ↦ settled_here p here
+    | inr it ↦ elim (still_out (marks.aside p) (same_path p path) out) [ inl before ↦ s.once p before (was_it-true i (marks.was p) it) | inr here ↦ settled_here p here ]
+  ]
 
   shown_firm : marks.loose i ≡ false → (p : Route) (j : ℕ) → (marks.aside p && not (same_path p path)) ≡ false → find (current log) p ≡ Some j → marks.loose j ≡ false
   shown_firm firm p j out at = elim (still_out (marks.aside p) (same_path p path) out) [
     | inl before ↦ firm_now told dirty marks log kept.known p before j at
-    | inr here ↦
-        let same : (let o : Option ℕ = Some i in o) ≡ Some j = sym s.at ∙ (ap (find (current log)) (sym (same_path-true p path here)) ∙ at) in
-        let j_is : i ≡ j = cc in
-        subst (λ k. marks.loose k ≡ false) j_is firm
+    | inr here ↦ subst (λ k. marks.loose k ≡ false) (sym (some_is i j (sym s.at ∙ (ap (find (current log)) (sym (same_path-true p path here)) ∙ at)))) firm
   ]
 
   shown_guarded : marks.loose i ≡ false → IsGuarded shown_marks log
   shown_guarded firm = settle_law marks shown_marks log kept.known.guarded (record {
-    paths = λ p out. inr (settled_unless log p (sure p));
+    paths = λ p out. path_by p out (here_or_was p) refl;
     nodes = λ j firm. inl (firm, refl);
-    firm = λ p j out may. inl (shown_firm firm p j out (sym (settled_unless log p (sure p) (Some j) may)));
+    firm = λ p j out may. elim (still_out (marks.aside p) (same_path p path) out) [
+      | inl before ↦ kept.known.guarded.firm p j before may
+      | inr here ↦ inl (shown_firm firm p j out (sym (settled_here p here (Some j) may)))
+    ];
     places = λ j stays. inl stays;
   })
+    where
+      path_by : (p : Route) → (marks.aside p && not (same_path p path)) ≡ false → (b : Bool) → here_or_was p ≡ b
+          → ((marks.aside p ≡ false) × ((let m : Marks = shown_marks in m.was p) ≡ marks.was p)) ⊎ IsSettledAt log p
+      path_by p out true is = inr (settled_there p out is)
+      path_by p out false is = let b = as_before p out is in inl (b.1, b.0)
 
   firm_marked : marks.loose i ≡ false → IsMarked marks (moded i (node (current log) i).mode shown_marks) log path i mode
   firm_marked firm = record {
-    guarded = setting_law.sets shown_marks log i mode (shown_guarded firm) there firm (no_mode_at_all told dirty marks log kept s.gone i);
+    guarded = setting_law.sets shown_marks log i mode (shown_guarded firm) there firm s.no_mode;
     aside = λ p is. still_aside (marks.aside p) (same_path p path) is;
-    was = λ p. refl;
+    was = λ p out. was_by p out (here_or_was p) refl;
     firm = shown_firm firm;
     loose = refl;
     roams = refl;
     moded = λ j before is. by j before (j == i) refl is;
   }
     where
-      some_is : (x y : ℕ) → (let o : Option ℕ = Some x in o) ≡ Some y → y ≡ x
-      some_is x y h = cc
+      was_by : (p : Route) → (marks.aside p && not (same_path p path)) ≡ false → (b : Bool) → here_or_was p ≡ b
+          → ((let m : Marks = shown_marks in m.was p) ≡ find (current log) p) ⊎ (((let m : Marks = shown_marks in m.was p) ≡ marks.was p) × (marks.aside p ≡ false) × (marks.was p ≡ Some i → ⊥))
+      was_by p out true is = inl (was_now p is)
+      was_by p out false is = inr (as_before p out is)
 
       by : (j before : ℕ) (b : Bool) → (j == i) ≡ b → (cond b (Some (node (current log) i).mode) (marks.modes j)) ≡ Some before
-          → (j ≡ i) × (before ≡ (node (current log) i).mode) × ((marks.aside path && not (same_path path path)) ≡ false)
-      by j before true same is = (eqb-true j i same, some_is (node (current log) i).mode before is, no_more (marks.aside path) (same_path path path) (same_path-self path))
-      by j before false off is = absurd (let none = no_mode_at_all told dirty marks log kept s.gone j in let e : (let o : Option ℕ = None in o) ≡ Some before = sym none ∙ is in let x : ⊥ = cc in x)
+          → ((j ≡ i) × (before ≡ (node (current log) i).mode) × ((marks.aside path && not (same_path path path)) ≡ false)) ⊎ ((j ≡ i → ⊥) × (marks.modes j ≡ Some before))
+      by j before true same is = inl (eqb-true j i same, some_is (node (current log) i).mode before is, no_more (marks.aside path) (same_path path path) (same_path-self path))
+      by j before false off is = inr (λ same. both_ways _ off (eq-eqb j i same), is)
 
   pub marked : (new : Marks) × IsMarked marks new log path i mode
   marked = by (marks.loose i) refl
     where
       by : (b : Bool) → marks.loose i ≡ b → (new : Marks) × IsMarked marks new log path i mode
-      by true loose = (resting, loose_marked loose)
+      by true loose = (marks, loose_marked loose)
       by false firm = (moded i (node (current log) i).mode shown_marks, firm_marked firm)
 
   node_now : node (current now) i ≡ with_mode mode (node (current log) i)
@@ -231,51 +285,103 @@ module _ (told after : Said) (dirty dirty_after : List Route) (marks : Marks) (l
       ∙ sym (ap (λ n. (let v : Option Value = Some (value (with_mode (node (current log) i).mode n)) in v)) node_now)))
 
   module _ (new : Marks) (m : IsMarked marks new log path i mode) where
-    moded_then : (j before : ℕ) → new.modes j ≡ Some before → HasMode after dirty_after new now j before
-    moded_then j before is =
-        let k = m.moded j before is in
-        subst (λ n. HasMode after dirty_after new now n before) (sym k.0) (subst (λ n. HasMode after dirty_after new now i n) (sym k.1) (record {
-          path = path;
-          leads = found_as path ∙ s.at;
-          out = k.2;
-          listed = s.listed;
-          told = s.modes;
-          shown = path_before;
-        }))
-
-    calm_then : (p : Route) → after.calm p ≡ true → (name : List ℕ) (j : ℕ) → find (current now) (name ∷ p) ≡ Some j → (new.modes j ≡ None) ⊎ (starts_mount (current now) j ≡ true)
-    calm_then p there_calm name j at = inl (by (new.modes j) refl)
+    still_none : (j : ℕ) → (j ≡ i → ⊥) → marks.modes j ≡ None → new.modes j ≡ None
+    still_none j off none = by (new.modes j) refl
       where
         by : (o : Option ℕ) → new.modes j ≡ o → new.modes j ≡ None
         by None is = is
-        by (Some before) is =
-            let k = m.moded j before is in
-            let here : find (current log) (name ∷ p) ≡ Some i = sym (found_as (name ∷ p)) ∙ (at ∙ ap (λ n. Some n) k.0) in
-            absurd (s.calm p there_calm (ap folder_of (find-once (current log) kept.known.guarded.tree (name ∷ p) path i here s.at)))
+        by (Some before) is = elim (m.moded j before is) [ inl k ↦ absurd (off k.0) | inr k ↦ some_not_none before (sym none ∙ k.1) ]
+
+    unaltered : (j : ℕ) → (i == j) ≡ false → j < length (current log).nodes → node (current now) j ≡ node (current log) j
+    unaltered j off there = unaltered_law log sets j off there
+
+    moded_then : (j before : ℕ) → new.modes j ≡ Some before → is_clean j now.changes ≡ false → HasMode after dirty_after new now j before
+    moded_then j before is unclean = elim (m.moded j before is) [
+      | inl k ↦ subst (λ n. HasMode after dirty_after new now n before) (sym k.0) (subst (λ n. HasMode after dirty_after new now i n) (sym k.1) (record {
+        path = path;
+        leads = found_as path ∙ s.at;
+        out = k.2;
+        listed = s.listed;
+        told = s.modes;
+        shown = path_before;
+      }))
+      | inr k ↦ mode_waits_on j before (false_from_ne_true _ (λ same. k.0 (sym (eqb-true i j same)))) k.1 unclean
+    ]
+      where
+        mode_waits_on : (j before : ℕ) → (i == j) ≡ false → marks.modes j ≡ Some before → is_clean j now.changes ≡ false → HasMode after dirty_after new now j before
+        mode_waits_on j before off is unclean =
+            let h : HasMode told dirty marks log j before = kept.known.moded j before is (unclean_before log sets j off unclean) in
+            let apart : same_path h.path path ≡ false = false_from_ne_true _ (λ same.
+            both_ways _ off (eq-eqb i j (sym (some_is i j (sym s.at ∙ (ap (find (current log)) (sym (same_path-true h.path path same)) ∙ h.leads)))))) in
+            record {
+              path = h.path;
+              leads = found_as h.path ∙ h.leads;
+              out = false_from_ne_true _ (λ aside. both_ways _ h.out (m.aside h.path aside));
+              listed = s.more h.path h.listed;
+              told = s.modes_more h.path h.told;
+              shown = ap (λ (x : Spot). x.value) (s.off h.path apart).1 ∙ (h.shown
+                  ∙ ap (λ n. (let v : Option Value = Some (value (with_mode before n)) in v)) (sym (unaltered j off (kept.known.guarded.there h.path j (found_at log h.path (Some j) h.leads)))));
+            }
+
+    calm_then : (p : Route) → after.calm p ≡ true → IsCalmIn new (current now) p
+    calm_then p there_calm name j at =
+        let here : find (current log) (name ∷ p) ≡ Some j = sym (found_as (name ∷ p)) ∙ at in
+        let calm = s.calm p there_calm in
+        elim (calm.0 name j here) [
+          | inl none ↦ inl (still_none j (λ same. calm.1 (ap folder_of (find-once (current log) kept.known.guarded.tree (name ∷ p) path i (here ∙ ap (λ n. Some n) same) s.at))) none)
+          | inr begins ↦ inr (starts_same log sets j ∙ begins)
+        ]
 
     shows_then : (p : Route) (b : Bool) → same_path p path ≡ b → visible_tree (current now) p ≡ after.tree p
     shows_then p true same = subst (λ q. visible_tree (current now) q ≡ after.tree q) (sym (same_path-true p path same)) path_shown
     shows_then p false off =
-        shows_same log sets p (found_as p) (λ j at. unaltered_law log sets j (other p j at off) (kept.known.guarded.there p j (found_at log p (Some j) at)))
-        ∙ (told_shows p ∙ sym (s.off p off))
+        shows_same log sets p (found_as p) (λ j at. unaltered j (other p j at off) (kept.known.guarded.there p j (found_at log p (Some j) at)))
+        ∙ (told_shows p ∙ sym (s.off p off).0)
+
+    was_there_then : (p : Route) (j : ℕ) → new.aside p ≡ false → new.was p ≡ Some j → (j < length (current now).nodes) × (new.loose j ≡ false)
+    was_there_then p j out is = elim (m.was p out) [
+      | inl now_is ↦
+          let at = sym now_is ∙ is in
+          (subst (λ n. j < n) (sym nameless.count) (kept.known.guarded.there p j (found_at log p (Some j) at)), m.firm p j out at)
+      | inr before ↦
+          let t = kept.known.was_there p j before.1 (sym before.0 ∙ is) in
+          (subst (λ n. j < n) (sym nameless.count) t.0, ap (λ (f : ℕ → Bool). f j) m.loose ∙ t.1)
+    ]
+
+    was_shown_then : (p : Route) → new.aside p ≡ false → (new.was p ≡ find (current now) p) ⊎ ((held (current now) (new.was p) ≡ (after.earlier p).value) × ((j : ℕ) → new.was p ≡ Some j → new.modes j ≡ None))
+    was_shown_then p out = elim (m.was p out) [
+      | inl now_is ↦ inl (now_is ∙ sym (found_as p))
+      | inr before ↦ elim (kept.known.was_shown p before.1) [
+        | inl same ↦ inl (before.0 ∙ (same ∙ sym (found_as p)))
+        | inr old ↦ inr (
+          held_same log sets (new.was p) (λ j is. unaltered j (false_from_ne_true _ (λ same. before.2 (sym before.0 ∙ (is ∙ ap (λ k. Some k) (sym (eqb-true i j same)))))) (kept.known.was_there p j before.1 (sym before.0 ∙ is)).0)
+              ∙ (ap (held (current log)) before.0 ∙ (old.0 ∙ sym (ap (λ (x : Spot). x.value) (s.off p (not_here p before.1 before.2)).1))),
+          λ j is. still_none j (λ same. before.2 (sym before.0 ∙ (is ∙ ap (λ k. Some k) same))) (old.1 j (sym before.0 ∙ is)),
+        )
+      ]
+    ]
+      where
+        -- nothing of the thing's own path waits
+        not_here : (p : Route) → marks.aside p ≡ false → (marks.was p ≡ Some i → ⊥) → same_path p path ≡ false
+        not_here p out off = false_from_ne_true _ (λ same.
+            let here = same_path-true p path same in
+            off (kept.was p out (ap (way_waits log) here ∙ s.sure) ∙ (ap (find (current log)) here ∙ s.at)))
 
     pub set_known : IsKnown after dirty_after new now
     set_known = record {
       guarded = m.guarded;
       files = calm_files told dirty marks log sets kept.known nameless;
-      moded = λ j before is unclean. moded_then j before is;
+      moded = moded_then;
       calm = calm_then;
       folders = λ j folder.
           let k = kept.known.folders j (was_folder told dirty marks log sets kept.known nameless j folder) in
           (ap (λ (f : ℕ → Bool). f j) m.roams ∙ k.0, ap (λ (f : ℕ → Bool). f j) m.loose ∙ k.1);
       aside = λ p is. s.named p (m.aside p is);
-      was_there = λ p j out is.
-          let at = sym (m.was p) ∙ is in
-          (subst (λ n. j < n) (sym nameless.count) (kept.known.guarded.there p j (found_at log p (Some j) at)), m.firm p j out at);
-      was_shown = λ p out. inl (m.was p ∙ sym (found_as p));
+      was_there = was_there_then;
+      was_shown = was_shown_then;
       shows = λ p other. shows_then p (same_path p path) refl;
       part = λ p is. absurd (let e : (let o : Option Route = None in o) ≡ Some p = sym s.none ∙ is in let x : ⊥ = cc in x);
       tracked = λ f k waits. elim (calm_tracked told dirty marks log sets kept.known nameless f k waits) [ inl t ↦ inl (t.0, s.more t.0 t.1, t.2) | inr none ↦ inr none ];
-      doubts = λ p waits. absurd (both_ways _ (no_name told dirty marks log kept s.gone p) (waits_before told dirty marks log sets kept.known nameless p waits));
+      doubts = λ p waits. s.doubts p (kept.known.doubts p (waits_before told dirty marks log sets kept.known nameless p waits));
       stand = λ p there_stands. calm_firm told dirty marks log sets kept.known nameless p (elim (s.folders p there_stands) [ inl before ↦ kept.known.stand p before | inr firm ↦ firm ]);
     }
