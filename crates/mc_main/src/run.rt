@@ -69,7 +69,8 @@ pub fn mc_run<N: Tag, T: Tree, K: Source, S: Sink, P: Spawner, C: Clock, G: Gate
     ensures safe { IfKnown (T.contents tree) (λ opening. IfKnown (T.contents result.tree) (λ now.
         IsSafeRun opening now (reverse result.history.entries))) }
 
-    // What a finished job did stays done, at each later moment, until an entry names the path again, or the folder that holds it.
+    // What a finished job did stays done, at each later moment, until an entry names the path again, or the folder that holds it; but
+    // for parts that were named, and, unless it was the job's own, the mode of a folder at which another mount begins.
     ensures finished { IfKnown (T.contents tree) (λ opening. IfKnown (T.contents result.tree) (λ now.
         IsFinishedRun opening now (reverse result.history.entries))) }
 
