@@ -1,6 +1,6 @@
--- What the viewer, or a command of the panels, was refused has its cause in the tree, and tells of a fault only where the tree's count has risen.
+-- What the viewer, a command of the panels, or a look at them was refused has its cause in the tree, and tells of a fault only where the tree's count has risen.
 use Rattle.std.proofs.Common.{◌≡◌, ◌≢◌, inl, inr, ℕ, Bool, true, false, List, [], ◌∷◌, refl, sym, ap, subst, Option, Some, None, Result, Ok, Err}
-use Rattle.std.specs.Prelude.{◌||◌, is_some, IfOk, MatchBool}
+use Rattle.std.specs.Prelude.{◌||◌, is_some, map, IfOk, MatchBool}
 use Rattle.std.proofs.lemmas.Bool.{false≢true}
 use Rattle.mc_text.specs.declared.error.NoMemory.{NoMemory}
 use Rattle.mc_text.specs.Routes.{Route}
@@ -235,4 +235,31 @@ command_reads error contents after f0 f1 (Ok act) reads is = record {
   later = reads.later;
   called = λ log known. subst (λ (act : KeyAct). AreRefused log act.refusals) (sym is) (way_refused log error (reads.causes log known).0, tt);
   fault = λ h. reads.fault.0 (is_way_fault error (subst (λ (act : KeyAct). has_fault act.refusals ≡ true) is h));
+}
+
+-- LOOKS AT BOTH PANELS
+
+ways_refused : (log : CallLog) (errors : List ResolveError) → pair.Each (HasReadCause log) errors → AreRefused log (map Resolve errors)
+ways_refused log [] h = tt
+ways_refused log (e ∷ more) h = (way_refused log e h.0, ways_refused log more h.1)
+
+fault_rises : (errors : List ResolveError) (f0 f1 : ℕ) → pair.Each (λ e. e ≡ resolve.Fault → HasRisen f0 f1) errors
+    → has_fault (map Resolve errors) ≡ true → HasRisen f0 f1
+fault_rises [] f0 f1 h is = absurd (false≢true is)
+fault_rises (resolve.Fault ∷ more) f0 f1 h is = h.0 refl
+fault_rises (resolve.Tree path e ∷ more) f0 f1 h is = fault_rises more f0 f1 h.1 is
+fault_rises (resolve.TooManyLinks ∷ more) f0 f1 h is = fault_rises more f0 f1 h.1 is
+fault_rises (resolve.TooLong ∷ more) f0 f1 h is = fault_rises more f0 f1 h.1 is
+fault_rises (resolve.BadName ∷ more) f0 f1 h is = fault_rises more f0 f1 h.1 is
+fault_rises (resolve.Memory ∷ more) f0 f1 h is = fault_rises more f0 f1 h.1 is
+
+-- what was refused to reading both panels is what the look tells
+pub panels_read : (errors : List ResolveError) (contents after : Option CallLog) (f0 f1 : ℕ) (told : List Refusal)
+    → pair.ReadsTree errors contents after f0 f1 → told ≡ map Resolve errors
+    → ReadsTree {A = List Refusal} {E = NoMemory} (λ (refusals : List Refusal). refusals) (Ok told) contents after f0 f1
+panels_read errors contents after f0 f1 told reads is = record {
+  same = reads.same;
+  later = reads.later;
+  called = λ log known. subst (λ (refusals : List Refusal). AreRefused log refusals) (sym is) (ways_refused log errors (reads.causes log known));
+  fault = λ h. fault_rises errors f0 f1 reads.fault (subst (λ (refusals : List Refusal). has_fault refusals ≡ true) is h);
 }
