@@ -8,7 +8,7 @@ use mc_text::Path;
 use std::alloc::Global;
 use tree_trait::Tree;
 
-pub(crate) fn rename_thing<T: Tree>(
+pub fn rename_thing<T: Tree>(
     alloc: Global,
     tree: &mut T,
     source: &Path,
@@ -24,7 +24,7 @@ pub(crate) fn rename_thing<T: Tree>(
     made_or_stopped(tree.rename(alloc, source, target), named, false)
 }
 
-pub(crate) fn sync_names<T: Tree>(alloc: Global, tree: &mut T, folder: &Path) -> Result<u64, Stop>
+pub fn sync_names<T: Tree>(alloc: Global, tree: &mut T, folder: &Path) -> Result<u64, Stop>
     ensures { Ran (SyncFolder folder.now ∷ []) true result (T.contents tree.old) (T.contents tree.new)
         (T.fault_count tree.old) (T.fault_count tree.new) }
 {

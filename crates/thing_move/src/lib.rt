@@ -7,6 +7,8 @@ mod report;
 mod taking;
 mod work;
 
+pub use calls::{rename_thing, sync_names};
 pub use moving::{Stage, ThingMove};
 pub use report::{MoveDid, MoveStep};
 pub use taking::{Taking, take_up};
+pub use work::try_sync;

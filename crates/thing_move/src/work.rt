@@ -191,7 +191,7 @@ fn troubled(stop: Stop, stage: Stage) -> AfterStep
 }
 
 /// The one try to sync a folder of a job that is to end. It takes no memory of its own.
-pub(crate) fn try_sync<T: Tree>(alloc: Global, tree: &mut T, folder: &Path) -> LastStepResult
+pub fn try_sync<T: Tree>(alloc: Global, tree: &mut T, folder: &Path) -> LastStepResult
     ensures { SyncTried folder.now result (T.contents tree.old) (T.contents tree.new)
         (T.fault_count tree.old) (T.fault_count tree.new) }
 {
