@@ -1,0 +1,4 @@
+mod Renamed
+mod Settled
+mod Still
+mod Stepped

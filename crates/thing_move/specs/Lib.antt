@@ -1,0 +1,4 @@
+pub mod Takings
+pub mod Moves
+pub mod MoveSteps
+pub mod MoveEnds
