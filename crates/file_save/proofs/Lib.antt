@@ -1,0 +1,7 @@
+mod Filling
+mod Looked
+mod Making
+mod PartLaws
+mod PartNodes
+mod PlacingLaws
+mod Settling
