@@ -4,4 +4,5 @@ mod Making
 mod PartLaws
 mod PartNodes
 mod PlacingLaws
+mod RefusedCalls
 mod Settling

@@ -1,10 +1,13 @@
 -- The laws of a save and the log: each of its steps keeps the tree guarded, the part gets the bytes that are saved, and so the target is as it was
 -- or whole after any crash.
-use Rattle.std.specs.Prelude.{◌≡◌, ◌≢◌, ◌⊎◌, ℕ, ◌<◌, Bool, true, false, List, ◌∷◌, length, take, Some}
+use Rattle.std.specs.Prelude.{◌≡◌, ◌≢◌, ◌⊎◌, ℕ, ◌<◌, Bool, true, false, List, ◌∷◌, length, take, Some, ⊤, Err}
 use Rattle.mc_text.specs.Routes.{Route}
 use Rattle.tree_trait.specs.declared.file_system.FileSystem.{FileSystem}
 use Rattle.tree_trait.specs.FileSystem.{find, value_at}
+use Rattle.tree_trait.specs.Answers.{Performs}
+use Rattle.tree_trait.specs.Calls.{Call, WriteAt}
 use Rattle.tree_trait.specs.Change.{CallLog, current, found}
+use Rattle.tree_trait.specs.declared.calls.TreeError.{TreeError}
 use Rattle.job_reports.specs.declared.report.Did.TheVariants.{Began, Chunk, Placed, Cleaned, Barrier}
 use Rattle.job_reports.specs.CallRuns.{AllDone}
 use Rattle.job_reports.specs.Paths.{folder_of}
@@ -40,6 +43,19 @@ pub record PlacedLaw : Type 0 where
       → IsAnchored marks log up → IsAsFound marks log (target ∷ up) → IsPlaced marks now (target ∷ up) i old.bytes facts.mode
   pub meanwhile : (marks : Marks) (log mid : CallLog) (part target : Route) (i mode count : ℕ) → IsGuarded marks log → HasPart marks log part i → count < length (placing mode part target)
       → AllDone log (take count (placing mode part target)) (Some mid) → IsGuarded marks mid × (find (current mid) target ≡ find (current log) target)
+
+-- the tree stays guarded, and each path leads where it did
+abbrev pub Keeps : Marks → CallLog → CallLog → Type 0
+Keeps marks log now = IsGuarded marks now × ((path : Route) → find (current now) path ≡ find (current log) path)
+
+-- bytes are written to the part alone
+abbrev pub MayTear : Marks → CallLog → Call → Type 0
+MayTear marks log (WriteAt path offset bytes) = (i : ℕ) × HasPart marks log path i
+MayTear marks log call = ⊤
+
+-- A call that is refused, or that fails, leaves each path where it led.
+abbrev pub RefusedLaw : Type 0
+RefusedLaw = (marks : Marks) (log now : CallLog) (call : Call) (e : TreeError) → IsGuarded marks log → MayTear marks log call → Performs {A = Unit {0}} log call (Err e) (Some now) → Keeps marks log now
 
 -- A part that isn't to be placed is removed.
 abbrev pub CleanedLaw : Type 0

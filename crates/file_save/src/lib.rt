@@ -9,8 +9,8 @@ mod save;
 mod work;
 
 pub use laws::{
-    what_a_chunk_adds, what_a_crash_leaves_at_the_target, what_placing_makes_of_the_target,
-    what_the_making_of_the_part_keeps, what_the_removal_of_the_part_keeps,
-    what_the_sync_of_the_folder_settles,
+    what_a_chunk_adds, what_a_crash_leaves_at_the_target, what_a_refused_call_keeps,
+    what_placing_makes_of_the_target, what_the_making_of_the_part_keeps,
+    what_the_removal_of_the_part_keeps, what_the_sync_of_the_folder_settles,
 };
 pub use save::FileSave;
