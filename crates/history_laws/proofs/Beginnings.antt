@@ -96,10 +96,10 @@ folder_stays job new (Removed path) dirty dirty_after log now folders tree works
     let goes = goes_then job new (Removed path) job.course refl works.tells refl in
     let off = stays_by log now tree job.work goes.1.0 new.work path goes.1.1 (subst (λ c. CallsOn IsUnclaimed c job (Removed path) new log (Some now)) goes.0 works.called) in
     and_from (same_path (changed_folder job.work) (changed_folder job.work) || folders (changed_folder job.work)) (not (same_path (changed_folder job.work) path)) (or_left _ _ (same_path-self (changed_folder job.work))) (ap not off)
-folder_stays job new (Began part) dirty dirty_after log now folders tree works known = or_left _ _ (same_path-self (changed_folder job.work))
-folder_stays job new (Made path) dirty dirty_after log now folders tree works known = or_left _ _ (same_path-self (changed_folder job.work))
+folder_stays job new (Began part) dirty dirty_after log now folders tree works known = or_left _ _ (or_left _ _ (same_path-self (changed_folder job.work)))
+folder_stays job new (Made path) dirty dirty_after log now folders tree works known = or_left _ _ (or_left _ _ (same_path-self (changed_folder job.work)))
 folder_stays job new (Chunk count) dirty dirty_after log now folders tree works known = elim known [ inl stands ↦ stands | inr begins ↦ absurd (false≢true begins) ]
-folder_stays job new (Set path) dirty dirty_after log now folders tree works known = or_left _ _ (same_path-self (changed_folder job.work))
+folder_stays job new (Set path) dirty dirty_after log now folders tree works known = or_left _ _ (or_left _ _ (same_path-self (changed_folder job.work)))
 folder_stays job new (Placed path) dirty dirty_after log now folders tree works known = elim known [ inl stands ↦ stands | inr begins ↦ absurd (false≢true begins) ]
 folder_stays job new (Kept path) dirty dirty_after log now folders tree works known = elim known [ inl stands ↦ stands | inr begins ↦ absurd (false≢true begins) ]
 folder_stays job new (Skipped path why) dirty dirty_after log now folders tree works known = elim known [ inl stands ↦ stands | inr begins ↦ absurd (false≢true begins) ]

@@ -44,9 +44,9 @@ use Rattle.history_laws.proofs.Changing.{off_itself, removed_known}
 use Rattle.history_laws.proofs.Deleted.{IsRemoval, comes_refused, removal_done, removal_leads}
 use Rattle.history_laws.proofs.DeletionSteps.{Steps, ends, same_dirty, tried}
 use Rattle.history_laws.proofs.Resting.{folder_at}
-use Rattle.history_laws.proofs.Filling.{begun, filled_more, folder_calm, folder_firm, listed_now, making_stands, target_free}
+use Rattle.history_laws.proofs.Filling.{MayBegin, begun, filled_more, folder_calm, folder_firm, listed_now, making_stands, target_free}
 use Rattle.history_laws.proofs.Knowing.{Said, IsKnown, IsKept, settled_marks}
-use Rattle.history_laws.proofs.JobKnows.{NoneOn, HasPart, IsUntouched, KnowsAfter, StageKnows, WorkKnows, none_of_part, part_settled, untouched_settled, work_course}
+use Rattle.history_laws.proofs.JobKnows.{HasPart, IsUntouched, KnowsAfter, StageKnows, WorkKnows, none_of_part, part_settled, untouched_settled, work_course}
 use Rattle.history_laws.proofs.PartNodes.{part_on, part_there, written_node}
 use Rattle.history_laws.proofs.PlacingSteps.{part_placed, part_refused, placing_stops}
 use Rattle.history_laws.proofs.Stepped.{Comes, comes_map, comes_one, said_after}
@@ -189,7 +189,7 @@ module _ (told : Said) (dirty dirty_after : List Route) (marks : Marks) (log now
   cleaned_knows next.Decided after m s none untouched = none
 
   pub copy_tells : (new : Copying) (did : Did) → WorkKnows told dirty marks log GoesOn (Copy c) → Tells c did new → CopyCalls IsUnclaimed c did new log (Some now)
-      → (is_fresh c.stage c.folder ≡ true → NoneOn (current log) up dirty) → Leaves new → Steps told dirty dirty_after marks log now kept did (course_after did) (Copy c) (Copy new)
+      → (is_fresh c.stage c.folder ≡ true → MayBegin marks log c.target) → Leaves new → Steps told dirty dirty_after marks log now kept did (course_after did) (Copy c) (Copy new)
   copy_tells new (Began part) (name, listed, knows) (stage, (said, new_is)) (ready, began_of, (k, part_is, free, rows)) settled leaves =
       let at_begin = subst (λ x. StageKnows told marks (current log) GoesOn c x) stage knows in
       let is_said = subst (λ (x : Copying). BeganOf (current log) (places_of c) x.stage) new_is began_of in
@@ -197,7 +197,7 @@ module _ (told : Said) (dirty dirty_after : List Route) (marks : Marks) (log now
       let stands = making_stands log now c k (one_done log (making (current log) (places_of c) k) now rows) in
       let firm = folder_firm told dirty dirty_after marks log now kept c stands (λ e. (listed e).1) (λ e. settled (ap (λ x. is_fresh x c.folder) stage ∙ e)) c.folder refl in
       let calm = folder_calm told dirty dirty_after marks log now kept c (λ e. (listed e).2) (λ e. settled (ap (λ x. is_fresh x c.folder) stage ∙ e)) c.folder refl in
-      let untouched = target_free told dirty dirty_after marks log now kept c name firm ready at_begin.1 (λ e. settled (ap (λ x. is_fresh x c.folder) stage ∙ e)) c.folder refl in
+      let untouched = target_free told dirty dirty_after marks log now kept c firm ready at_begin.1 (λ e. settled (ap (λ x. is_fresh x c.folder) stage ∙ e)) c.folder refl in
       subst (λ (x : Copying). Steps told dirty dirty_after marks log now kept (Began part) GoesOn (Copy c) (Copy x)) (sym new_is)
       (subst (λ q. Steps told dirty dirty_after marks log now kept (Began q) GoesOn (Copy c) (Copy (record c { stage = Fill q said 0; folder = Dirty }))) (sym part_is)
       (begun told dirty dirty_after marks log now kept c said k name ready is_said free at_begin.0 untouched (one_done log (making (current log) (places_of c) k) now rows) firm calm on_list.0 on_list.1))

@@ -31,7 +31,9 @@ use Rattle.copy_move.specs.declared.run.Course.TheVariants.{GoesOn}
 use Rattle.tree_deletion.specs.Folders.{joined}
 use Rattle.copy_move.specs.Settling.{with_change as moves_dirty}
 use Rattle.history_laws.specs.Traces.{IsUnclaimed}
+use Rattle.history_laws.specs.Doubt.{name_waits}
 use Rattle.history_laws.proofs.Calming.{written_known}
+use Rattle.history_laws.proofs.FilledFolders.{IsFilling, met_untouched}
 use Rattle.history_laws.proofs.Knowing.{IsCalmIn, IsKept, IsKnown, Said, settled_marks}
 use Rattle.history_laws.proofs.JobKnows.{HasName, HasPart, IsFilled, IsUntouched, NoneOn, WorkKnows, calm_in, none_of_part, none_waits, part_settled, untouched_free, way_sure}
 use Rattle.history_laws.proofs.MakingParts.{MakesPart, made_known, marks_new, new_node, off_part, part_leads, part_node, with_part}
@@ -46,6 +48,33 @@ making_stands log now c k d =
     let passes = making_passes (current log) (part_name c.job k) (folder_of c.target) (part_mode (node (current log) (found (current log) c.source)).mode) d.permits in
     folder_at_of (current log) (folder_of c.target) (found (current log) (folder_of c.target)) passes.folder passes.holds
 
+-- What is known of a file's folder and target where nothing was changed in that folder yet: the folder isn't in doubt, no mode waits in it, and
+-- where nothing stands at the target that is untouched.
+pub record MayBegin (marks : Marks) (log : CallLog) (target : Route) : Type 0 where
+  pub firm : folder_at (current log) (folder_of target) ≡ true → IsSureFolder log (folder_of target)
+  pub calm : IsCalmIn marks (current log) (folder_of target)
+  pub untouched : IsSureFolder log (folder_of target) → find (current log) target ≡ None → IsUntouched marks (current log) target
+
+-- so it is where no dirty folder lies on the mount of its own
+pub begins_owed : (told : Said) (dirty : List Route) (marks : Marks) (log : CallLog) (target : Route) → IsKept told dirty marks log → HasName target → NoneOn (current log) (folder_of target) dirty → MayBegin marks log target
+begins_owed told dirty marks log target kept name none = record {
+  firm = λ stands.
+      let there = stands_at (current log) (folder_of target) stands in
+      record { stands = stands; sure = way_sure told dirty marks log (folder_of target) there.i kept.known there.at none };
+  calm = calm_in told dirty marks log kept (folder_of target) none;
+  untouched = λ firm free. untouched_free told dirty marks log target kept
+      (sure_path log target firm.sure (ap (name_waits log) name.is ∙ none_waits told dirty marks log (folder_of target) kept.known none name.name)) free;
+}
+
+-- and of what is yet to be met in a folder that is filled, whatever else is dirty
+pub begins_filling : (told : Said) (dirty : List Route) (marks : Marks) (log : CallLog) (up : Route) (coming : List (List ℕ)) (name : List ℕ) → IsKept told dirty marks log → IsFilling log up coming → Among coming name
+    → IsCalmIn marks (current log) up → MayBegin marks log (name ∷ up)
+begins_filling told dirty marks log up coming name kept filling among calm = record {
+  firm = λ stands. filling.firm;
+  calm = calm;
+  untouched = λ firm free. met_untouched told dirty marks log up coming name kept filling among free;
+}
+
 module _ (told : Said) (dirty dirty_after : List Route) (marks : Marks) (log now : CallLog) (kept : IsKept told dirty marks log) (c : Copying) where
   abbrev up : Route
   up = folder_of c.target
@@ -57,27 +86,21 @@ module _ (told : Said) (dirty dirty_after : List Route) (marks : Marks) (log now
       (λ m. WorkKnows (said_after now (Began part) (Copy c) told) dirty_after m now GoesOn (Copy (record c { stage = Fill part said 0; folder = Dirty })))
 
   -- its folder isn't in doubt
-  pub folder_firm : folder_at (current log) up ≡ true → (c.folder ≡ Dirty → told.folders up ≡ true) → (not (is_dirty c.folder) ≡ true → NoneOn (current log) up dirty) → (f : FolderState) → c.folder ≡ f
+  pub folder_firm : folder_at (current log) up ≡ true → (c.folder ≡ Dirty → told.folders up ≡ true) → (not (is_dirty c.folder) ≡ true → MayBegin marks log c.target) → (f : FolderState) → c.folder ≡ f
       → IsSureFolder log up
   folder_firm stands firm settled Dirty is = kept.known.stand up (firm is)
-  folder_firm stands firm settled Synced is =
-      let there = stands_at (current log) up stands in
-      record { stands = stands; sure = way_sure told dirty marks log up there.i kept.known there.at (settled (ap (λ x. not (is_dirty x)) is)) }
+  folder_firm stands firm settled Synced is = let may = settled (ap (λ x. not (is_dirty x)) is) in may.firm stands
 
   -- nor does a mode wait in it
-  pub folder_calm : (c.folder ≡ Dirty → told.calm up ≡ true) → (not (is_dirty c.folder) ≡ true → NoneOn (current log) up dirty) → (f : FolderState) → c.folder ≡ f → IsCalmIn marks (current log) up
+  pub folder_calm : (c.folder ≡ Dirty → told.calm up ≡ true) → (not (is_dirty c.folder) ≡ true → MayBegin marks log c.target) → (f : FolderState) → c.folder ≡ f → IsCalmIn marks (current log) up
   folder_calm calm settled Dirty is = kept.known.calm up (calm is)
-  folder_calm calm settled Synced is = calm_in told dirty marks log kept up (settled (ap (λ x. not (is_dirty x)) is))
+  folder_calm calm settled Synced is = let may = settled (ap (λ x. not (is_dirty x)) is) in may.calm
 
   -- the target of a copy that begins
-  pub target_free : HasName c.target → IsSureFolder log up → IsReady (current log) (places_of c) → (c.folder ≡ Dirty → IsUntouched marks (current log) c.target)
-      → (not (is_dirty c.folder) ≡ true → NoneOn (current log) up dirty) → (f : FolderState) → c.folder ≡ f → IsUntouched marks (current log) c.target
-  target_free name firm ready untouched settled Dirty is = untouched is
-  target_free name firm ready untouched settled Synced is =
-      untouched_free told dirty marks log c.target kept
-      (sure_path log c.target firm.sure
-      (ap (Rattle.history_laws.specs.Doubt.name_waits log) name.is ∙ none_waits told dirty marks log up kept.known (settled (ap (λ x. not (is_dirty x)) is)) name.name))
-      (stat_missing (current log) c.target ready.target)
+  pub target_free : IsSureFolder log up → IsReady (current log) (places_of c) → (c.folder ≡ Dirty → IsUntouched marks (current log) c.target)
+      → (not (is_dirty c.folder) ≡ true → MayBegin marks log c.target) → (f : FolderState) → c.folder ≡ f → IsUntouched marks (current log) c.target
+  target_free firm ready untouched settled Dirty is = untouched is
+  target_free firm ready untouched settled Synced is = let may = settled (ap (λ x. not (is_dirty x)) is) in may.untouched firm (stat_missing (current log) c.target ready.target)
 
   -- the folder is listed, and what was listed is
   pub listed_now : (c.folder ≡ Dirty → Among dirty up) → dirty_after ≡ moves_dirty (is_dirty c.folder) true up dirty → (f : FolderState) → c.folder ≡ f
@@ -138,7 +161,7 @@ module _ (told : Said) (dirty dirty_after : List Route) (marks : Marks) (log now
     same_n : (n == n) ≡ true
     same_n = Rattle.std.proofs.lemmas.Bool.eq-eqb n n refl
 
-    has : HasPart (with_part told part) (marks_new marks part n) (current after) c.target part n
+    has : HasPart (with_part told up part) (marks_new marks part n) (current after) c.target part n
     has = record {
       part_is = refl;
       leads = part_leads told dirty dirty_after marks log kept.known name up f made makes refl new_mode;
@@ -176,12 +199,12 @@ module _ (told : Said) (dirty dirty_after : List Route) (marks : Marks) (log now
     }
 
     pub begun : Begun part said
-    begun = comes_one told (with_part told part) dirty dirty_after marks (marks_new marks part n) log now (Makes f name made)
-        (λ m. WorkKnows (with_part told part) dirty_after m now GoesOn (Copy (record c { stage = Fill part said 0; folder = Dirty }))) kept d.is
-        (subst (λ (l : CallLog). IsKnown (with_part told part) dirty_after (marks_new marks part n) l) (sym d.is)
-        (made_known told dirty dirty_after marks log kept.known name up f made makes refl new_mode firm calm listed more))
-        (subst (λ (l : CallLog). WorkKnows (with_part told part) dirty_after (settled_marks l (marks_new marks part n)) l GoesOn (Copy (record c { stage = Fill part said 0; folder = Dirty }))) (sym d.is)
-        (target_name, (λ e. (listed, or_left _ _ (same_path-self up), or_left _ _ (same_path-self up))), (refl, (n, part_settled after (marks_new marks part n) (with_part told part) c.target part n has, λ e. filled))))
+    begun = comes_one told (with_part told up part) dirty dirty_after marks (marks_new marks part n) log now (Makes f name made)
+        (λ m. WorkKnows (with_part told up part) dirty_after m now GoesOn (Copy (record c { stage = Fill part said 0; folder = Dirty }))) kept d.is
+        (subst (λ (l : CallLog). IsKnown (with_part told up part) dirty_after (marks_new marks part n) l) (sym d.is)
+        (made_known told dirty dirty_after marks log kept.known name up f made makes refl new_mode up firm firm calm listed more))
+        (subst (λ (l : CallLog). WorkKnows (with_part told up part) dirty_after (settled_marks l (marks_new marks part n)) l GoesOn (Copy (record c { stage = Fill part said 0; folder = Dirty }))) (sym d.is)
+        (target_name, (λ e. (listed, or_left _ _ (or_left _ _ (same_path-self up)), or_left _ _ (same_path-self up))), (refl, (n, part_settled after (marks_new marks part n) (with_part told up part) c.target part n has, λ e. filled))))
 
   -- bytes are written behind the first
   module _ (part : Route) (said : SourceFacts) (done : ℕ) (listed : c.folder ≡ Dirty → Among dirty up × (told.folders up ≡ true) × (told.calm up ≡ true)) (target_name : HasName c.target) (i : ℕ) (has : HasPart told marks (current log) c.target part i)

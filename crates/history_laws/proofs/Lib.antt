@@ -38,6 +38,7 @@ pub mod PartNodes
 pub mod Pending
 pub mod PlacingParts
 pub mod PlacingSteps
+pub mod Moved
 pub mod Quiet
 pub mod Renaming
 pub mod Reports

@@ -109,8 +109,14 @@ pub record MakesPart (told : Said) (log : CallLog) (name : List ℕ) (up : Route
   pub folder : is_folder (node (current log) f) ≡ true
   pub free : lookup (current log).names f name ≡ None
 
-abbrev pub with_part : Said → Route → Said
-with_part told part = record (naming_part told part) { part = Some part; doubt = λ p. told.doubt p || same_path p part; folders = λ p. same_path p (folder_of part) || told.folders p; calm = λ p. same_path p (folder_of part) || told.calm p }
+-- what a history says once it was made, by a job whose item is in this folder
+abbrev pub with_part : Said → Route → Route → Said
+with_part told folder part = record (naming_part told part) {
+  part = Some part;
+  doubt = λ p. told.doubt p || same_path p part;
+  folders = λ p. (same_path p folder || same_path p (folder_of part)) || told.folders p;
+  calm = λ p. same_path p (folder_of part) || told.calm p;
+}
 
 module _ (told : Said) (dirty dirty_after : List Route) (marks : Marks) (log : CallLog) (known : IsKnown told dirty marks log) (name : List ℕ) (up : Route) (f : ℕ) (made : Node)
     (m : MakesPart told log name up f) (bare : is_folder made ≡ false) (new_mode : marks.modes (new_node log) ≡ None) where
@@ -187,8 +193,8 @@ module _ (told : Said) (dirty dirty_after : List Route) (marks : Marks) (log : C
   nodes_more : length (current now).nodes ≡ count_after makes (new_node log)
   nodes_more = ap (λ (s : FileSystem). length s.nodes) (current_more log makes) ∙ count-after_change (current log) makes
 
-  pub made_known : IsSureFolder log up → IsCalmIn marks (current log) up → Among dirty_after up → ((q : Route) → Among dirty q → Among dirty_after q) → IsKnown (with_part told part) dirty_after (marks_new marks part (new_node log)) now
-  made_known firm calm listed more = naming_known (naming_part told part) (with_part told part) dirty dirty_after (marks_new marks part (new_node log)) log makes up part part f marked (record {
+  pub made_known : (folder : Route) → IsSureFolder log folder → IsSureFolder log up → IsCalmIn marks (current log) up → Among dirty_after up → ((q : Route) → Among dirty q → Among dirty_after q) → IsKnown (with_part told folder part) dirty_after (marks_new marks part (new_node log)) now
+  made_known folder around firm calm listed more = naming_known (naming_part told part) (with_part told folder part) dirty dirty_after (marks_new marks part (new_node log)) log makes up part part f marked (record {
     naming = naming;
     within = refl;
     stands = stands;
@@ -201,7 +207,13 @@ module _ (told : Said) (dirty dirty_after : List Route) (marks : Marks) (log : C
     more = more;
     at = λ k h. inl (ap (λ q. (let r : Route = q ∷ up in r)) (sym (name_is k h)));
     doubts = λ p h. or_left _ _ h;
-    folders = λ p h. elim (either _ _ h) [ inl same ↦ inr (subst (λ q. IsSureFolder log q) (sym (same_path-true p up same)) firm) | inr before ↦ inl before ];
+    folders = λ p h. elim (either _ _ h) [
+      | inl here ↦ inr (elim (either _ _ here) [
+        | inl outer ↦ subst (λ q. IsSureFolder log q) (sym (same_path-true p folder outer)) around
+        | inr same ↦ subst (λ q. IsSureFolder log q) (sym (same_path-true p up same)) firm
+      ])
+      | inr before ↦ inl before
+    ];
     modes = λ p h. h;
     calm = λ p h. elim (either _ _ h) [ inl same ↦ inr (subst (λ q. IsCalmIn marks (current log) q) (sym (same_path-true p up same)) calm) | inr before ↦ inl before ];
     no_mode = λ p i at there. mode_of i (elim there [ inl before ↦ inl (sym (ap (find (current log)) (either_is p at)) ∙ before) | inr then ↦ inr (sym (ap (find (current now)) (either_is p at)) ∙ then) ]);

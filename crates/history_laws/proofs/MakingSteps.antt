@@ -1,5 +1,5 @@
 -- Each step of the making of a thing keeps what is known.
-use Rattle.std.proofs.Common.{◌≡◌, ◌⊎◌, ℕ, ℤ, true, false, List, [], ◌∷◌, refl, sym, ◌∙◌, ap, subst, inl, inr, Option, Some, None, Ok, Err, arith, pos}
+use Rattle.std.proofs.Common.{◌≡◌, ◌⊎◌, ℕ, ℤ, true, false, ◌||◌, List, [], ◌∷◌, refl, sym, ◌∙◌, ap, subst, inl, inr, Option, Some, None, Ok, Err, arith, pos}
 use Rattle.std.specs.Prelude.{option_and_then}
 use Rattle.std.proofs.lemmas.Bool.{both_ways, false_from_ne_true, or_left, or_right}
 use Rattle.mc_text.specs.declared.kind.Kind.TheVariants as kind
@@ -139,8 +139,11 @@ module _ (told : Said) (dirty dirty_after : List Route) (marks : Marks) (log now
     modes = λ p h. h;
     calm = λ p there. elim (either (may_change (item_in work) p) (told.calm p) there) [ inl here ↦ inr (calm p here) | inr before ↦ inl before ];
     new_mode = kept.modes (new_node log) (kept.known.files.unborn (new_node log) (omega arith));
-    folders = λ p there. elim (either (same_path p (folder_changed (item_in work))) (told.folders p) there) [
-      | inl same ↦ inr (same_path-true p (folder_changed (item_in work)) same ∙ within)
+    folders = λ p there. elim (either (same_path p (folder_changed (item_in work)) || same_path p up) (told.folders p) there) [
+      | inl here ↦ inr (elim (either (same_path p (folder_changed (item_in work))) (same_path p up) here) [
+        | inl same ↦ same_path-true p (folder_changed (item_in work)) same ∙ within
+        | inr same ↦ same_path-true p up same
+      ])
       | inr before ↦ inl before
     ];
   }) listed more

@@ -31,6 +31,8 @@ use Rattle.job_reports.specs.Paths.{folder_of}
 use Rattle.job_reports.proofs.CallAnswers.{IsDoneCall, done_call, some_log}
 use Rattle.file_copy.proofs.FilledParts.{Holds, holds_copy}
 use Rattle.copy_move.specs.declared.work.Work.TheVariants.{Copy}
+use Rattle.history_laws.specs.Replayed.{moved_from}
+use Rattle.history_laws.proofs.Moved.{moved_here}
 use Rattle.history_laws.proofs.Calming.{moded_known, nothing_known, synced_known, refused_is}
 use Rattle.history_laws.proofs.Deleted.{file_no_mount, put_at, put_off}
 use Rattle.history_laws.proofs.Knowing.{Said, IsKnown, IsKept, nowhere, settled_marks}
@@ -210,6 +212,12 @@ module _ (told : Said) (dirty : List Route) (c : Copying) (tname : List ℕ) (ta
     untouched : IsUntouched marks (current mid) c.target
     untouched = has.untouched
 
+    abbrev comes_from : Route
+    comes_from = moved_from c.source c.target c.target
+
+    copy_from : option_map copied (told.tree comes_from).value ≡ Some (value (node (current mid) i))
+    copy_from = ap (λ q. option_map copied (told.tree q).value) (moved_here c.source c.target) ∙ copy
+
     not_part : told.part ≡ Some c.target → ⊥
     not_part is = has.apart (let e = sym has.part_is ∙ is in cc)
 
@@ -247,11 +255,11 @@ module _ (told : Said) (dirty : List Route) (c : Copying) (tname : List ℕ) (ta
       named = named;
       off = λ p off.
           let o = subst (λ q. same_path p q ≡ false) (sym target_is) off in
-          (put_off told.tree c.target (option_map copied (told.tree c.source).value) p o, put_off told.earlier c.target (told.tree c.target).value p o);
+          (put_off told.tree c.target (option_map copied (told.tree comes_from).value) p o, put_off told.earlier c.target (told.tree c.target).value p o);
       placed = subst (λ q. (after now).tree q ≡ (let s : Spot = record { value = Some (value (node (current mid) i)); is_mount = false } in s)) target_is
-          (put_at told.tree c.target (option_map copied (told.tree c.source).value)
-          ∙ (ap (λ (s : Spot). (let t : Spot = record s { value = option_map copied (told.tree c.source).value } in t)) target_seen
-          ∙ ap (λ v. (let t : Spot = record { value = v; is_mount = false } in t)) copy));
+          (put_at told.tree c.target (option_map copied (told.tree comes_from).value)
+          ∙ (ap (λ (s : Spot). (let t : Spot = record s { value = option_map copied (told.tree comes_from).value } in t)) target_seen
+          ∙ ap (λ v. (let t : Spot = record { value = v; is_mount = false } in t)) copy_from));
       earlier = subst (λ q. ((after now).earlier q).value ≡ None) target_is
           (ap (λ (s : Spot). s.value) (put_at told.earlier c.target (told.tree c.target).value) ∙ ap (λ (s : Spot). s.value) target_seen);
       none = refl;

@@ -89,15 +89,15 @@ doubt_by Barrier part before = before
 doubt_by (Troubled trouble) part before = before
 doubt_by (Ended ending left) part before = before
 
--- the folder of a job's first change is on the disk from then on, until it is removed
+-- the folder of a job's item is on the disk from its first change on, until it is removed, and so is that of each part or thing which a report names
 abbrev pub folders_by : Did → Route → (Route → Bool) → Route → Bool
-folders_by (Began made) folder before = λ p. same_path p folder || before p
+folders_by (Began made) folder before = λ p. (same_path p folder || same_path p (folder_of made)) || before p
 folders_by (Removed path) folder before = λ p. (same_path p folder || before p) && not (same_path p path)
-folders_by (Made path) folder before = λ p. same_path p folder || before p
+folders_by (Made path) folder before = λ p. (same_path p folder || same_path p (folder_of path)) || before p
 folders_by (Placed path) folder before = before
 folders_by (Cleaned gone) folder before = before
 folders_by (Chunk count) folder before = before
-folders_by (Set path) folder before = λ p. same_path p folder || before p
+folders_by (Set path) folder before = λ p. (same_path p folder || same_path p (folder_of path)) || before p
 folders_by (Kept kept) folder before = before
 folders_by (Skipped path cause) folder before = before
 folders_by Barrier folder before = before

@@ -16,13 +16,13 @@ use Rattle.session_history.specs.declared.history.Event.TheVariants as event
 use Rattle.session_history.specs.declared.history.Entry.{Entry}
 use Rattle.session_history.specs.LiveJobs.{LiveJob, live_jobs, live_item}
 use Rattle.session_history.specs.Named.{IsUnnamedSince, changed_by, named_by, names, names_path}
-use Rattle.history_laws.specs.Replayed.{keeping, log_prefix, made_by, placed_by, replayed_event, replayed_step, replayed_tree, set_by, with_mode, with_mode_of}
+use Rattle.history_laws.specs.Replayed.{keeping, log_prefix, made_by, moved_from, placed_by, replayed_event, replayed_step, replayed_tree, set_by, with_mode, with_mode_of}
 use Rattle.history_laws.proofs.Deleted.{put_off}
 use Rattle.history_laws.proofs.Owing.{in_filter}
 
 -- a path that an entry doesn't name has what it had
 placed_unnamed : (item : Option Item) (target : Route) (v : View) (path : Route) → same_path path target ≡ false → placed_by item target v path ≡ v path
-placed_unnamed (Some (Copies source to)) target v path unnamed = put_off v target (Rattle.std.specs.Option.option_map copied (v source).value) path unnamed
+placed_unnamed (Some (Copies source to)) target v path unnamed = put_off v target (Rattle.std.specs.Option.option_map copied (v (moved_from source to target)).value) path unnamed
 placed_unnamed (Some (Removes file)) target v path unnamed = refl
 placed_unnamed (Some (Makes folder)) target v path unnamed = refl
 placed_unnamed (Some (MakesLink link text)) target v path unnamed = refl
@@ -30,7 +30,7 @@ placed_unnamed (Some (Sets thing mode)) target v path unnamed = refl
 placed_unnamed None target v path unnamed = refl
 
 set_unnamed : (item : Option Item) (changed : Route) (v : View) (path : Route) → same_path path changed ≡ false → set_by item changed v path ≡ v path
-set_unnamed (Some (Copies source target)) changed v path unnamed = put_off v changed (Rattle.std.specs.Option.option_map (with_mode_of (v source).value) (v changed).value) path unnamed
+set_unnamed (Some (Copies source target)) changed v path unnamed = put_off v changed (Rattle.std.specs.Option.option_map (with_mode_of (v (moved_from source target changed)).value) (v changed).value) path unnamed
 set_unnamed (Some (Removes file)) changed v path unnamed = refl
 set_unnamed (Some (Makes folder)) changed v path unnamed = refl
 set_unnamed (Some (MakesLink link text)) changed v path unnamed = refl

@@ -1,7 +1,7 @@
 -- What a history makes of the tree that can be seen, parts of live jobs aside. Histories stand newest first here.
-use Rattle.std.specs.Prelude.{ℕ, ◌+◌, List, [], ◌∷◌, length, take, Option, Some, None}
+use Rattle.std.specs.Prelude.{ℕ, ◌+◌, if◌then◌else◌, List, [], ◌∷◌, length, take, Option, Some, None}
 use Rattle.std.specs.Option.{option_map}
-use Rattle.mc_text.specs.Routes.{Route}
+use Rattle.mc_text.specs.Routes.{Route, same_path}
 use Rattle.mc_text.specs.declared.kind.Kind.TheVariants.{Folder, Link}
 use Rattle.tree_trait.specs.FileSystem.{Value, View, put, value_at, visible_tree}
 use Rattle.tree_trait.specs.Change.{CallLog, current}
@@ -20,9 +20,14 @@ use Rattle.session_history.specs.LiveJobs.{LiveJob, live_jobs, live_item}
 abbrev pub log_prefix : CallLog → ℕ → CallLog → CallLog
 log_prefix opening calls now = record now { changes = take (length opening.changes + calls) now.changes }
 
--- a file that is placed has at the target what stands at the source
+-- where the copy of a thing comes from: as far below the source as it lies below the target
+abbrev pub moved_from : Route → Route → Route → Route
+moved_from source target [] = source
+moved_from source target (name ∷ up) = if same_path (name ∷ up) target then source else name ∷ moved_from source target up
+
+-- what is placed has what stands where it comes from
 abbrev pub placed_by : Option Item → Route → View → View
-placed_by (Some (Copies source target)) path v = put v path (option_map copied (v source).value)
+placed_by (Some (Copies source target)) path v = put v path (option_map copied (v (moved_from source target path)).value)
 placed_by (Some (Removes file)) path v = v
 placed_by (Some (Makes folder)) path v = v
 placed_by (Some (MakesLink link text)) path v = v
@@ -40,7 +45,7 @@ with_mode mode x = record x { mode = mode }
 
 -- a folder that was copied is given its source's mode, and a thing whose mode is set that one
 abbrev pub set_by : Option Item → Route → View → View
-set_by (Some (Copies source target)) path v = put v path (option_map (with_mode_of (v source).value) (v path).value)
+set_by (Some (Copies source target)) path v = put v path (option_map (with_mode_of (v (moved_from source target path)).value) (v path).value)
 set_by (Some (Removes file)) path v = v
 set_by (Some (Makes folder)) path v = v
 set_by (Some (MakesLink link text)) path v = v
