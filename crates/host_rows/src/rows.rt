@@ -188,7 +188,28 @@ remove_file fixed/x
 read mute
 write mute 0:x
 sync_file mute
-sh chmod 755 fixed";
+sh chmod 755 fixed
+
+# A mode that bars the sync is set only of what is open
+sh : >a; : >mute; chmod 200 mute; mkdir box; chmod 300 box
+mode mute 100
+stat mute
+mode box 100
+sh test $(stat -c %a box) = 300
+mode a 100
+sync_file a
+stat a
+mode a 0
+mode mute 400
+mode mute 0
+sync_file mute
+stat mute
+mode box 700
+sync_folder box
+mode box 100
+sync_folder box
+mode box 300
+sh test $(stat -c %a box) = 100; chmod 700 box";
 
 /// Commands for the shell, each behind the folder in which it runs.
 pub fn commands() -> &'static str {

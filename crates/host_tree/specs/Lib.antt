@@ -2,4 +2,5 @@ pub mod Causes
 pub mod Kept
 pub mod Kinds
 pub mod Listing
+pub mod Modes
 pub mod Ranks

@@ -1,7 +1,8 @@
 //! The calls that change and sync what a file holds, and its mode.
-ghost use Rattle.std.specs.Prelude.{◌≡◌, [], ◌+◌, ◌^◌, ◌≤◌, length, OnOk, OnErr};
+ghost use Rattle.std.specs.Prelude.{◌≡◌, [], ◌+◌, ◌^◌, ◌≤◌, length, true, Err, OnOk, OnErr};
 ghost use Rattle.std.specs.Fs.{permissions_mode};
 ghost use Rattle.host_tree.specs.Kept.{HasRoom, forgetting, with_newest};
+ghost use Rattle.host_tree.specs.Modes.{bars_owner};
 
 use crate::cause::answer_of;
 use crate::kept::{Access, KeptFile};
@@ -80,7 +81,7 @@ where
     }
 
     /// Sets the mode of a file or a folder, and keeps it open where the old mode lets it be read: the new one may hinder
-    /// the sync.
+    /// the sync. Where neither lets it be read, nothing is set.
     pub fn set_mode(&mut self, alloc: Global, path: &Path, mode: u16) -> Result<(), TreeError>
         ensures read { self.new.read.files.items ≡ [] }
     {
@@ -91,8 +92,9 @@ where
         let text = self.text_of(alloc, path)?;
         let place = self.kept.room_for(alloc, path)?;
         require(&self.rt, text.as_str(), Wanted::Moded)?;
-        let Ok(file) = File::open(&self.rt, text.as_str()) else {
-            return answer_of(fs::set_permissions(&self.rt, text.as_str(), permissions_of(mode)));
+        let file = match answer_of(File::open(&self.rt, text.as_str())) {
+            Ok(file) => file,
+            Err(refusal) => return set_unopened(&self.rt, text.as_str(), mode, refusal),
         };
         let answer = answer_of(file.set_permissions(permissions_of(mode)));
         self.kept.keep(KeptFile {
@@ -120,6 +122,25 @@ where
         self.kept.forget(path);
         Ok(())
     }
+}
+
+/// The bit of a mode that lets the owner read.
+const OWNER_READS: u16 = 0o400;
+
+/// Sets the mode of what couldn't be opened. One that bars the owner would bar the sync too, so the open's refusal is
+/// answered then, before anything is changed.
+fn set_unopened<R: Files>(
+    rt: &R,
+    text: &str,
+    mode: u16,
+    refusal: TreeError,
+) -> Result<(), TreeError>
+    ensures barred { bars_owner mode ≡ true → result ≡ Err refusal }
+{
+    if mode & OWNER_READS == 0 {
+        return Err(refusal);
+    }
+    answer_of(fs::set_permissions(rt, text, permissions_of(mode)))
 }
 
 /// Makes a file where nothing stands yet, open to be written and synced.
