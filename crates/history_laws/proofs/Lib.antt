@@ -8,6 +8,7 @@ pub mod DeletionSteps
 pub mod Done
 pub mod Emptied
 pub mod FilledCalls
+pub mod LinkParts
 pub mod FilledFolders
 pub mod Example
 pub mod ExampleParts
