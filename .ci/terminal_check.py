@@ -661,6 +661,23 @@ def check_modes(program, base, check):
         check(f"no mode is given: {words.decode()}", status == 0 and words in told and mode("x") == 0o600 and mode("d") == 0o1750)
 
 
+def check_barred_mode(program, base, check):
+    """Of what can't be read, a mode that would bar its sync too is refused, and the next job needn't wait."""
+    user, program = for_somebody(program, base)
+    folder = os.path.join(base, "barred")
+    file = os.path.join(folder, "x")
+    os.mkdir(folder)
+    make_file(file, 2, 0o200)
+    make_file(os.path.join(folder, "y"), 2, 0o644)
+    if user is not None:
+        for path in (folder, file):
+            os.chown(path, user, user)
+    keys = [DOWN] + MODE + [b"0", b"1", b"0", b"0", ENTER, b"s", DOWN, F8, ENTER, F10]
+    status, told, same = run(program, [folder], keys, user=user)
+    check("a mode that would bar its sync is refused", b"permission denied" in told and stat.S_IMODE(os.stat(file).st_mode) == 0o200)
+    check("and no later job waits for it", status == 0 and same and os.listdir(folder) == ["x"])
+
+
 def check_closed_folder(program, base, check):
     """A folder that may not be read is refused, over the panel as it was."""
     user, program = for_somebody(program, base)
@@ -948,6 +965,7 @@ def main():
         check_new_folders(program, base, check)
         check_links(program, base, check)
         check_modes(program, base, check)
+        check_barred_mode(program, base, check)
         check_closed_folder(program, base, check)
         check_long_path(program, base, check)
         check_dirty_folder(program, base, check)
