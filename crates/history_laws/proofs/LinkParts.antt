@@ -18,6 +18,7 @@ use Rattle.history_laws.proofs.JobKnows.{IsUntouched, untouched_settled}
 use Rattle.history_laws.proofs.Knowing.{IsCalmIn, IsKept, IsKnown, Said, settled_marks}
 use Rattle.history_laws.proofs.MakingParts.{MakesPart, made_known, marks_new, new_node, off_part, part_leads, part_node, with_part}
 use Rattle.history_laws.proofs.PlacingParts.{firm_known, marks_firm}
+use Rattle.history_laws.proofs.PlacingSteps.{IsWhole}
 use Rattle.history_laws.proofs.Resting.{IsSureFolder}
 
 -- the part stands beside the target, and leads to a link that says this, which is on the disk but for its name
@@ -47,6 +48,20 @@ link_settled log marks told target part text i h = record {
   beside = h.beside;
   apart = h.apart;
   untouched = untouched_settled log marks target h.untouched;
+}
+
+-- so it may be placed, without a sync
+pub whole_link : (told : Said) (marks : Marks) (log : CallLog) (target part : Route) (text : List ℕ) (i : ℕ) → HasLink told marks (current log) target part text i → is_clean i log.changes ≡ true → IsWhole told marks log target part i
+whole_link told marks log target part text i has clean = record {
+  part_is = has.part_is;
+  leads = has.leads;
+  moves = has.moves;
+  bare = ap folder_kind has.link;
+  clean = clean;
+  name = has.name;
+  beside = has.beside;
+  apart = has.apart;
+  untouched = has.untouched;
 }
 
 no_more : (a b : Bool) → b ≡ true → (a && not b) ≡ false

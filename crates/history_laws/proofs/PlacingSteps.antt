@@ -12,7 +12,7 @@ use Rattle.tree_trait.specs.FileSystem.{Spot, find, node, value}
 use Rattle.tree_trait.specs.Refusals.{is_folder, folder_kind, walk, after_walk, rename_refusal}
 use Rattle.tree_trait.specs.Calls.{Call, SetMode, SyncFile, Rename}
 use Rattle.tree_trait.specs.Change.{Change, Nothing, Moves, Sets, Syncs, CallLog, current, with_change, change_of, found}
-use Rattle.tree_trait.specs.CrashImages.{Among}
+use Rattle.tree_trait.specs.CrashImages.{Among, is_clean}
 use Rattle.tree_trait.specs.Answers.{Performs}
 use Rattle.tree_trait.proofs.Visible.{same_path-self, same_path-true}
 use Rattle.tree_trait.proofs.Walking.{passed_walk, last_place}
@@ -27,11 +27,13 @@ use Rattle.job_reports.specs.CallRuns.{AllDone, StopsAt, RunStops}
 use Rattle.file_copy.specs.CopyCalls.{part_mode, placing}
 use Rattle.file_copy.specs.Copied.{copied}
 use Rattle.file_copy.specs.Copying.{Copying}
+use Rattle.job_reports.specs.Jobs.{Copies}
 use Rattle.job_reports.specs.Paths.{folder_of}
 use Rattle.job_reports.proofs.CallAnswers.{IsDoneCall, done_call, some_log}
 use Rattle.file_copy.proofs.FilledParts.{Holds, holds_copy}
 use Rattle.copy_move.specs.declared.work.Work.TheVariants.{Copy}
-use Rattle.history_laws.specs.Replayed.{moved_from}
+use Rattle.session_history.specs.Named.{changed_by, named_by}
+use Rattle.history_laws.specs.Replayed.{keeping, moved_from, placed_by}
 use Rattle.history_laws.proofs.Moved.{moved_here}
 use Rattle.history_laws.proofs.Calming.{moded_known, nothing_known, synced_known, refused_is}
 use Rattle.history_laws.proofs.Deleted.{file_no_mount, put_at, put_off}
@@ -39,7 +41,7 @@ use Rattle.history_laws.proofs.Knowing.{Said, IsKnown, IsKept, nowhere, settled_
 use Rattle.history_laws.proofs.JobKnows.{HasPart, IsFilled, IsUntouched, none_of_part, part_settled}
 use Rattle.history_laws.proofs.PartNodes.{moded_node, part_on, part_there}
 use Rattle.history_laws.proofs.PlacingParts.{PlacesPart, firm_known, marks_firm, placed_known}
-use Rattle.history_laws.proofs.Stepped.{Comes, comes_none, comes_one, comes_then, said_after}
+use Rattle.history_laws.proofs.Stepped.{Comes, comes_none, comes_one, comes_then, doubt_by, said_after}
 
 -- the part that stands, in any tree: what its node holds, once it held these bytes with any mode
 abbrev Kept : Said → Route → Route → ℕ → FileSystem → FileSystem → ℕ → Marks → Type 0
@@ -77,7 +79,7 @@ module _ (told : Said) (dirty : List Route) (target part : Route) (i : ℕ) wher
 
   -- what is known of a part that was synced: it may be placed
   abbrev pub IsFirm : Marks → CallLog → Type 0
-  IsFirm marks log = Rattle.tree_trait.specs.CrashImages.is_clean i log.changes ≡ true
+  IsFirm marks log = is_clean i log.changes ≡ true
 
   pub part_synced : (marks : Marks) (log mid : CallLog) → IsKept told dirty marks log → HasPart told marks (current log) target part i → Performs {A = Unit {0}} log (SyncFile part) (Ok tt) (Some mid)
       → Comes told told dirty log mid (λ m. HasPart told m (current mid) target part i × IsFirm m mid × (node (current mid) i ≡ node (current log) i))
@@ -156,136 +158,182 @@ module _ (told : Said) (dirty : List Route) (target part : Route) (i : ℕ) wher
 one_name : (a b : List ℕ) (q : Route) → (a ∷ q) ≡ b ∷ q → a ≡ b
 one_name a b q e = cc
 
-module _ (told : Said) (dirty : List Route) (c : Copying) (tname : List ℕ) (target_is : c.target ≡ tname ∷ folder_of c.target) (part : Route) (i : ℕ) (listed : Among dirty (folder_of c.target)) where
-  abbrev up : Route
-  up = folder_of c.target
+-- A part that is whole, and on the disk but for its name: one of a file that was filled and synced, or of a link.
+pub record IsWhole (said : Said) (marks : Marks) (log : CallLog) (target part : Route) (i : ℕ) : Type 0 where
+  pub part_is : said.part ≡ Some part
+  pub leads : find (current log) part ≡ Some i
+  pub moves : marks.roams i ≡ true
+  pub bare : is_folder (node (current log) i) ≡ false
+  pub clean : is_clean i log.changes ≡ true
+  pub name : List ℕ
+  pub beside : part ≡ name ∷ folder_of target
+  pub apart : part ≡ target → ⊥
+  pub untouched : IsUntouched marks (current log) target
 
-  abbrev after : CallLog → Said
-  after now = said_after now (Placed c.target) (Copy c) told
+pub whole_part : (told : Said) (marks : Marks) (log : CallLog) (target part : Route) (i : ℕ) → HasPart told marks (current log) target part i → is_clean i log.changes ≡ true → IsWhole told marks log target part i
+whole_part told marks log target part i has clean = record {
+  part_is = has.part_is;
+  leads = has.leads;
+  moves = has.moves;
+  bare = ap folder_kind has.file;
+  clean = clean;
+  name = has.name;
+  beside = has.beside;
+  apart = has.apart;
+  untouched = has.untouched;
+}
+
+-- what a history says once a part was placed at a path, by a copy of this source to that target
+abbrev pub said_placed : Said → Route → Route → Route → Said
+said_placed told source to target = record {
+  tree = placed_by (Some (Copies source to)) target told.tree;
+  earlier = keeping (changed_by (Placed target)) told.tree told.earlier;
+  named = named_by (Placed target) told.named;
+  part = None;
+  doubt = doubt_by (Placed target) told.part told.doubt;
+  folders = told.folders;
+  modes = told.modes;
+  calm = told.calm;
+}
+
+-- it is renamed to a path that lies at or below that target, and holds what stands where this comes from
+module _ (told : Said) (dirty : List Route) (source to target : Route) (tname : List ℕ) (target_is : target ≡ tname ∷ folder_of target) (part : Route) (i : ℕ) (listed : Among dirty (folder_of target))
+    (marks : Marks) (mid now : CallLog) (kept : IsKept told dirty marks mid) (whole : IsWhole told marks mid target part i)
+    (copy : option_map copied (told.tree (moved_from source to target)).value ≡ Some (value (node (current mid) i))) (done : Performs {A = Unit {0}} mid (Rename part target) (Ok tt) (Some now)) where
+  abbrev up : Route
+  up = folder_of target
+
+  abbrev after : Said
+  after = said_placed told source to target
+
+  d : IsDoneCall mid (Rename part target) now
+  d = done_call mid (Rename part target) now done
+
+  abbrev f : ℕ
+  f = found (current mid) up
+
+  abbrev r : Option ℕ
+  r = find (current mid) target
+
+  abbrev moved : Change
+  moved = Moves f whole.name f tname i r
+
+  permits : Rattle.tree_trait.specs.Refusals.refusal_of (current mid) (Rename (whole.name ∷ up) (tname ∷ up)) ≡ None
+  permits = subst (λ q. Rattle.tree_trait.specs.Refusals.refusal_of (current mid) (Rename (whole.name ∷ up) q) ≡ None) target_is
+      (subst (λ q. Rattle.tree_trait.specs.Refusals.refusal_of (current mid) (Rename q target) ≡ None) whole.beside d.permits)
+
+  apart : whole.name ≡ tname → ⊥
+  apart e = whole.apart (whole.beside ∙ (ap (λ n. n ∷ up) e ∙ sym target_is))
+
+  apart_path : same_path (whole.name ∷ up) (tname ∷ up) ≡ false
+  apart_path = false_from_ne_true _ (λ h. apart (one_name whole.name tname up (same_path-true (whole.name ∷ up) (tname ∷ up) h)))
+
+  found_part : found (current mid) (whole.name ∷ up) ≡ i
+  found_part = ap (λ o. unwrap_or o 0) (ap (find (current mid)) (sym whole.beside) ∙ whole.leads)
+
+  now_is : now ≡ with_change mid moved
+  now_is = d.is ∙ ap (with_change mid) (
+      ap (λ q. change_of (current mid) (Rename q target) d.time) whole.beside
+      ∙ (ap (λ q. change_of (current mid) (Rename (whole.name ∷ up) q) d.time) target_is
+      ∙ (ap (λ b. if◌then◌else◌ b Nothing (Moves f whole.name f tname (found (current mid) (whole.name ∷ up)) (find (current mid) (tname ∷ up)))) apart_path
+      ∙ (ap (λ j. Moves f whole.name f tname j (find (current mid) (tname ∷ up))) found_part ∙ ap (λ q. Moves f whole.name f tname i (find (current mid) q)) (sym target_is))))
+      )
+
+  stands : (find (current mid) up ≡ Some f) × (is_folder (node (current mid) f) ≡ true)
+  stands =
+      let w = passed_walk (walk (current mid) (whole.name ∷ up)) (λ a. after_walk (current mid) (tname ∷ up) (λ b. rename_refusal (current mid) (whole.name ∷ up) (tname ∷ up) a b)) permits in
+      let v = passed_walk (walk (current mid) (tname ∷ up)) (λ b. rename_refusal (current mid) (whole.name ∷ up) (tname ∷ up) w.0 b) w.2 in
+      let l = last_place (current mid) tname up v.0 v.1 in
+      (l.folder, l.is_one)
+
+  untouched : IsUntouched marks (current mid) target
+  untouched = whole.untouched
+
+  abbrev comes_from : Route
+  comes_from = moved_from source to target
+
+  not_part : told.part ≡ Some target → ⊥
+  not_part is = whole.apart (let e = sym whole.part_is ∙ is in cc)
+
+  target_seen : told.tree target ≡ nowhere
+  target_seen = sym (kept.known.shows target not_part) ∙ Rattle.history_laws.proofs.Changing.seen_nowhere (current mid) target untouched.free
+
+  bare : is_folder (node (current mid) i) ≡ false
+  bare = whole.bare
+
+  loose_no_more : (a : Bool) → Rattle.std.specs.Prelude.◌&&◌ a (Rattle.std.specs.Prelude.not (i == i)) ≡ false
+  loose_no_more true = ap Rattle.std.specs.Prelude.not (eq-eqb i i refl)
+  loose_no_more false = refl
+
+  named : (p : Route) → marks.aside p ≡ true → Among after.named p
+  named p is = Rattle.history_laws.proofs.Calming.still_listed target p told.named (kept.known.aside p is)
+      (false_from_ne_true _ (λ same. both_ways _ (subst (λ q. marks.aside q ≡ false) (sym (same_path-true p target same)) untouched.out) is))
+
+  at_name : (P : Route → Type 0) → P target → P (tname ∷ up)
+  at_name P h = subst P target_is h
+
+  places : PlacesPart told after (marks_firm marks i) mid whole.name tname up f i
+  places = record {
+    part_is = whole.part_is ∙ ap (λ q. Some q) whole.beside;
+    at = stands.0;
+    folder = stands.1;
+    leads = ap (find (current mid)) (sym whole.beside) ∙ whole.leads;
+    apart = apart;
+    moves = whole.moves;
+    firm = loose_no_more (marks.loose i);
+    file = bare;
+    out = subst (λ q. marks.aside q ≡ false) target_is untouched.out;
+    free = subst (λ q. find (current mid) q ≡ None) target_is untouched.free;
+    was = subst (λ q. marks.was q ≡ None) target_is untouched.was;
+    no_mount = file_no_mount (current mid) kept.known.guarded.tree i bare;
+    named = named;
+    off = λ p off.
+        let o = subst (λ q. same_path p q ≡ false) (sym target_is) off in
+        (put_off told.tree target (option_map copied (told.tree comes_from).value) p o, put_off told.earlier target (told.tree target).value p o);
+    placed = subst (λ q. after.tree q ≡ (let s : Spot = record { value = Some (value (node (current mid) i)); is_mount = false } in s)) target_is
+        (put_at told.tree target (option_map copied (told.tree comes_from).value)
+        ∙ (ap (λ (s : Spot). (let t : Spot = record s { value = option_map copied (told.tree comes_from).value } in t)) target_seen
+        ∙ ap (λ v. (let t : Spot = record { value = v; is_mount = false } in t)) copy));
+    earlier = subst (λ q. (after.earlier q).value ≡ None) target_is
+        (ap (λ (s : Spot). s.value) (put_at told.earlier target (told.tree target).value) ∙ ap (λ (s : Spot). s.value) target_seen);
+    none = refl;
+    doubts = λ p h. or_left _ _ (or_left _ _ h);
+    folders = λ p there. there;
+    modes = λ p there. there;
+    calm = λ p there. there;
+    no_mode = kept.modes i whole.clean;
+    doubted = (
+      or_left _ _ (or_right _ _ (subst (λ q. same_path q target ≡ true) target_is (same_path-self target))),
+      or_right _ _ (ap (λ o. option_map_or (same_path (whole.name ∷ up)) o false) (whole.part_is ∙ ap (λ q. Some q) whole.beside) ∙ same_path-self (whole.name ∷ up)),
+    );
+  }
+
+  pub whole_placed : Comes told after dirty mid now (λ m. after.part ≡ None)
+  whole_placed =
+      comes_one told after dirty dirty marks (marks_firm marks i) mid now moved (λ m. after.part ≡ None) kept now_is
+      (subst (λ (l : CallLog). IsKnown after dirty (marks_firm marks i) l) (sym now_is)
+      (placed_known told after dirty dirty (marks_firm marks i) mid (firm_known told dirty marks mid i whole.clean (kept.modes i whole.clean) kept.known) whole.name tname up f i r places listed (λ q among. among)))
+      refl
+
+module _ (told : Said) (dirty : List Route) (c : Copying) (tname : List ℕ) (target_is : c.target ≡ tname ∷ folder_of c.target) (part : Route) (i : ℕ) (listed : Among dirty (folder_of c.target)) where
+  abbrev said_then : CallLog → Said
+  said_then now = said_after now (Placed c.target) (Copy c) told
 
   abbrev Placing : CallLog → CallLog → Type 0
-  Placing log now = Comes told (after now) dirty log now (λ m. (after now).part ≡ None)
+  Placing log now = Comes told (said_then now) dirty log now (λ m. (said_then now).part ≡ None)
 
   -- the part is renamed
-  module _ (marks : Marks) (mid now : CallLog) (kept : IsKept told dirty marks mid) (has : HasPart told marks (current mid) c.target part i) (clean : IsFirm told dirty c.target part i marks mid)
-      (copy : option_map copied (told.tree c.source).value ≡ Some (value (node (current mid) i))) (done : Performs {A = Unit {0}} mid (Rename part c.target) (Ok tt) (Some now)) where
-    d : IsDoneCall mid (Rename part c.target) now
-    d = done_call mid (Rename part c.target) now done
-
-    abbrev f : ℕ
-    f = found (current mid) up
-
-    abbrev r : Option ℕ
-    r = find (current mid) c.target
-
-    abbrev moved : Change
-    moved = Moves f has.name f tname i r
-
-    permits : Rattle.tree_trait.specs.Refusals.refusal_of (current mid) (Rename (has.name ∷ up) (tname ∷ up)) ≡ None
-    permits = subst (λ q. Rattle.tree_trait.specs.Refusals.refusal_of (current mid) (Rename (has.name ∷ up) q) ≡ None) target_is
-        (subst (λ q. Rattle.tree_trait.specs.Refusals.refusal_of (current mid) (Rename q c.target) ≡ None) has.beside d.permits)
-
-    apart : has.name ≡ tname → ⊥
-    apart e = has.apart (has.beside ∙ (ap (λ n. n ∷ up) e ∙ sym target_is))
-
-    apart_path : same_path (has.name ∷ up) (tname ∷ up) ≡ false
-    apart_path = false_from_ne_true _ (λ h. apart (one_name has.name tname up (same_path-true (has.name ∷ up) (tname ∷ up) h)))
-
-    found_part : found (current mid) (has.name ∷ up) ≡ i
-    found_part = ap (λ o. unwrap_or o 0) (ap (find (current mid)) (sym has.beside) ∙ has.leads)
-
-    now_is : now ≡ with_change mid moved
-    now_is = d.is ∙ ap (with_change mid) (
-        ap (λ q. change_of (current mid) (Rename q c.target) d.time) has.beside
-        ∙ (ap (λ q. change_of (current mid) (Rename (has.name ∷ up) q) d.time) target_is
-        ∙ (ap (λ b. if◌then◌else◌ b Nothing (Moves f has.name f tname (found (current mid) (has.name ∷ up)) (find (current mid) (tname ∷ up)))) apart_path
-        ∙ (ap (λ j. Moves f has.name f tname j (find (current mid) (tname ∷ up))) found_part ∙ ap (λ q. Moves f has.name f tname i (find (current mid) q)) (sym target_is))))
-        )
-
-    stands : (find (current mid) up ≡ Some f) × (is_folder (node (current mid) f) ≡ true)
-    stands =
-        let w = passed_walk (walk (current mid) (has.name ∷ up)) (λ a. after_walk (current mid) (tname ∷ up) (λ b. rename_refusal (current mid) (has.name ∷ up) (tname ∷ up) a b)) permits in
-        let v = passed_walk (walk (current mid) (tname ∷ up)) (λ b. rename_refusal (current mid) (has.name ∷ up) (tname ∷ up) w.0 b) w.2 in
-        let l = last_place (current mid) tname up v.0 v.1 in
-        (l.folder, l.is_one)
-
-    untouched : IsUntouched marks (current mid) c.target
-    untouched = has.untouched
-
-    abbrev comes_from : Route
-    comes_from = moved_from c.source c.target c.target
-
-    copy_from : option_map copied (told.tree comes_from).value ≡ Some (value (node (current mid) i))
-    copy_from = ap (λ q. option_map copied (told.tree q).value) (moved_here c.source c.target) ∙ copy
-
-    not_part : told.part ≡ Some c.target → ⊥
-    not_part is = has.apart (let e = sym has.part_is ∙ is in cc)
-
-    target_seen : told.tree c.target ≡ nowhere
-    target_seen = sym (kept.known.shows c.target not_part) ∙ Rattle.history_laws.proofs.Changing.seen_nowhere (current mid) c.target untouched.free
-
-    bare : is_folder (node (current mid) i) ≡ false
-    bare = ap folder_kind has.file
-
-    loose_no_more : (a : Bool) → Rattle.std.specs.Prelude.◌&&◌ a (Rattle.std.specs.Prelude.not (i == i)) ≡ false
-    loose_no_more true = ap Rattle.std.specs.Prelude.not (eq-eqb i i refl)
-    loose_no_more false = refl
-
-    named : (p : Route) → marks.aside p ≡ true → Among (after now).named p
-    named p is = Rattle.history_laws.proofs.Calming.still_listed c.target p told.named (kept.known.aside p is)
-        (false_from_ne_true _ (λ same. both_ways _ (subst (λ q. marks.aside q ≡ false) (sym (same_path-true p c.target same)) untouched.out) is))
-
-    at_name : (P : Route → Type 0) → P c.target → P (tname ∷ up)
-    at_name P h = subst P target_is h
-
-    places : PlacesPart told (after now) (marks_firm marks i) mid has.name tname up f i
-    places = record {
-      part_is = has.part_is ∙ ap (λ q. Some q) has.beside;
-      at = stands.0;
-      folder = stands.1;
-      leads = ap (find (current mid)) (sym has.beside) ∙ has.leads;
-      apart = apart;
-      moves = has.moves;
-      firm = loose_no_more (marks.loose i);
-      file = bare;
-      out = subst (λ q. marks.aside q ≡ false) target_is untouched.out;
-      free = subst (λ q. find (current mid) q ≡ None) target_is untouched.free;
-      was = subst (λ q. marks.was q ≡ None) target_is untouched.was;
-      no_mount = file_no_mount (current mid) kept.known.guarded.tree i bare;
-      named = named;
-      off = λ p off.
-          let o = subst (λ q. same_path p q ≡ false) (sym target_is) off in
-          (put_off told.tree c.target (option_map copied (told.tree comes_from).value) p o, put_off told.earlier c.target (told.tree c.target).value p o);
-      placed = subst (λ q. (after now).tree q ≡ (let s : Spot = record { value = Some (value (node (current mid) i)); is_mount = false } in s)) target_is
-          (put_at told.tree c.target (option_map copied (told.tree comes_from).value)
-          ∙ (ap (λ (s : Spot). (let t : Spot = record s { value = option_map copied (told.tree comes_from).value } in t)) target_seen
-          ∙ ap (λ v. (let t : Spot = record { value = v; is_mount = false } in t)) copy_from));
-      earlier = subst (λ q. ((after now).earlier q).value ≡ None) target_is
-          (ap (λ (s : Spot). s.value) (put_at told.earlier c.target (told.tree c.target).value) ∙ ap (λ (s : Spot). s.value) target_seen);
-      none = refl;
-      doubts = λ p h. or_left _ _ (or_left _ _ h);
-      folders = λ p there. there;
-      modes = λ p there. there;
-      calm = λ p there. there;
-      no_mode = kept.modes i clean;
-      doubted = (
-        or_left _ _ (or_right _ _ (subst (λ q. same_path q c.target ≡ true) target_is (same_path-self c.target))),
-        or_right _ _ (ap (λ o. option_map_or (same_path (has.name ∷ up)) o false) (has.part_is ∙ ap (λ q. Some q) has.beside) ∙ same_path-self (has.name ∷ up)),
-      );
-    }
-
-    renamed : Placing mid now
-    renamed =
-        comes_one told (after now) dirty dirty marks (marks_firm marks i) mid now moved (λ m. (after now).part ≡ None) kept now_is
-        (subst (λ (l : CallLog). IsKnown (after now) dirty (marks_firm marks i) l) (sym now_is)
-        (placed_known told (after now) dirty dirty (marks_firm marks i) mid (firm_known told dirty marks mid i clean (kept.modes i clean) kept.known) has.name tname up f i r places listed (λ q among. among)))
-        refl
+  renamed : (marks : Marks) (mid now : CallLog) → IsKept told dirty marks mid → HasPart told marks (current mid) c.target part i → IsFirm told dirty c.target part i marks mid
+      → option_map copied (told.tree c.source).value ≡ Some (value (node (current mid) i)) → Performs {A = Unit {0}} mid (Rename part c.target) (Ok tt) (Some now) → Placing mid now
+  renamed marks mid now kept has clean copy done =
+      whole_placed told dirty c.source c.target c.target tname target_is part i listed marks mid now kept (whole_part told marks mid c.target part i has clean)
+      (ap (λ q. option_map copied (told.tree q).value) (moved_here c.source c.target) ∙ copy) done
 
   -- the sync and the renaming were done
   tail_done : (marks : Marks) (log now : CallLog) → IsKept told dirty marks log → HasPart told marks (current log) c.target part i
       → option_map copied (told.tree c.source).value ≡ Some (value (node (current log) i)) → AllDone log (SyncFile part ∷ Rename part c.target ∷ []) (Some now) → Placing log now
   tail_done marks log now kept has copy (mid, synced, (last, moved, end)) =
-      comes_then told (after now) dirty dirty log mid now _ _ (part_synced told dirty c.target part i marks log mid kept has synced)
+      comes_then told (said_then now) dirty dirty log mid now _ _ (part_synced told dirty c.target part i marks log mid kept has synced)
       (λ m k knows. renamed m mid now k knows.0 knows.1 (copy ∙ ap (λ n. Some (value n)) (sym knows.2))
       (subst (λ (l : CallLog). Performs {A = Unit {0}} mid (Rename part c.target) (Ok tt) (Some l)) (sym (some_log now last end)) moved))
 
@@ -310,7 +358,7 @@ module _ (told : Said) (dirty : List Route) (c : Copying) (tname : List ℕ) (ta
     by : (b : Bool) → (part_mode said.mode == said.mode) ≡ b → AllDone log (if◌then◌else◌ b [] (SetMode part said.mode ∷ []) ++ SyncFile part ∷ Rename part c.target ∷ []) (Some now) → Placing log now
     by true same rows = tail_done marks log now kept has (copy_of (current log) (subst (λ mode. Holds (node (current log) i) from.bytes mode) (eqb-true (part_mode said.mode) said.mode same) full)) rows
     by false other (mid, set, rows) =
-        comes_then told (after now) dirty dirty log mid now _ _ (mode_set told dirty c.target part i marks log mid said.mode kept has set)
+        comes_then told (said_then now) dirty dirty log mid now _ _ (mode_set told dirty c.target part i marks log mid said.mode kept has set)
         (λ m k knows. tail_done m mid now k knows.0 (copy_of (current mid) (knows.1 from.bytes (part_mode said.mode) full)) rows)
 
     pub part_placed : Placing log now
