@@ -10,6 +10,7 @@ mod telling;
 mod wrong;
 
 use row_page::Page;
+pub use telling::{AllFree, Answer};
 
 /// The lines of all copies.
 pub fn tell_copies(page: &mut Page) {

@@ -15,7 +15,7 @@ use tree_trait::Tree;
 const MOST_STEPS: u32 = 20;
 
 /// No job has a claim.
-struct AllFree;
+pub struct AllFree;
 
 impl PartTest for AllFree {
     ghost use Rattle.std.specs.Prelude.{true};
@@ -27,14 +27,14 @@ impl PartTest for AllFree {
     }
 }
 
-/// What is done with a copy.
+/// What is done with a copy, or a save.
 #[derive(Clone, Copy, Debug)]
 pub enum Answer {
     /// A trouble is answered by a skip.
     Skip,
     /// A trouble is answered by a retry.
     Retry,
-    /// After the first chunk the copy is aborted.
+    /// After the first chunk a copy is aborted, and a save where it stands in trouble.
     Abort,
 }
 

@@ -2,7 +2,8 @@
 ghost use Rattle.std.specs.Prelude.{◌≡◌, ◌<◌, ◌≤◌, [], length};
 
 use crate::images::tell_images;
-use crate::telling::{Answer, tell_steps};
+use crate::telling::tell_steps;
+use copy_rows::Answer;
 use mc_text::{Bytes, Path};
 use mem_tree::MemTree;
 use row_page::{Page, number, two_fields};

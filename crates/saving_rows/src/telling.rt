@@ -3,7 +3,7 @@ ghost use Rattle.std.specs.Prelude.{◌≡◌, None, IfSome};
 ghost use Rattle.file_copy.specs.LastSteps.{left_at};
 
 use crate::scene::{FOLDER, TARGET};
-use file_copy::PartTest;
+use copy_rows::{AllFree, Answer};
 use file_save::FileSave;
 use job_reports::{Cause, Did, Ending};
 use mc_text::{Bytes, Path};
@@ -14,27 +14,6 @@ use tree_trait::Tree;
 
 /// A save that makes more steps is not ended.
 const MOST_STEPS: u32 = 20;
-
-/// No job has a claim.
-struct NoClaims;
-
-impl PartTest for NoClaims {
-    ghost use Rattle.std.specs.Prelude.{true};
-
-    ghost is_free = { λ _ _. true };
-
-    fn free(&self, _path: &Path) -> bool {
-        true
-    }
-}
-
-/// What is answered to a trouble.
-#[derive(Clone, Copy, Debug)]
-pub enum Answer {
-    Skip,
-    Retry,
-    Abort,
-}
 
 /// How a save goes on after a step.
 #[derive(Clone, Copy)]
@@ -80,7 +59,7 @@ fn step<T: Tree>(page: &mut Page, tree: &mut T, save: &mut FileSave, answer: Ans
     requires { left_at save.old.copy.stage ≡ None }
     ensures { left_at save.new.copy.stage ≡ None }
 {
-    let stepped = save.step(page.alloc(), tree, &NoClaims);
+    let stepped = save.step(page.alloc(), tree, &AllFree);
     tell_step(page, &stepped.did, stepped.calls);
     match &stepped.did {
         Did::Troubled(trouble) => answer_trouble(page, save, trouble.cause, answer),
