@@ -13,6 +13,7 @@ use Rattle.job_reports.specs.declared.report.Did.{Did}
 use Rattle.job_reports.specs.declared.report.Did.TheVariants.{Began, Chunk, Placed, Removed, Made, Set, Kept, Skipped, Cleaned, Barrier, Troubled, Ended}
 use Rattle.job_reports.specs.declared.report.StepResult.{StepResult}
 use Rattle.job_reports.specs.declared.report.Trouble.{Trouble}
+use Rattle.job_reports.specs.Reports.{IsFault}
 use Rattle.job_reports.specs.CallRuns.{HasMore}
 use Rattle.job_reports.specs.Stops.{out_of_memory_at}
 use Rattle.file_copy.specs.Copying as file
@@ -26,7 +27,7 @@ use Rattle.link_copy.specs.LinkCopying.{LinkCopying}
 use Rattle.link_copy.specs.LinkSteps as link_steps
 use Rattle.tree_copy.specs.declared.item.Item.{Item}
 use Rattle.tree_copy.specs.declared.item.Item.TheVariants.{Next, File, Link, Stays}
-use Rattle.tree_copy.specs.Reports.{IsFault, IsToldAs}
+use Rattle.tree_copy.specs.Reports.{IsToldAs}
 use Rattle.tree_copy.specs.Parts.{IsPartPlace}
 use Rattle.tree_copy.specs.Skipping as machine
 use Rattle.tree_copy.specs.Standing.{Seen}
