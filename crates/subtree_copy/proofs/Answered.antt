@@ -1,7 +1,11 @@
 -- What an answered skip and retry leave; and last steps are fewer than those of a copy that goes on.
 use Rattle.std.proofs.Common.{◌≡◌, ℕ, ◌+◌, ◌*◌, ◌^◌, ◌<◌, ◌≤◌, refl, sym, ◌∙◌, ap, subst, inl, inr, Bool, true, false, List, [], ◌∷◌, length, arith, Option, Some, None}
+use Rattle.mc_text.specs.Routes.{Route}
+use Rattle.tree_trait.specs.Change.{CallLog}
+use Rattle.job_answers.specs.declared.skips.Skips.{Skips as Kinds}
 use Rattle.job_reports.specs.declared.report.Cause.{Cause}
 use Rattle.job_reports.specs.declared.report.Did.{Did}
+use Rattle.job_reports.specs.declared.report.StepResult.{StepResult}
 use Rattle.file_copy.specs.Copying.{Copying, taken_anew as file_anew}
 use Rattle.file_copy.specs.LastSteps.{left_at}
 use Rattle.file_copy.specs.declared.stage.Stage.{Stage as FileStage}
@@ -29,7 +33,12 @@ use Rattle.tree_copy.specs.Progress.{link_progress, progress}
 use Rattle.tree_copy.specs.Skipping.{Skips, SkipsAt, SkipsNamed, SkipsRest, retried, retried_at}
 use Rattle.tree_copy.specs.Standing.{Seen}
 use Rattle.tree_copy.specs.Steps.{IsWorkable, idle, settled}
-use Rattle.subtree_copy.specs.Ranks.{AnsweredLaw, WaitingLaw, anew, around_rank, dirt, file_rank, item_rank, last_of, last_rank, level_rank, levels_rank, link_rank, marks, marks_around, rank_by, stage_rank}
+use Rattle.tree_copy.proofs.Beginnings.{beginning_law}
+use Rattle.tree_copy.proofs.Fallings.{all_leave, falling_law}
+use Rattle.subtree_copy.specs.Passing.{OrPassedOver}
+use Rattle.subtree_copy.specs.Ranks.{AnsweredLaw, SteadyLaw, WaitingLaw, anew, around_rank, dirt, file_rank, item_rank, last_of, last_rank, level_rank, levels_rank, link_rank, marks, marks_around, rank_by, stage_rank}
+use Rattle.subtree_copy.specs.Standing.{named_of}
+use Rattle.subtree_copy.specs.SubtreeSteps.{ListSteps, step_result}
 use Rattle.subtree_copy.proofs.Ranked.{skip_falls}
 
 -- a folder stays made whatever names are left in it
@@ -88,6 +97,26 @@ retry_steady (File f) c is h = settled_steady _ (File (record f { stage = file_a
 retry_steady (Link l) c is h = settled_steady _ (Link (record l { stage = link_anew l.stage })) c (let n = subst (λ (i : Item). HasName i c.levels) is h.named in n) h.made
 retry_steady (Stays part) c is h = h
 
+-- each step does
+passes_steady : (skips : Kinds) (worked : StepResult) (old new : Seen) (result : StepResult) → OrPassedOver skips worked old new result → IsSteady old → IsSteady new
+passes_steady skips worked old new result (inl s) h = same_steady old new s.2 h
+passes_steady skips worked old new result (inr s) h = skip_steady old.item s.0 old new result.did refl s.3 h
+
+list_steady : (free : Route → Bool) (old new : Seen) (worked : StepResult) (dirty dirty_after : List Route) (before after : Option CallLog) (f0 f1 : ℕ) → ListSteps free old new worked dirty dirty_after before after f0 f1 → IsSteady old → IsSteady new
+list_steady free old new worked dirty dirty_after before after f0 f1 (inl s) h = same_steady old new s.stays h
+list_steady free old new worked dirty dirty_after before after f0 f1 (inr s) h = (let l = falling_law free old new worked.did worked.calls before after f0 f1 s.steps h in l.0)
+
+pub steady_law : SteadyLaw
+steady_law = record {
+  begins = λ job top. (let law = beginning_law job (named_of top.source) (named_of top.target) in law.1);
+  step = λ free old new did calls dirty dirty_after before after f0 f1 s h.
+      let l = s.leaves in
+      let mid = all_leave l.0 old.at s.mid l.1 h in
+      passes_steady old.skips s.worked s.moved new.at (step_result did calls) s.passes (list_steady free s.mid s.moved s.worked dirty dirty_after before after f0 f1 s.works mid.0);
+  skip = λ cause old new did s h. skip_steady old.at.item cause old.at new.at did refl s.skips h;
+  retry = λ c h. retry_steady c.at.item c.at refl h;
+}
+
 -- what is retried is begun once more, and its part is removed before
 abbrev OneMore : ℕ → Seen → Seen → Type 0
 OneMore most old new = rank_by most new ≤ rank_by most old + anew most + 4
@@ -123,9 +152,7 @@ retry_more most (Stays part) c is can = absurd can
 pub answered_law : AnsweredLaw
 answered_law = record {
   skip = λ cause old new did s steady open_at h. skip_falls (2 ^ 64) old.at.item cause old.at new.at did s.skips refl open_at steady.named h;
-  skipped = λ cause old new did s steady. skip_steady old.at.item cause old.at new.at did refl s.skips steady;
   retry = λ c going. retry_more (2 ^ 64) c.at.item c.at refl going;
-  retried = λ c steady. retry_steady c.at.item c.at refl steady;
 }
 
 -- each mark is a step of its folder

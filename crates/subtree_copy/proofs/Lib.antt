@@ -7,7 +7,9 @@ mod Fewer
 mod Held
 mod LastOnes
 mod Left
-mod Listed
+pub mod Listed
 mod Ranked
-mod Targets
+pub mod Targets
+mod Tellings
+mod Waits
 mod Worked

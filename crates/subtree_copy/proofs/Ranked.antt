@@ -16,10 +16,11 @@ use Rattle.file_copy.specs.CopySteps as file_steps
 use Rattle.file_copy.specs.declared.stage.Stage.{Stage as FileStage}
 use Rattle.file_copy.specs.declared.stage.Stage.TheVariants as file_stage
 use Rattle.folder_copy.specs.FolderCopying as folder
-use Rattle.folder_copy.specs.FolderCopying.{FolderCopying}
+use Rattle.folder_copy.specs.FolderCopying.{FolderCopying, is_dirty}
 use Rattle.folder_copy.specs.FolderSteps as folder_steps
 use Rattle.folder_copy.specs.FolderSteps.{at_sync}
-use Rattle.folder_copy.specs.declared.stage.NamesState.TheVariants.{Synced}
+use Rattle.folder_copy.specs.declared.stage.NamesState.{NamesState}
+use Rattle.folder_copy.specs.declared.stage.NamesState.TheVariants.{Dirty, Synced}
 use Rattle.folder_copy.specs.declared.stage.Stage.{Stage}
 use Rattle.folder_copy.specs.declared.stage.Stage.TheVariants.{Make, Fill, Close, Done}
 use Rattle.link_copy.specs.LinkCopying as link
@@ -30,7 +31,8 @@ use Rattle.link_copy.specs.declared.stage.Stage.TheVariants as link_stage
 use Rattle.subtree_walk.specs.Places.{opened}
 use Rattle.subtree_walk.specs.Ranks.{rank_around, weight}
 use Rattle.subtree_walk.proofs.Falling.{pass_falls}
-use Rattle.copy_levels.specs.Levels.{Levels, emptied, made_levels, passed, walked}
+use Rattle.copy_levels.specs.declared.level.Level.{Level}
+use Rattle.copy_levels.specs.Levels.{Levels, emptied, is_around_dirty, level, made_levels, passed, walked}
 use Rattle.tree_copy.specs.declared.item.Item.{Item}
 use Rattle.tree_copy.specs.declared.item.Item.TheVariants.{Next, File, Link, Stays}
 use Rattle.tree_copy.specs.Falling.{HasName, IsSteady, things_left}
@@ -38,7 +40,7 @@ use Rattle.tree_copy.specs.Parts.{IsPartPlace}
 use Rattle.tree_copy.specs.Progress.{link_progress, progress}
 use Rattle.tree_copy.specs.Skipping as machine
 use Rattle.tree_copy.specs.Standing.{Seen, after_report}
-use Rattle.tree_copy.specs.Steps.{FileWorks, FolderEnds, FolderMakes, GoesOn, IsWorkable, LeavesAll, LinkWorks, TakesNext, WorksOn, at_end, idle, link_begun, settled}
+use Rattle.tree_copy.specs.Steps.{FileWorks, FolderEnds, FolderMakes, GoesOn, IsWorkable, LeavesAll, LinkWorks, SyncsAround, TakesNext, WorksOn, at_end, idle, link_begun, settled}
 use Rattle.tree_copy.proofs.Fallings.{all_leave, falling_law}
 use Rattle.subtree_copy.specs.Leaving.{may_leave}
 use Rattle.subtree_copy.specs.Passing.{OrPassedOver}
@@ -140,25 +142,36 @@ takes_troubled most unclaimed old new did before after t (inr (inr (inr (inl w))
 takes_troubled most unclaimed old new did before after t (inr (inr (inr (inr (next, inl (debt, e)))))) says free = ends_troubled most old new did before after t e says
 takes_troubled most unclaimed old new did before after t (inr (inr (inr (inr (next, inr (debt, f, same)))))) says free = absurd (let e = sym f.says ∙ says in let g : ⊥ = cc in g)
 
-goes_troubled : (most : ℕ) (unclaimed : Route → Type 0) (old new : Seen) (did : Did) (before after : Option CallLog) (t : Trouble) → GoesOn unclaimed old new did before after → Says did t → t.barrier ≡ false → old.item ≡ Next
-    → OneMore most old new
-goes_troubled most unclaimed old new did before after t (inl s) says apart free =
-    let same = folder_same (at_sync s.outer.copy) (record (at_sync s.outer.copy) { names = s.names }) s.report did t s.says s.tells says in
-    absurd (true≢false (sym same.0 ∙ apart))
-goes_troubled most unclaimed old new did before after t (inr s) says apart free = takes_troubled most unclaimed old new did before after t s.1 says free
+dirty_is : (names : NamesState) → is_dirty names ≡ true → names ≡ Dirty
+dirty_is Dirty h = refl
+dirty_is Synced h = absurd (false≢true h)
 
-works_troubled : (most : ℕ) (unclaimed : Route → Type 0) (item : Item) (old new : Seen) (did : Did) (before after : Option CallLog) (t : Trouble) → WorksOn item unclaimed old new did before after → Says did t → t.barrier ≡ false
+syncs_troubled : (most : ℕ) (old new : Seen) (did : Did) (before after : Option CallLog) (t : Trouble) → SyncsAround old new did before after → Says did t → OneMore most old new
+syncs_troubled most old new did before after t s says =
+    let same = folder_same (at_sync s.outer.copy) (record (at_sync s.outer.copy) { names = s.names }) s.report did t s.says s.tells says in
+    let marked : is_dirty s.outer.copy.names ≡ true = ap is_around_dirty (sym s.was) ∙ s.dirty in
+    let names : s.names ≡ s.outer.copy.names = ap (λ (c : FolderCopying). c.names) same.1 ∙ sym (dirty_is s.outer.copy.names marked) in
+    no_more (rank_by most new) (rank_by most old) (ap (λ (c : Seen). rank_by most c) s.stands
+    ∙ (ap (λ (n : NamesState). rank_by most (record old { stage = after_report did old.stage; levels = record old.levels { around = level s.outer.names (record s.outer.copy { names = n }) ∷ s.around } })) names
+    ∙ ap (λ (os : List Level). rank_by most (record old { stage = after_report did old.stage; levels = record old.levels { around = os } })) (sym s.was)))
+
+goes_troubled : (most : ℕ) (unclaimed : Route → Type 0) (old new : Seen) (did : Did) (before after : Option CallLog) (t : Trouble) → GoesOn unclaimed old new did before after → Says did t → old.item ≡ Next
+    → OneMore most old new
+goes_troubled most unclaimed old new did before after t (inl s) says free = syncs_troubled most old new did before after t s says
+goes_troubled most unclaimed old new did before after t (inr s) says free = takes_troubled most unclaimed old new did before after t s.1 says free
+
+works_troubled : (most : ℕ) (unclaimed : Route → Type 0) (item : Item) (old new : Seen) (did : Did) (before after : Option CallLog) (t : Trouble) → WorksOn item unclaimed old new did before after → Says did t
     → old.item ≡ item → HasName item old.levels → OneMore most old new
-works_troubled most unclaimed Next old new did before after t w says apart is named = goes_troubled most unclaimed old new did before after t w says apart is
-works_troubled most unclaimed (File f) old new did before after t w says apart is named =
+works_troubled most unclaimed Next old new did before after t w says is named = goes_troubled most unclaimed old new did before after t w says is
+works_troubled most unclaimed (File f) old new did before after t w says is named =
     let same : item_rank most old.item ≡ file_rank most f.stage = ap (item_rank most) is in
     let l = file_troubled most unclaimed f old new did before after t w says named in
     omega (arith, same, l)
-works_troubled most unclaimed (Link k) old new did before after t w says apart is named =
+works_troubled most unclaimed (Link k) old new did before after t w says is named =
     let same : item_rank most old.item ≡ link_rank most k.stage = ap (item_rank most) is in
     let l = link_troubled most k old new did before after t w says named in
     omega (arith, same, l)
-works_troubled most unclaimed (Stays part) old new did before after t w says apart is named = absurd w
+works_troubled most unclaimed (Stays part) old new did before after t w says is named = absurd w
 
 -- a skip leaves two fewer at least
 abbrev pub TwoFewer : ℕ → Seen → Seen → Type 0
@@ -305,30 +318,35 @@ module _ (most : ℕ) (enough : 2 ^ 64 ≤ most) (free : Route → Bool) (old ne
           let l = falling_law free old new worked.did worked.calls before after f0 f1 s.steps steady in
           works_falls most enough (IsPartPlace free old) old.item old new worked.did before after (works_at_once free old new worked.did worked.calls before after f0 f1 s.steps settled_at) refl steady.named h (l.1, l.2)
 
-  list_troubled : (t : Trouble) → worked.did ≡ Troubled t → t.barrier ≡ false → OneMore most old new × IsSteady new
-  list_troubled t says apart = go w
+  pub list_troubled : (t : Trouble) → worked.did ≡ Troubled t → OneMore most old new × IsSteady new
+  list_troubled t says = go w
     where
       go : ListSteps free old new worked dirty dirty_after before after f0 f1 → OneMore most old new × IsSteady new
       go (inl s) = (no_more _ _ (ap (λ (c : Seen). rank_by most c) s.stays), subst IsSteady (sym s.stays) steady)
       go (inr s) =
           let l = falling_law free old new worked.did worked.calls before after f0 f1 s.steps steady in (
-            works_troubled most (IsPartPlace free old) old.item old new worked.did before after t (works_at_once free old new worked.did worked.calls before after f0 f1 s.steps settled_at) says apart refl steady.named,
+            works_troubled most (IsPartPlace free old) old.item old new worked.did before after t (works_at_once free old new worked.did worked.calls before after f0 f1 s.steps settled_at) says refl steady.named,
             l.0,
           )
+
+-- folders that are left leave no more steps
+pub left_lower : (most : ℕ) (n : ℕ) (old mid : Seen) → LeavesAll n old mid → IsSteady old → (rank_by most mid ≤ rank_by most old) × IsSteady mid
+left_lower most n old mid l steady =
+    let m = all_leave n old mid l steady in
+    let there = left_rank most n old mid l in
+    let things = m.1 in
+    let more = mul-le-mul_right (anew most) things in
+    let item = there.0 in
+    let levels = there.1 in
+    (omega (arith, more, item, levels), m.0)
 
 ranked : (most : ℕ) → 2 ^ 64 ≤ most → (free : Route → Bool) (old new : SubtreeCopying) (did : Did) (calls : ℕ) (dirty dirty_after : List Route) (before after : Option CallLog) (f0 f1 : ℕ)
     → SubtreeSteps free old new did calls dirty dirty_after before after f0 f1 → IsSteady old.at → IsWorkable old.at.item → goes_on did ≡ true → rank_by most new.at < rank_by most old.at
 ranked most enough free old new did calls dirty dirty_after before after f0 f1 s steady can h =
     let l = s.leaves in
-    let m = all_leave l.0 old.at s.mid l.1 steady in
-    let there = left_rank most l.0 old.at s.mid l.1 in
-    let can_there = left_workable l.0 old.at s.mid l.1 can in
-    let no_higher = lowers m.1 there.0 there.1 in
-    go m.0 can_there no_higher s.passes
+    let there = left_lower most l.0 old.at s.mid l.1 steady in
+    go there.1 (left_workable l.0 old.at s.mid l.1 can) there.0 s.passes
   where
-    lowers : things_left s.mid ≤ things_left old.at → item_rank most s.mid.item ≡ item_rank most old.at.item → levels_rank s.mid.levels ≤ levels_rank old.at.levels → rank_by most s.mid ≤ rank_by most old.at
-    lowers things item levels = let more = mul-le-mul_right (anew most) things in omega (arith, more, item, levels)
-
     go : IsSteady s.mid → IsWorkable s.mid.item → rank_by most s.mid ≤ rank_by most old.at → OrPassedOver old.skips s.worked s.moved new.at (step_result did calls) → rank_by most new.at < rank_by most old.at
     go steady_there can_there no_higher (inl p) =
         let same : s.worked.did ≡ did = sym (ap (λ (r : StepResult). r.did) p.1) in
@@ -337,7 +355,7 @@ ranked most enough free old new did calls dirty dirty_after before after f0 f1 s
         omega (arith, less, now, no_higher)
     go steady_there can_there no_higher (inr p) =
         let t = passed_trouble old.skips s.worked.did p.0 p.1 in
-        let more = list_troubled most enough free s.mid s.moved s.worked dirty dirty_after before after f0 f1 s.works s.settled steady_there t.0 t.1 t.2 in
+        let more = list_troubled most enough free s.mid s.moved s.worked dirty dirty_after before after f0 f1 s.works s.settled steady_there t.0 t.1 in
         let open_at = sym (list_barred free s.mid s.moved s.worked dirty dirty_after before after f0 f1 t.0 s.works t.1 s.settled steady_there can_there) ∙ t.2 in
         let moved_steady = more.1 in
         let less = skip_falls most s.moved.item p.0 s.moved new.at did p.3 refl open_at moved_steady.named h in

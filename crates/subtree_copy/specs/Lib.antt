@@ -6,3 +6,5 @@ pub mod Passing
 pub mod Ranks
 pub mod Standing
 pub mod SubtreeSteps
+pub mod Told
+pub mod Troubles

@@ -2,6 +2,7 @@
 use Rattle.std.specs.Prelude.{◌≡◌, ◌<◌, ◌≤◌, ℕ, ◌+◌, ◌-◌, ◌*◌, ◌^◌, Bool, true, false, List, [], ◌∷◌, Option, Some, None}
 use Rattle.mc_text.specs.Routes.{Route}
 use Rattle.tree_trait.specs.Change.{CallLog}
+use Rattle.job_reports.specs.declared.job.Pair.{Pair}
 use Rattle.job_reports.specs.declared.report.Cause.{Cause}
 use Rattle.job_reports.specs.declared.report.Did.{Did}
 use Rattle.job_reports.specs.declared.report.Did.TheVariants.{Troubled, Ended}
@@ -24,7 +25,7 @@ use Rattle.tree_copy.specs.declared.item.Item.{Item}
 use Rattle.tree_copy.specs.declared.item.Item.TheVariants.{Next, File, Link, Stays}
 use Rattle.tree_copy.specs.Falling.{IsSteady, things_left}
 use Rattle.tree_copy.specs.Standing.{Seen}
-use Rattle.subtree_copy.specs.Standing.{IsGoing, SubtreeCopying, at_barrier, retries}
+use Rattle.subtree_copy.specs.Standing.{IsGoing, SubtreeCopying, at_barrier, retries, started}
 use Rattle.subtree_copy.specs.SubtreeSteps.{LastSubtreeStep, SubtreeSkips, SubtreeSteps}
 
 -- a sync is owed
@@ -98,13 +99,19 @@ RankLaw =
     (free : Route → Bool) (old new : SubtreeCopying) (did : Did) (calls : ℕ) (dirty dirty_after : List Route) (before after : Option CallLog) (faults faults_after : ℕ)
     → SubtreeSteps free old new did calls dirty dirty_after before after faults faults_after → IsSteady old.at → IsGoing old → goes_on did ≡ true → rank new.at < rank old.at
 
+-- A copy that begins is steady, as this law wants it, and each step, skip and retry keeps it so.
+pub record SteadyLaw : Type 0 where
+  pub begins : (job : ℕ) (top : Pair) → (let copy : SubtreeCopying = started job top in IsSteady copy.at)
+  pub step : (free : Route → Bool) (old new : SubtreeCopying) (did : Did) (calls : ℕ) (dirty dirty_after : List Route) (before after : Option CallLog) (faults faults_after : ℕ)
+      → SubtreeSteps free old new did calls dirty dirty_after before after faults faults_after → IsSteady old.at → IsSteady new.at
+  pub skip : (cause : Cause) (old new : SubtreeCopying) (did : Did) → SubtreeSkips cause old did new → IsSteady old.at → IsSteady new.at
+  pub retry : (c : SubtreeCopying) → IsSteady c.at → (let again : SubtreeCopying = retries c in IsSteady again.at)
+
 -- What a person answers to a trouble. A skip after which the copy goes on leaves two steps fewer at least; a retry leaves those of one thing
--- more at most, which is begun again. The copy stays steady with both.
+-- more at most, which is begun again.
 pub record AnsweredLaw : Type 0 where
   pub skip : (cause : Cause) (old new : SubtreeCopying) (did : Did) → SubtreeSkips cause old did new → IsSteady old.at → at_barrier old.at ≡ false → goes_on did ≡ true → rank new.at + 2 ≤ rank old.at
-  pub skipped : (cause : Cause) (old new : SubtreeCopying) (did : Did) → SubtreeSkips cause old did new → IsSteady old.at → IsSteady new.at
   pub retry : (c : SubtreeCopying) → IsGoing c → (let again : SubtreeCopying = retries c in rank again.at) ≤ rank c.at + anew (2 ^ 64) + 4
-  pub retried : (c : SubtreeCopying) → IsSteady c.at → (let again : SubtreeCopying = retries c in IsSteady again.at)
 
 -- Of last steps: the part at work, and one try for each folder that is dirty.
 abbrev pub marks_around : List Level → ℕ

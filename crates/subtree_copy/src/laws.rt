@@ -1,7 +1,9 @@
 //! Laws of copies. They have no code: their clauses are proved, and stand here so that they are.
 ghost use Rattle.subtree_copy.specs.Barriers.{BarrierLaw};
 ghost use Rattle.subtree_copy.specs.Counted.{CountLaw};
-ghost use Rattle.subtree_copy.specs.Ranks.{AnsweredLaw, LastRankLaw, RankLaw, WaitingLaw};
+ghost use Rattle.subtree_copy.specs.Ranks.{AnsweredLaw, LastRankLaw, RankLaw, SteadyLaw, WaitingLaw};
+ghost use Rattle.subtree_copy.specs.Told.{ToldLaw};
+ghost use Rattle.subtree_copy.specs.Troubles.{TroubleLaw};
 
 /// A trouble stands at a barrier, where nothing can be skipped, where the copy does after it.
 pub fn a_trouble_stands_where_the_copy_does()
@@ -11,6 +13,11 @@ pub fn a_trouble_stands_where_the_copy_does()
 /// Each step after which the copy goes on leaves fewer steps.
 pub fn each_step_leaves_fewer()
     ensures { RankLaw }
+{}
+
+/// A copy that begins is steady, and stays so.
+pub fn each_copy_is_steady()
+    ensures { SteadyLaw }
 {}
 
 /// A skip that goes on leaves fewer steps, and a retry those of one thing more at most.
@@ -31,4 +38,14 @@ pub fn each_last_step_leaves_fewer()
 /// A step counts its calls, at most three, and meets a fault only where the tree's count has risen.
 pub fn a_step_counts_its_calls()
     ensures { CountLaw }
+{}
+
+/// Each report says how the part goes on, and whether anything was changed.
+pub fn what_a_history_can_tell()
+    ensures { ToldLaw }
+{}
+
+/// A copy that came into a trouble has no more last steps than it had steps; and what a skip tells.
+pub fn what_a_trouble_leaves()
+    ensures { TroubleLaw }
 {}

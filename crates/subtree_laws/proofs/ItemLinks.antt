@@ -39,7 +39,7 @@ not_cleaned : (next : Follows) → link_progress (after_clean next) ≡ UnderWay
 not_cleaned follows.Again going = (let f : ⊥ = cc in f)
 not_cleaned follows.Decided going = (let f : ⊥ = cc in f)
 
-no_row : (log : CallLog) (now : CallLog) (why : Cause) (path : Option Route) → RunStops [] why path log (Some now) → ⊥
+pub no_row : (log : CallLog) (now : CallLog) (why : Cause) (path : Option Route) → RunStops [] why path log (Some now) → ⊥
 no_row log now (cause.Tree e) path (call, named, never) = never
 no_row log now cause.Memory path (none, (count, few, done)) = omega (arith, few)
 no_row log now (cause.TargetKind kind) path h = h

@@ -2,11 +2,15 @@ pub mod ItemFiles
 pub mod ItemLinks
 pub mod ItemParts
 pub mod ItemSteps
+pub mod LinkTexts
+pub mod ListSteps
+pub mod Listings
 mod PartMade
 mod PartsApart
 pub mod QuietRuns
 pub mod Refused
 pub mod StepsKnown
+pub mod TextSteps
 pub mod TreeFiles
 pub mod TreeFolders
 pub mod TreeKnows

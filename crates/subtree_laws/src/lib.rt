@@ -3,6 +3,8 @@
 #![tactic(auto)]
 
 ghost use Rattle.subtree_laws.specs.Laws.{BeginningLaw, MetLaw, SkipLaw, StandingLaw, StepLaw};
+ghost use Rattle.subtree_laws.specs.Listing.{ListLaw};
+ghost use Rattle.subtree_laws.specs.Texts.{TextLaw};
 
 /// A copy that begins in a folder on the disk, where no change of the target's name waits, knows that of its one open folder, and nothing is
 /// at work.
@@ -30,4 +32,14 @@ pub fn what_is_met_next_is_out_of_doubt()
 /// The folder that is worked, once it is on the disk, stands there after any crash, or nowhere.
 pub fn what_is_worked_in_stands()
     ensures { StandingLaw }
+{}
+
+/// Each open folder that is marked as dirty is in the list of dirty folders: as a copy begins, and after each step, skip and retry.
+pub fn what_is_dirty_is_listed()
+    ensures { ListLaw }
+{}
+
+/// The part of a link at work is a link with the text that its source has, whole as it is made.
+pub fn what_a_links_part_holds()
+    ensures { TextLaw }
 {}

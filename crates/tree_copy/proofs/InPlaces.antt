@@ -68,7 +68,7 @@ link_paths l new (Kept path) t = absurd t
 link_paths l new (Skipped path cause) t = absurd t
 link_paths l new (Ended ending part) t = absurd t
 
-folder_paths : (c new : FolderCopying) (did : FolderDid) → folder.Tells c did new → (new.source ≡ c.source) × (new.target ≡ c.target)
+pub folder_paths : (c new : FolderCopying) (did : FolderDid) → folder.Tells c did new → (new.source ≡ c.source) × (new.target ≡ c.target)
 folder_paths c new (folder_did.Made path) t = (ap (λ (x : FolderCopying). x.source) t.3, ap (λ (x : FolderCopying). x.target) t.3)
 folder_paths c new (folder_did.Set path) t = (ap (λ (x : FolderCopying). x.source) t.3, ap (λ (x : FolderCopying). x.target) t.3)
 folder_paths c new folder_did.Barrier t = (ap (λ (x : FolderCopying). x.source) t.2, ap (λ (x : FolderCopying). x.target) t.2)

@@ -1,0 +1,139 @@
+-- A copy that came into a trouble, and one of which something is skipped.
+use Rattle.std.proofs.Common.{◌≡◌, ℕ, ◌+◌, ◌^◌, ◌<◌, ◌≤◌, refl, sym, ◌∙◌, ap, subst, inl, inr, Bool, true, false, List, [], ◌∷◌, arith, Option, Some, None}
+use Rattle.std.proofs.lemmas.Bool.{true≢false}
+use Rattle.std.specs.Prelude.{◌⊎◌, ◌||◌}
+use Rattle.mc_text.specs.Routes.{Route}
+use Rattle.tree_trait.specs.Change.{CallLog}
+use Rattle.job_reports.specs.declared.report.Cause.{Cause}
+use Rattle.job_reports.specs.declared.report.Did.{Did}
+use Rattle.job_reports.specs.declared.report.Did.TheVariants.{Skipped, Troubled}
+use Rattle.job_reports.specs.declared.report.StepResult.{StepResult}
+use Rattle.job_reports.specs.declared.report.Trouble.{Trouble}
+use Rattle.job_reports.specs.Stops.{out_of_memory_at}
+use Rattle.file_copy.specs.Copying as file
+use Rattle.file_copy.specs.Copying.{Copying}
+use Rattle.folder_copy.specs.FolderCopying as folder
+use Rattle.folder_copy.specs.FolderCopying.{FolderCopying}
+use Rattle.folder_copy.specs.declared.stage.Stage.{Stage}
+use Rattle.folder_copy.specs.declared.stage.Stage.TheVariants.{Make, Fill, Close, Done}
+use Rattle.link_copy.specs.LinkCopying as link
+use Rattle.link_copy.specs.LinkCopying.{LinkCopying}
+use Rattle.copy_levels.specs.Levels.{is_around_dirty, with_copy}
+use Rattle.tree_copy.specs.declared.item.Item.{Item}
+use Rattle.tree_copy.specs.declared.item.Item.TheVariants.{Next, File, Link, Stays}
+use Rattle.tree_copy.specs.declared.progress.Progress.{Progress}
+use Rattle.tree_copy.specs.declared.progress.Progress.TheVariants.{UnderWay}
+use Rattle.tree_copy.specs.Falling.{IsSteady}
+use Rattle.tree_copy.specs.Progress.{link_progress, progress}
+use Rattle.tree_copy.specs.Skipping as machine
+use Rattle.tree_copy.specs.Standing.{Seen}
+use Rattle.tree_copy.specs.Steps.{IsWorkable, idle, settled}
+use Rattle.subtree_copy.specs.Passing.{OrPassedOver}
+use Rattle.subtree_copy.specs.Ranks.{last_rank, rank, rank_by}
+use Rattle.subtree_copy.specs.Standing.{IsGoing, SubtreeCopying, at_barrier, barrier_at, barrier_at_end, barrier_at_name}
+use Rattle.subtree_copy.specs.SubtreeSteps.{SubtreeSteps, step_result}
+use Rattle.subtree_copy.specs.Troubles.{TroubleLaw}
+use Rattle.subtree_copy.proofs.Answered.{waiting_law}
+use Rattle.subtree_copy.proofs.Barred.{left_workable, list_barred, passed_trouble}
+use Rattle.subtree_copy.proofs.Fewer.{same_things}
+use Rattle.subtree_copy.proofs.Ranked.{left_lower, list_troubled}
+
+-- What a skip comes to: it tells a path, or there is no memory to tell it, and all stays.
+abbrev Comes : Bool → Cause → Seen → Did → Seen → Type 0
+Comes barrier cause old did new = ((path : Route) × (did ≡ Skipped path cause)) ⊎ ((did ≡ Troubled (out_of_memory_at barrier)) × (new ≡ old))
+
+rest_comes : (cause : Cause) (old new : Seen) (did : Did) → machine.SkipsRest cause old did new → Comes false cause old did new
+rest_comes cause old new did (inl s) = inl (_, s.0)
+rest_comes cause old new did (inr room) = inr room
+
+named_comes : (names : List (List ℕ)) (cause : Cause) (old new : Seen) (did : Did) → machine.SkipsNamed names cause old did new → barrier_at_name names old.levels.inner.copy.stage ≡ false → Comes false cause old did new
+named_comes [] cause old new did (moved, inl s, stands) apart = inl (_, s.0)
+named_comes [] cause old new did (moved, inr room, stands) apart = inr (
+  room.0 ∙ ap (λ b. Troubled (out_of_memory_at b)) (at_end old.levels.inner.copy.stage apart),
+  stands ∙ ap (λ (m : FolderCopying). (let s : Seen = record old { levels = with_copy m old.levels } in s)) room.1,
+)
+  where
+    at_end : (stage : Stage) → barrier_at_end stage ≡ false → folder.at_barrier stage ≡ false
+    at_end (Close (Some mode)) apart = refl
+    at_end (Close None) apart = absurd (true≢false apart)
+    at_end (Fill owed) apart = refl
+    at_end (Make mode) apart = refl
+    at_end Done apart = refl
+named_comes (name ∷ names) cause old new did (inl s) apart = inl (_, s.0)
+named_comes (name ∷ names) cause old new did (inr (inl s)) apart = rest_comes cause old new did s.1
+named_comes (name ∷ names) cause old new did (inr (inr room)) apart = inr room
+
+second_false : (a b : Bool) → (a || b) ≡ false → b ≡ false
+second_false true b is = absurd (true≢false is)
+second_false false b is = is
+
+-- a file or a link that is at work stays at work
+file_stays : (f moved : Copying) (old new : Seen) → old.item ≡ File f → progress f.stage ≡ UnderWay → moved ≡ f → new ≡ settled (progress moved.stage) (File moved) (idle old) → new ≡ old
+file_stays f moved old new is under same stands =
+    stands
+    ∙ (ap (λ (m : Copying). settled (progress m.stage) (File m) (idle old)) same
+    ∙ (ap (λ (p : Progress). settled p (File f) (idle old)) under ∙ ap (λ (i : Item). (let s : Seen = record old { item = i } in s)) (sym is)))
+
+link_stays : (l moved : LinkCopying) (old new : Seen) → old.item ≡ Link l → link_progress l.stage ≡ UnderWay → moved ≡ l → new ≡ settled (link_progress moved.stage) (Link moved) (idle old) → new ≡ old
+link_stays l moved old new is under same stands =
+    stands
+    ∙ (ap (λ (m : LinkCopying). settled (link_progress m.stage) (Link m) (idle old)) same
+    ∙ (ap (λ (p : Progress). settled p (Link l) (idle old)) under ∙ ap (λ (i : Item). (let s : Seen = record old { item = i } in s)) (sym is)))
+
+skip_comes : (item : Item) (cause : Cause) (old new : Seen) (did : Did) → old.item ≡ item → machine.SkipsAt item cause old did new → IsWorkable item → barrier_at item old.levels ≡ false → Comes false cause old did new
+skip_comes Next cause old new did is s can apart =
+    named_comes old.levels.inner.names.names cause old new did s (second_false (is_around_dirty old.levels.around) (barrier_at_name old.levels.inner.names.names old.levels.inner.copy.stage) apart)
+skip_comes (File f) cause old new did is (moved, inl s, stands) can apart = inl (_, s.0)
+skip_comes (File f) cause old new did is (moved, inr room, stands) can apart =
+    inr (room.0 ∙ ap (λ b. Troubled (out_of_memory_at b)) apart, file_stays f moved old new is can.0 room.1 stands)
+skip_comes (Link l) cause old new did is (moved, inl s, stands) can apart = inl (_, s.0)
+skip_comes (Link l) cause old new did is (moved, inr room, stands) can apart =
+    inr (room.0 ∙ ap (λ b. Troubled (out_of_memory_at b)) apart, link_stays l moved old new is can.0 room.1 stands)
+skip_comes (Stays part) cause old new did is s can apart = absurd can
+
+-- A skip within a step that still ends in a trouble changed nothing.
+still : (barrier : Bool) (cause : Cause) (old new : Seen) (t : Trouble) → Comes barrier cause old (Troubled t) new → new ≡ old
+still barrier cause old new t (inl (path, says)) = (let f : ⊥ = cc in absurd f)
+still barrier cause old new t (inr room) = room.1
+
+module _ (free : Route → Bool) (old new : SubtreeCopying) (t : Trouble) (calls : ℕ) (dirty dirty_after : List Route) (before after : Option CallLog) (f0 f1 : ℕ)
+    (s : SubtreeSteps free old new (Troubled t) calls dirty dirty_after before after f0 f1) (steady : IsSteady old.at) where
+  one_more : (u : Trouble) → s.worked.did ≡ Troubled u → new.at ≡ s.moved → IsSteady s.mid → rank s.mid ≤ rank old.at → rank new.at ≤ rank old.at + 1
+  one_more u says same there lower =
+      let more = list_troubled (2 ^ 64) (same_things (2 ^ 64)) free s.mid s.moved s.worked dirty dirty_after before after f0 f1 s.works s.settled there u says in
+      let one = more.0 in
+      let now : rank new.at ≡ rank s.moved = ap rank same in
+      omega (arith, one, now, lower)
+
+  going_on : new.at ≡ s.moved → IsGoing new
+  going_on same = subst (λ (c : Seen). IsWorkable c.item) (sym same) s.going
+
+  fewer : (u : Trouble) → s.worked.did ≡ Troubled u → new.at ≡ s.moved → last_rank new.at ≤ rank old.at
+  fewer u says same =
+      let l = s.leaves in
+      let there = left_lower (2 ^ 64) l.0 old.at s.mid l.1 steady in
+      let more = one_more u says same there.1 there.0 in
+      let waits = waiting_law new (going_on same) in
+      omega (arith, more, waits)
+
+  step_waits : IsGoing old → last_rank new.at ≤ rank old.at
+  step_waits can = by s.passes
+    where
+      by : OrPassedOver old.skips s.worked s.moved new.at (step_result (Troubled t) calls) → last_rank new.at ≤ rank old.at
+      by (inl p) = fewer t (sym (ap (λ (r : StepResult). r.did) p.1)) p.2
+      by (inr p) =
+          let l = s.leaves in
+          let there = left_lower (2 ^ 64) l.0 old.at s.mid l.1 steady in
+          let u = passed_trouble old.skips s.worked.did p.0 p.1 in
+          let barred = list_barred free s.mid s.moved s.worked dirty dirty_after before after f0 f1 u.0 s.works u.1 s.settled there.1 (left_workable l.0 old.at s.mid l.1 can) in
+          fewer u.0 u.1 (still false p.0 s.moved new.at t (skip_comes s.moved.item p.0 s.moved new.at (Troubled t) refl p.3 s.going (sym barred ∙ u.2)))
+
+pub trouble_law : TroubleLaw
+trouble_law = record {
+  step = λ free old new t calls dirty dirty_after before after f0 f1 s steady can. step_waits free old new t calls dirty dirty_after before after f0 f1 s steady can;
+  skip = λ cause old new did s can apart. by cause old new did s.stands (skip_comes old.at.item cause old.at new.at did refl s.skips can apart);
+}
+  where
+    by : (cause : Cause) (old new : SubtreeCopying) (did : Did) → new ≡ record old { at = new.at } → Comes false cause old.at did new.at → ((path : Route) × (did ≡ Skipped path cause)) ⊎ ((did ≡ Troubled (out_of_memory_at false)) × (new ≡ old))
+    by cause old new did stands (inl s) = inl s
+    by cause old new did stands (inr room) = inr (room.0, stands ∙ ap (λ (c : Seen). (let x : SubtreeCopying = record old { at = c } in x)) room.1)

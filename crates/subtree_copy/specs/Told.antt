@@ -1,0 +1,31 @@
+-- What a history can tell of such a copy: what is copied, the part that stands, whether anything was changed, and what is passed over. How that
+-- goes on, each report says.
+use Rattle.std.specs.Prelude.{◌≡◌, ℕ, Bool, List, Option, Some, None}
+use Rattle.mc_text.specs.Routes.{Route}
+use Rattle.tree_trait.specs.Change.{CallLog}
+use Rattle.job_reports.specs.declared.report.Cause.{Cause}
+use Rattle.job_reports.specs.declared.report.Did.{Did}
+use Rattle.job_reports.specs.declared.report.Did.TheVariants.{Began, Placed, Cleaned}
+use Rattle.tree_copy.specs.Standing.{after_report}
+use Rattle.subtree_copy.specs.Standing.{IsGoing, SubtreeCopying, part_of, retries}
+use Rattle.subtree_copy.specs.SubtreeSteps.{SubtreeSkips, SubtreeSteps}
+
+-- the part that stands after a report
+abbrev pub part_after : Did → Option Route → Option Route
+part_after (Began part) was = Some part
+part_after (Placed path) was = None
+part_after (Cleaned part) was = None
+part_after did was = was
+
+pub record IsAfter (did : Did) (old new : SubtreeCopying) : Type 0 where
+  pub top : new.top ≡ old.top
+  pub part : part_of new.at.item ≡ part_after did (part_of old.at.item)
+  pub stage : new.at.stage ≡ after_report did old.at.stage
+  pub skips : new.skips ≡ old.skips
+
+-- So it stands after each step and each skip; and a retry changes nothing of that.
+pub record ToldLaw : Type 0 where
+  pub step : (free : Route → Bool) (old new : SubtreeCopying) (did : Did) (calls : ℕ) (dirty dirty_after : List Route) (before after : Option CallLog) (faults faults_after : ℕ)
+      → SubtreeSteps free old new did calls dirty dirty_after before after faults faults_after → IsGoing old → IsAfter did old new
+  pub skip : (cause : Cause) (old new : SubtreeCopying) (did : Did) → SubtreeSkips cause old did new → IsGoing old → IsAfter did old new
+  pub retry : (c : SubtreeCopying) → IsGoing c → (let again : SubtreeCopying = retries c in part_of again.at.item) ≡ part_of c.at.item
