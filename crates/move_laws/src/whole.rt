@@ -7,7 +7,7 @@ pub fn what_a_renaming_leaves()
     ensures { RenamingLaw }
 {}
 
-/// Once both folders were synced it stands at its target alone.
+/// Once both folders were synced it is on the disk at its target.
 pub fn what_both_syncs_settle()
     ensures { SettledLaw }
 {}
