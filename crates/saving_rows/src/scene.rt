@@ -41,40 +41,18 @@ fn tell_save(page: &mut Page, tree: MemTree, row: &str)
     put_thing(page, &mut tree, thing, mode_of(mode));
     take_names(page, &mut tree, number(taken));
     let bytes = some_bytes(page, number(size));
-    match crash_of(number(size), number(taken)) {
-        Crash::EachMoment => save(page, &mut tree, bytes, faults, answer),
-        Crash::Untold => save_alone(page, &mut tree, bytes, faults, answer),
-    }
-}
-
-/// Whether a row tells what a crash leaves.
-enum Crash {
-    EachMoment,
-    /// There would be too much to build again for each image.
-    Untold,
-}
-
-fn crash_of(size: usize, taken: usize) -> Crash {
-    if size > 100 || taken > 10 {
-        Crash::Untold
-    } else {
-        Crash::EachMoment
-    }
+    save(page, &mut tree, bytes, faults, answer);
 }
 
 fn save(page: &mut Page, tree: &mut MemTree, bytes: Bytes, faults: &str, answer: &str) {
     match bytes.copy(page.alloc()) {
         Ok(saved) => {
-            save_alone(page, tree, saved, faults, answer);
+            fail_calls(page, tree, faults);
+            tell_steps(page, tree, saved, answer_of(answer));
             tell_images(page, tree, bytes.0.as_slice());
         }
         Err(_error) => page.fail(),
     }
-}
-
-fn save_alone(page: &mut Page, tree: &mut MemTree, bytes: Bytes, faults: &str, answer: &str) {
-    fail_calls(page, tree, faults);
-    tell_steps(page, tree, bytes, answer_of(answer));
 }
 
 /// The folder, of a mount of its own where a room is spelled.
