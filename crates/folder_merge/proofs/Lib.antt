@@ -1,0 +1,6 @@
+mod Listed
+mod Left
+mod Reached
+mod Stepped
+mod Doing
+mod Beside
