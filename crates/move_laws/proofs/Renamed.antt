@@ -21,10 +21,10 @@ use Rattle.tree_trait.proofs.Walking.{check_passes, last_place, passed_walk, som
 use Rattle.crash_law.specs.Possible.{IsImage, IsSettledBelow, MayFind, MayFindFrom, find_from}
 use Rattle.crash_law.specs.Guarded.{Marks, IsGuarded, IsNaming, IsSettledAt, IsUnder}
 use Rattle.crash_law.specs.Steps.{CanMove}
-use Rattle.crash_law.proofs.Guarding.{find_same, found_at, naming_law, said}
+use Rattle.crash_law.proofs.Guarding.{found_at, naming_law, said}
 use Rattle.crash_law.proofs.Leading.{clean_more, current_more, find_law}
 use Rattle.crash_law.proofs.Moving.{moving_naming}
-use Rattle.crash_law.proofs.Placing.{first, neither}
+use Rattle.crash_law.proofs.Placing.{first, neither, second}
 use Rattle.crash_law.proofs.Syncing.{frame_law, unaltered_law}
 use Rattle.crash_law.proofs.Tops.{find_below, goes_through, not_longer, some_of_two, top_is}
 use Rattle.crash_law.proofs.Wholeness.{Grown, path_same}
@@ -83,7 +83,7 @@ pub below_settled : (log : CallLog) (top : Route) (i : ℕ) → find (current lo
 below_settled log top i at settled = λ rest x found. settled rest x (from_below log top i at rest x found) ∙ find_below (current log) top i rest at
 
 module _ (marks : Marks) (log : CallLog) (upa upb : Route) (old new : List ℕ) (f g i : ℕ) (r : Option ℕ) (contents : Contents) (guarded : IsGuarded marks log)
-    (can : CanMove marks log upa upb old new f g i) (disk : IsOnDisk log (old ∷ upa) contents) (way : IsSettledAt log upb) where
+    (can : CanMove marks log upa upb old new f g i) (disk : IsOnDisk log (old ∷ upa) contents) (way : IsSettledAt log upb) (back : IsSettledAt log upa) where
   abbrev change : Change
   change = Moves f old g new i r
 
@@ -169,11 +169,12 @@ module _ (marks : Marks) (log : CallLog) (upa upb : Route) (old new : List ℕ) 
   moved_down rest = ap (λ (s : FileSystem). find_from s i rest) (current_more log change) ∙ still_down (current log) (λ q. refl) rest
 
   -- the thing as it was renamed, with nothing that waits but its own new name
-  pub was_renamed : IsRenamed now old f new upb g i [] contents
+  pub was_renamed : IsRenamed now old upa f new upb g i [] contents
   was_renamed =
       let naming = moving_naming marks log upa upb old new f g i r guarded can in
       let frame = frame_law marks log change upb guarded naming not_to in
       let says_so : says change (length (current log).nodes) g new ≡ Some (Some i) = first (same_name g new g new) (same_name f old g new) i (same_name-self g new) in
+      let frame_back = frame_law marks log change upa guarded naming not_from in
       let folder : find (current now) upb ≡ Some g = frame.0 ∙ can.to.at in
       let leads : lookup (current now).names g new ≡ Some i = said log change g new (Some i) says_so in
       let here : find (current now) (new ∷ upb) ≡ Some i = ap (option_and_then (λ k. lookup (current now).names k new)) folder ∙ leads in
@@ -182,9 +183,14 @@ module _ (marks : Marks) (log : CallLog) (upa upb : Route) (old new : List ℕ) 
         replaced = r;
         log_is = refl;
         unsaid = tt;
+        unsaid_old = tt;
+        other = can.other;
         way = λ x found. way x (frame.1 x found) ∙ sym frame.0;
         folder = folder;
         leads = leads;
+        way_back = λ x found. back x (frame_back.1 x found) ∙ sym frame_back.0;
+        folder_back = frame_back.0 ∙ can.from.at;
+        leads_nowhere = said log change f old None (second (same_name g new f old) (same_name f old f old) i can.other (same_name-self f old));
         below = naming.below g new i says_so;
         nodes = λ rest j at.
             clean_more j log.changes change refl
@@ -194,13 +200,6 @@ module _ (marks : Marks) (log : CallLog) (upa upb : Route) (old new : List ℕ) 
             (find_below (current now) (new ∷ upb) i rest here ∙ moved_down rest) (find_below (current log) (old ∷ upa) i rest top) (λ k at. ap (λ (s : FileSystem). node s k) (current_more log change))
             ∙ disk.holds rest;
       }
-
-  pub source_folder_now : find (current now) upa ≡ Some f
-  source_folder_now = frame_from (find_same log change upa)
-    where
-      frame_from : (find (current now) upa ≡ find (current log) upa) ⊎ IsUnder log change upa → find (current now) upa ≡ Some f
-      frame_from (inl same) = same ∙ can.from.at
-      frame_from (inr u) = absurd (not_from u)
 
 -- what the paths of a renaming lead to that isn't refused
 pub record IsRenaming (log : CallLog) (old : List ℕ) (upa : Route) (new : List ℕ) (upb : Route) : Type 0 where
@@ -261,8 +260,7 @@ pub record IsDone (marks : Marks) (now : CallLog) (old : List ℕ) (upa : Route)
   pub f : ℕ
   pub g : ℕ
   pub i : ℕ
-  pub renamed : IsRenamed now old f new upb g i [] contents
-  pub source_folder : find (current now) upa ≡ Some f
+  pub renamed : IsRenamed now old upa f new upb g i [] contents
 
 pub done : (marks : Marks) (log after : CallLog) (old : List ℕ) (upa : Route) (new : List ℕ) (upb : Route) (contents : Contents) → IsGuarded marks log
     → IsMovable marks log old upa new upb contents → Performs {A = Unit {0}} log (Rename (old ∷ upa) (new ∷ upb)) (Ok tt) (Some after) → IsDone marks after old upa new upb contents
@@ -275,12 +273,11 @@ done marks log after old upa new upb contents guarded may performs =
     let is = is_with log after _ (Moves f old g new i r) performs.1.1 (change_is log old upa new upb performs.1.0 (may.not_inside [])) in
     subst (λ (x : CallLog). IsDone marks x old upa new upb contents) (sym is) (record {
       guarded = naming_law marks log (Moves f old g new i r) guarded (moving_naming marks log upa upb old new f g i r guarded can);
-      whole = renames marks log upa upb old new f g i r contents guarded can may.whole may.way;
+      whole = renames marks log upa upb old new f g i r contents guarded can may.whole may.way may.way_back;
       f = f;
       g = g;
       i = i;
-      renamed = was_renamed marks log upa upb old new f g i r contents guarded can may.whole may.way;
-      source_folder = source_folder_now marks log upa upb old new f g i r contents guarded can may.whole may.way;
+      renamed = was_renamed marks log upa upb old new f g i r contents guarded can may.whole may.way may.way_back;
     })
 
 -- an image has as many nodes as there are now

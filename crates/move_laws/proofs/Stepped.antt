@@ -29,7 +29,7 @@ use Rattle.move_laws.specs.Whole.{Contents, IsWholeWith}
 use Rattle.move_laws.specs.Steps.{MoveKnows, MoveNames, StepLaw, WasRenamed, source_of, target_of}
 use Rattle.move_laws.proofs.Renamed.{IsStill, done, nothing_still, renaming_law, sync_still}
 use Rattle.move_laws.proofs.Settled.{settled_law}
-use Rattle.move_laws.proofs.Still.{disk_still, found_after, guarded_still, movable_still, renamed_still, whole_still}
+use Rattle.move_laws.proofs.Still.{disk_still, gone_still, guarded_still, movable_still, renamed_still, whole_still}
 
 -- what is kept and known after a step
 abbrev Keeps : Marks → CallLog → MoveNames → Contents → Stage → Type 0
@@ -41,7 +41,7 @@ whole_of marks log n contents Take h = renaming_law.before log (source_of n) (ta
 whole_of marks log n contents SyncTarget h = h.1.whole
 whole_of marks log n contents SyncSource h = h.1.0.whole
 whole_of marks log n contents Done (inl h) = renaming_law.before log (source_of n) (target_of n) contents h
-whole_of marks log n contents Done (inr h) = renaming_law.after log (source_of n) (target_of n) contents h
+whole_of marks log n contents Done (inr h) = renaming_law.after log (source_of n) (target_of n) contents h.0
 
 module _ (marks : Marks) (n : MoveNames) (contents : Contents) where
   -- a renamed thing, after a change that does nothing
@@ -50,8 +50,7 @@ module _ (marks : Marks) (n : MoveNames) (contents : Contents) where
     f = h.f;
     g = h.g;
     i = h.i;
-    renamed = renamed_still log c still n.old h.f n.new n.target_folder h.g h.i later contents h.renamed;
-    source_folder = found_after log c still n.source_folder (Some h.f) h.source_folder;
+    renamed = renamed_still log c still n.old n.source_folder h.f n.new n.target_folder h.g h.i later contents h.renamed;
     whole = whole_still log c still (source_of n) (target_of n) contents h.whole;
   }
 
@@ -61,7 +60,7 @@ module _ (marks : Marks) (n : MoveNames) (contents : Contents) where
   knows_still log c still SyncTarget h = (h.0 ++ c ∷ [], was_still log c still h.0 h.1)
   knows_still log c still SyncSource h = (h.0 ++ c ∷ [], (was_still log c still h.0 h.1.0, is_settled-more h.1.0.g h.0 (c ∷ []) h.1.1))
   knows_still log c still Done (inl h) = inl (disk_still log c still (source_of n) contents h)
-  knows_still log c still Done (inr h) = inr (disk_still log c still (target_of n) contents h)
+  knows_still log c still Done (inr h) = inr (disk_still log c still (target_of n) contents h.0, gone_still log c still (source_of n) h.1)
 
   -- nothing was changed
   quiet : (log after : CallLog) (stage : Stage) → IsGuarded marks log → MoveKnows marks log n contents stage → IsQuiet log (Some after) → Keeps marks after n contents stage
@@ -85,7 +84,7 @@ module _ (marks : Marks) (n : MoveNames) (contents : Contents) where
       (subst (λ q. Performs {A = Unit {0}} log (Rename (source_of n) q) (Ok tt) (Some mid)) target
       (subst (λ q. Performs {A = Unit {0}} log (Rename q p.target) (Ok tt) (Some mid)) source performs)) in
       let d = done marks log after n.old n.source_folder n.new n.target_folder contents guarded knows renames in
-      (d.guarded, ([], record { f = d.f; g = d.g; i = d.i; renamed = d.renamed; source_folder = d.source_folder; whole = d.whole }))
+      (d.guarded, ([], record { f = d.f; g = d.g; i = d.i; renamed = d.renamed; whole = d.whole }))
 
   -- a folder was synced
   synced_log : (log after : CallLog) (folder : Route) (f : ℕ) → find (current log) folder ≡ Some f → AllDone log (SyncFolder folder ∷ []) (Some after) → after ≡ with_change log (Syncs f)
@@ -96,7 +95,7 @@ module _ (marks : Marks) (n : MoveNames) (contents : Contents) where
 
   -- both folders were
   settled_now : (log : CallLog) (later : List Change) (h : WasRenamed log n contents later) → is_settled h.f later ≡ true → is_settled h.g later ≡ true → MoveKnows marks log n contents Done
-  settled_now log later h one two = inr (settled_law log n.old h.f n.new n.target_folder h.g h.i later contents h.renamed one two)
+  settled_now log later h one two = inr (settled_law log n.old n.source_folder h.f n.new n.target_folder h.g h.i later contents h.renamed one two)
 
   some_same : (x y : ℕ) → (let o : Option ℕ = Some x in o) ≡ Some y → x ≡ y
   some_same x y h = cc
@@ -105,7 +104,7 @@ module _ (marks : Marks) (n : MoveNames) (contents : Contents) where
       → (b : Bool) → same_path (folder_of p.source) (folder_of p.target) ≡ b → MoveKnows marks log n contents (cond b Done SyncSource)
   after_first p log later h two source target true same =
       let route : n.source_folder ≡ n.target_folder = sym (ap folder_of source) ∙ (same_path-true (folder_of p.source) (folder_of p.target) same ∙ ap folder_of target) in
-      let one : h.f ≡ h.g = some_same h.f h.g (sym h.source_folder ∙ (ap (find (current log)) route ∙ h.renamed.folder)) in
+      let one : h.f ≡ h.g = some_same h.f h.g (sym h.renamed.folder_back ∙ (ap (find (current log)) route ∙ h.renamed.folder)) in
       settled_now log later h (subst (λ k. is_settled k later ≡ true) (sym one) two) two
   after_first p log later h two source target false same = (later, (h, two))
 
@@ -125,7 +124,7 @@ module _ (marks : Marks) (n : MoveNames) (contents : Contents) where
       → AllDone log (SyncFolder (folder_of p.source) ∷ []) (Some after) → Keeps marks after n contents Done
   unfolding was_still
   second_sync log after p guarded source (later, (h, two)) all =
-      let is = synced_log log after (folder_of p.source) h.f (ap (find (current log)) (ap folder_of source) ∙ h.source_folder) all in
+      let is = synced_log log after (folder_of p.source) h.f (ap (find (current log)) (ap folder_of source) ∙ h.renamed.folder_back) all in
       let s = sync_still h.f in
       subst (λ (l : CallLog). Keeps marks l n contents Done) (sym is) (
         guarded_still log (Syncs h.f) s marks guarded,

@@ -13,7 +13,7 @@ use Rattle.crash_law.specs.Steps.{IsAnchored}
 use Rattle.crash_law.proofs.Guarding.{find_quiet, leads_as_before, quiet_law}
 use Rattle.crash_law.proofs.Leading.{clean_more, current_more}
 use Rattle.crash_law.proofs.Unworked.{unworked_law}
-use Rattle.move_laws.specs.Whole.{AllUnsaid, Contents, IsMovable, IsOnDisk, IsRenamed, IsWholeWith}
+use Rattle.move_laws.specs.Whole.{AllUnsaid, Contents, IsGone, IsMovable, IsOnDisk, IsRenamed, IsWholeWith}
 use Rattle.move_laws.proofs.Renamed.{IsStill, same_images}
 
 unsaid_more : (g : ℕ) (m : List ℕ) (later : List Change) (c : Change) → IsStill c → AllUnsaid g m later → AllUnsaid g m (later ++ c ∷ [])
@@ -72,10 +72,14 @@ module _ (log : CallLog) (c : Change) (still : IsStill c) where
     holds = λ rest. ap (λ (s : FileSystem). value_at s (rest ++ top)) same ∙ h.holds rest;
   }
 
+  pub gone_still : (path : Route) → IsGone log path → IsGone now path
+  gone_still path h = record { settled = settled path h.settled; none = found_after path None h.none }
+
   pub movable_still : (marks : Marks) (old : List ℕ) (upa : Route) (new : List ℕ) (upb : Route) (contents : Contents) → IsMovable marks log old upa new upb contents → IsMovable marks now old upa new upb contents
   movable_still marks old upa new upb contents h = record {
     whole = disk_still (old ∷ upa) contents h.whole;
     way = settled upb h.way;
+    way_back = settled upa h.way_back;
     from = anchored marks upa h.from;
     to = anchored marks upb h.to;
     not_inside = h.not_inside;
@@ -87,15 +91,20 @@ module _ (log : CallLog) (c : Change) (still : IsStill c) where
     unworked = unworked_law.unnamed marks log c (old ∷ upa) (still.names (length (current log).nodes)) h.unworked;
   }
 
-  pub renamed_still : (old : List ℕ) (f : ℕ) (new : List ℕ) (upb : Route) (g i : ℕ) (later : List Change) (contents : Contents) → IsRenamed log old f new upb g i later contents
-      → IsRenamed now old f new upb g i (later ++ c ∷ []) contents
-  renamed_still old f new upb g i later contents h = record {
+  pub renamed_still : (old : List ℕ) (upa : Route) (f : ℕ) (new : List ℕ) (upb : Route) (g i : ℕ) (later : List Change) (contents : Contents) → IsRenamed log old upa f new upb g i later contents
+      → IsRenamed now old upa f new upb g i (later ++ c ∷ []) contents
+  renamed_still old upa f new upb g i later contents h = record {
     earlier = h.earlier;
     replaced = h.replaced;
     log_is =
         ap (λ (l : CallLog). with_change l c) h.log_is
         ∙ ap (λ cs. let l : CallLog = record h.earlier { changes = cs } in l) (append_assoc h.earlier.changes (Moves f old g new i h.replaced ∷ later) (c ∷ []));
     unsaid = unsaid_more g new later c still h.unsaid;
+    unsaid_old = unsaid_more f old later c still h.unsaid_old;
+    other = h.other;
+    way_back = settled upa h.way_back;
+    folder_back = found_after upa (Some f) h.folder_back;
+    leads_nowhere = ap (λ (s : FileSystem). lookup s.names f old) same ∙ h.leads_nowhere;
     way = settled upb h.way;
     folder = found_after upb (Some g) h.folder;
     leads = ap (λ (s : FileSystem). lookup s.names g new) same ∙ h.leads;

@@ -1,8 +1,7 @@
 -- What a crash leaves at each moment of a move, as its machine makes its steps.
 use Rattle.std.specs.Prelude.{◌≡◌, ◌⊎◌, ℕ, true, List, ◌∷◌, Some}
 use Rattle.mc_text.specs.Routes.{Route}
-use Rattle.tree_trait.specs.FileSystem.{find}
-use Rattle.tree_trait.specs.Change.{Change, CallLog, current}
+use Rattle.tree_trait.specs.Change.{Change, CallLog}
 use Rattle.tree_trait.specs.CrashImages.{is_settled}
 use Rattle.job_answers.specs.declared.standing.Standing.{Standing}
 use Rattle.crash_law.specs.Guarded.{Marks, IsGuarded}
@@ -11,7 +10,7 @@ use Rattle.thing_move.specs.declared.moving.Stage.TheVariants.{Take, SyncTarget,
 use Rattle.thing_move.specs.declared.report.MoveDid.{MoveDid}
 use Rattle.thing_move.specs.Moves.{Moving}
 use Rattle.thing_move.specs.MoveSteps.{StepsOn}
-use Rattle.move_laws.specs.Whole.{Contents, IsMovable, IsOnDisk, IsRenamed, IsWholeWith}
+use Rattle.move_laws.specs.Whole.{Contents, IsGone, IsMovable, IsOnDisk, IsRenamed, IsWholeWith}
 
 -- the names of a thing, and the folders of its source and its target
 pub record MoveNames : Type 0 where
@@ -31,8 +30,7 @@ pub record WasRenamed (log : CallLog) (n : MoveNames) (contents : Contents) (lat
   pub f : ℕ
   pub g : ℕ
   pub i : ℕ
-  pub renamed : IsRenamed log n.old f n.new n.target_folder g i later contents
-  pub source_folder : find (current log) n.source_folder ≡ Some f
+  pub renamed : IsRenamed log n.old n.source_folder f n.new n.target_folder g i later contents
   pub whole : IsWholeWith log (source_of n) (target_of n) contents
 
 -- What is known where a move stands: before it, all that its job knows of the thing; behind it, that the thing is on the disk, where it was
@@ -41,7 +39,7 @@ abbrev pub MoveKnows : Marks → CallLog → MoveNames → Contents → Stage �
 MoveKnows marks log n contents Take = IsMovable marks log n.old n.source_folder n.new n.target_folder contents
 MoveKnows marks log n contents SyncTarget = (later : List Change) × WasRenamed log n contents later
 MoveKnows marks log n contents SyncSource = (later : List Change) × ((h : WasRenamed log n contents later) × (is_settled h.g later ≡ true))
-MoveKnows marks log n contents Done = IsOnDisk log (source_of n) contents ⊎ IsOnDisk log (target_of n) contents
+MoveKnows marks log n contents Done = IsOnDisk log (source_of n) contents ⊎ (IsOnDisk log (target_of n) contents × IsGone log (source_of n))
 
 -- Each step keeps that; and whatever a crash leaves then, the thing is whole at its source or at its target.
 abbrev pub StepLaw : Type 0

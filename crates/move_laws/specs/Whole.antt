@@ -6,7 +6,7 @@ use Rattle.tree_trait.specs.Calls.{Rename}
 use Rattle.tree_trait.specs.FileSystem.{Value, find, lookup, node, value_at}
 use Rattle.tree_trait.specs.Refusals.{is_folder}
 use Rattle.tree_trait.specs.Change.{Change, Moves, Syncs, CallLog, current, with_change}
-use Rattle.tree_trait.specs.CrashImages.{is_clean, is_settled, says}
+use Rattle.tree_trait.specs.CrashImages.{is_clean, is_settled, same_name, says}
 use Rattle.tree_trait.specs.Answers.{Performs}
 use Rattle.crash_law.specs.Possible.{IsImage, IsSettledBelow}
 use Rattle.crash_law.specs.Guarded.{Marks, IsGuarded, IsNaming, IsSettledAt, IsUnder}
@@ -31,10 +31,11 @@ pub record IsOnDisk (log : CallLog) (top : Route) (contents : Contents) : Type 0
   pub holds : HoldsAt (current log) top contents
 
 -- What a job knows of a thing before it renames it, and of where it goes: the barrier before a renaming brings all of the thing onto
--- the disk, and the way to its target.
+-- the disk, and the ways to both folders.
 pub record IsMovable (marks : Marks) (log : CallLog) (old : List ℕ) (source_folder : Route) (new : List ℕ) (target_folder : Route) (contents : Contents) : Type 0 where
   pub whole : IsOnDisk log (old ∷ source_folder) contents
   pub way : IsSettledAt log target_folder
+  pub way_back : IsSettledAt log source_folder
   -- neither folder roams, and neither path lies on the way to the other
   pub from : IsAnchored marks log source_folder
   pub to : IsAnchored marks log target_folder
@@ -67,20 +68,31 @@ abbrev pub AllUnsaid : ℕ → List ℕ → List Change → Type 0
 AllUnsaid f name [] = ⊤
 AllUnsaid f name (c ∷ later) = ((nodes : ℕ) → says c nodes f name ≡ None) × AllUnsaid f name later
 
--- A thing was renamed, and these changes came later, of which none is of its new name; no name, mode or bytes below it waits.
-pub record IsRenamed (log : CallLog) (old : List ℕ) (f : ℕ) (new : List ℕ) (target_folder : Route) (g i : ℕ) (later : List Change) (contents : Contents) : Type 0 where
+-- A thing was renamed, and these changes came later, of which none is of its old or its new name; no name, mode or bytes below it waits.
+pub record IsRenamed (log : CallLog) (old : List ℕ) (source_folder : Route) (f : ℕ) (new : List ℕ) (target_folder : Route) (g i : ℕ) (later : List Change) (contents : Contents) : Type 0 where
   pub earlier : CallLog
   pub replaced : Option ℕ
   pub log_is : log ≡ record earlier { changes = earlier.changes ++ Moves f old g new i replaced ∷ later }
   pub unsaid : AllUnsaid g new later
+  pub unsaid_old : AllUnsaid f old later
+  pub other : same_name g new f old ≡ false
   pub way : IsSettledAt log target_folder
   pub folder : find (current log) target_folder ≡ Some g
   pub leads : lookup (current log).names g new ≡ Some i
+  pub way_back : IsSettledAt log source_folder
+  pub folder_back : find (current log) source_folder ≡ Some f
+  pub leads_nowhere : lookup (current log).names f old ≡ None
   pub below : IsSettledBelow log i
   pub nodes : (rest : Route) (j : ℕ) → find (current log) (rest ++ new ∷ target_folder) ≡ Some j → is_clean j log.changes ≡ true
   pub holds : HoldsAt (current log) (new ∷ target_folder) contents
 
--- Once both folders were synced it is on the disk at its target.
+-- nothing stands there, and a crash brings nothing back
+pub record IsGone (log : CallLog) (path : Route) : Type 0 where
+  pub settled : IsSettledAt log path
+  pub none : find (current log) path ≡ None
+
+-- Once both folders were synced it is on the disk at its target, and gone from its source.
 abbrev pub SettledLaw : Type 0
-SettledLaw = (log : CallLog) (old : List ℕ) (f : ℕ) (new : List ℕ) (target_folder : Route) (g i : ℕ) (later : List Change) (contents : Contents)
-    → IsRenamed log old f new target_folder g i later contents → is_settled f later ≡ true → is_settled g later ≡ true → IsOnDisk log (new ∷ target_folder) contents
+SettledLaw = (log : CallLog) (old : List ℕ) (source_folder : Route) (f : ℕ) (new : List ℕ) (target_folder : Route) (g i : ℕ) (later : List Change) (contents : Contents)
+    → IsRenamed log old source_folder f new target_folder g i later contents → is_settled f later ≡ true → is_settled g later ≡ true
+    → IsOnDisk log (new ∷ target_folder) contents × IsGone log (old ∷ source_folder)
