@@ -2,11 +2,14 @@
 #![tactic(auto)]
 
 mod moving;
+mod running;
 mod scene;
 mod showing;
 
-pub use moving::{Answers, is_answered, tell_question};
 use row_page::Page;
+pub use running::{
+    Answers, Machine, Then, run, tell_done, tell_finish, tell_question, tell_trouble,
+};
 
 /// Each row with what comes of it: what stands at `/a/x`, what stands at its target, the answers to its questions, the numbers of the tree's
 /// calls that fault, and what is answered to a trouble.

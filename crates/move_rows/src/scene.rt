@@ -1,7 +1,8 @@
 //! The things of a row, and the run of its move.
 ghost use Rattle.std.specs.Prelude.{◌≡◌, ◌<◌, [], length};
 
-use crate::moving::{Answers, tell_move};
+use crate::moving::tell_move;
+use crate::running::Answers;
 use crate::showing::Places;
 use mc_text::Path;
 use mem_tree::MemTree;

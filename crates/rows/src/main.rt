@@ -1,4 +1,4 @@
-//! Runs the rows of formats, the tree in memory, plans, copies, resolving, listings, answers, modes, moves and saves.
+//! Runs the rows of formats, the tree in memory, plans, copies, resolving, listings, answers, modes, moves, merges and saves.
 #![tactic(auto)]
 
 use row_page::{Fault, Page};
@@ -19,6 +19,7 @@ impl Sections for Libraries {
             "answers" => answer_rows::tell_rows(page, rows),
             "modes" => setting_rows::tell_rows(page, rows),
             "moves" => move_rows::tell_rows(page, rows),
+            "merges" => merge_rows::tell_rows(page, rows),
             "saving" => saving_rows::tell_rows(page, rows),
             _ => page.fail(),
         }
