@@ -1,5 +1,5 @@
 -- What an answered skip and retry leave; and last steps are fewer than those of a copy that goes on.
-use Rattle.std.proofs.Common.{◌≡◌, ℕ, ◌+◌, ◌*◌, ◌^◌, ◌<◌, ◌≤◌, refl, sym, ◌∙◌, ap, subst, inl, inr, Bool, true, false, List, [], ◌∷◌, length, arith, Option, Some, None}
+use Rattle.std.proofs.Common.{◌≡◌, ℕ, ◌+◌, ◌^◌, ◌<◌, ◌≤◌, refl, sym, ◌∙◌, ap, subst, inl, inr, Bool, true, List, [], ◌∷◌, arith, Option, None}
 use Rattle.mc_text.specs.Routes.{Route}
 use Rattle.tree_trait.specs.Change.{CallLog}
 use Rattle.job_answers.specs.declared.skips.Skips.{Skips as Kinds}
@@ -14,7 +14,6 @@ use Rattle.file_copy.specs.declared.stage.Next.TheVariants as file_next
 use Rattle.folder_copy.specs.FolderCopying as folder
 use Rattle.folder_copy.specs.FolderCopying.{FolderCopying}
 use Rattle.folder_copy.specs.FolderSteps as folder_steps
-use Rattle.folder_copy.specs.declared.stage.NamesState.{NamesState}
 use Rattle.folder_copy.specs.declared.stage.Stage.{Stage}
 use Rattle.folder_copy.specs.declared.stage.Stage.TheVariants.{Make, Fill, Close, Done}
 use Rattle.link_copy.specs.LinkCopying.{LinkCopying, taken_anew as link_anew}
@@ -22,13 +21,13 @@ use Rattle.link_copy.specs.declared.stage.Stage.{Stage as LinkStage}
 use Rattle.link_copy.specs.declared.stage.Stage.TheVariants as link_stage
 use Rattle.link_copy.specs.declared.stage.Next.TheVariants as link_next
 use Rattle.subtree_walk.specs.Places.{OpenFolder}
-use Rattle.copy_levels.specs.Levels.{Levels, level}
+use Rattle.copy_levels.specs.Levels.{level}
 use Rattle.copy_levels.specs.declared.level.Level.{Level}
 use Rattle.tree_copy.specs.declared.item.Item.{Item}
 use Rattle.tree_copy.specs.declared.item.Item.TheVariants.{Next, File, Link, Stays}
 use Rattle.tree_copy.specs.declared.progress.Progress.{Progress}
 use Rattle.tree_copy.specs.declared.progress.Progress.TheVariants.{UnderWay, Decided, Anew}
-use Rattle.tree_copy.specs.Falling.{AllMade, HasName, IsSteady, is_made, things_left}
+use Rattle.tree_copy.specs.Falling.{AllMade, HasName, IsSteady, is_made}
 use Rattle.tree_copy.specs.Progress.{link_progress, progress}
 use Rattle.tree_copy.specs.Skipping.{Skips, SkipsAt, SkipsNamed, SkipsRest, retried, retried_at}
 use Rattle.tree_copy.specs.Standing.{Seen}
@@ -36,7 +35,7 @@ use Rattle.tree_copy.specs.Steps.{IsWorkable, idle, settled}
 use Rattle.tree_copy.proofs.Beginnings.{beginning_law}
 use Rattle.tree_copy.proofs.Fallings.{all_leave, falling_law}
 use Rattle.subtree_copy.specs.Passing.{OrPassedOver}
-use Rattle.subtree_copy.specs.Ranks.{AnsweredLaw, SteadyLaw, WaitingLaw, anew, around_rank, dirt, file_rank, item_rank, last_of, last_rank, level_rank, levels_rank, link_rank, marks, marks_around, rank_by, stage_rank}
+use Rattle.subtree_copy.specs.Ranks.{AnsweredLaw, SteadyLaw, WaitingLaw, anew, around_rank, dirt, file_rank, item_rank, last_of, last_rank, level_rank, link_rank, marks_around, rank_by}
 use Rattle.subtree_copy.specs.Standing.{named_of}
 use Rattle.subtree_copy.specs.SubtreeSteps.{ListSteps, step_result}
 use Rattle.subtree_copy.proofs.Ranked.{skip_falls}

@@ -65,7 +65,7 @@ next_at [] c pair is = absurd (let f : ⊥ = cc in f)
 next_at (name ∷ names) c pair is = (name, names, refl)
 
 -- nothing bars a name that is next
-unbarred : (c : Seen) → c.item ≡ Next → is_around_dirty c.levels.around ≡ false → HasNext c → at_barrier c ≡ false
+pub unbarred : (c : Seen) → c.item ≡ Next → is_around_dirty c.levels.around ≡ false → HasNext c → at_barrier c ≡ false
 unbarred c free clean h =
     ap (λ (i : Item). barrier_at i c.levels) free
     ∙ (ap (λ b. b || barrier_at_name c.levels.inner.names.names c.levels.inner.copy.stage) clean ∙ ap (λ names. barrier_at_name names c.levels.inner.copy.stage) h.2)

@@ -9,7 +9,9 @@ mod LastOnes
 mod Left
 pub mod Listed
 mod Ranked
+mod Reportings
 pub mod Targets
 mod Tellings
+mod Unbegun
 mod Waits
 mod Worked

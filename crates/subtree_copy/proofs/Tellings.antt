@@ -1,9 +1,8 @@
 -- The part that stands, and whether anything was changed, after each step, skip and retry.
-use Rattle.std.proofs.Common.{◌≡◌, ℕ, suc, zero, Bool, true, false, List, [], ◌∷◌, refl, sym, ◌∙◌, ap, subst, inl, inr, Option, Some, None}
+use Rattle.std.proofs.Common.{◌≡◌, ℕ, suc, zero, Bool, false, List, [], ◌∷◌, refl, sym, ◌∙◌, ap, inl, inr, Option, Some, None}
 use Rattle.std.specs.Prelude.{if◌then◌else◌}
 use Rattle.mc_text.specs.Routes.{Route}
 use Rattle.tree_trait.specs.Change.{CallLog}
-use Rattle.job_answers.specs.declared.skips.Skips.{Skips as Kinds}
 use Rattle.job_reports.specs.declared.report.Cause.{Cause}
 use Rattle.job_reports.specs.declared.report.Did.{Did}
 use Rattle.job_reports.specs.declared.report.Did.TheVariants.{Began, Chunk, Placed, Removed, Made, Set, Kept, Skipped, Cleaned, Barrier, Troubled, Ended}
@@ -12,17 +11,14 @@ use Rattle.job_reports.specs.declared.report.StepResult.{StepResult}
 use Rattle.job_reports.specs.declared.report.Trouble.{Trouble}
 use Rattle.file_copy.specs.Copying as file
 use Rattle.file_copy.specs.Copying.{Copying, part_at}
-use Rattle.file_copy.specs.CopySteps as file_steps
 use Rattle.file_copy.specs.declared.stage.Next.{Next as FileNext}
 use Rattle.file_copy.specs.declared.stage.Next.TheVariants as file_next
 use Rattle.file_copy.specs.declared.stage.Stage.{Stage as FileStage}
 use Rattle.file_copy.specs.declared.stage.Stage.TheVariants as file_stage
 use Rattle.folder_copy.specs.declared.stage.FolderDid.{FolderDid}
 use Rattle.folder_copy.specs.declared.stage.FolderDid.TheVariants as folder_did
-use Rattle.folder_copy.specs.FolderSteps as folder_steps
 use Rattle.link_copy.specs.LinkCopying as link
 use Rattle.link_copy.specs.LinkCopying.{LinkCopying, has_part}
-use Rattle.link_copy.specs.LinkSteps as link_steps
 use Rattle.link_copy.specs.declared.stage.Next.{Next as LinkNext}
 use Rattle.link_copy.specs.declared.stage.Next.TheVariants as link_next
 use Rattle.link_copy.specs.declared.stage.Stage.{Stage as LinkStage}
@@ -37,12 +33,12 @@ use Rattle.tree_copy.specs.Progress.{link_progress, progress}
 use Rattle.tree_copy.specs.Reports.{IsToldAs}
 use Rattle.tree_copy.specs.Skipping as machine
 use Rattle.tree_copy.specs.Standing.{Seen, after_report}
-use Rattle.tree_copy.specs.Steps.{FileWorks, GoesOn, IsWorkable, LeavesAll, LinkWorks, TakesNext, WorksOn, idle, noted, settled}
+use Rattle.tree_copy.specs.Steps.{FileWorks, IsWorkable, LeavesAll, LinkWorks, TakesNext, WorksOn, idle, noted, settled}
 use Rattle.subtree_copy.specs.Leaving.{may_leave}
 use Rattle.subtree_copy.specs.Passing.{OrPassedOver}
 use Rattle.subtree_copy.specs.Standing.{SubtreeCopying, part_of}
 use Rattle.subtree_copy.specs.SubtreeSteps.{ListSteps, SubtreeSteps, step_result}
-use Rattle.subtree_copy.specs.Told.{IsAfter, ToldLaw, part_after}
+use Rattle.subtree_copy.specs.Told.{ToldLaw, part_after}
 use Rattle.subtree_copy.proofs.Barred.{passed_trouble}
 use Rattle.subtree_copy.proofs.Targets.{works_at_once}
 
@@ -70,7 +66,7 @@ settled_link link_stage.Make moved c is none = ap part_of none
 settled_link link_stage.Again moved c is none = ap part_of none
 settled_link link_stage.Decided moved c is none = ap part_of none
 
-settled_stage : (p : Progress) (item : Item) (c : Seen) → (let s : Seen = settled p item c in s.stage) ≡ c.stage
+pub settled_stage : (p : Progress) (item : Item) (c : Seen) → (let s : Seen = settled p item c in s.stage) ≡ c.stage
 settled_stage UnderWay item c = refl
 settled_stage Decided item c = refl
 settled_stage Anew item c = refl
@@ -222,7 +218,7 @@ named_goes (name ∷ names) cause old new did (inl s) = stays did old new (quiet
 named_goes (name ∷ names) cause old new did (inr (inl s)) = rest_goes cause old new did s.1
 named_goes (name ∷ names) cause old new did (inr (inr room)) = same_goes did old new (quiet_trouble did _ room.0) room.1
 
-skips_goes : (item : Item) (cause : Cause) (old new : Seen) (did : Did) → old.item ≡ item → IsWorkable item → machine.SkipsAt item cause old did new → Goes did old new
+pub skips_goes : (item : Item) (cause : Cause) (old new : Seen) (did : Did) → old.item ≡ item → IsWorkable item → machine.SkipsAt item cause old did new → Goes did old new
 skips_goes Next cause old new did is can s = named_goes old.levels.inner.names.names cause old new did s
 skips_goes (File f) cause old new did is can (moved, inl s, stands) =
     stays did old new (quiet_skip did _ cause s.0)
@@ -248,14 +244,14 @@ retry_part (Link l) c is = settled_link _ (record l { stage = link.taken_anew l.
 retry_part (Stays part) c is = ap part_of is
 
 -- folders that are left
-leaves_item : (n : ℕ) (old mid : Seen) → LeavesAll n old mid → (mid.item ≡ old.item) × (mid.stage ≡ old.stage)
+pub leaves_item : (n : ℕ) (old mid : Seen) → LeavesAll n old mid → (mid.item ≡ old.item) × (mid.stage ≡ old.stage)
 leaves_item zero old mid is = (ap (λ (c : Seen). c.item) is, ap (λ (c : Seen). c.stage) is)
 leaves_item (suc n) old mid (last, all, none, one) =
     let k = leaves_item n old last all in
     let r = one.returns in
     (ap (λ (c : Seen). c.item) r.stands ∙ k.0, ap (λ (c : Seen). c.stage) r.stands ∙ k.1)
 
-list_goes : (free : Route → Bool) (old new : Seen) (worked : StepResult) (dirty dirty_after : List Route) (before after : Option CallLog) (f0 f1 : ℕ) → ListSteps free old new worked dirty dirty_after before after f0 f1
+pub list_goes : (free : Route → Bool) (old new : Seen) (worked : StepResult) (dirty dirty_after : List Route) (before after : Option CallLog) (f0 f1 : ℕ) → ListSteps free old new worked dirty dirty_after before after f0 f1
     → may_leave old ≡ false → Goes worked.did old new
 list_goes free old new worked dirty dirty_after before after f0 f1 (inl s) settled_at = same_goes worked.did old new (quiet_trouble worked.did _ (ap (λ (r : StepResult). r.did) s.says)) s.stays
 list_goes free old new worked dirty dirty_after before after f0 f1 (inr s) settled_at =

@@ -1,5 +1,5 @@
 -- A copy that came into a trouble, and one of which something is skipped.
-use Rattle.std.proofs.Common.{◌≡◌, ℕ, ◌+◌, ◌^◌, ◌<◌, ◌≤◌, refl, sym, ◌∙◌, ap, subst, inl, inr, Bool, true, false, List, [], ◌∷◌, arith, Option, Some, None}
+use Rattle.std.proofs.Common.{◌≡◌, ℕ, ◌+◌, ◌^◌, ◌≤◌, refl, sym, ◌∙◌, ap, subst, inl, inr, Bool, true, false, List, [], ◌∷◌, arith, Option, Some, None}
 use Rattle.std.proofs.lemmas.Bool.{true≢false}
 use Rattle.std.specs.Prelude.{◌⊎◌, ◌||◌}
 use Rattle.mc_text.specs.Routes.{Route}
@@ -10,13 +10,11 @@ use Rattle.job_reports.specs.declared.report.Did.TheVariants.{Skipped, Troubled}
 use Rattle.job_reports.specs.declared.report.StepResult.{StepResult}
 use Rattle.job_reports.specs.declared.report.Trouble.{Trouble}
 use Rattle.job_reports.specs.Stops.{out_of_memory_at}
-use Rattle.file_copy.specs.Copying as file
 use Rattle.file_copy.specs.Copying.{Copying}
 use Rattle.folder_copy.specs.FolderCopying as folder
 use Rattle.folder_copy.specs.FolderCopying.{FolderCopying}
 use Rattle.folder_copy.specs.declared.stage.Stage.{Stage}
 use Rattle.folder_copy.specs.declared.stage.Stage.TheVariants.{Make, Fill, Close, Done}
-use Rattle.link_copy.specs.LinkCopying as link
 use Rattle.link_copy.specs.LinkCopying.{LinkCopying}
 use Rattle.copy_levels.specs.Levels.{is_around_dirty, with_copy}
 use Rattle.tree_copy.specs.declared.item.Item.{Item}
@@ -29,7 +27,7 @@ use Rattle.tree_copy.specs.Skipping as machine
 use Rattle.tree_copy.specs.Standing.{Seen}
 use Rattle.tree_copy.specs.Steps.{IsWorkable, idle, settled}
 use Rattle.subtree_copy.specs.Passing.{OrPassedOver}
-use Rattle.subtree_copy.specs.Ranks.{last_rank, rank, rank_by}
+use Rattle.subtree_copy.specs.Ranks.{last_rank, rank}
 use Rattle.subtree_copy.specs.Standing.{IsGoing, SubtreeCopying, at_barrier, barrier_at, barrier_at_end, barrier_at_name}
 use Rattle.subtree_copy.specs.SubtreeSteps.{SubtreeSteps, step_result}
 use Rattle.subtree_copy.specs.Troubles.{TroubleLaw}
@@ -39,7 +37,7 @@ use Rattle.subtree_copy.proofs.Fewer.{same_things}
 use Rattle.subtree_copy.proofs.Ranked.{left_lower, list_troubled}
 
 -- What a skip comes to: it tells a path, or there is no memory to tell it, and all stays.
-abbrev Comes : Bool → Cause → Seen → Did → Seen → Type 0
+abbrev pub Comes : Bool → Cause → Seen → Did → Seen → Type 0
 Comes barrier cause old did new = ((path : Route) × (did ≡ Skipped path cause)) ⊎ ((did ≡ Troubled (out_of_memory_at barrier)) × (new ≡ old))
 
 rest_comes : (cause : Cause) (old new : Seen) (did : Did) → machine.SkipsRest cause old did new → Comes false cause old did new
@@ -80,7 +78,7 @@ link_stays l moved old new is under same stands =
     ∙ (ap (λ (m : LinkCopying). settled (link_progress m.stage) (Link m) (idle old)) same
     ∙ (ap (λ (p : Progress). settled p (Link l) (idle old)) under ∙ ap (λ (i : Item). (let s : Seen = record old { item = i } in s)) (sym is)))
 
-skip_comes : (item : Item) (cause : Cause) (old new : Seen) (did : Did) → old.item ≡ item → machine.SkipsAt item cause old did new → IsWorkable item → barrier_at item old.levels ≡ false → Comes false cause old did new
+pub skip_comes : (item : Item) (cause : Cause) (old new : Seen) (did : Did) → old.item ≡ item → machine.SkipsAt item cause old did new → IsWorkable item → barrier_at item old.levels ≡ false → Comes false cause old did new
 skip_comes Next cause old new did is s can apart =
     named_comes old.levels.inner.names.names cause old new did s (second_false (is_around_dirty old.levels.around) (barrier_at_name old.levels.inner.names.names old.levels.inner.copy.stage) apart)
 skip_comes (File f) cause old new did is (moved, inl s, stands) can apart = inl (_, s.0)

@@ -13,7 +13,7 @@ use Rattle.job_reports.specs.declared.report.Did.{Did}
 use Rattle.tree_copy.specs.Standing.{Seen}
 use Rattle.tree_copy.specs.Steps.{CopySteps}
 use Rattle.tree_deletion.specs.Folders.{joined, with_change}
-use Rattle.subtree_copy.specs.Leaving.{may_leave}
+use Rattle.subtree_copy.specs.Leaving.{is_done, may_leave}
 use Rattle.subtree_copy.specs.Marks.{brings_made, folder_worked, is_dirty_after, is_left_dirty, was_dirty}
 use Rattle.subtree_copy.specs.Standing.{at_barrier}
 use Rattle.subtree_copy.specs.SubtreeSteps.{ListSteps, step_result}
@@ -22,9 +22,9 @@ use Rattle.subtree_copy.proofs.Targets.{stays_around, stays_inner}
 
 -- there was no memory to keep the folder
 pub ran_short : (free : Route → Bool) (old : Seen) (result : StepResult) (barrier : Bool) (dirty dirty_after : List Route) (before : Option CallLog) (f0 : ℕ)
-    → result ≡ step_result (Troubled (out_of_memory_at barrier)) 0 → barrier ≡ at_barrier old → dirty_after ≡ dirty → ListSteps free old old result dirty dirty_after before before f0 f0
-ran_short free old result barrier dirty dirty_after before f0 says barred list =
-    inl record { says = says ∙ ap (λ b. step_result (Troubled (out_of_memory_at b)) 0) barred; stays = refl; list = list; same = refl; later = refl }
+    → is_done old ≡ false → result ≡ step_result (Troubled (out_of_memory_at barrier)) 0 → barrier ≡ at_barrier old → dirty_after ≡ dirty → ListSteps free old old result dirty dirty_after before before f0 f0
+ran_short free old result barrier dirty dirty_after before f0 left says barred list =
+    inl record { left = left; says = says ∙ ap (λ b. step_result (Troubled (out_of_memory_at b)) 0) barred; stays = refl; list = list; same = refl; later = refl }
 
 module _ (free : Route → Bool) (old new : Seen) (result : StepResult) (before after : Option CallLog) (f0 f1 : ℕ) (steps : CopySteps free old new result.did result.calls before after f0 f1) (settled : may_leave old ≡ false)
     (dirty dirty_after : List Route) where

@@ -4,7 +4,9 @@ pub mod Leaving
 pub mod Marks
 pub mod Passing
 pub mod Ranks
+pub mod Reporting
 pub mod Standing
 pub mod SubtreeSteps
 pub mod Told
 pub mod Troubles
+pub mod Unbegun

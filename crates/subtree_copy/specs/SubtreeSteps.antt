@@ -13,7 +13,7 @@ use Rattle.tree_copy.specs.Ending.{WindsAt}
 use Rattle.tree_copy.specs.Skipping as machine
 use Rattle.tree_copy.specs.Standing.{Seen}
 use Rattle.tree_copy.specs.Steps.{CopySteps, IsWorkable}
-use Rattle.subtree_copy.specs.Leaving.{LeavesSettled, may_leave}
+use Rattle.subtree_copy.specs.Leaving.{LeavesSettled, is_done, may_leave}
 use Rattle.subtree_copy.specs.Marks.{folder_worked, is_dirty_after, was_dirty}
 use Rattle.subtree_copy.specs.Passing.{OrPassedOver}
 use Rattle.subtree_copy.specs.Standing.{SubtreeCopying, at_barrier}
@@ -22,8 +22,9 @@ use Rattle.tree_deletion.specs.Folders.{after_try, with_change}
 abbrev pub step_result : Did → ℕ → StepResult
 step_result did calls = record { did = did; calls = calls }
 
--- there is no memory to keep that a folder is dirty, and nothing was done
+-- something is left to be done, but there is no memory to keep that a folder is dirty, and nothing was done
 pub record RunsShort (old new : Seen) (result : StepResult) (dirty dirty_after : List Route) (before after : Option CallLog) (faults faults_after : ℕ) : Type 0 where
+  pub left : is_done old ≡ false
   pub says : result ≡ step_result (Troubled (out_of_memory_at (at_barrier old))) 0
   pub stays : new ≡ old
   pub list : dirty_after ≡ dirty

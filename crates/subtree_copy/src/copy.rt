@@ -4,6 +4,7 @@ ghost use Rattle.mc_text.specs.Routes.{is_prefix, parent_of};
 ghost use Rattle.job_answers.specs.Skipping.{kind_in, with_kind};
 ghost use Rattle.job_reports.specs.Paths.{folder_of};
 ghost use Rattle.tree_copy.specs.Standing.{is_fresh};
+ghost use Rattle.subtree_copy.specs.Reporting.{ChangesOwn, IsWound};
 ghost use Rattle.subtree_copy.specs.Standing.{IsGoing, at_barrier, is_own, part_of, retries, started};
 ghost use Rattle.subtree_copy.specs.SubtreeSteps.{LastSubtreeStep, SubtreeSkips, SubtreeSteps};
 
@@ -71,6 +72,7 @@ impl SubtreeCopy {
         requires going { IsGoing self.old }
         ensures steps { SubtreeSteps (P.is_free parts.now) self.old self.new result.did result.calls
             dirty.old dirty.new (T.contents tree.old) (T.contents tree.new) (T.fault_count tree.old) (T.fault_count tree.new) }
+        ensures own { ChangesOwn self.old dirty.old dirty.new }
         ensures going { IsGoing self.new }
     {
         leave_settled(&mut self.machine);
@@ -112,8 +114,10 @@ impl SubtreeCopy {
         ending: Ending,
         dirty: &mut Dirty,
     ) -> LastStepResult
-        ensures { LastSubtreeStep ending self.old self.new result dirty.old dirty.new
+        ensures winds { LastSubtreeStep ending self.old self.new result dirty.old dirty.new
             (T.contents tree.old) (T.contents tree.new) (T.fault_count tree.old) (T.fault_count tree.new) }
+        ensures wound { IsWound ending self.old result.did self.new }
+        ensures own { is_own self.old self.new.at.levels.inner.copy.target ≡ true }
     {
         let last = self.machine.wind_up(alloc, tree, ending);
         dirty.note_try(&last.did, last.left, self.machine.folder());

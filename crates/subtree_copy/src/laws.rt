@@ -2,8 +2,10 @@
 ghost use Rattle.subtree_copy.specs.Barriers.{BarrierLaw};
 ghost use Rattle.subtree_copy.specs.Counted.{CountLaw};
 ghost use Rattle.subtree_copy.specs.Ranks.{AnsweredLaw, LastRankLaw, RankLaw, SteadyLaw, WaitingLaw};
+ghost use Rattle.subtree_copy.specs.Reporting.{ReportingLaw};
 ghost use Rattle.subtree_copy.specs.Told.{ToldLaw};
 ghost use Rattle.subtree_copy.specs.Troubles.{TroubleLaw};
+ghost use Rattle.subtree_copy.specs.Unbegun.{UnbegunLaw};
 
 /// A trouble stands at a barrier, where nothing can be skipped, where the copy does after it.
 pub fn a_trouble_stands_where_the_copy_does()
@@ -48,4 +50,14 @@ pub fn what_a_history_can_tell()
 /// A copy that came into a trouble has no more last steps than it had steps; and what a skip tells.
 pub fn what_a_trouble_leaves()
     ensures { TroubleLaw }
+{}
+
+/// A copy that has changed nothing yet has nothing at work and is in no folder, and its troubles are at no barrier.
+pub fn what_an_unbegun_copy_is()
+    ensures { UnbegunLaw }
+{}
+
+/// Which reports a step and a last step make, and that each changes a folder of the copy's own.
+pub fn what_a_copy_reports()
+    ensures { ReportingLaw }
 {}

@@ -117,6 +117,7 @@ fn work_in_clean<T: Tree, P: PartTest>(
     requires workable { IsWorkable machine.old.item }
     requires settled { may_leave (seen machine.old) ≡ false }
     requires inner { brings (seen machine.old) ≡ false }
+    requires left { has_ended (seen machine.old) ≡ false }
     requires clean { is_dirty machine.old.stack.levels.inner.copy.names ≡ false }
     ensures works { ListSteps (P.is_free parts.now) (seen machine.old) (seen machine.new) result dirty.old dirty.new
         (T.contents tree.old) (T.contents tree.new) (T.fault_count tree.old) (T.fault_count tree.new) }

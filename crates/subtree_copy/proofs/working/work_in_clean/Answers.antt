@@ -12,5 +12,5 @@ returns-clause-works g c =
 
 pub returns-in_default-clause-works : goal.returns-in_default-clause-works
 returns-in_default-clause-works g c =
-    ran_short (g.P.PartTest.is_free c.args.parts.now) (seen c.args.machine.now) c.without_memory.result c.is_at_barrier.result c.args.dirty.now c.join.new.self _ _ c.without_memory.ensures c.is_at_barrier.ensures
+    ran_short (g.P.PartTest.is_free c.args.parts.now) (seen c.args.machine.now) c.without_memory.result c.is_at_barrier.result c.args.dirty.now c.join.new.self _ _ c.requires.left c.without_memory.ensures c.is_at_barrier.ensures
     c.in_default.ensures.refused

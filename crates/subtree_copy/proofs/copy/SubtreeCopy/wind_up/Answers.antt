@@ -1,20 +1,37 @@
 -- The machine makes the last step, and the folder that it tried leaves the list.
-use Rattle.std.proofs.Common.{refl, subst, ap, ◌∙◌}
+use Rattle.std.proofs.Common.{◌≡◌, true, refl, subst, ap, ◌∙◌}
 use Rattle.tree_copy.specs.Standing.{seen}
 use Rattle.tree_deletion.specs.Folders.{after_try}
 use Rattle.subtree_copy.specs.Standing.{SubtreeCopying}
 use Rattle.subtree_copy.specs.SubtreeSteps.{LastSubtreeStep}
 use Rattle.subtree_copy.proofs.Held.{wound_held}
+use Rattle.subtree_copy.specs.Reporting.{IsWound}
+use Rattle.subtree_copy.specs.Standing.{is_own}
+use Rattle.subtree_copy.proofs.Reportings.{moved_own, winds_wound}
 use Rattle.subtree_copy.proofs.copy.SubtreeCopy.wind_up.Goals as goal
 
 pub invariant_of-self : goal.invariant_of-self
 invariant_of-self g c = wound_held c.self.inside.top c.self.inside.folder c.args.ending (seen c.self.inside.machine) (seen c.wind_up-last.new.self) c.wind_up-last.result _ _ _ _ c.wind_up-last.ensures.winds c.wind_up-last.ensures.windable c.self.invariant
 
-pub returns : goal.returns
-returns g c =
+pub returns-clause-winds : goal.returns-clause-winds
+returns-clause-winds g c =
     subst (λ (d : SubtreeCopying). LastSubtreeStep c.args.ending d (record { top = c.self.inside.top; at = seen c.wind_up-last.new.self; skips = c.self.inside.skips }) c.wind_up-last.result c.args.dirty.now c.note_try.new.self
     (g.T.ReadTree.contents c.args.tree.now) (g.T.ReadTree.contents c.wind_up-last.new.tree) (g.T.ReadTree.fault_count c.args.tree.now) (g.T.ReadTree.fault_count c.wind_up-last.new.tree)) c.self.view_is record {
       winds = c.wind_up-last.ensures.winds;
       list = c.note_try.ensures ∙ ap (λ f. after_try c.wind_up-last.result.did c.wind_up-last.result.left f c.args.dirty.now) c.folder.ensures;
       stands = refl;
     }
+
+pub returns-clause-wound : goal.returns-clause-wound
+returns-clause-wound g c =
+    let held = c.self.invariant in
+    let w = winds_wound c.self.inside.machine.item c.args.ending (seen c.self.inside.machine) (seen c.wind_up-last.new.self) c.wind_up-last.result _ _ _ _ c.wind_up-last.ensures.winds held.windable in
+    subst (λ (d : SubtreeCopying). IsWound c.args.ending d c.wind_up-last.result.did (record { top = c.self.inside.top; at = seen c.wind_up-last.new.self; skips = c.self.inside.skips })) c.self.view_is
+    record { may = w.may; top = refl; skips = refl; stage = w.stage; part = w.part }
+
+pub returns-clause-own : goal.returns-clause-own
+returns-clause-own g c =
+    let held = wound_held c.self.inside.top c.self.inside.folder c.args.ending (seen c.self.inside.machine) (seen c.wind_up-last.new.self) c.wind_up-last.result _ _ _ _ c.wind_up-last.ensures.winds c.wind_up-last.ensures.windable c.self.invariant in
+    let place = held.in_place in
+    subst (λ (d : SubtreeCopying). is_own d c.wind_up-last.new.self.stack.levels.inner.copy.target ≡ true) c.self.view_is
+    (moved_own c.self.inside.top c.wind_up-last.new.self.stack.levels.inner c.wind_up-last.new.self.stack.levels.around place.levels)

@@ -1,0 +1,271 @@
+-- The reports of steps and last steps, and the folders that they change.
+use Rattle.std.proofs.Common.{◌≡◌, ℕ, refl, sym, ◌∙◌, ap, subst, inl, inr, Bool, true, false, List, [], ◌∷◌, ◌++◌, Option, Some, None}
+use Rattle.std.specs.Prelude.{◌⊎◌, ◌||◌, if◌then◌else◌}
+use Rattle.std.proofs.lemmas.Bool.{false≢true}
+use Rattle.mc_text.specs.Routes.{Route, is_prefix, same_path}
+use Rattle.tree_trait.specs.Change.{CallLog}
+use Rattle.tree_trait.proofs.Visible.{same_path-self}
+use Rattle.job_answers.specs.declared.skips.Skips.{Skips as Kinds}
+use Rattle.job_reports.specs.declared.job.Pair.{Pair}
+use Rattle.job_reports.specs.declared.report.Cause.{Cause}
+use Rattle.job_reports.specs.declared.report.Did.{Did}
+use Rattle.job_reports.specs.declared.report.Did.TheVariants.{Began, Chunk, Placed, Removed, Made, Set, Kept, Skipped, Cleaned, Barrier, Troubled, Ended}
+use Rattle.job_reports.specs.declared.report.Ending.{Ending}
+use Rattle.job_reports.specs.declared.report.Ending.TheVariants.{Finished, Aborted, Killed, NoMemory}
+use Rattle.job_reports.specs.declared.report.LastStepResult.{LastStepResult}
+use Rattle.job_reports.specs.declared.report.StepResult.{StepResult}
+use Rattle.job_reports.specs.Paths.{folder_of}
+use Rattle.file_copy.specs.Copying as file
+use Rattle.file_copy.specs.Copying.{Copying, part_at}
+use Rattle.file_copy.specs.LastSteps as file_last
+use Rattle.file_copy.specs.LastSteps.{left_at}
+use Rattle.file_copy.specs.declared.stage.Stage.{Stage as FileStage}
+use Rattle.file_copy.specs.declared.stage.Stage.TheVariants as file_stage
+use Rattle.folder_copy.specs.declared.stage.FolderDid.{FolderDid}
+use Rattle.folder_copy.specs.declared.stage.FolderDid.TheVariants as folder_did
+use Rattle.link_copy.specs.LinkCopying as link
+use Rattle.link_copy.specs.LinkCopying.{LinkCopying, has_part, is_removable}
+use Rattle.link_copy.specs.declared.stage.Stage.{Stage as LinkStage}
+use Rattle.link_copy.specs.declared.stage.Stage.TheVariants as link_stage
+use Rattle.copy_levels.specs.declared.level.Level.{Level}
+use Rattle.copy_levels.specs.Levels.{is_around_dirty, target_around}
+use Rattle.tree_copy.specs.declared.item.Item.{Item}
+use Rattle.tree_copy.specs.declared.item.Item.TheVariants.{Next, File, Link, Stays}
+use Rattle.tree_copy.specs.declared.progress.Progress.TheVariants.{UnderWay}
+use Rattle.tree_copy.specs.Ending.{EndsAll, FoldersWind, IsWindable, TriesFolder, WindsAt, stays_if}
+use Rattle.tree_copy.specs.InPlace.{AreMoved, IsInPlace}
+use Rattle.tree_copy.specs.Parts.{IsPartPlace}
+use Rattle.tree_copy.specs.Progress.{progress}
+use Rattle.tree_copy.specs.Reports.{IsToldAs}
+use Rattle.tree_copy.specs.Skipping as machine
+use Rattle.tree_copy.specs.Standing.{Seen}
+use Rattle.tree_copy.specs.Steps.{TakesNext, WorksOn, idle, link_begun}
+use Rattle.tree_copy.proofs.InPlaces.{leaves_all}
+use Rattle.tree_deletion.specs.Folders.{is_of}
+use Rattle.subtree_copy.specs.Leaving.{may_leave}
+use Rattle.subtree_copy.specs.Marks.{brings_in, brings_made, folder_worked, is_dirty_after, was_dirty}
+use Rattle.subtree_copy.specs.Passing.{OrPassedOver}
+use Rattle.subtree_copy.specs.Reporting.{ChangesOwn, MayTell, MayWind, ReportingLaw, part_wound}
+use Rattle.subtree_copy.specs.Standing.{SubtreeCopying, part_of}
+use Rattle.subtree_copy.specs.SubtreeSteps.{ListSteps, step_result}
+use Rattle.subtree_copy.proofs.Targets.{works_at_once}
+
+-- a report of a file, of a link, of a folder
+file_may : (f m : Copying) (did : Did) → file.Tells f did m → MayTell did
+file_may f m (Ended Finished part) t = t.2
+file_may f m (Ended Aborted part) t = t
+file_may f m (Ended Killed part) t = t
+file_may f m (Ended NoMemory part) t = t
+file_may f m (Removed path) t = t
+file_may f m (Kept path) t = t
+file_may f m (Began part) t = tt
+file_may f m (Chunk count) t = tt
+file_may f m (Placed path) t = tt
+file_may f m (Made path) t = tt
+file_may f m (Set path) t = tt
+file_may f m (Skipped path cause) t = tt
+file_may f m (Cleaned part) t = tt
+file_may f m Barrier t = tt
+file_may f m (Troubled trouble) t = tt
+
+link_may : (l m : LinkCopying) (did : Did) → link.Tells l did m → MayTell did
+link_may l m (Ended ending part) t = absurd t
+link_may l m (Removed path) t = t
+link_may l m (Kept path) t = t
+link_may l m (Began part) t = tt
+link_may l m (Chunk count) t = tt
+link_may l m (Placed path) t = tt
+link_may l m (Made path) t = tt
+link_may l m (Set path) t = tt
+link_may l m (Skipped path cause) t = tt
+link_may l m (Cleaned part) t = tt
+link_may l m Barrier t = tt
+link_may l m (Troubled trouble) t = tt
+
+folder_may : (report : FolderDid) (did : Did) → IsToldAs report did → MayTell did
+folder_may (folder_did.Made path) did told = subst MayTell (sym told) tt
+folder_may (folder_did.Set path) did told = subst MayTell (sym told) tt
+folder_may folder_did.Barrier did told = subst MayTell (sym told) tt
+folder_may folder_did.Closed did told = absurd told
+folder_may (folder_did.Troubled trouble) did told = subst MayTell (sym told) tt
+
+module _ (unclaimed : Route → Type 0) (old new : Seen) (did : Did) (before after : Option CallLog) where
+  takes_may : TakesNext unclaimed old new did before after → MayTell did
+  takes_may (inl s) = subst MayTell (sym s.says) tt
+  takes_may (inr (inl t)) = (let w = t.works in file_may (file.begun old.job t.pair.source t.pair.target) w.moved did w.tells)
+  takes_may (inr (inr (inl t))) = (let w = t.works in link_may (link_begun t.pair t.part) w.moved did w.tells)
+  takes_may (inr (inr (inr (inl t)))) = (let w = t.works in folder_may w.report did w.says)
+  takes_may (inr (inr (inr (inr (next, inl (debt, e)))))) = folder_may e.report did e.says
+  takes_may (inr (inr (inr (inr (next, inr (debt, f, same)))))) = subst MayTell (sym f.says) refl
+
+  works_may : (item : Item) → WorksOn item unclaimed old new did before after → MayTell did
+  works_may Next (inl s) = folder_may s.report did s.says
+  works_may Next (inr t) = takes_may t.1
+  works_may (File f) w = file_may f w.moved did w.tells
+  works_may (Link l) w = link_may l w.moved did w.tells
+  works_may (Stays part) w = absurd w
+
+named_may : (names : List (List ℕ)) (cause : Cause) (old new : Seen) (did : Did) → machine.SkipsNamed names cause old did new → MayTell did
+named_may [] cause old new did (moved, inl s, stands) = subst MayTell (sym s.0) tt
+named_may [] cause old new did (moved, inr room, stands) = subst MayTell (sym room.0) tt
+named_may (name ∷ names) cause old new did (inl s) = subst MayTell (sym s.0) tt
+named_may (name ∷ names) cause old new did (inr (inl (long, inl s))) = subst MayTell (sym s.0) tt
+named_may (name ∷ names) cause old new did (inr (inl (long, inr room))) = subst MayTell (sym room.0) tt
+named_may (name ∷ names) cause old new did (inr (inr room)) = subst MayTell (sym room.0) tt
+
+skip_may : (item : Item) (cause : Cause) (old new : Seen) (did : Did) → machine.SkipsAt item cause old did new → MayTell did
+skip_may Next cause old new did s = named_may old.levels.inner.names.names cause old new did s
+skip_may (File f) cause old new did (moved, inl s, stands) = subst MayTell (sym s.0) tt
+skip_may (File f) cause old new did (moved, inr room, stands) = subst MayTell (sym room.0) tt
+skip_may (Link l) cause old new did (moved, inl s, stands) = subst MayTell (sym s.0) tt
+skip_may (Link l) cause old new did (moved, inr room, stands) = subst MayTell (sym room.0) tt
+skip_may (Stays part) cause old new did s = absurd s
+
+list_may : (free : Route → Bool) (old new : Seen) (worked : StepResult) (dirty dirty_after : List Route) (before after : Option CallLog) (f0 f1 : ℕ) → ListSteps free old new worked dirty dirty_after before after f0 f1
+    → may_leave old ≡ false → MayTell worked.did
+list_may free old new worked dirty dirty_after before after f0 f1 (inl s) settled = subst MayTell (sym (ap (λ (r : StepResult). r.did) s.says)) tt
+list_may free old new worked dirty dirty_after before after f0 f1 (inr s) settled =
+    works_may (IsPartPlace free old) old new worked.did before after old.item (works_at_once free old new worked.did worked.calls before after f0 f1 s.steps settled)
+
+passes_may : (skips : Kinds) (worked : StepResult) (old new : Seen) (result : StepResult) → OrPassedOver skips worked old new result → MayTell worked.did → MayTell result.did
+passes_may skips worked old new result (inl p) may = subst (λ (r : StepResult). MayTell r.did) (sym p.1) may
+passes_may skips worked old new result (inr p) may = skip_may old.item p.0 old new result.did p.3
+
+-- a last step
+stays_part : (part : Option Route) → part_of (stays_if part) ≡ part
+stays_part (Some part) = refl
+stays_part None = refl
+
+pub record Wound (ending : Ending) (stands : Option Route) (old : Seen) (did : Did) (new : Seen) : Type 0 where
+  pub may : MayWind ending stands did
+  pub stage : new.stage ≡ old.stage
+  pub part : part_of new.item ≡ part_wound did stands
+
+folders_wound : (ending : Ending) (part : Option Route) (old new : Seen) (last : LastStepResult) (before after : Option CallLog) (f0 f1 : ℕ) → FoldersWind ending part old new last before after f0 f1 → Wound ending part old last.did new
+folders_wound ending part old new last before after f0 f1 w = by w.winds
+  where
+    by : TriesFolder part w.mid old new last before after f0 f1 ⊎ EndsAll ending part w.mid old new last before after f0 f1 → Wound ending part old last.did new
+    by (inl t) =
+        let tried = t.tried in
+        subst (λ d. Wound ending part old d new) (sym tried.did)
+        record { may = tt; stage = ap (λ (c : Seen). c.stage) t.stands; part = ap (λ (c : Seen). part_of c.item) t.stands ∙ stays_part part }
+    by (inr e) =
+        subst (λ d. Wound ending part old d new) (sym (ap (λ (r : LastStepResult). r.did) e.says))
+        record { may = (refl, refl); stage = ap (λ (c : Seen). c.stage) e.stands; part = ap (λ (c : Seen). part_of c.item) e.stands }
+
+-- where a file is at work its part stands
+file_removable : (stage : FileStage) → progress stage ≡ UnderWay → left_at stage ≡ None → file_last.removable stage ≡ part_at stage
+file_removable (file_stage.Fill part facts done) going none = refl
+file_removable (file_stage.Clean part follows) going none = refl
+file_removable (file_stage.Left part) going none = absurd (let f : ⊥ = cc in f)
+file_removable file_stage.Begin going none = refl
+file_removable file_stage.Decided going none = refl
+
+no_more : (stage : FileStage) → progress stage ≡ UnderWay → left_at stage ≡ None → file_last.removable stage ≡ None → ⊥
+no_more (file_stage.Fill part facts done) going none gone = (let f : ⊥ = cc in f)
+no_more (file_stage.Clean part follows) going none gone = (let f : ⊥ = cc in f)
+no_more (file_stage.Left part) going none gone = (let f : ⊥ = cc in f)
+no_more file_stage.Begin going none gone = (let f : ⊥ = cc in f)
+no_more file_stage.Decided going none gone = (let f : ⊥ = cc in f)
+
+given_up_part : (stage : FileStage) → part_at (file_last.given_up stage) ≡ part_at stage
+given_up_part (file_stage.Fill part facts done) = refl
+given_up_part (file_stage.Clean part follows) = refl
+given_up_part (file_stage.Left part) = refl
+given_up_part file_stage.Begin = refl
+given_up_part file_stage.Decided = refl
+
+file_wound : (ending : Ending) (f m : Copying) (old new : Seen) (did : Did) → file_last.Winds ending f did m → (progress f.stage ≡ UnderWay) × (left_at f.stage ≡ None) → new.stage ≡ old.stage
+    → part_of new.item ≡ part_at m.stage → Wound ending (part_at f.stage) old did new
+file_wound ending f m old new (Cleaned part) w can stage now =
+    record { may = sym (file_removable f.stage can.0 can.1) ∙ w.0; stage = stage; part = now ∙ ap (λ (c : Copying). part_at c.stage) w.1 }
+file_wound ending f m old new Barrier w can stage now = record { may = tt; stage = stage; part = now ∙ (ap (λ (c : Copying). part_at c.stage) w.1 ∙ given_up_part f.stage) }
+file_wound ending f m old new (Ended how part) w can stage now = absurd (no_more f.stage can.0 can.1 w.0)
+file_wound ending f m old new (Began part) w can stage now = absurd w
+file_wound ending f m old new (Chunk count) w can stage now = absurd w
+file_wound ending f m old new (Placed path) w can stage now = absurd w
+file_wound ending f m old new (Removed path) w can stage now = absurd w
+file_wound ending f m old new (Made path) w can stage now = absurd w
+file_wound ending f m old new (Set path) w can stage now = absurd w
+file_wound ending f m old new (Kept path) w can stage now = absurd w
+file_wound ending f m old new (Skipped path cause) w can stage now = absurd w
+file_wound ending f m old new (Troubled trouble) w can stage now = absurd w
+
+removable_part : (stage : LinkStage) → is_removable stage ≡ true → has_part stage ≡ true
+removable_part link_stage.Place h = refl
+removable_part (link_stage.Clean follows) h = refl
+removable_part link_stage.Left h = refl
+removable_part link_stage.Make h = absurd (false≢true h)
+removable_part link_stage.Again h = absurd (false≢true h)
+removable_part link_stage.Decided h = absurd (false≢true h)
+
+pub winds_wound : (item : Item) (ending : Ending) (old new : Seen) (last : LastStepResult) (before after : Option CallLog) (f0 f1 : ℕ) → WindsAt item ending old new last before after f0 f1 → IsWindable item
+    → Wound ending (part_of item) old last.did new
+winds_wound Next ending old new last before after f0 f1 w can = folders_wound ending None old new last before after f0 f1 w
+winds_wound (File f) ending old new last before after f0 f1 w can =
+    let m = w.moved in
+    let on = w.winds in
+    file_wound ending f m old new last.did on.tells can (ap (λ (c : Seen). c.stage) w.stands) (ap (λ (c : Seen). part_of c.item) w.stands ∙ stays_part (part_at m.stage))
+winds_wound (Link l) ending old new last before after f0 f1 (inl c) can =
+    let stands : part_of (Link l) ≡ Some l.part = ap (λ b. if b then Some l.part else None) (removable_part l.stage can) in
+    subst (λ d. Wound ending (part_of (Link l)) old d new) (sym (ap (λ (r : LastStepResult). r.did) c.says))
+    record { may = stands; stage = ap (λ (s : Seen). s.stage) c.stands; part = ap (λ (s : Seen). part_of s.item) c.stands }
+winds_wound (Link l) ending old new last before after f0 f1 (inr s) can =
+    let stands : part_of (Link l) ≡ Some l.part = ap (λ b. if b then Some l.part else None) (removable_part l.stage can) in
+    let later = s.winds in
+    let next = folders_wound ending (Some l.part) (idle old) new later.next s.mid after s.since f1 later.winds in
+    subst (λ p. Wound ending p old last.did new) (sym stands)
+    (subst (λ d. Wound ending (Some l.part) old d new) (sym (ap (λ (r : LastStepResult). r.did) later.says)) record { may = next.may; stage = next.stage; part = next.part })
+winds_wound (Stays part) ending old new last before after f0 f1 w can =
+    let next = folders_wound ending (Some part) (idle old) new last before after f0 f1 w in record { may = next.may; stage = next.stage; part = next.part }
+
+-- the copy's own folders
+or_true : (a b : Bool) → b ≡ true → (a || b) ≡ true
+or_true true b h = refl
+or_true false b h = h
+
+prefix_of : (rest top : Route) → is_prefix top (rest ++ top) ≡ true
+prefix_of [] [] = refl
+prefix_of [] (name ∷ top) = ap (λ b. b || is_prefix (name ∷ top) top) (same_path-self (name ∷ top))
+prefix_of (name ∷ rest) top = or_true (same_path top (name ∷ rest ++ top)) (is_prefix top (rest ++ top)) (prefix_of rest top)
+
+pub moved_own : (top : Pair) (inner : Level) (around : List Level) → AreMoved top inner around → is_of (folder_of top.target) top.target inner.copy.target ≡ true
+moved_own top inner [] h = ap (λ r. same_path r (folder_of top.target) || is_prefix top.target inner.copy.target) h.to ∙ ap (λ b. b || is_prefix top.target inner.copy.target) (same_path-self (folder_of top.target))
+moved_own top inner (outer ∷ around) h =
+    let m = h.0 in
+    or_true (same_path inner.copy.target (folder_of top.target)) (is_prefix top.target inner.copy.target) (ap (is_prefix top.target) m.to ∙ prefix_of m.rest top.target)
+
+around_own : (top : Pair) (inner : Level) (around : List Level) → AreMoved top inner around → is_around_dirty around ≡ true → is_of (folder_of top.target) top.target (target_around around) ≡ true
+around_own top inner [] h marked = absurd (false≢true marked)
+around_own top inner (outer ∷ around) h marked = moved_own top outer around h.1
+
+brings_around : (item : Item) (c : Seen) → brings_in item c.levels ≡ true → is_around_dirty c.levels.around ≡ true
+brings_around Next c h = h
+brings_around (File f) c h = absurd (false≢true h)
+brings_around (Link l) c h = absurd (false≢true h)
+brings_around (Stays part) c h = absurd (false≢true h)
+
+worked_own : (top : Pair) (c : Seen) → IsInPlace top c → is_of (folder_of top.target) top.target (folder_worked c) ≡ true
+worked_own top c h = by (brings_made c) refl
+  where
+    by : (b : Bool) → brings_made c ≡ b → is_of (folder_of top.target) top.target (if b then target_around c.levels.around else c.levels.inner.copy.target) ≡ true
+    by true is = around_own top c.levels.inner c.levels.around h.levels (brings_around c.item c is)
+    by false is = moved_own top c.levels.inner c.levels.around h.levels
+
+pub list_own : (free : Route → Bool) (c : SubtreeCopying) (old new : Seen) (worked : StepResult) (dirty dirty_after : List Route) (before after : Option CallLog) (f0 f1 : ℕ) → ListSteps free old new worked dirty dirty_after before after f0 f1
+    → IsInPlace c.top old → ChangesOwn c dirty dirty_after
+list_own free c old new worked dirty dirty_after before after f0 f1 (inl s) h = record { folder = folder_worked old; own = worked_own c.top old h; was = false; now = false; list = s.list }
+list_own free c old new worked dirty dirty_after before after f0 f1 (inr s) h =
+    record { folder = folder_worked old; own = worked_own c.top old h; was = was_dirty old; now = is_dirty_after old worked.did new; list = s.list }
+
+pub reporting_law : ReportingLaw
+reporting_law = record {
+  step = λ free old new did calls dirty dirty_after before after f0 f1 s.
+      passes_may old.skips s.worked s.moved new.at (step_result did calls) s.passes (list_may free s.mid s.moved s.worked dirty dirty_after before after f0 f1 s.works s.settled);
+  last = λ ending old new last dirty dirty_after before after f0 f1 s can.
+      let w = winds_wound old.at.item ending old.at new.at last before after f0 f1 s.winds can in
+      record { may = w.may; top = ap (λ (c : SubtreeCopying). c.top) s.stands; skips = ap (λ (c : SubtreeCopying). c.skips) s.stands; stage = w.stage; part = w.part };
+  list = λ free old new did calls dirty dirty_after before after f0 f1 s h.
+      let l = s.leaves in list_own free old s.mid s.moved s.worked dirty dirty_after before after f0 f1 s.works (leaves_all old.top l.0 old.at s.mid l.1 h);
+  tried = λ old new same h. moved_own old.top new.at.levels.inner new.at.levels.around h.levels;
+}

@@ -1,0 +1,39 @@
+-- A copy that has changed nothing yet: nothing is at work, no folder was gone into, and none is dirty.
+use Rattle.std.specs.Prelude.{◌≡◌, ℕ, Bool, true, false, List, [], Option}
+use Rattle.mc_text.specs.Routes.{Route}
+use Rattle.tree_trait.specs.Change.{CallLog}
+use Rattle.job_reports.specs.declared.job.Pair.{Pair}
+use Rattle.job_reports.specs.declared.report.Cause.{Cause}
+use Rattle.job_reports.specs.declared.report.Did.{Did}
+use Rattle.job_reports.specs.declared.report.Did.TheVariants.{Barrier, Troubled}
+use Rattle.job_reports.specs.declared.report.Trouble.{Trouble}
+use Rattle.folder_copy.specs.FolderCopying.{is_dirty}
+use Rattle.tree_copy.specs.declared.item.Item.TheVariants.{Next}
+use Rattle.tree_copy.specs.Falling.{IsSteady}
+use Rattle.tree_copy.specs.Standing.{Seen, is_fresh}
+use Rattle.subtree_copy.specs.Leaving.{owes_at_end}
+use Rattle.subtree_copy.specs.Standing.{IsGoing, SubtreeCopying, retries, started}
+use Rattle.subtree_copy.specs.SubtreeSteps.{SubtreeSkips, SubtreeSteps}
+
+-- where it stands: in the folder of its source, which owes nothing
+pub record IsOutside (c : Seen) : Type 0 where
+  pub none : c.item ≡ Next
+  pub around : c.levels.around ≡ []
+  pub owes : owes_at_end c.levels.inner.copy.stage false ≡ false
+  pub clean : is_dirty c.levels.inner.copy.names ≡ false
+
+abbrev pub IsUnbegun : Seen → Type 0
+IsUnbegun c = is_fresh c.stage ≡ true → IsOutside c
+
+-- So it is of a copy that begins, and each step, skip and retry keeps it. No trouble of such a copy is at a barrier, and it syncs nothing.
+pub record UnbegunLaw : Type 0 where
+  pub begins : (job : ℕ) (top : Pair) → (let copy : SubtreeCopying = started job top in IsUnbegun copy.at)
+  pub step : (free : Route → Bool) (old new : SubtreeCopying) (did : Did) (calls : ℕ) (dirty dirty_after : List Route) (before after : Option CallLog) (faults faults_after : ℕ)
+      → SubtreeSteps free old new did calls dirty dirty_after before after faults faults_after → IsGoing old → IsUnbegun old.at → IsUnbegun new.at
+  pub skip : (cause : Cause) (old new : SubtreeCopying) (did : Did) → SubtreeSkips cause old did new → IsGoing old → IsUnbegun old.at → IsUnbegun new.at
+  pub retry : (c : SubtreeCopying) → IsUnbegun c.at → (let again : SubtreeCopying = retries c in IsUnbegun again.at)
+  pub trouble : (free : Route → Bool) (old new : SubtreeCopying) (trouble : Trouble) (calls : ℕ) (dirty dirty_after : List Route) (before after : Option CallLog) (faults faults_after : ℕ)
+      → SubtreeSteps free old new (Troubled trouble) calls dirty dirty_after before after faults faults_after → IsSteady old.at → IsGoing old → IsUnbegun old.at → is_fresh new.at.stage ≡ true
+      → trouble.barrier ≡ false
+  pub sync : (free : Route → Bool) (old new : SubtreeCopying) (calls : ℕ) (dirty dirty_after : List Route) (before after : Option CallLog) (faults faults_after : ℕ)
+      → SubtreeSteps free old new Barrier calls dirty dirty_after before after faults faults_after → IsUnbegun old.at → is_fresh old.at.stage ≡ false
