@@ -38,7 +38,7 @@ use Rattle.subtree_copy.specs.SubtreeSteps.{ListSteps, SubtreeSteps, step_result
 use Rattle.subtree_copy.proofs.Barred.{passed_trouble}
 
 -- no call was made
-none_made : (before after : Option CallLog) → after ≡ before → IfKnown before (λ log. IfKnown after (HasMore log 0))
+pub none_made : (before after : Option CallLog) → after ≡ before → IfKnown before (λ log. IfKnown after (HasMore log 0))
 none_made before after same log known now known_now =
     let e : Some now ≡ Some log = sym known_now ∙ (same ∙ known) in
     let f : now ≡ log = cc in

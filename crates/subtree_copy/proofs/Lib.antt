@@ -5,6 +5,7 @@ mod Counts
 mod Done
 mod Fewer
 mod Held
+mod LastCounts
 mod LastOnes
 mod Left
 pub mod Listed
