@@ -1,8 +1,7 @@
 //! What is left in a crash image, in words.
 use crate::scenes::{COPIED, DELETED, Original, SET, Scene};
-use anyhow::{Result, bail};
 use mc_text::{Kind, Name, Path};
-use std::alloc::Global;
+use row_page::Page;
 use std::convert::AsStr;
 use tree_trait::{Meta, Tree, TreeError};
 
@@ -17,125 +16,136 @@ enum Standing {
 }
 
 /// What an image has of the files of a session.
-pub fn left_in<T: Tree>(alloc: Global, image: &mut T, scene: Scene) -> Result<String> {
+pub fn tell_left<T: Tree>(page: &mut Page, image: &mut T, scene: Scene) {
     match scene {
-        Scene::Deletion => left_of_deletion(alloc, image),
-        Scene::Folder => left_of_folder(alloc, image),
-        Scene::Copy => left_of_copy(alloc, image),
-        Scene::LeftFolder => left_of_deletion(alloc, image),
-        Scene::LeftTarget => left_of_copy(alloc, image),
-        Scene::NewFolder => left_of_making(alloc, image),
-        Scene::LeftNewFolder => left_of_makings(alloc, image),
-        Scene::NewLink => left_of_link(alloc, image),
-        Scene::Mode => left_of_modes(alloc, image),
-        Scene::LeftMode => left_of_modes(alloc, image),
+        Scene::Deletion => tell_deletion(page, image),
+        Scene::Folder => tell_folder_deletion(page, image),
+        Scene::Copy => tell_copy(page, image),
+        Scene::LeftFolder => tell_deletion(page, image),
+        Scene::LeftTarget => tell_copy(page, image),
+        Scene::NewFolder => tell_new_folder(page, image, "/a/n"),
+        Scene::LeftNewFolder => tell_new_folders(page, image),
+        Scene::NewLink => tell_new_link(page, image),
+        Scene::Mode => tell_modes(page, image),
+        Scene::LeftMode => tell_modes(page, image),
     }
 }
 
-fn left_of_deletion<T: Tree>(alloc: Global, image: &mut T) -> Result<String> {
-    let deleted = what_stands(alloc, image, "/a/x", DELETED)?;
-    let beside = what_stands(alloc, image, "/a/y", DELETED)?;
-    let deleted = word_of(deleted, "gone");
-    let beside = word_of(beside, "gone");
-    Ok(format!(in alloc; "{deleted}, the one beside it {beside}")?)
+fn tell_deletion<T: Tree>(page: &mut Page, image: &mut T) {
+    tell_file(page, image, "/a/x", DELETED, "gone");
+    page.put(", the one beside it ");
+    tell_file(page, image, "/a/y", DELETED, "gone");
 }
 
-fn left_of_folder<T: Tree>(alloc: Global, image: &mut T) -> Result<String> {
-    let folder = word_of(what_of_folder(alloc, image, "/a/d")?, "gone");
-    let inside = word_of(what_stands(alloc, image, "/a/d/x", DELETED)?, "gone");
-    let beside = word_of(what_stands(alloc, image, "/a/y", DELETED)?, "gone");
-    Ok(format!(in alloc; "{folder}, the file in it {inside}, the one beside it {beside}")?)
+fn tell_folder_deletion<T: Tree>(page: &mut Page, image: &mut T) {
+    let folder = what_of_folder(page, image, "/a/d");
+    page.put(word_of(folder, "gone"));
+    page.put(", the file in it ");
+    tell_file(page, image, "/a/d/x", DELETED, "gone");
+    page.put(", the one beside it ");
+    tell_file(page, image, "/a/y", DELETED, "gone");
 }
 
 /// What stands where a folder was put.
-fn what_of_folder<T: Tree>(alloc: Global, image: &mut T, path: &str) -> Result<Standing> {
-    let path = Path::parse(alloc, path)?;
-    match image.stat(alloc, &path) {
-        Err(TreeError::Missing) => Ok(Standing::Missing),
-        Err(error) => bail!("{error}"),
-        Ok(meta) if meta.kind == Kind::Folder && meta.mode == 0o755 => Ok(Standing::Whole),
-        Ok(_) => Ok(Standing::Torn),
+fn what_of_folder<T: Tree>(page: &mut Page, image: &mut T, path: &str) -> Standing {
+    match Path::parse(page.alloc(), path) {
+        Ok(path) => folder_at(page, image, &path),
+        Err(_error) => wanting(page),
     }
 }
 
-fn left_of_copy<T: Tree>(alloc: Global, image: &mut T) -> Result<String> {
-    let target = what_stands(alloc, image, "/t/e", COPIED)?;
-    let source = what_stands(alloc, image, "/s/e", COPIED)?;
-    let beside = what_is_beside(alloc, image)?;
-    let target = word_of(target, "missing");
-    let source = word_of(source, "missing");
-    Ok(format!(in alloc; "{target}, the source {source}, beside it {beside}")?)
+fn folder_at<T: Tree>(page: &mut Page, image: &mut T, path: &Path) -> Standing {
+    match image.stat(page.alloc(), path) {
+        Err(TreeError::Missing) => Standing::Missing,
+        Err(_error) => wanting(page),
+        Ok(meta) if meta.kind == Kind::Folder && meta.mode == 0o755 => Standing::Whole,
+        Ok(_) => Standing::Torn,
+    }
 }
 
-fn left_of_making<T: Tree>(alloc: Global, image: &mut T) -> Result<String> {
-    let made = word_of(what_folder_stands(alloc, image, "/a/n")?, "missing");
-    Ok(String::from_str(alloc, made)?)
+/// Something is wanting, so the page says nothing of what stands.
+fn wanting(page: &mut Page) -> Standing {
+    page.fail();
+    Standing::Torn
 }
 
-fn left_of_makings<T: Tree>(alloc: Global, image: &mut T) -> Result<String> {
-    let first = word_of(what_folder_stands(alloc, image, "/a/n")?, "missing");
-    let second = word_of(what_folder_stands(alloc, image, "/a/m")?, "missing");
-    Ok(format!(in alloc; "{first}, the second {second}")?)
+fn tell_copy<T: Tree>(page: &mut Page, image: &mut T) {
+    tell_file(page, image, "/t/e", COPIED, "missing");
+    page.put(", the source ");
+    tell_file(page, image, "/s/e", COPIED, "missing");
+    page.put(", beside it ");
+    tell_beside(page, image);
 }
 
-fn left_of_link<T: Tree>(alloc: Global, image: &mut T) -> Result<String> {
-    let made = word_of(what_link_stands(alloc, image, "/a/l")?, "missing");
-    Ok(String::from_str(alloc, made)?)
+fn tell_new_folders<T: Tree>(page: &mut Page, image: &mut T) {
+    tell_new_folder(page, image, "/a/n");
+    page.put(", the second ");
+    tell_new_folder(page, image, "/a/m");
+}
+
+/// What stands where a folder is made: it has nothing in it.
+fn tell_new_folder<T: Tree>(page: &mut Page, image: &mut T, path: &str) {
+    let standing = match what_of_folder(page, image, path) {
+        Standing::Whole => if_empty(page, image, path),
+        standing => standing,
+    };
+    page.put(word_of(standing, "missing"));
+}
+
+fn if_empty<T: Tree>(page: &mut Page, image: &mut T, path: &str) -> Standing {
+    match Path::parse(page.alloc(), path) {
+        Ok(path) => if_nothing_in(page, image, &path),
+        Err(_error) => wanting(page),
+    }
+}
+
+fn if_nothing_in<T: Tree>(page: &mut Page, image: &mut T, path: &Path) -> Standing {
+    match image.list(page.alloc(), path) {
+        Ok(children) if children.unnamed == 0 && children.names.as_slice().is_empty() => {
+            Standing::Whole
+        }
+        Ok(_children) => Standing::Torn,
+        Err(_error) => wanting(page),
+    }
 }
 
 /// What stands where a link that says `x` is made.
-fn what_link_stands<T: Tree>(alloc: Global, image: &mut T, path: &str) -> Result<Standing> {
-    let path = Path::parse(alloc, path)?;
-    match image.read_link(alloc, &path) {
-        Err(TreeError::Missing) => Ok(Standing::Missing),
-        Err(_) => Ok(Standing::Torn),
-        Ok(text) if text.as_str() == "x" => Ok(Standing::Whole),
-        Ok(_) => Ok(Standing::Torn),
+fn tell_new_link<T: Tree>(page: &mut Page, image: &mut T) {
+    let standing = match Path::parse(page.alloc(), "/a/l") {
+        Ok(path) => link_at(page, image, &path),
+        Err(_error) => wanting(page),
+    };
+    page.put(word_of(standing, "missing"));
+}
+
+fn link_at<T: Tree>(page: &mut Page, image: &mut T, path: &Path) -> Standing {
+    match image.read_link(page.alloc(), path) {
+        Err(TreeError::Missing) => Standing::Missing,
+        Err(_error) => Standing::Torn,
+        Ok(text) if text.as_str() == "x" => Standing::Whole,
+        Ok(_text) => Standing::Torn,
     }
 }
 
-fn left_of_modes<T: Tree>(alloc: Global, image: &mut T) -> Result<String> {
-    let first = mode_left(alloc, image, "/a/x")?;
-    let second = mode_left(alloc, image, "/a/y")?;
-    Ok(format!(in alloc; "{first}, the one beside it {second}")?)
+fn tell_modes<T: Tree>(page: &mut Page, image: &mut T) {
+    tell_mode(page, image, "/a/x");
+    page.put(", the one beside it ");
+    tell_mode(page, image, "/a/y");
 }
 
 /// With which mode a file stands whose bytes are as they were put.
-fn mode_left<T: Tree>(alloc: Global, image: &mut T, path: &str) -> Result<&'static str> {
-    if let Standing::Whole = what_stands(alloc, image, path, DELETED)? {
-        return Ok("with 644");
-    }
-    match what_stands(alloc, image, path, SET)? {
-        Standing::Whole => Ok("with 600"),
-        Standing::Missing => Ok("missing"),
-        Standing::Torn => Ok("torn"),
+fn tell_mode<T: Tree>(page: &mut Page, image: &mut T, path: &str) {
+    match what_stands(page, image, path, DELETED) {
+        Standing::Whole => page.put("with 644"),
+        _ => tell_set(page, image, path),
     }
 }
 
-/// What stands where a folder is made.
-fn what_folder_stands<T: Tree>(alloc: Global, image: &mut T, path: &str) -> Result<Standing> {
-    let path = Path::parse(alloc, path)?;
-    match image.stat(alloc, &path) {
-        Err(TreeError::Missing) => Ok(Standing::Missing),
-        Err(error) => bail!("{error}"),
-        Ok(meta) => folder_compared(alloc, image, &path, meta),
-    }
-}
-
-fn folder_compared<T: Tree>(
-    alloc: Global,
-    image: &mut T,
-    path: &Path,
-    meta: Meta,
-) -> Result<Standing> {
-    if meta.kind != Kind::Folder || meta.mode != 0o755 {
-        return Ok(Standing::Torn);
-    }
-    let children = image.list(alloc, path)?;
-    if children.unnamed == 0 && children.names.as_slice().is_empty() {
-        Ok(Standing::Whole)
-    } else {
-        Ok(Standing::Torn)
+fn tell_set<T: Tree>(page: &mut Page, image: &mut T, path: &str) {
+    match what_stands(page, image, path, SET) {
+        Standing::Whole => page.put("with 600"),
+        Standing::Missing => page.put("missing"),
+        Standing::Torn => page.put("torn"),
     }
 }
 
@@ -148,51 +158,82 @@ fn word_of(standing: Standing, missing: &'static str) -> &'static str {
     }
 }
 
-fn what_stands<T: Tree>(
-    alloc: Global,
+/// What stands where this file was put or is copied; the word for nothing is given.
+fn tell_file<T: Tree>(
+    page: &mut Page,
     image: &mut T,
     path: &str,
     original: Original,
-) -> Result<Standing> {
-    let path = Path::parse(alloc, path)?;
-    match image.stat(alloc, &path) {
-        Err(TreeError::Missing) => Ok(Standing::Missing),
-        Err(error) => bail!("{error}"),
-        Ok(meta) => compared(alloc, image, &path, meta, original),
+    missing: &'static str,
+) {
+    let standing = what_stands(page, image, path, original);
+    page.put(word_of(standing, missing));
+}
+
+fn what_stands<T: Tree>(
+    page: &mut Page,
+    image: &mut T,
+    path: &str,
+    original: Original,
+) -> Standing {
+    match Path::parse(page.alloc(), path) {
+        Ok(path) => file_at(page, image, &path, original),
+        Err(_error) => wanting(page),
+    }
+}
+
+fn file_at<T: Tree>(page: &mut Page, image: &mut T, path: &Path, original: Original) -> Standing {
+    match image.stat(page.alloc(), path) {
+        Err(TreeError::Missing) => Standing::Missing,
+        Err(_error) => wanting(page),
+        Ok(meta) => compared(page, image, path, meta, original),
     }
 }
 
 fn compared<T: Tree>(
-    alloc: Global,
+    page: &mut Page,
     image: &mut T,
     path: &Path,
     meta: Meta,
     original: Original,
-) -> Result<Standing> {
+) -> Standing {
     if meta.kind != Kind::File || meta.mode != original.mode {
-        return Ok(Standing::Torn);
+        return Standing::Torn;
     }
     let mut room = [0u8; 8];
-    let count = image.read_at(alloc, path, 0, &mut room)?;
-    if room.get(..count) == Some(original.bytes) {
-        Ok(Standing::Whole)
-    } else {
-        Ok(Standing::Torn)
+    match image.read_at(page.alloc(), path, 0, &mut room) {
+        Ok(count) if room.get(..count) == Some(original.bytes) => Standing::Whole,
+        Ok(_count) => Standing::Torn,
+        Err(_error) => wanting(page),
     }
 }
 
 /// What the target's folder has but the target.
-fn what_is_beside<T: Tree>(alloc: Global, image: &mut T) -> Result<&'static str> {
-    let folder = Path::parse(alloc, "/t")?;
-    let children = image.list(alloc, &folder)?;
-    let names = children.names.as_slice();
-    if children.unnamed != 0 || names.iter().any(is_stranger) {
-        return Ok("a stranger");
+fn tell_beside<T: Tree>(page: &mut Page, image: &mut T) {
+    match Path::parse(page.alloc(), "/t") {
+        Ok(folder) => tell_things_in(page, image, &folder),
+        Err(_error) => page.fail(),
+    }
+}
+
+fn tell_things_in<T: Tree>(page: &mut Page, image: &mut T, folder: &Path) {
+    match image.list(page.alloc(), folder) {
+        Ok(children) if children.unnamed == 0 => {
+            page.put(beside_target(children.names.as_slice()));
+        }
+        Ok(_children) => page.put("a stranger"),
+        Err(_error) => page.fail(),
+    }
+}
+
+fn beside_target(names: &[Name]) -> &'static str {
+    if names.iter().any(is_stranger) {
+        return "a stranger";
     }
     if names.iter().any(is_part) {
-        Ok("a part")
+        "a part"
     } else {
-        Ok("nothing")
+        "nothing"
     }
 }
 

@@ -1,14 +1,4 @@
 //! The sessions: the trees that they begin with, and their keys.
-ghost use Rattle.std.specs.Prelude.{◌≡◌, []};
-
-use crate::images::walk;
-use crate::links::after_link;
-use crate::sessions::after_keys;
-use crate::settings::after_settings;
-use anyhow::{Result, bail};
-use mc_text::Path;
-use mem_tree::MemTree;
-use std::alloc::Global;
 
 /// A session that is walked.
 #[derive(Clone, Copy)]
@@ -56,18 +46,63 @@ impl Scene {
     /// Whether bytes are written.
     pub fn writes(self) -> bool {
         match self {
-            Scene::Deletion => false,
-            Scene::Folder => false,
             Scene::Copy => true,
-            Scene::LeftFolder => false,
             Scene::LeftTarget => true,
-            Scene::NewFolder => false,
-            Scene::LeftNewFolder => false,
-            Scene::NewLink => false,
-            Scene::Mode => false,
-            Scene::LeftMode => false,
+            _ => false,
         }
     }
+
+    /// What stands on the disk before it, line by line.
+    pub fn things(self) -> &'static str {
+        match self {
+            Scene::Folder => "folder /a 755\nfolder /a/d 755\nfile /a/d/x 644 hi\nfile /a/y 644 hi",
+            Scene::Copy => "folder /s 755\nfolder /t 755\nfile /s/e 640 hello",
+            Scene::LeftTarget => "folder /s 755\nfolder /t 755\nfile /s/e 640 hello",
+            Scene::NewFolder => "folder /a 755",
+            Scene::LeftNewFolder => "folder /a 755",
+            Scene::NewLink => "folder /a 755",
+            _ => "folder /a 755\nfile /a/x 644 hi\nfile /a/y 644 hi",
+        }
+    }
+
+    /// The numbers of the calls of the tree that fail.
+    pub fn fails(self) -> &'static [u64] {
+        match self {
+            Scene::LeftFolder => REFUSED_SYNCS,
+            Scene::LeftTarget => REFUSED_TARGET_SYNCS,
+            Scene::LeftNewFolder => REFUSED_FOLDER_SYNCS,
+            Scene::LeftMode => REFUSED_FILE_SYNCS,
+            _ => &[],
+        }
+    }
+
+    /// The session, where it is one by keys.
+    pub fn keys(self) -> Option<Keys> {
+        match self {
+            Scene::Deletion => Some(session("/a", "/a", DELETING)),
+            Scene::Folder => Some(session("/a", "/a", DELETING)),
+            Scene::Copy => Some(session("/s", "/t", COPYING)),
+            Scene::LeftFolder => Some(session("/a", "/a", DELETING_BOTH)),
+            Scene::LeftTarget => Some(session("/s", "/t", COPYING_AND_DELETING)),
+            Scene::NewFolder => Some(session("/a", "/a", MAKING)),
+            Scene::LeftNewFolder => Some(session("/a", "/a", MAKING_BOTH)),
+            Scene::NewLink => None,
+            Scene::Mode => None,
+            Scene::LeftMode => None,
+        }
+    }
+}
+
+/// A session by keys: the folders of its panels, and the bytes of its keys.
+#[derive(Clone, Copy)]
+pub struct Keys {
+    pub left: &'static str,
+    pub right: &'static str,
+    pub bytes: &'static [u8],
+}
+
+fn session(left: &'static str, right: &'static str, bytes: &'static [u8]) -> Keys {
+    Keys { left, right, bytes }
 }
 
 /// A file as it was put: its bytes, fewer than eight, and its mode.
@@ -129,135 +164,3 @@ const REFUSED_FOLDER_SYNCS: &[u64] = &[8, 9];
 /// The calls that are the sync of the file, and the one of the last steps. Before the first come the setting and a look, and another look
 /// between them.
 const REFUSED_FILE_SYNCS: &[u64] = &[3, 5];
-
-/// The lines of a session: its title, and what is left at each moment.
-pub fn scene_lines(alloc: Global, scene: Scene) -> Result<Vec<String>> {
-    let tree = played(alloc, scene)?;
-    walk(alloc, &tree, scene)
-}
-
-/// The tree after a session.
-fn played(alloc: Global, scene: Scene) -> Result<MemTree> {
-    match scene {
-        Scene::Deletion => deletion(alloc),
-        Scene::Folder => folder_deletion(alloc),
-        Scene::Copy => copy(alloc),
-        Scene::LeftFolder => left_folder(alloc),
-        Scene::LeftTarget => left_target(alloc),
-        Scene::NewFolder => new_folder(alloc),
-        Scene::LeftNewFolder => left_new_folder(alloc),
-        Scene::NewLink => new_link(alloc),
-        Scene::Mode => mode(alloc),
-        Scene::LeftMode => left_mode(alloc),
-    }
-}
-
-fn deletion(alloc: Global) -> Result<MemTree> {
-    let tree = two_files(alloc)?;
-    after_keys(alloc, tree, "/a", "/a", DELETING)
-}
-
-fn folder_deletion(alloc: Global) -> Result<MemTree> {
-    let tree = folder_and_file(alloc)?;
-    after_keys(alloc, tree, "/a", "/a", DELETING)
-}
-
-fn copy(alloc: Global) -> Result<MemTree> {
-    let tree = file_and_folder(alloc)?;
-    after_keys(alloc, tree, "/s", "/t", COPYING)
-}
-
-fn left_folder(alloc: Global) -> Result<MemTree> {
-    let mut tree = two_files(alloc)?;
-    tree.fail_calls(alloc, REFUSED_SYNCS)?;
-    after_keys(alloc, tree, "/a", "/a", DELETING_BOTH)
-}
-
-fn left_target(alloc: Global) -> Result<MemTree> {
-    let mut tree = file_and_folder(alloc)?;
-    tree.fail_calls(alloc, REFUSED_TARGET_SYNCS)?;
-    after_keys(alloc, tree, "/s", "/t", COPYING_AND_DELETING)
-}
-
-fn new_folder(alloc: Global) -> Result<MemTree> {
-    let tree = empty_folder(alloc)?;
-    after_keys(alloc, tree, "/a", "/a", MAKING)
-}
-
-fn left_new_folder(alloc: Global) -> Result<MemTree> {
-    let mut tree = empty_folder(alloc)?;
-    tree.fail_calls(alloc, REFUSED_FOLDER_SYNCS)?;
-    after_keys(alloc, tree, "/a", "/a", MAKING_BOTH)
-}
-
-fn new_link(alloc: Global) -> Result<MemTree> {
-    let tree = empty_folder(alloc)?;
-    after_link(alloc, tree, "/a/l")
-}
-
-fn mode(alloc: Global) -> Result<MemTree> {
-    let tree = two_files(alloc)?;
-    after_settings(alloc, tree, &["/a/x"])
-}
-
-fn left_mode(alloc: Global) -> Result<MemTree> {
-    let mut tree = two_files(alloc)?;
-    tree.fail_calls(alloc, REFUSED_FILE_SYNCS)?;
-    after_settings(alloc, tree, &["/a/x", "/a/y"])
-}
-
-/// The empty folder `/a`.
-fn empty_folder(alloc: Global) -> Result<MemTree> {
-    let mut tree = MemTree::new(alloc, 0)?;
-    put_folder(alloc, &mut tree, "/a")?;
-    Ok(tree)
-}
-
-/// The folder `/a` with two files.
-fn two_files(alloc: Global) -> Result<MemTree> {
-    let mut tree = MemTree::new(alloc, 0)?;
-    put_folder(alloc, &mut tree, "/a")?;
-    put_file(alloc, &mut tree, "/a/x", DELETED)?;
-    put_file(alloc, &mut tree, "/a/y", DELETED)?;
-    Ok(tree)
-}
-
-/// The folder `/a` with the folder `/a/d`, which has one file, and a file.
-fn folder_and_file(alloc: Global) -> Result<MemTree> {
-    let mut tree = MemTree::new(alloc, 0)?;
-    put_folder(alloc, &mut tree, "/a")?;
-    put_folder(alloc, &mut tree, "/a/d")?;
-    put_file(alloc, &mut tree, "/a/d/x", DELETED)?;
-    put_file(alloc, &mut tree, "/a/y", DELETED)?;
-    Ok(tree)
-}
-
-/// The folder `/s` with one file, and the empty folder `/t`.
-fn file_and_folder(alloc: Global) -> Result<MemTree> {
-    let mut tree = MemTree::new(alloc, 0)?;
-    put_folder(alloc, &mut tree, "/s")?;
-    put_folder(alloc, &mut tree, "/t")?;
-    put_file(alloc, &mut tree, "/s/e", COPIED)?;
-    Ok(tree)
-}
-
-fn put_folder(alloc: Global, tree: &mut MemTree, path: &str) -> Result<()>
-    requires unused { tree.old.log.changes ≡ [] }
-    ensures unused { tree.new.log.changes ≡ [] }
-{
-    let path = Path::parse(alloc, path)?;
-    tree.put_folder(alloc, &path, 0o755, 0)?;
-    Ok(())
-}
-
-fn put_file(alloc: Global, tree: &mut MemTree, path: &str, original: Original) -> Result<()>
-    requires unused { tree.old.log.changes ≡ [] }
-    ensures unused { tree.new.log.changes ≡ [] }
-{
-    if original.mode > 0o7777 {
-        bail!("a mode has twelve bits");
-    }
-    let path = Path::parse(alloc, path)?;
-    tree.put_file(alloc, &path, original.mode, 0, original.bytes)?;
-    Ok(())
-}

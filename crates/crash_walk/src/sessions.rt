@@ -1,81 +1,83 @@
 //! A session by keys over devices in memory that tell nothing.
-use anyhow::{Result, bail};
+use crate::images::walk;
+use crate::scenes::{Keys, Scene};
 use mc_desk::{Desk, Ended, Start, StartMode};
-use mc_text::Path;
+use mc_text::{Path, PathError};
 use mem_devices::{FakeSpawner, MemSink, Mute, Outcomes};
 use mem_tree::MemTree;
+use row_page::Page;
 use std::alloc::Global;
 use std::marker::Brand;
 
 /// A desk over devices in memory that tell nothing.
 type MuteDesk = Desk<Brand, Mute<MemTree>, Mute<MemSink>, Mute<FakeSpawner>>;
 
-/// The tree after a session over two folders, whose keys are these.
-pub fn after_keys(
-    alloc: Global,
-    tree: MemTree,
-    left: &str,
-    right: &str,
-    keys: &[u8],
-) -> Result<MemTree> {
-    let mut desk = begin(alloc, tree, left, right)?;
-    let typed = type_keys(alloc, &mut desk, keys);
-    let Ended { tree, .. } = desk.end(alloc);
-    typed?;
-    Ok(tree.into_inner())
+/// The moments of a session over two folders by these keys.
+pub fn tell_session(page: &mut Page, tree: MemTree, scene: Scene, keys: Keys) {
+    match start_in(page.alloc(), keys.left, keys.right) {
+        Ok(start) => tell_from(page, tree, scene, start, keys.bytes),
+        Err(_error) => page.fail(),
+    }
 }
 
-fn begin(alloc: Global, tree: MemTree, left: &str, right: &str) -> Result<MuteDesk> {
+fn start_in(alloc: Global, left: &str, right: &str) -> Result<Start, PathError> {
     let left = Path::parse(alloc, left)?;
     let right = Path::parse(alloc, right)?;
+    Ok(Start {
+        mode: StartMode::Panels { left, right },
+        home: None,
+        lines: 24,
+        columns: 80,
+    })
+}
+
+fn tell_from(page: &mut Page, tree: MemTree, scene: Scene, start: Start, keys: &[u8]) {
+    let alloc = page.alloc();
     let begun = MuteDesk::begin(
         alloc,
-        Start {
-            mode: StartMode::Panels { left, right },
-            home: None,
-            lines: 24,
-            columns: 80,
-        },
+        start,
         0,
         Mute::new(tree),
         Mute::new(MemSink::new(alloc, None)),
         Mute::new(FakeSpawner::new(Outcomes(Vec::new(alloc)))),
     );
-    let Ok(desk) = begun else {
-        bail!("the session did not begin");
-    };
-    Ok(desk)
+    match begun {
+        Ok(mut desk) => {
+            type_keys(page, &mut desk, keys);
+            let Ended { tree, .. } = desk.end(alloc);
+            walk(page, tree.inner(), scene);
+        }
+        Err(_refused) => page.fail(),
+    }
 }
 
 /// Gives the keys to a desk, and lets each job that they begin do its work.
-fn type_keys(alloc: Global, desk: &mut MuteDesk, keys: &[u8]) -> Result<()> {
+fn type_keys(page: &mut Page, desk: &mut MuteDesk, keys: &[u8]) {
     for byte in keys {
-        settle(alloc, desk)?;
-        type_byte(alloc, desk, *byte)?;
+        settle(page, desk);
+        type_byte(page, desk, *byte);
     }
-    Ok(())
 }
 
-fn type_byte(alloc: Global, desk: &mut MuteDesk, byte: u8) -> Result<()> {
+/// A key after the last job has ended, while no search goes on.
+fn type_byte(page: &mut Page, desk: &mut MuteDesk, byte: u8) {
     if desk.due().is_some() {
-        bail!("a job can't be settled");
+        return page.fail();
     }
     if desk.is_seeking() {
-        bail!("a search goes on");
+        return page.fail();
     }
-    desk.byte(alloc, byte, 0)?;
-    Ok(())
+    page.need(desk.byte(page.alloc(), byte, 0).is_ok());
 }
 
 /// Steps the job that is due, and looks at it.
-fn settle(alloc: Global, desk: &mut MuteDesk) -> Result<()> {
+fn settle(page: &mut Page, desk: &mut MuteDesk) {
     if let Some(job) = desk.due() {
         for _ in 0..8 {
             if desk.is_ready(job) {
-                desk.step(alloc, 0);
+                desk.step(page.alloc(), 0);
             }
         }
-        desk.look(alloc)?;
+        page.need(desk.look(page.alloc()).is_ok());
     }
-    Ok(())
 }

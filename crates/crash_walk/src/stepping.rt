@@ -1,9 +1,8 @@
 //! One job over a tree, step by step.
-use anyhow::{Result, bail};
 use copy_move::{Dirty, PartTest, Run};
 use job_reports::is_end;
 use mc_text::Path;
-use std::alloc::Global;
+use row_page::Page;
 use tree_trait::Tree;
 
 /// No other job is live, so no path is claimed.
@@ -19,36 +18,17 @@ impl PartTest for NoClaims {
     }
 }
 
-/// Works a job to its end. One in trouble is aborted.
-pub fn work_off<T: Tree>(alloc: Global, tree: &mut T, dirty: &mut Dirty, run: Run) -> Result<()> {
-    let mut run = run;
-    let ended = comes_to_its_end(alloc, tree, dirty, &mut run);
-    done(ended)
-}
-
-/// Whether a job comes to its end in a few steps.
-fn comes_to_its_end<T: Tree>(
-    alloc: Global,
-    tree: &mut T,
-    dirty: &mut Dirty,
-    run: &mut Run,
-) -> bool {
+/// Works a job to its end, which comes in a few steps. One in trouble is aborted.
+pub fn work_off<T: Tree>(page: &mut Page, tree: &mut T, dirty: &mut Dirty, run: &mut Run) {
     for _ in 0..8 {
         if run.waits() {
             run.abort();
             continue;
         }
-        let stepped = run.step(alloc, tree, &NoClaims, dirty);
+        let stepped = run.step(page.alloc(), tree, &NoClaims, dirty);
         if is_end(&stepped.did) {
-            return true;
+            return;
         }
     }
-    false
-}
-
-fn done(ended: bool) -> Result<()> {
-    if !ended {
-        bail!("the job did not end");
-    }
-    Ok(())
+    page.fail();
 }

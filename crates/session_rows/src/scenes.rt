@@ -1,143 +1,79 @@
 //! The trees that the rows begin with.
-ghost use Rattle.std.specs.Prelude.{◌≡◌, ◌≤◌, ◌<◌, [], length};
-ghost use Rattle.tree_trait.specs.Answers.{IsLinkText};
+ghost use Rattle.std.specs.Prelude.{◌≡◌, ◌<◌, [], length};
 
-use anyhow::{Result, bail};
+use crate::rows::{Row, failing};
+use crash_walk::FileThings;
 use mc_text::Path;
 use mem_tree::MemTree;
+use row_page::{Page, number};
+use row_trees::put_things;
 use std::alloc::Global;
 
-/// The tree of a row, of which the calls of these numbers fail.
-pub fn planted(alloc: Global, scene: &str, fails: &[u64]) -> Result<MemTree> {
-    let mut tree = scene_tree(alloc, scene)?;
-    tree.fail_calls(alloc, fails)?;
-    Ok(tree)
+/// Puts the tree of a row on a disk with nothing but its root, and lets the calls fail that the row names.
+pub fn plant(page: &mut Page, tree: &mut MemTree, row: &Row<'_>)
+    requires unused { tree.old.log.changes ≡ [] }
+    requires few { length tree.old.log.opening.mounts < 1000 }
+{
+    plant_scene(page, tree, row.tree);
+    fail_calls(page, tree, row, "tree");
+    fail_calls(page, tree, row, "shown");
 }
 
-fn scene_tree(alloc: Global, scene: &str) -> Result<MemTree> {
-    match scene {
-        "one file" => one_file(alloc, 0o755),
-        "fixed folder" => one_file(alloc, 0o555),
-        "two files" => two_files(alloc),
-        "no files" => no_files(alloc),
-        "things to view" => things_to_view(alloc),
-        "folders" => folders(alloc, 0o755),
-        "fixed inner folder" => folders(alloc, 0o555),
-        "room for 9" => file_and_mount(alloc, 9),
-        "room for 1" => file_and_mount(alloc, 1),
-        _ => bail!("no such tree"),
+fn fail_calls(page: &mut Page, tree: &mut MemTree, row: &Row<'_>, device: &str) {
+    if row.device == device {
+        let numbers = failing(page, row, device);
+        page.need(tree.fail_calls(page.alloc(), numbers.as_slice()).is_ok());
     }
 }
 
-/// The folder `/a`, and in it the file `x`, which holds `hi`.
-fn one_file(alloc: Global, mode: u16) -> Result<MemTree>
-    requires { mode ≤ 0o7777 }
+fn plant_scene(page: &mut Page, tree: &mut MemTree, scene: &str)
+    requires unused { tree.old.log.changes ≡ [] }
+    requires few { length tree.old.log.opening.mounts < 1000 }
 {
-    let mut tree = MemTree::new(alloc, 0)?;
-    put_folder(alloc, &mut tree, "/a", mode)?;
-    put_file(alloc, &mut tree, "/a/x", 0o644, b"hi")?;
-    Ok(tree)
-}
-
-/// The folder `/a` with two files.
-fn two_files(alloc: Global) -> Result<MemTree> {
-    let mut tree = MemTree::new(alloc, 0)?;
-    put_folder(alloc, &mut tree, "/a", 0o755)?;
-    put_file(alloc, &mut tree, "/a/x", 0o644, b"hi")?;
-    put_file(alloc, &mut tree, "/a/y", 0o644, b"ho")?;
-    Ok(tree)
-}
-
-/// The folder `/a` with the link `l` and the pipe `p`.
-fn no_files(alloc: Global) -> Result<MemTree> {
-    let mut tree = MemTree::new(alloc, 0)?;
-    put_folder(alloc, &mut tree, "/a", 0o755)?;
-    put_link(alloc, &mut tree, "/a/l", "x")?;
-    put_pipe(alloc, &mut tree, "/a/p")?;
-    Ok(tree)
-}
-
-/// The folder `/a` with the file `x` of twelve lines, `u` that may not be read, the pipe `p`, the folder `d`, and links: `l` to `x`, `m` to
-/// `d`, and `n` to nothing.
-fn things_to_view(alloc: Global) -> Result<MemTree> {
-    let mut tree = MemTree::new(alloc, 0)?;
-    put_folder(alloc, &mut tree, "/a", 0o755)?;
-    put_folder(alloc, &mut tree, "/a/d", 0o755)?;
-    put_file(
-        alloc,
-        &mut tree,
-        "/a/x",
-        0o644,
-        b"one\ntwo\nthree\nfour\nfive\nsix\nseven\neight\nnine\nten\neleven\ntwelve\n",
-    )?;
-    put_file(alloc, &mut tree, "/a/u", 0, b"no")?;
-    put_pipe(alloc, &mut tree, "/a/p")?;
-    put_link(alloc, &mut tree, "/a/l", "x")?;
-    put_link(alloc, &mut tree, "/a/m", "d")?;
-    put_link(alloc, &mut tree, "/a/n", "none")?;
-    Ok(tree)
-}
-
-/// The folder `/a` with the file `y` and the folder `d`, and in that the file `x`, and the folder `e` of this mode with the file `z`.
-fn folders(alloc: Global, mode: u16) -> Result<MemTree>
-    requires { mode ≤ 0o7777 }
-{
-    let mut tree = MemTree::new(alloc, 0)?;
-    put_folder(alloc, &mut tree, "/a", 0o755)?;
-    put_folder(alloc, &mut tree, "/a/d", 0o755)?;
-    put_folder(alloc, &mut tree, "/a/d/e", mode)?;
-    put_file(alloc, &mut tree, "/a/d/e/z", 0o644, b"hi")?;
-    put_file(alloc, &mut tree, "/a/d/x", 0o644, b"hi")?;
-    put_file(alloc, &mut tree, "/a/y", 0o644, b"ho")?;
-    Ok(tree)
+    match scene.strip_prefix("room for ") {
+        Some(room) => plant_beside_mount(page, tree, number(room) as u64),
+        None => put_things::<FileThings>(page, tree, things_in(scene)),
+    }
 }
 
 /// The folder `/s`, in it the file `x` of mode 640, and the folder `/t` on a mount whose files may have so many bytes.
-fn file_and_mount(alloc: Global, room: u64) -> Result<MemTree> {
-    let mut tree = MemTree::new(alloc, 0)?;
-    let target = Path::parse(alloc, "/t")?;
-    tree.mount(alloc, &target, room)?;
-    put_folder(alloc, &mut tree, "/s", 0o755)?;
-    put_file(alloc, &mut tree, "/s/x", 0o640, b"hi")?;
-    Ok(tree)
+fn plant_beside_mount(page: &mut Page, tree: &mut MemTree, room: u64)
+    requires unused { tree.old.log.changes ≡ [] }
+    requires few { length tree.old.log.opening.mounts < 1000 }
+{
+    let mounted = mount(page.alloc(), tree, room);
+    page.need(mounted);
+    put_things::<FileThings>(page, tree, "folder /s 755\nfile /s/x 640 hi");
 }
 
-fn put_folder(alloc: Global, tree: &mut MemTree, path: &str, mode: u16) -> Result<()>
+fn mount(alloc: Global, tree: &mut MemTree, room: u64) -> bool
     requires unused { tree.old.log.changes ≡ [] }
-    requires twelve_bits { mode ≤ 0o7777 }
-    ensures unused { tree.new.log.changes ≡ [] }
+    requires few { length tree.old.log.opening.mounts < 1000 }
+    ensures { tree.new.log.changes ≡ [] }
 {
-    let path = Path::parse(alloc, path)?;
-    tree.put_folder(alloc, &path, mode, 0)?;
-    Ok(())
+    match Path::parse(alloc, "/t") {
+        Ok(path) => tree.mount(alloc, &path, room).is_ok(),
+        Err(_error) => false,
+    }
 }
 
-fn put_file(alloc: Global, tree: &mut MemTree, path: &str, mode: u16, bytes: &[u8]) -> Result<()>
-    requires unused { tree.old.log.changes ≡ [] }
-    requires twelve_bits { mode ≤ 0o7777 }
-    requires short { length bytes.now < 80 }
-    ensures unused { tree.new.log.changes ≡ [] }
-{
-    let path = Path::parse(alloc, path)?;
-    tree.put_file(alloc, &path, mode, 0, bytes)?;
-    Ok(())
-}
-
-fn put_link(alloc: Global, tree: &mut MemTree, path: &str, text: &str) -> Result<()>
-    requires unused { tree.old.log.changes ≡ [] }
-    requires link_text { IsLinkText text.now }
-    ensures unused { tree.new.log.changes ≡ [] }
-{
-    let path = Path::parse(alloc, path)?;
-    tree.put_link(alloc, &path, text)?;
-    Ok(())
-}
-
-fn put_pipe(alloc: Global, tree: &mut MemTree, path: &str) -> Result<()>
-    requires unused { tree.old.log.changes ≡ [] }
-    ensures unused { tree.new.log.changes ≡ [] }
-{
-    let path = Path::parse(alloc, path)?;
-    tree.put_other(alloc, &path)?;
-    Ok(())
+/// What stands in a tree by its name, line by line. `things to view` are a file of twelve lines, one that may not be read, a pipe, a
+/// folder, and links to the first, to the folder and to nothing.
+fn things_in(scene: &str) -> &'static str {
+    match scene {
+        "one file" => "folder /a 755\nfile /a/x 644 hi",
+        "fixed folder" => "folder /a 555\nfile /a/x 644 hi",
+        "two files" => "folder /a 755\nfile /a/x 644 hi\nfile /a/y 644 ho",
+        "no files" => "folder /a 755\nlink /a/l x\nother /a/p",
+        "things to view" => {
+            "folder /a 755\nfolder /a/d 755\nfile /a/x 644 one\\ntwo\\nthree\\nfour\\nfive\\nsix\\nseven\\neight\\nnine\\nten\\neleven\\ntwelve\\n\nfile /a/u 0 no\nother /a/p\nlink /a/l x\nlink /a/m d\nlink /a/n none"
+        }
+        "folders" => {
+            "folder /a 755\nfolder /a/d 755\nfolder /a/d/e 755\nfile /a/d/e/z 644 hi\nfile /a/d/x 644 hi\nfile /a/y 644 ho"
+        }
+        "fixed inner folder" => {
+            "folder /a 755\nfolder /a/d 755\nfolder /a/d/e 555\nfile /a/d/e/z 644 hi\nfile /a/d/x 644 hi\nfile /a/y 644 ho"
+        }
+        _ => "no such tree",
+    }
 }

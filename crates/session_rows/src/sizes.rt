@@ -1,22 +1,21 @@
 //! The size of the screen that LINES and COLUMNS say.
-use anyhow::{Result, bail};
+use crate::rows::text_of;
 use mc_text::Text;
+use row_page::{Page, two_fields};
 use start_words::Size;
-use std::alloc::Global;
 
 /// The size by these two, of which `-` is missing.
-pub fn told_size(alloc: Global, said: &str) -> Result<String> {
-    let Some((lines, columns)) = said.split_once(' ') else {
-        bail!("a size without columns");
-    };
-    let size = Size::read(&variable(alloc, lines)?, &variable(alloc, columns)?);
-    let (lines, columns) = (size.lines(), size.columns());
-    Ok(format!(in alloc; "{lines} by {columns}")?)
+pub fn tell_size(page: &mut Page, said: &str) {
+    let (lines, columns) = two_fields(said, ' ');
+    let lines = variable(page, lines);
+    let columns = variable(page, columns);
+    let size = Size::read(&lines, &columns);
+    page.tell(format_args!("{} by {}", size.lines(), size.columns()));
 }
 
-fn variable(alloc: Global, said: &str) -> Result<Option<Text>> {
-    if said == "-" {
-        return Ok(None);
+fn variable(page: &mut Page, said: &str) -> Option<Text> {
+    match said {
+        "-" => None,
+        _ => Some(text_of(page, said)),
     }
-    Ok(Some(Text::from_str(alloc, said)?))
 }

@@ -1,104 +1,112 @@
 //! What came of a run, in one line.
-use anyhow::{Result, bail};
 use job_reports::{Cause, Did, Ending};
 use key_screen::{Base, Cell, Glyph, Key, read_grid};
 use mc_text::{Name, Path};
+use row_page::Page;
 use session_history::{Event, History};
 use std::alloc::Global;
 use std::convert::AsStr;
 use tree_trait::{Tree, TreeError};
 
-/// The folders whose things are told.
-const FOLDERS: [&str; 4] = ["/a", "/a/d", "/s", "/t"];
-
 /// The status, what was printed where no session began, the keys and the steps of the history, and what stands in the folders.
-pub fn told<T: Tree>(
-    alloc: Global,
+pub fn tell_outcome<T: Tree>(
+    page: &mut Page,
     status: u8,
     tree: &mut T,
     printed: &[u8],
     history: &History,
-) -> Result<String> {
-    let mut line = format!(in alloc; "status {status}")?;
+) {
+    page.tell(format_args!("status {status}"));
     if history.entries.0.is_empty() {
-        add_printed(alloc, printed, &mut line)?;
+        tell_printed(page, printed);
     } else {
-        add_history(alloc, history, &mut line)?;
+        tell_history(page, history);
     }
-    for folder in FOLDERS {
-        add_folder(alloc, tree, folder, &mut line)?;
+    for folder in "/a /a/d /s /t".split(' ') {
+        tell_folder(page, tree, folder);
     }
-    Ok(line)
 }
 
 /// Each row that isn't blank of a screen of 10 lines and 40 columns that was given these bytes, on a line of its own.
-pub fn shown_of(alloc: Global, bytes: &[u8]) -> Result<String> {
-    let Ok(grid) = read_grid(alloc, 10, 40, bytes) else {
-        bail!("bytes that no terminal reads");
-    };
-    let mut lines = String::new(alloc);
-    let mut number = 0u64;
-    for cells in grid.cells().chunks(40) {
-        number = number.saturating_add(1);
-        let row = row_of(alloc, cells)?;
-        let text = row.trim_end();
-        if !text.is_empty() {
-            lines.push_str(format!(in alloc; "\n  {number:2} {text}")?.as_str())?;
-        }
+pub fn tell_screen(page: &mut Page, bytes: &[u8]) {
+    match read_grid(page.alloc(), 10, 40, bytes) {
+        Ok(grid) => tell_lines(page, grid.cells()),
+        Err(_error) => page.fail(),
     }
-    Ok(lines)
 }
 
-/// The text of a row.
-fn row_of(alloc: Global, cells: &[Cell]) -> Result<String> {
-    let mut text = String::new(alloc);
+fn tell_lines(page: &mut Page, cells: &[Cell]) {
+    let mut number = 0u64;
+    for cells in cells.chunks(40) {
+        number = number.saturating_add(1);
+        tell_line(page, number, cells);
+    }
+}
+
+fn tell_line(page: &mut Page, number: u64, cells: &[Cell]) {
+    let line = line_of(page.alloc(), cells);
+    page.need(line.is_whole());
+    let text = line.text().trim_end();
+    if !text.is_empty() {
+        page.tell(format_args!("\n  {number:2} {text}"));
+    }
+}
+
+/// The text of a row of the screen.
+fn line_of(alloc: Global, cells: &[Cell]) -> Page {
+    let mut line = Page::new(alloc);
     for cell in cells {
         match &cell.glyph {
-            Glyph::Blank => text.push(' ')?,
-            Glyph::Cluster(cluster) => text.push_str(cluster.as_str())?,
+            Glyph::Blank => line.put(" "),
+            Glyph::Cluster(cluster) => line.put(cluster.as_str()),
             Glyph::RightHalf => (),
         }
     }
-    Ok(text)
+    line
 }
 
 /// The lines that were printed.
-fn add_printed(alloc: Global, printed: &[u8], line: &mut String) -> Result<()> {
-    line.push_str("; printed: ")?;
-    let text = std::str::from_utf8(printed)?;
-    line.push_str(text.trim_end().replace(alloc, "\n", " / ")?.as_str())?;
-    Ok(())
+fn tell_printed(page: &mut Page, printed: &[u8]) {
+    match std::str::from_utf8(printed) {
+        Ok(text) => tell_joined(page, text.trim_end()),
+        Err(_error) => page.fail(),
+    }
 }
 
-fn add_history(alloc: Global, history: &History, line: &mut String) -> Result<()> {
-    line.push_str("; keys")?;
+fn tell_joined(page: &mut Page, text: &str) {
+    page.put("; printed: ");
+    let mut lines = text.split('\n');
+    if let Some(first) = lines.next() {
+        page.put(first);
+    }
+    for line in lines {
+        page.put(" / ");
+        page.put(line);
+    }
+}
+
+fn tell_history(page: &mut Page, history: &History) {
+    page.put("; keys");
     for entry in history.entries.0.iter() {
         if let Event::Key { key, .. } = &entry.what {
-            add_key(alloc, *key, line)?;
+            tell_key(page, *key);
         }
     }
-    line.push_str("; steps")?;
+    page.put("; steps");
     for entry in history.entries.0.iter() {
         if let Event::Step { job: _, did } = &entry.what {
-            line.push_str(word_of(did))?;
+            page.put(word_of(did));
         }
     }
-    Ok(())
 }
 
-fn add_key(alloc: Global, key: Key, line: &mut String) -> Result<()> {
-    let meta = if key.meta { "M-" } else { "" };
-    let base = base_word(alloc, key.base)?;
-    line.push_str(format!(in alloc; " {meta}{base}")?.as_str())?;
-    Ok(())
-}
-
-fn base_word(alloc: Global, base: Base) -> Result<String> {
-    Ok(match base {
-        Base::Char(letter) => format!(in alloc; "{letter}")?,
-        Base::F(number) => format!(in alloc; "F{number}")?,
-        _ => format!(in alloc; "{base:?}")?,
-    })
+fn tell_key(page: &mut Page, key: Key) {
+    page.put(if key.meta { " M-" } else { " " });
+    match key.base {
+        Base::Char(letter) => page.tell(letter),
+        Base::F(number) => page.tell(format_args!("F{number}")),
+        base => page.tell(format_args!("{base:?}")),
+    }
 }
 
 /// What a step did.
@@ -130,29 +138,32 @@ fn word_of(did: &Did) -> &'static str {
 }
 
 /// The things in a folder, if it is there: of each its name, size and mode.
-fn add_folder<T: Tree>(alloc: Global, tree: &mut T, folder: &str, line: &mut String) -> Result<()> {
-    let path = Path::parse(alloc, folder)?;
-    let Ok(children) = tree.list(alloc, &path) else {
-        return Ok(());
-    };
-    line.push_str(format!(in alloc; "; {folder}:")?.as_str())?;
-    for name in children.names.as_slice() {
-        add_thing(alloc, tree, &path, name, line)?;
+fn tell_folder<T: Tree>(page: &mut Page, tree: &mut T, folder: &str) {
+    match Path::parse(page.alloc(), folder) {
+        Ok(path) => tell_things(page, tree, folder, &path),
+        Err(_error) => page.fail(),
     }
-    Ok(())
 }
 
-fn add_thing<T: Tree>(
-    alloc: Global,
-    tree: &mut T,
-    folder: &Path,
-    name: &Name,
-    line: &mut String,
-) -> Result<()> {
-    let path = folder.copy(alloc)?.join(alloc, name)?;
-    if let Ok(meta) = tree.stat(alloc, &path) {
-        let (name, size, mode) = (name.text(), meta.size, meta.mode);
-        line.push_str(format!(in alloc; " {name} {size} {mode:o}")?.as_str())?;
+fn tell_things<T: Tree>(page: &mut Page, tree: &mut T, folder: &str, path: &Path) {
+    if let Ok(children) = tree.list(page.alloc(), path) {
+        page.tell(format_args!("; {folder}:"));
+        for name in children.names.as_slice() {
+            tell_thing(page, tree, path, name);
+        }
     }
-    Ok(())
+}
+
+fn tell_thing<T: Tree>(page: &mut Page, tree: &mut T, folder: &Path, name: &Name) {
+    match folder.join(page.alloc(), name) {
+        Ok(path) => tell_meta(page, tree, &path, name.text()),
+        Err(_error) => page.fail(),
+    }
+}
+
+fn tell_meta<T: Tree>(page: &mut Page, tree: &mut T, path: &Path, name: &str) {
+    if let Ok(meta) = tree.stat(page.alloc(), path) {
+        let (size, mode) = (meta.size, meta.mode);
+        page.tell(format_args!(" {name} {size} {mode:o}"));
+    }
 }

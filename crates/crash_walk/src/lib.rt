@@ -1,0 +1,33 @@
+//! Walks through every moment of ten sessions, of which one deletes a file, one a folder, one copies a file, one deletes two files of which
+//! the first is left unsynced, one copies a file whose target is left so, and deletes the source, one makes a folder, one makes
+//! two of which the first is left unsynced, one makes a link, one sets a file's mode, and one those of two files of which the first is left
+//! unsynced. It walks through the crash images of each: what is left then?
+#![tactic(auto)]
+
+mod images;
+mod jobs;
+mod judging;
+mod playing;
+mod scenes;
+mod sessions;
+mod stepping;
+mod things;
+
+use crate::playing::tell_scene;
+use crate::scenes::Scene;
+use row_page::Page;
+pub use things::FileThings;
+
+/// The lines of all sessions.
+pub fn tell_walks(page: &mut Page) {
+    tell_scene(page, Scene::Deletion);
+    tell_scene(page, Scene::Folder);
+    tell_scene(page, Scene::Copy);
+    tell_scene(page, Scene::LeftFolder);
+    tell_scene(page, Scene::LeftTarget);
+    tell_scene(page, Scene::NewFolder);
+    tell_scene(page, Scene::LeftNewFolder);
+    tell_scene(page, Scene::NewLink);
+    tell_scene(page, Scene::Mode);
+    tell_scene(page, Scene::LeftMode);
+}
