@@ -20,10 +20,15 @@ const MOVES: usize = 1_000;
 
 /// Prints times, or the memory that an editor keeps or takes.
 pub fn time_editor(rt: &HostRuntime, work: &str) -> Result<()> {
+    let mut editor = timed_start(rt)?;
+    time_work(rt, &mut editor, work)
+}
+
+fn time_work(rt: &HostRuntime, editor: &mut Editor, work: &str) -> Result<()> {
     match work {
-        "times" => print_times(rt),
-        "typed" => print_typed(rt),
-        "replaced" => print_replaced(rt),
+        "times" => print_times(rt, editor),
+        "typed" => print_typed(rt, editor),
+        "replaced" => print_replaced(rt, editor),
         _ => bail!("times, typed or replaced"),
     }
 }
@@ -62,34 +67,15 @@ fn played(alloc: Global, editor: &mut Editor, count: usize, command: &EditCmd) -
     Ok(())
 }
 
-fn print_times(rt: &HostRuntime) -> Result<()> {
-    let mut editor = timed_start(rt)?;
-    timed(
-        rt,
-        &mut editor,
-        "go_line_first",
-        1,
-        &EditCmd::GoLine(100_000),
-    )?;
-    timed(rt, &mut editor, "go_line", 1, &EditCmd::GoLine(50_000))?;
-    timed(
-        rt,
-        &mut editor,
-        "insertions",
-        INSERTIONS,
-        &EditCmd::Insert('x'),
-    )?;
-    timed(
-        rt,
-        &mut editor,
-        "go_line_edited",
-        1,
-        &EditCmd::GoLine(100_000),
-    )?;
-    played(rt.alloc(), &mut editor, 1, &EditCmd::LineEnd)?;
-    timed(rt, &mut editor, "up", MOVES, &EditCmd::Up)?;
-    timed(rt, &mut editor, "down", MOVES, &EditCmd::Down)?;
-    replace(rt, &mut editor)
+fn print_times(rt: &HostRuntime, editor: &mut Editor) -> Result<()> {
+    timed(rt, editor, "go_line_first", 1, &EditCmd::GoLine(100_000))?;
+    timed(rt, editor, "go_line", 1, &EditCmd::GoLine(50_000))?;
+    timed(rt, editor, "insertions", INSERTIONS, &EditCmd::Insert('x'))?;
+    timed(rt, editor, "go_line_edited", 1, &EditCmd::GoLine(100_000))?;
+    played(rt.alloc(), editor, 1, &EditCmd::LineEnd)?;
+    timed(rt, editor, "up", MOVES, &EditCmd::Up)?;
+    timed(rt, editor, "down", MOVES, &EditCmd::Down)?;
+    replace(rt, editor)
 }
 
 /// Replaces a word of each line, and takes that back.
@@ -108,20 +94,18 @@ fn all_foxes(alloc: Global) -> Result<EditCmd> {
 }
 
 /// The memory that stays once a text was typed into.
-fn print_typed(rt: &HostRuntime) -> Result<()> {
-    let mut editor = timed_start(rt)?;
-    played(rt.alloc(), &mut editor, 1, &EditCmd::GoLine(50_000))?;
-    played(rt.alloc(), &mut editor, INSERTIONS, &EditCmd::Insert('x'))?;
+fn print_typed(rt: &HostRuntime, editor: &mut Editor) -> Result<()> {
+    played(rt.alloc(), editor, 1, &EditCmd::GoLine(50_000))?;
+    played(rt.alloc(), editor, INSERTIONS, &EditCmd::Insert('x'))?;
     print_memory(rt, "VmRSS:")?;
-    played(rt.alloc(), &mut editor, 1, &EditCmd::Left)
+    played(rt.alloc(), editor, 1, &EditCmd::Left)
 }
 
 /// The most memory in a replacement and its undo.
-fn print_replaced(rt: &HostRuntime) -> Result<()> {
-    let mut editor = timed_start(rt)?;
+fn print_replaced(rt: &HostRuntime, editor: &mut Editor) -> Result<()> {
     let all = all_foxes(rt.alloc())?;
-    played(rt.alloc(), &mut editor, 1, &all)?;
-    played(rt.alloc(), &mut editor, 1, &EditCmd::Undo)?;
+    played(rt.alloc(), editor, 1, &all)?;
+    played(rt.alloc(), editor, 1, &EditCmd::Undo)?;
     print_memory(rt, "VmHWM:")
 }
 

@@ -1,5 +1,6 @@
 //! Times a search for files by name below a real folder. bench/find/run makes the files, and judges.
 
+use crate::printing::print_since;
 use anyhow::{Result, bail};
 use find_file::{Finder, Found};
 use host_tree::HostTree;
@@ -14,15 +15,21 @@ const ANSWERS: usize = 1_000_000;
 
 /// Searches below a folder by a shell pattern. Prints the microseconds that it took, and how many paths were found.
 pub fn time_search(rt: &HostRuntime, folder: &str, pattern: &str) -> Result<()> {
-    let alloc = rt.alloc();
+    let mut finder = finder_of(rt.alloc(), folder, pattern)?;
+    time_finder(rt, &mut HostTree::new(*rt), &mut finder)
+}
+
+fn finder_of(alloc: Global, folder: &str, pattern: &str) -> Result<Finder> {
     let start = Path::parse(alloc, folder)?;
     let name = Pattern::shell(alloc, pattern)?;
-    let mut finder = Finder::new(alloc, start, name, None, true, true)?;
-    let mut tree = HostTree::new(*rt);
+    Ok(Finder::new(alloc, start, name, None, true, true)?)
+}
+
+fn time_finder<T: Tree>(rt: &HostRuntime, tree: &mut T, finder: &mut Finder) -> Result<()> {
     let begin = Instant::now(rt)?;
-    let found = count_found(alloc, &mut tree, &mut finder)?;
-    let micros = begin.elapsed(rt)?.as_micros();
-    println!(rt; "micros {micros}\nfound {found}")?;
+    let found = count_found(rt.alloc(), tree, finder)?;
+    print_since(rt, "micros", begin)?;
+    println!(rt; "found {found}")?;
     Ok(())
 }
 

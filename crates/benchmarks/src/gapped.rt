@@ -18,23 +18,34 @@ const MISSING: &[u8] = b"the lazy fox";
 /// Prints the times of insertions, of a search, and of moves of the point.
 pub fn time_gap_text(rt: &HostRuntime) -> Result<()> {
     let alloc = rt.alloc();
-    let mut text = GapText::from_bytes(alloc, long_text(alloc, LINE, SIZE)?.as_slice())?;
-    text.move_to(text.len() / 2);
+    let bytes = long_text(alloc, LINE, SIZE)?;
+    let mut text = GapText::from_bytes(alloc, bytes.as_slice())?;
+    time_calls(rt, &mut text)
+}
 
+fn time_calls(rt: &HostRuntime, text: &mut GapText) -> Result<()> {
+    text.move_to(text.len() / 2);
+    print_insertions(rt, text)?;
+    print_search(rt, text)?;
+    print_moves(rt, "wide", text)?;
+    text.insert(vec![in rt.alloc(); b'y'; SIZE - INSERTIONS - 16]?.as_slice())?;
+    print_moves(rt, "narrow", text)
+}
+
+fn print_insertions(rt: &HostRuntime, text: &mut GapText) -> Result<()> {
     let start = Instant::now(rt)?;
     for _ in 0..INSERTIONS {
         text.insert(b"x")?;
     }
-    print_since(rt, "insertions", start)?;
+    print_since(rt, "insertions", start)
+}
 
+fn print_search(rt: &HostRuntime, text: &GapText) -> Result<()> {
     let start = Instant::now(rt)?;
     let found = text.find(0, MISSING);
     print_since(rt, "find", start)?;
     println!(rt; "found {found:?}")?;
-
-    print_moves(rt, "wide", &mut text)?;
-    text.insert(vec![in alloc; b'y'; SIZE - INSERTIONS - 16]?.as_slice())?;
-    print_moves(rt, "narrow", &mut text)
+    Ok(())
 }
 
 /// Moves the point over the whole text, back and on.

@@ -5,7 +5,7 @@ use host_tree::HostTree;
 use mc_text::{Path, Paths, Text};
 use op_plan::{Job, PlanError, Request, make_plan};
 use std::alloc::Global;
-use std::time::CpuClock;
+use std::time::{CpuClock, Duration};
 use tree_trait::Tree;
 
 /// The files `s/f000000` and so on of a folder: so many, each of them `stride` behind the one before it in the order of names,
@@ -37,16 +37,39 @@ pub fn time_plans(
 
 /// The files are to be copied into the folder `t`, each part by a plan of its own. All jobs are kept until the end.
 fn time_copies(rt: &HostRuntime, folder: &str, files: Files) -> Result<()> {
-    let alloc = rt.alloc();
+    let lists = all_sources(rt.alloc(), folder, files)?;
+    time_copies_of(rt, &mut HostTree::new(*rt), folder, lists)
+}
+
+/// The paths of the files, a list for each part.
+fn all_sources(alloc: Global, folder: &str, files: Files) -> Result<Vec<Paths>> {
     let mut lists = Vec::new(alloc);
     for part in 0..files.parts {
         lists.push(sources(alloc, folder, files, part)?)?;
     }
-    let mut tree = HostTree::new(*rt);
+    Ok(lists)
+}
+
+fn time_copies_of<T: Tree>(
+    rt: &HostRuntime,
+    tree: &mut T,
+    folder: &str,
+    lists: Vec<Paths>,
+) -> Result<()> {
     let start = rt.process_cpu_time()?;
-    let jobs = plan_each(alloc, &mut tree, folder, lists)?;
+    let jobs = plan_each(rt.alloc(), tree, folder, lists)?;
+    print_cpu_since(rt, "copy", start, jobs.len() as u64)
+}
+
+/// Prints a name, the microseconds of processor time since then, and a count.
+fn print_cpu_since(
+    rt: &HostRuntime,
+    name: &'static str,
+    start: Duration,
+    count: u64,
+) -> Result<()> {
     let micros = rt.process_cpu_time()?.saturating_sub(start).as_micros();
-    println!(rt; "copy {micros} {}", jobs.len())?;
+    println!(rt; "{name} {micros} {count}")?;
     Ok(())
 }
 
@@ -75,14 +98,14 @@ fn plan_copy<T: Tree>(alloc: Global, tree: &mut T, folder: &str, sources: Paths)
 
 /// Each file is looked at, and nothing more.
 fn time_looks(rt: &HostRuntime, folder: &str, files: Files) -> Result<()> {
-    let alloc = rt.alloc();
-    let paths = sources(alloc, folder, files, 0)?;
-    let mut tree = HostTree::new(*rt);
+    let paths = sources(rt.alloc(), folder, files, 0)?;
+    time_looks_at(rt, &mut HostTree::new(*rt), paths.as_slice())
+}
+
+fn time_looks_at<T: Tree>(rt: &HostRuntime, tree: &mut T, paths: &[Path]) -> Result<()> {
     let start = rt.process_cpu_time()?;
-    let found = found(alloc, &mut tree, paths.as_slice());
-    let micros = rt.process_cpu_time()?.saturating_sub(start).as_micros();
-    println!(rt; "looks {micros} {found}")?;
-    Ok(())
+    let found = found(rt.alloc(), tree, paths);
+    print_cpu_since(rt, "looks", start, found)
 }
 
 /// How many of the paths the tree doesn't refuse to look at.
@@ -98,20 +121,24 @@ fn found<T: Tree>(alloc: Global, tree: &mut T, paths: &[Path]) -> u64 {
 
 /// The files of the first part are to be deleted, and at the end of the list one that would lie in the first of them.
 fn time_nested(rt: &HostRuntime, folder: &str, files: Files) -> Result<()> {
-    let alloc = rt.alloc();
-    let mut sources = sources(alloc, folder, files, 0)?;
+    let mut sources = sources(rt.alloc(), folder, files, 0)?;
+    add_nested(rt.alloc(), folder, &mut sources)?;
+    time_refusal(rt, &mut HostTree::new(*rt), sources)
+}
+
+fn add_nested(alloc: Global, folder: &str, sources: &mut Paths) -> Result<()> {
     let text = format!(in alloc; "{folder}/s/f000000/x")?;
     sources.push(Path::parse(alloc, text.as_str())?)?;
-    let mut tree = HostTree::new(*rt);
+    Ok(())
+}
+
+fn time_refusal<T: Tree>(rt: &HostRuntime, tree: &mut T, sources: Paths) -> Result<()> {
     let start = rt.process_cpu_time()?;
-    let answer = make_plan(alloc, &mut tree, Request::Delete { sources });
-    let micros = rt.process_cpu_time()?.saturating_sub(start).as_micros();
-    match answer {
-        Err(PlanError::Nested(_first, _second)) => println!(rt; "nested {micros} 1")?,
+    match make_plan(rt.alloc(), tree, Request::Delete { sources }) {
+        Err(PlanError::Nested(_first, _second)) => print_cpu_since(rt, "nested", start, 1),
         Err(error) => bail!("refused otherwise: {error}"),
         Ok(_job) => bail!("not refused"),
     }
-    Ok(())
 }
 
 /// The paths of the files of a part.
@@ -121,8 +148,12 @@ fn sources(alloc: Global, folder: &str, files: Files, part: u64) -> Result<Paths
     for i in 0..size {
         let place = part.wrapping_mul(size).wrapping_add(i);
         let number = place.wrapping_mul(files.stride) % files.count.max(1);
-        let text = format!(in alloc; "{folder}/s/f{number:06}")?;
-        paths.push(Path::parse(alloc, text.as_str())?)?;
+        paths.push(numbered(alloc, folder, number)?)?;
     }
     Ok(Paths(paths))
+}
+
+fn numbered(alloc: Global, folder: &str, number: u64) -> Result<Path> {
+    let text = format!(in alloc; "{folder}/s/f{number:06}")?;
+    Ok(Path::parse(alloc, text.as_str())?)
 }

@@ -16,15 +16,25 @@ const STATUS: usize = 4096;
 /// Opens a file, does one piece of work, and shows the page. Prints the microseconds that it took, how many rows the page has,
 /// and what the system says of the program's memory, before and behind it.
 pub fn time_work(rt: &HostRuntime, place: &str, work: &str, what: &str) -> Result<()> {
-    let alloc = rt.alloc();
     let mut tree = HostTree::new(*rt);
-    let path = Path::parse(alloc, place)?;
     print_status(rt, &mut tree)?;
+    time_shown(rt, &mut tree, place, work, what)?;
+    print_status(rt, &mut tree)
+}
+
+fn time_shown<T: Tree>(
+    rt: &HostRuntime,
+    tree: &mut T,
+    place: &str,
+    work: &str,
+    what: &str,
+) -> Result<()> {
+    let path = Path::parse(rt.alloc(), place)?;
     let start = Instant::now(rt)?;
-    let rows = rows_shown(alloc, &mut tree, path, work, what)?;
+    let rows = rows_shown(rt.alloc(), tree, path, work, what)?;
     let micros = start.elapsed(rt)?.as_micros();
     println!(rt; "micros {micros}\nrows {rows}")?;
-    print_status(rt, &mut tree)
+    Ok(())
 }
 
 fn rows_shown<T: Tree>(
@@ -35,7 +45,17 @@ fn rows_shown<T: Tree>(
     what: &str,
 ) -> Result<usize> {
     let mut viewer = Viewer::start(alloc, tree, Subject::File(path), 24, 80)?;
-    work_with(alloc, tree, &mut viewer, work, what)?;
+    rows_after(alloc, tree, &mut viewer, work, what)
+}
+
+fn rows_after<T: Tree>(
+    alloc: Global,
+    tree: &mut T,
+    viewer: &mut Viewer,
+    work: &str,
+    what: &str,
+) -> Result<usize> {
+    work_with(alloc, tree, viewer, work, what)?;
     Ok(viewer.page(alloc, tree)?.as_slice().len())
 }
 
@@ -72,14 +92,19 @@ fn nowhere(answer: Result<(), ViewError>) -> Result<()> {
     }
 }
 
+/// Where the system says what it says of the program.
+fn status_path<T: Tree>(alloc: Global, tree: &mut T) -> Result<Path> {
+    let own = Path::parse(alloc, "/proc/self")?;
+    let number = tree.read_link(alloc, &own)?;
+    let place = format!(in alloc; "/proc/{}/status", number.as_str())?;
+    Ok(Path::parse(alloc, place.as_str())?)
+}
+
 /// Prints what the system says of the program.
 fn print_status<T: Tree>(rt: &HostRuntime, tree: &mut T) -> Result<()> {
-    let alloc = rt.alloc();
-    let number = tree.read_link(alloc, &Path::parse(alloc, "/proc/self")?)?;
-    let place = format!(in alloc; "/proc/{}/status", number.as_str())?;
-    let path = Path::parse(alloc, place.as_str())?;
+    let path = status_path(rt.alloc(), tree)?;
     let mut bytes = [0u8; STATUS];
-    let count = tree.read_at(alloc, &path, 0, &mut bytes)?;
+    let count = tree.read_at(rt.alloc(), &path, 0, &mut bytes)?;
     let Some(status) = bytes.get(..count) else {
         bail!("more than was asked for");
     };
