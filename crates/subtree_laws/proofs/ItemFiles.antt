@@ -1,5 +1,5 @@
 -- The part of a file at work, after a step of the file's copy.
-use Rattle.std.proofs.Common.{◌≡◌, ℕ, false, List, [], ◌∷◌, refl, sym, ◌∙◌, ap, subst, inl, inr, Option, Some, None, Ok}
+use Rattle.std.proofs.Common.{◌≡◌, ℕ, List, [], ◌∷◌, refl, sym, ◌∙◌, ap, subst, inl, inr, Option, Some, None}
 use Rattle.mc_text.specs.Routes.{Route}
 use Rattle.mc_text.specs.declared.kind.Kind.TheVariants as kind
 use Rattle.tree_trait.specs.declared.file_system.Node.{Node}
@@ -25,7 +25,7 @@ use Rattle.file_copy.specs.declared.stage.Stage.TheVariants as at
 use Rattle.copy_levels.specs.Levels.{Levels}
 use Rattle.tree_copy.specs.Parts.{IsShortPart}
 use Rattle.tree_copy.specs.Progress.{progress}
-use Rattle.tree_copy.specs.declared.progress.Progress.TheVariants.{UnderWay, Decided, Anew}
+use Rattle.tree_copy.specs.declared.progress.Progress.TheVariants.{UnderWay, Decided}
 use Rattle.subtree_laws.specs.AtWork.{HasItem}
 use Rattle.subtree_laws.proofs.ItemParts.{IsMetNext, has_made}
 use Rattle.subtree_laws.proofs.QuietRuns.{kept_stop, part_stops, row_done}

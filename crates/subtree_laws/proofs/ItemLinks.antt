@@ -1,6 +1,6 @@
 -- The part of a link at work, after a step of the link's copy.
 use Rattle.std.specs.Prelude.{pos}
-use Rattle.std.proofs.Common.{◌≡◌, ℕ, true, false, List, [], ◌∷◌, refl, sym, ◌∙◌, ap, subst, inl, inr, Option, Some, None, Ok, arith}
+use Rattle.std.proofs.Common.{◌≡◌, ℕ, List, [], ◌∷◌, refl, sym, ◌∙◌, ap, subst, Option, Some, None, arith}
 use Rattle.mc_text.specs.Routes.{Route}
 use Rattle.mc_text.specs.declared.kind.Kind.TheVariants as kind
 use Rattle.tree_trait.specs.declared.file_system.Node.{Node}
@@ -15,8 +15,8 @@ use Rattle.job_reports.specs.declared.report.Cause.{Cause}
 use Rattle.job_reports.specs.declared.report.Cause.TheVariants as cause
 use Rattle.job_reports.specs.declared.report.Did.{Did}
 use Rattle.job_reports.specs.declared.report.Did.TheVariants.{Began, Chunk, Placed, Removed, Made, Set, Kept, Skipped, Cleaned, Barrier, Troubled, Ended}
-use Rattle.job_reports.proofs.CallAnswers.{done_call, some_log}
-use Rattle.job_reports.proofs.PermittedCalls.{IsMaking, making_passes}
+use Rattle.job_reports.proofs.CallAnswers.{done_call}
+use Rattle.job_reports.proofs.PermittedCalls.{making_passes}
 use Rattle.link_copy.specs.LinkCopying.{LinkCopying, Tells, after_clean, has_part}
 use Rattle.link_copy.specs.LinkSteps.{LinkCalls, LinkStops, link_text, next_call}
 use Rattle.link_copy.specs.declared.stage.Next.{Next as Follows}
@@ -25,7 +25,7 @@ use Rattle.link_copy.specs.declared.stage.Stage.{Stage}
 use Rattle.link_copy.specs.declared.stage.Stage.TheVariants as at
 use Rattle.copy_levels.specs.Levels.{Levels}
 use Rattle.tree_copy.specs.Progress.{link_progress}
-use Rattle.tree_copy.specs.declared.progress.Progress.TheVariants.{UnderWay, Decided, Anew}
+use Rattle.tree_copy.specs.declared.progress.Progress.TheVariants.{UnderWay, Decided}
 use Rattle.subtree_laws.specs.AtWork.{HasItem}
 use Rattle.subtree_laws.proofs.ItemParts.{IsMetNext, has_made}
 use Rattle.subtree_laws.proofs.QuietRuns.{kept_stop, row_done}

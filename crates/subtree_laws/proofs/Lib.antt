@@ -1,3 +1,12 @@
+pub mod CalmChanges
+pub mod CalmFiles
+pub mod CalmFolders
+pub mod CalmLaws
+pub mod CalmLinks
+pub mod CalmRuns
+pub mod CalmSteps
+pub mod EndSteps
+pub mod GivenModes
 pub mod ItemFiles
 pub mod ItemLinks
 pub mod ItemParts
@@ -5,10 +14,12 @@ pub mod ItemSteps
 pub mod LinkTexts
 pub mod ListSteps
 pub mod Listings
+pub mod MadeFolders
 mod PartMade
 mod PartsApart
 pub mod QuietRuns
 pub mod Refused
+pub mod SetFolders
 pub mod StepsKnown
 pub mod TextSteps
 pub mod TreeFiles

@@ -1,10 +1,9 @@
 -- The part of a link after a step of the link's copy has the text that its source has.
 use Rattle.std.specs.Prelude.{pos, is_none, is_some, not, option_and_then, unwrap_or}
-use Rattle.std.proofs.Common.{◌≡◌, ℕ, Bool, true, false, List, [], ◌∷◌, ◌++◌, length, refl, sym, ◌∙◌, ap, subst, inl, inr, Option, Some, None}
+use Rattle.std.proofs.Common.{◌≡◌, ℕ, true, List, [], ◌∷◌, refl, sym, ◌∙◌, ap, subst, inl, inr, Option, Some, None}
 use Rattle.std.proofs.lemmas.Bool.{false≢true, true≢false}
 use Rattle.mc_text.specs.Routes.{Route}
 use Rattle.mc_text.specs.declared.kind.Kind.TheVariants as kind
-use Rattle.tree_trait.specs.declared.calls.TreeError.{TreeError}
 use Rattle.tree_trait.specs.declared.calls.TreeError.TheVariants.{Exists, Missing, Special}
 use Rattle.tree_trait.specs.declared.file_system.FileSystem.{FileSystem}
 use Rattle.tree_trait.specs.declared.file_system.Node.{Node}
@@ -18,7 +17,7 @@ use Rattle.tree_trait.proofs.Walking.{check_passes, passed_walk, some_there, wal
 use Rattle.crash_law.proofs.Guarding.{find_same, found_there}
 use Rattle.crash_law.proofs.Leading.{current_more}
 use Rattle.crash_law.proofs.Tops.{none_below, under_made}
-use Rattle.job_reports.specs.CallRuns.{AllDone, RunStops}
+use Rattle.job_reports.specs.CallRuns.{AllDone}
 use Rattle.job_reports.specs.declared.report.Cause.{Cause}
 use Rattle.job_reports.specs.declared.report.Did.{Did}
 use Rattle.job_reports.specs.declared.report.Did.TheVariants.{Began, Chunk, Placed, Removed, Made, Set, Kept, Skipped, Cleaned, Barrier, Troubled, Ended}

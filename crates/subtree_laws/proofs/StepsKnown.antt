@@ -1,5 +1,5 @@
 -- What a copy knows of its open folders: as it begins, after each step, and of the name that is met next.
-use Rattle.std.proofs.Common.{◌≡◌, ℕ, suc, zero, true, List, [], ◌∷◌, refl, sym, ◌∙◌, ap, subst, inl, inr, Option, Some}
+use Rattle.std.proofs.Common.{◌≡◌, ℕ, suc, zero, Bool, List, [], ◌∷◌, refl, sym, ◌∙◌, ap, subst, inl, inr, Option, Some}
 use Rattle.std.specs.Prelude.{if◌then◌else◌, map}
 use Rattle.mc_text.specs.Routes.{Route}
 use Rattle.tree_trait.specs.Change.{CallLog, current}
@@ -19,12 +19,13 @@ use Rattle.job_reports.specs.declared.report.Did.{Did}
 use Rattle.tree_copy.specs.Parts.{IsPartPlace, ahead}
 use Rattle.tree_copy.specs.Progress.{link_progress, progress}
 use Rattle.tree_copy.specs.Standing.{Seen, target_name}
-use Rattle.tree_copy.specs.Steps.{FileWorks, LeavesAll, LinkWorks, TakesNext, WorksOn, idle, link_begun, noted, settled}
+use Rattle.tree_trait.specs.Shape.{IsTree}
+use Rattle.tree_copy.specs.Steps.{CopySteps, FileWorks, LeavesAll, LinkWorks, TakesNext, WorksOn, idle, link_begun, noted, settled}
 use Rattle.history_laws.proofs.Changing.{folder_anchored}
-use Rattle.history_laws.proofs.Resting.{stands_at, sure_path}
+use Rattle.history_laws.proofs.Resting.{IsOfFiles, stands_at, sure_path}
 use Rattle.subtree_laws.specs.AtWork.{ItemKnown}
 use Rattle.subtree_laws.specs.Knows.{LevelsKnow}
-use Rattle.subtree_laws.specs.Laws.{BeginningLaw, FoldersKnown, MetLaw, StandingLaw, StepLaw}
+use Rattle.subtree_laws.specs.Laws.{BeginningLaw, CopyKnown, FoldersKnown, MetLaw, StandingLaw, StepLaw}
 use Rattle.subtree_laws.specs.Lies.{AreLaid}
 use Rattle.subtree_laws.proofs.TreeFolders.{closed_levels}
 use Rattle.subtree_laws.proofs.TreeKnows.{filled_inner, levels_left}
@@ -95,23 +96,36 @@ module _ (unclaimed : Route → Type 0) (old new : Seen) (did : Did) (before aft
   works_name (Link l) w = link_name l w
   works_name (Stays part) w = absurd w
 
-pub step_law : StepLaw
-step_law free old new did calls log now faults faults_after s tree files (known, item) =
+-- what is known as a step begins, once the folders are left that owe nothing
+begins_at : (free : Route → Bool) (old new : Seen) (did : Did) (calls : ℕ) (log now : CallLog) (faults faults_after : ℕ) (s : CopySteps free old new did calls (Some log) (Some now) faults faults_after) → IsTree (current log) → IsOfFiles log
+    → CopyKnown log old → StepKnown log s.mid × AreLaid (let m : Seen = s.mid in m.name) (let m : Seen = s.mid in m.levels.inner) (let m : Seen = s.mid in m.levels.around) × ItemKnown log s.mid (let m : Seen = s.mid in m.item)
+begins_at free old new did calls log now faults faults_after s tree files (known, item) =
     let mid = s.mid in
     let k = leaves_all s.folders log old mid s.leaves known in
-    let place = placed_of mid.name mid.levels.inner mid.levels.around k.1 in
-    let begins : StepKnown log mid = record {
-      tree = tree;
-      files = files;
-      nested = nested_of mid.name mid.levels.inner mid.levels.around k.1;
-      levels = k.0;
-      made = place.made;
-      once = λ name names is. next_once mid name names is place.once;
-    } in
-    let here = item_left s.folders log old mid s.leaves item in
-    let levels = copy_step free old new did calls log now faults faults_after s begins here in
-    let laid = laid_works (IsPartPlace free mid) mid new did (Some log) (Some now) k.1 mid.item s.works in
-    (subst (KnownAs now new) (sym (works_name (IsPartPlace free mid) mid new did (Some log) (Some now) mid.item s.works)) (levels, laid), works_item free mid new did log now begins mid.item refl here s.works)
+    let place = placed_of mid.name mid.levels.inner mid.levels.around k.1 in (
+      record {
+        tree = tree;
+        files = files;
+        nested = nested_of mid.name mid.levels.inner mid.levels.around k.1;
+        levels = k.0;
+        made = place.made;
+        once = λ name names is. next_once mid name names is place.once;
+      },
+      k.1,
+      item_left s.folders log old mid s.leaves item,
+    )
+
+pub step_begins : (free : Route → Bool) (old new : Seen) (did : Did) (calls : ℕ) (log now : CallLog) (faults faults_after : ℕ) (s : CopySteps free old new did calls (Some log) (Some now) faults faults_after) → IsTree (current log) → IsOfFiles log
+    → CopyKnown log old → StepKnown log s.mid × ItemKnown log s.mid (let m : Seen = s.mid in m.item)
+step_begins free old new did calls log now faults faults_after s tree files known = let b = begins_at free old new did calls log now faults faults_after s tree files known in (b.0, b.2)
+
+pub step_law : StepLaw
+step_law free old new did calls log now faults faults_after s tree files known =
+    let mid = s.mid in
+    let b = begins_at free old new did calls log now faults faults_after s tree files known in
+    let levels = copy_step free old new did calls log now faults faults_after s b.0 b.2 in
+    let laid = laid_works (IsPartPlace free mid) mid new did (Some log) (Some now) b.1 mid.item s.works in
+    (subst (KnownAs now new) (sym (works_name (IsPartPlace free mid) mid new did (Some log) (Some now) mid.item s.works)) (levels, laid), works_item free mid new did log now b.0 mid.item refl b.2 s.works)
 
 -- the name that is met next, as it is at its target
 among_next : (c : Seen) (name : List ℕ) (names : List (List ℕ)) → c.levels.inner.names.names ≡ name ∷ names → Among (ahead c) (target_name c name)

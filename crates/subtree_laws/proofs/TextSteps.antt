@@ -1,5 +1,5 @@
 -- The text of a link's part, after each step, skip and retry of a copy.
-use Rattle.std.proofs.Common.{◌≡◌, ℕ, suc, zero, Bool, true, false, List, [], ◌∷◌, refl, sym, ◌∙◌, ap, subst, inl, inr, Option, Some, None}
+use Rattle.std.proofs.Common.{◌≡◌, ℕ, suc, zero, true, List, [], ◌∷◌, refl, sym, ◌∙◌, ap, subst, inl, inr, Some}
 use Rattle.std.proofs.lemmas.Bool.{false≢true}
 use Rattle.mc_text.specs.Routes.{Route}
 use Rattle.tree_trait.specs.Change.{CallLog, current}
@@ -19,10 +19,10 @@ use Rattle.tree_copy.specs.declared.progress.Progress.{Progress}
 use Rattle.tree_copy.specs.declared.progress.Progress.TheVariants.{UnderWay, Decided, Anew}
 use Rattle.tree_copy.specs.Parts.{IsPartPlace}
 use Rattle.tree_copy.specs.Progress.{link_progress, progress}
-use Rattle.tree_copy.specs.Skipping.{SkipsAt, SkipsNamed, retried, retried_at}
+use Rattle.tree_copy.specs.Skipping.{SkipsAt, SkipsNamed, retried_at}
 use Rattle.tree_copy.specs.Standing.{Seen}
 use Rattle.tree_copy.specs.Steps.{FileWorks, LeavesAll, LinkWorks, TakesNext, WorksOn, idle, link_begun, noted, settled}
-use Rattle.subtree_laws.specs.Texts.{IsLinkAs, TextKnown, TextLaw}
+use Rattle.subtree_laws.specs.Texts.{TextKnown, TextLaw}
 use Rattle.subtree_laws.proofs.LinkTexts.{text_after}
 
 -- nothing is at work

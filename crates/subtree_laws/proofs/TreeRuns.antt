@@ -1,5 +1,5 @@
 -- The calls of a copy's step, one after the other, in the folders that it has open.
-use Rattle.std.proofs.Common.{◌≡◌, ◌⊎◌, ℕ, ◌<◌, suc, zero, Bool, true, false, List, [], ◌∷◌, ◌++◌, length, refl, sym, ◌∙◌, ap, subst, inl, inr, Option, Some, None, Result, Ok, Err, arith}
+use Rattle.std.proofs.Common.{◌≡◌, ◌⊎◌, ℕ, ◌<◌, Bool, true, false, List, [], ◌∷◌, ◌++◌, length, refl, sym, ◌∙◌, ap, subst, inl, inr, Some, None, Result, Ok, arith}
 use Rattle.std.specs.Prelude.{if◌then◌else◌, ◌==◌}
 use Rattle.mc_text.specs.Routes.{Route}
 use Rattle.tree_trait.specs.declared.calls.TreeError.{TreeError}
@@ -11,13 +11,10 @@ use Rattle.tree_trait.specs.CrashImages.{Among, says}
 use Rattle.tree_trait.specs.FileSystem.{find, node}
 use Rattle.tree_trait.specs.Refusals.{is_folder}
 use Rattle.tree_trait.specs.Shape.{IsTree}
-use Rattle.tree_trait.proofs.Kept.{tree_set}
 use Rattle.crash_law.proofs.Guarding.{folder_kept, found_there, same_quiet}
 use Rattle.crash_law.proofs.Leading.{current_more}
-use Rattle.job_reports.specs.CallRuns.{AllDone, RunStops, StopsAt}
-use Rattle.job_reports.specs.declared.report.Cause.{Cause}
-use Rattle.job_reports.specs.declared.report.Cause.TheVariants as cause
-use Rattle.job_reports.proofs.CallAnswers.{done_call, some_log}
+use Rattle.job_reports.specs.CallRuns.{AllDone}
+use Rattle.job_reports.proofs.CallAnswers.{done_call}
 use Rattle.file_copy.specs.CopyCalls.{part_mode, placing}
 use Rattle.copy_levels.specs.declared.level.Level.{Level}
 use Rattle.copy_levels.specs.Levels.{Levels, coming, is_around_dirty, passed}

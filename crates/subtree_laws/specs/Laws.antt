@@ -1,6 +1,6 @@
 -- The laws of a tree's copy and the log: what is known of its open folders as it begins, what each step keeps, and what follows of the name that is
 -- met next.
-use Rattle.std.specs.Prelude.{◌≡◌, ℕ, Bool, true, false, List, [], ◌∷◌, Some}
+use Rattle.std.specs.Prelude.{◌≡◌, ℕ, Bool, false, List, [], ◌∷◌, Some}
 use Rattle.mc_text.specs.Routes.{Route}
 use Rattle.tree_trait.specs.Change.{CallLog, current}
 use Rattle.tree_trait.specs.Shape.{IsTree}

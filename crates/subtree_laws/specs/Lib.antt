@@ -1,6 +1,10 @@
 pub mod AtWork
+pub mod Calm
+pub mod Ends
+pub mod GivenModes
 pub mod Knows
 pub mod Laws
 pub mod Lies
 pub mod Listing
+pub mod Made
 pub mod Texts
