@@ -1,5 +1,5 @@
 -- Paths in one folder: two meet where their last names are one.
-use Rattle.std.proofs.Common.{◌≡◌, ℕ, suc, ◌<◌, Bool, true, false, List, [], ◌∷◌, ◌++◌, ◌+◌, Option, Some, None, Ok, length, map, get_or, refl, sym, ap, ◌∙◌, subst, inl, inr, arith}
+use Rattle.std.proofs.Common.{◌≡◌, ℕ, suc, ◌<◌, Bool, true, false, List, [], ◌∷◌, ◌++◌, ◌+◌, Option, Some, None, Ok, length, map, get_or, refl, sym, ap, ◌∙◌, inl, inr, arith}
 use Rattle.std.specs.Prelude.{◌||◌, option_map, IfSome}
 use Rattle.std.specs.List.{list_any}
 use Rattle.std.specs.Str.{bytes_eq}
@@ -15,8 +15,8 @@ use Rattle.std.proofs.lemmas.List.Sorted.{IsPermutation-map}
 use Rattle.mc_text.specs.Routes.{Route, is_prefix, last_of}
 use Rattle.tree_trait.specs.Answers.{name_cmp}
 use Rattle.op_plan.specs.Meeting.{meet, has_two}
-use Rattle.op_plan.specs.Sorting.{route_cmp, has_neighbours, neighbours_meet, AreSiblings}
-use Rattle.op_plan.proofs.Paths.{bool_same, prefix-way, prefix-from, meet-self, same_name, same_name-from}
+use Rattle.op_plan.specs.Sorting.{route_cmp, has_neighbours, AreSiblings}
+use Rattle.op_plan.proofs.Paths.{bool_same, prefix-way, prefix-from, same_name, same_name-from}
 use Rattle.op_plan.proofs.Sorted.{less_turned, neighbours-all, neighbours-sorted, neighbours-map, sorted-map}
 use Rattle.op_plan.specs.declared.job.Pair.{Pair}
 use Rattle.op_plan.specs.Checks.{sources_in, targets_from, none_twice}
