@@ -1,6 +1,7 @@
 pub mod Civil
 pub mod Drawn
 pub mod Fit
+pub mod Kept
 pub mod Names
 pub mod Permissions
 pub mod Routes

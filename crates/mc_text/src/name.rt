@@ -3,10 +3,12 @@ ghost use Rattle.std.specs.Prelude.{◌≡◌, ◌≢◌, ◌+◌, ◌<◌, ◌^
 ghost use Rattle.std.specs.Str.{bytes_eq};
 ghost use Rattle.std.specs.Ordering.{nat_cmp};
 ghost use Rattle.std.specs.Cmp.Lexicographic.{slice_cmp};
+ghost use Rattle.mc_text.specs.Kept.{bytes_in};
 ghost use Rattle.mc_text.specs.Names.{name_fault, first_bad_byte};
 
 use crate::error::{NameError, NoMemory};
-use std::alloc::Global;
+use arrayvec::ArrayString;
+use std::alloc::{AllocError, Global};
 use std::cmp::Ordering;
 use std::marker::Model;
 
@@ -16,18 +18,49 @@ pub const NAME_BYTES: usize = 255;
 /// A file name. Contracts see the list of its bytes.
 #[derive(Debug, Drop)]
 pub struct Name {
-    text: String,
+    text: NameText,
 }
 
 impl Model for Name {
-    ghost use Rattle.std.specs.Prelude.{◌≡◌, List, ℕ, None, string_bytes};
+    ghost use Rattle.std.specs.Prelude.{◌≡◌, List, ℕ, None};
+    ghost use Rattle.mc_text.specs.Kept.{bytes_in};
     ghost use Rattle.mc_text.specs.Names.{name_fault};
 
     ghost Value = { List ℕ };
 
-    ghost view = { λ n. string_bytes n.text };
+    ghost view = { λ n. bytes_in n.text };
 
-    ghost invariant = { λ n. name_fault (string_bytes n.text) ≡ None };
+    ghost invariant = { λ n. name_fault (bytes_in n.text) ≡ None };
+}
+
+/// Where a name's bytes lie. Most names are short, and take no memory of their own.
+#[derive(Debug, Drop)]
+enum NameText {
+    /// In the value itself.
+    Short(ArrayString<16>),
+    /// On the heap.
+    Long(String),
+}
+
+impl NameText {
+    /// The same text once more.
+    fn from_str(alloc: Global, text: &str) -> Result<NameText, AllocError>
+        ensures { IfOk result (λ kept. bytes_in kept ≡ text.now) }
+    {
+        match ArrayString::from(text) {
+            Ok(short) => Ok(NameText::Short(short)),
+            Err(_) => Ok(NameText::Long(String::from_str(alloc, text)?)),
+        }
+    }
+
+    fn as_str(&self) -> &str
+        ensures { result.now ≡ bytes_in self.now }
+    {
+        match self {
+            NameText::Short(text) => text.as_str(),
+            NameText::Long(text) => text.as_str(),
+        }
+    }
 }
 
 impl Name {
@@ -41,7 +74,7 @@ impl Name {
         match fault_of(text) {
             Some(fault) => Err(fault),
             None => Ok(Name {
-                text: String::from_str(alloc, text)?,
+                text: NameText::from_str(alloc, text)?,
             }),
         }
     }
@@ -59,7 +92,7 @@ impl Name {
         ensures { IfOk result (λ name. name ≡ self.now) }
     {
         Ok(Name {
-            text: String::from_str(alloc, self.text.as_str())?,
+            text: NameText::from_str(alloc, self.text.as_str())?,
         })
     }
 

@@ -1,5 +1,5 @@
 -- Sources that have nothing to do with the folder of the targets have nothing to do with a target.
-use Rattle.std.proofs.Common.{◌≡◌, ℕ, Bool, true, false, List, [], ◌∷◌, ◌++◌, length, map, None, Ok, Option, Some, refl, sym, ap, ◌∙◌, cond, arith}
+use Rattle.std.proofs.Common.{◌≡◌, ℕ, Bool, false, List, [], ◌∷◌, length, map, None, Ok, refl, ap, ◌∙◌, arith}
 use Rattle.std.specs.Prelude.{◌||◌, option_map}
 use Rattle.std.specs.Option.{option_map_or}
 use Rattle.std.specs.List.{list_any, find}
@@ -8,7 +8,7 @@ use Rattle.std.proofs.lemmas.Bool.{both_ways, or_parts, or_right, false_from_ne_
 use Rattle.mc_text.specs.Routes.{Route, same_path, is_prefix}
 use Rattle.op_plan.specs.declared.job.Pair.{Pair}
 use Rattle.op_plan.specs.declared.error.PlanError.TheVariants.{SameFile}
-use Rattle.op_plan.specs.Meeting.{meet, has_two, first_across, with_first}
+use Rattle.op_plan.specs.Meeting.{meet, first_across, with_first}
 use Rattle.op_plan.specs.Answering.{and_then, unless}
 use Rattle.op_plan.specs.Checks.{child_above, sources_in, targets_from, none_across, none_into, into_itself}
 use Rattle.op_plan.proofs.Paths.{same-true, prefix-from}

@@ -6,6 +6,7 @@ mod ApartLemmas
 pub mod MaskLemmas
 pub mod CheckLemmas
 pub mod SplitLemmas
+pub mod StarLemmas
 pub mod ClashLemmas
 pub mod NamingLemmas
 pub mod ChildLemmas

@@ -1,21 +1,23 @@
 -- Paths in one folder: two meet where their last names are one.
-use Rattle.std.proofs.Common.{◌≡◌, ℕ, suc, ◌<◌, Bool, true, false, List, [], ◌∷◌, ◌++◌, ◌+◌, Option, Some, None, Ok, length, map, get_or, refl, sym, ap, ◌∙◌, subst, inl, inr, arith}
+use Rattle.std.proofs.Common.{◌≡◌, ℕ, suc, ◌<◌, Bool, true, false, List, [], ◌∷◌, ◌++◌, ◌+◌, Option, Some, None, Ok, length, map, get_or, refl, sym, ap, ◌∙◌, inl, inr, arith}
 use Rattle.std.specs.Prelude.{◌||◌, option_map, IfSome}
 use Rattle.std.specs.List.{list_any}
 use Rattle.std.specs.Str.{bytes_eq}
-use Rattle.std.specs.Ordering.{is_lt, ordering_then}
+use Rattle.std.specs.Ordering.{is_lt, is_eq, ordering_then}
 use Rattle.std.specs.declared.cmp.Ordering.{Ordering}
 use Rattle.std.specs.declared.cmp.Ordering.TheVariants.{Less, Equal, Greater}
 use Rattle.std.specs.List.Sorted.{IsPermutation, IsSorted}
-use Rattle.std.proofs.lemmas.Bool.{or_cases, or_left}
+use Rattle.std.proofs.lemmas.Bool.{false≢true, or_cases, or_left}
+use Rattle.std.proofs.lemmas.Cmp.{nat_list_cmp_total}
+use Rattle.std.proofs.lemmas.Map.Text.{is_eq-slice_cmp}
 use Rattle.std.proofs.lemmas.List.{length-append}
 use Rattle.std.proofs.lemmas.List.Sorted.{IsPermutation-map}
 use Rattle.mc_text.specs.Routes.{Route, is_prefix, last_of}
 use Rattle.tree_trait.specs.Answers.{name_cmp}
 use Rattle.op_plan.specs.Meeting.{meet, has_two}
-use Rattle.op_plan.specs.Sorting.{route_cmp, has_neighbours, neighbours_meet, AreSiblings}
-use Rattle.op_plan.proofs.Paths.{bool_same, prefix-way, prefix-from, meet-self, same_name, same_name-from}
-use Rattle.op_plan.proofs.Sorted.{neighbours-sorted, neighbours-map, sorted-map}
+use Rattle.op_plan.specs.Sorting.{route_cmp, has_neighbours, AreSiblings}
+use Rattle.op_plan.proofs.Paths.{bool_same, prefix-way, prefix-from, same_name, same_name-from}
+use Rattle.op_plan.proofs.Sorted.{less_turned, neighbours-all, neighbours-sorted, neighbours-map, sorted-map}
 use Rattle.op_plan.specs.declared.job.Pair.{Pair}
 use Rattle.op_plan.specs.Checks.{sources_in, targets_from, none_twice}
 use Rattle.op_plan.proofs.CheckLemmas.{twice-none}
@@ -86,6 +88,25 @@ names-twice names sorted moved up =
     sym (names_sorted sorted up)
     ∙ (sym (siblings-two [] sorted)
     ∙ (sym (two-permutation (map in_root names) (map in_root sorted) (IsPermutation-map in_root names sorted moved)) ∙ siblings-two [] names))
+
+less_differs : (o : Ordering) → is_lt o ≡ true → is_eq o ≡ false
+less_differs Less h = refl
+less_differs Equal h = absurd (false≢true h)
+less_differs Greater h = refl
+
+-- each comes before the next one, so no two are one
+pub rising-once : (names : List (List ℕ)) → ((k : ℕ) (d : List ℕ) → k + 1 < length names → is_lt (name_cmp (get_or names k d) (get_or names (k + 1) d)) ≡ true)
+    → has_two bytes_eq names ≡ false
+rising-once names up =
+    let sorted : IsSorted name_cmp names = λ k d low high.
+    ap is_lt (nat_list_cmp_total.antisymm (get_or names (k + 1) d) (get_or names k d))
+    ∙ less_turned (name_cmp (get_or names k d) (get_or names (k + 1) d)) (up k d (omega (arith, high))) in
+    names_sorted names sorted
+    ∙ neighbours-all bytes_eq names (length names) (omega arith)
+    (λ k d below.
+    let a = get_or names k d in
+    let b = get_or names (k + 1) d in
+    sym (is_eq-slice_cmp a b) ∙ less_differs (name_cmp a b) (up k d (omega (arith, below))))
 
 pub siblings_meet : (paths : List Route) (names : List (List ℕ)) → AreSiblings paths names → has_two bytes_eq names ≡ has_two meet paths
 siblings_meet paths names s = sym (ap (has_two meet) s.paths_are ∙ siblings-two s.folder names)

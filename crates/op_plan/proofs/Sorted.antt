@@ -190,7 +190,7 @@ sorted-map {X} {Y} lt f (x ∷ xs) up = λ k d low high.
 
 -- ---- paths that come in their order
 
-less_turned : (o : Ordering) → is_lt o ≡ true → is_lt (ordering_reverse o) ≡ false
+pub less_turned : (o : Ordering) → is_lt o ≡ true → is_lt (ordering_reverse o) ≡ false
 less_turned Less h = refl
 less_turned Equal h = absurd (false≢true h)
 less_turned Greater h = absurd (false≢true h)

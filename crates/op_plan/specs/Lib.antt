@@ -9,4 +9,5 @@ pub mod Answering
 pub mod Checks
 pub mod Planning
 pub mod Soundness
+pub mod Stars
 pub mod Asking

@@ -3,9 +3,11 @@ ghost use Rattle.std.specs.Prelude.{◌≡◌, ◌≢◌, ◌<◌, ◌||◌, ℕ
 ghost use Rattle.std.specs.List.{list_any, position};
 ghost use Rattle.std.specs.Option.{option_map_or};
 ghost use Rattle.std.specs.Bool.{OnTrue};
+ghost use Rattle.std.specs.Ordering.{is_lt};
 ghost use Rattle.std.specs.Str.{bytes_eq};
 ghost use Rattle.std.specs.BTreeSet.{contains_text};
 ghost use Rattle.mc_text.specs.Routes.{Route, is_prefix, same_path};
+ghost use Rattle.tree_trait.specs.Answers.{name_cmp};
 ghost use Rattle.op_plan.specs.declared.job.Pair.{Pair};
 ghost use Rattle.op_plan.specs.Answering.{Plans, is_fault, CarriesPlanCause, IsPlaceError};
 ghost use Rattle.op_plan.specs.Meeting.{meet, has_two};
@@ -20,6 +22,7 @@ use crate::meeting::{any_twice, child_name, first_meeting};
 use mc_text::{Name, NoMemory, Path, PathError, Paths};
 use resolving::ResolveError;
 use std::alloc::Global;
+use std::cmp::Ordering;
 use std::collections::BTreeSet;
 
 /// The sources, each with its target of this name in the folder, where none is or holds another.
@@ -231,16 +234,35 @@ fn refuse_twice(alloc: Global, names: &[Name], pairs: &[Pair]) -> Result<(), Pla
     refuse_meeting_targets(alloc, pairs)
 }
 
-/// Whether two of the names are one. Where they are those of the sources, which lie in one folder, none is, since no source is
-/// another.
+/// Whether two of the names are one. Where each comes before the next one, as in a listing, none is, and none where they are those
+/// of the sources, which lie in one folder, since no source is another.
 fn any_name_twice(alloc: Global, names: &[Name], pairs: &[Pair]) -> Result<bool, NoMemory>
     requires { has_two meet (sources_in pairs.now) ≡ false }
     ensures { IfOk result (λ found. found ≡ has_two bytes_eq names.now) }
 {
-    if are_kept(alloc, names, pairs)? {
+    if names_rise(names) || are_kept(alloc, names, pairs)? {
         return Ok(false);
     }
     Ok(any_twice(texts_of(alloc, names)?))
+}
+
+/// Whether each name comes before the next one, so that no two are one.
+fn names_rise(names: &[Name]) -> bool
+    ensures { OnTrue result (has_two bytes_eq names.now ≡ false) }
+{
+    for i in 1..names.len() {
+        if !comes_before(&names[i - 1], &names[i]) {
+            return false;
+        }
+    }
+    true
+}
+
+/// Whether a name comes before another in the order of their bytes.
+fn comes_before(name: &Name, next: &Name) -> bool
+    ensures { result ≡ is_lt (name_cmp name.now next.now) }
+{
+    name.order(next) == Ordering::Less
 }
 
 /// Whether the names are those of the sources, which lie in one folder.

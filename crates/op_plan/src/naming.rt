@@ -2,6 +2,7 @@
 ghost use Rattle.std.specs.Prelude.{◌≡◌, ◌≢◌, false, filter, length, IfOk, IfErr, None, Some, chars};
 ghost use Rattle.op_plan.specs.Answering.{is_fault, CarriesPlanCause, IsPlaceError};
 ghost use Rattle.op_plan.specs.Masks.{keeps_name};
+ghost use Rattle.op_plan.specs.Stars.{is_star};
 ghost use Rattle.op_plan.specs.Naming.{pattern_in, chosen, has_match, target_text, target_name, all_of, names_for, checked_name};
 
 use crate::error::PlanError;
@@ -9,7 +10,7 @@ use crate::mask::Mask;
 use mc_text::{Name, NameError, Names, NoMemory, Path, Paths, Text};
 use std::alloc::Global;
 use std::convert::AsStr;
-use tagging::{PatternError, ShellPattern};
+use tagging::{GlobPart, PatternError, ShellPattern};
 
 /// The pattern that the sources' mask is, if it is one.
 pub fn read_pattern(alloc: Global, mask: &str) -> Result<Option<ShellPattern>, NoMemory>
@@ -42,13 +43,24 @@ fn matching(pattern: &ShellPattern, sources: Paths) -> Paths
 }
 
 /// Whether a source's name matches; the root has none.
+#[tactic(auto, using(crate::proofs::StarLemmas::star_match))]
 fn has_match(pattern: &ShellPattern, source: &Path) -> bool
     ensures { result ≡ has_match pattern.now source.now }
 {
+    if is_star(pattern) {
+        return !source.names().is_empty();
+    }
     match source.last() {
         Some(name) => pattern.matches(name),
         None => false,
     }
+}
+
+/// Whether the pattern is a star alone, which matches each name.
+fn is_star(pattern: &ShellPattern) -> bool
+    ensures { result ≡ is_star pattern.now }
+{
+    matches!(pattern.parts(), [GlobPart::AnyText])
 }
 
 /// The names of the targets of these sources.

@@ -1,5 +1,5 @@
 -- the order of the names doesn't matter, and once they are sorted two neighbours are one
-use Rattle.std.proofs.Common.{◌∙◌, sym, ap, map, List, ℕ}
+use Rattle.std.proofs.Common.{◌∙◌, ap, map, List, ℕ}
 use denote.Ref.{Bor}
 use Rattle.std.specs.Str.{bytes_eq}
 use Rattle.std.specs.Ordering.{is_lt}

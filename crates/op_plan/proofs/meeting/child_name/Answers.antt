@@ -1,5 +1,5 @@
 -- a path one name longer than the folder that it begins with is a child of it
-use Rattle.std.proofs.Common.{◌≡◌, ◌∙◌, sym, ap, ℕ, List, length, reverse, arith, ◌+◌}
+use Rattle.std.proofs.Common.{◌≡◌, ◌∙◌, sym, ap, ℕ, List, length, arith}
 use Rattle.std.proofs.lemmas.List.{length-reverse}
 use denote.Ref.{Bor}
 use Rattle.op_plan.proofs.Siblings.{child-of}

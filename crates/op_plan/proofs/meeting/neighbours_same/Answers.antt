@@ -1,4 +1,4 @@
-use Rattle.std.proofs.Common.{◌≡◌, ◌-◌, ◌<◌, ◌∙◌, sym, ℕ, List, [], length, get_or, arith}
+use Rattle.std.proofs.Common.{◌-◌, ◌<◌, ◌∙◌, sym, ℕ, List, [], length, get_or, arith}
 use denote.Ref.{Bor}
 use Rattle.std.specs.Str.{bytes_eq}
 use Rattle.std.proofs.lemmas.List.{get_or_default}

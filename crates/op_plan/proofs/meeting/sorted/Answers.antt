@@ -1,5 +1,5 @@
 -- the closure compares as the paths' order does
-use Rattle.std.proofs.Common.{◌≡◌, ◌∙◌, sym, ap, subst, map, rules, List}
+use Rattle.std.proofs.Common.{◌≡◌, ◌∙◌, subst, map, rules, List}
 use denote.Ref.{Bor}
 use Rattle.std.specs.Ordering.{is_lt}
 use Rattle.std.specs.List.Sorted.{IsPermutation}
