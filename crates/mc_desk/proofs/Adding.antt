@@ -33,7 +33,7 @@ use Rattle.copy_move.proofs.Telling.{answered_told, began_told, closed_told, fre
 use Rattle.history_laws.proofs.Owing.{step_law}
 use Rattle.history_laws.proofs.Reports.{with_one}
 use Rattle.job_reports.specs.Jobs.{is_workable}
-use Rattle.mc_ui.specs.LiveJobs.{takes_answer}
+use Rattle.job_boxes.specs.LiveJobs.{takes_answer}
 use Rattle.mc_ui.specs.Screens.{Begins, Answers, Ends, LookLeads, Screen}
 use Rattle.job_plans.specs.Refused.{has_fault}
 use Rattle.mc_desk.specs.Tallies.{Tally, faults_in, can_step, end_unseen_event, next_id, news_left}

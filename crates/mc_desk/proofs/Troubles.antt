@@ -31,7 +31,7 @@ use Rattle.copy_move.specs.Makings as makings
 use Rattle.copy_move.specs.Jobs.{Running, MayAnswer, TellsOn, WorkTells, WorkWinds, answered, answered_on, at_barrier, closed_course, closed_job, first_work, is_barred, is_fresh, waits_on}
 use Rattle.copy_move.specs.Told.{IsAllowedStep, after_step, course_told, if_closed, running, told}
 use Rattle.history_laws.specs.ToldJob.{after_event, live_job}
-use Rattle.mc_ui.specs.LiveJobs.{fits, is_troubled, takes_answer}
+use Rattle.job_boxes.specs.LiveJobs.{fits, is_troubled, takes_answer}
 use Rattle.mc_ui.specs.Screens.{Screen}
 use Rattle.mc_desk.specs.declared.starts.Start.{Start}
 use Rattle.mc_desk.specs.LiveRows.{is_report, reported_trouble, row_of, trouble_told}

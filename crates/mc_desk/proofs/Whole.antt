@@ -27,7 +27,7 @@ use Rattle.session_history.specs.Entries.{is_closed}
 use Rattle.copy_move.specs.Steps.{RunStep, step_made}
 use Rattle.session_history.specs.Refusals.{AreRefused}
 use Rattle.history_laws.specs.Traces.{IsUnclaimed}
-use Rattle.mc_ui.specs.LiveJobs.{takes_answer}
+use Rattle.job_boxes.specs.LiveJobs.{takes_answer}
 use Rattle.mc_ui.specs.Screens.{Screen, Begins, Answers, LookLeads}
 use Rattle.box_words.specs.declared.message.Message.{Message}
 use Rattle.job_plans.specs.Refused.{has_fault}

@@ -26,7 +26,7 @@ use Rattle.copy_move.specs.declared.run.Course.{Course}
 use Rattle.copy_move.specs.declared.run.Course.TheVariants.{GoesOn, InTrouble, OwedSyncFailed, Skips, Ends}
 use Rattle.copy_move.specs.Jobs.{MayAnswer, Running, answered, answered_on, first_work, is_barred, kind_of, path_of, taken_anew, waits_on, with_skips}
 use Rattle.copy_move.specs.Told.{running, told}
-use Rattle.mc_ui.specs.LiveJobs.{can_answer, takes_answer}
+use Rattle.job_boxes.specs.LiveJobs.{can_answer, takes_answer}
 use Rattle.mc_ui.specs.Screens.{Answers, Begins, Screen}
 use Rattle.mc_ui.specs.Seekings.{is_seeking}
 use Rattle.job_plans.specs.Refused.{has_fault}

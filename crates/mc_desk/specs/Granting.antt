@@ -8,7 +8,7 @@ use Rattle.job_reports.specs.Jobs.{is_workable}
 use Rattle.session_history.specs.declared.refusal.BeginError.TheVariants.{NoMoreIds}
 use Rattle.session_history.specs.declared.refusal.Refusal.{Refusal}
 use Rattle.session_history.specs.declared.refusal.Refusal.TheVariants as refusal
-use Rattle.mc_ui.specs.LiveJobs.{can_answer}
+use Rattle.job_boxes.specs.LiveJobs.{can_answer}
 use Rattle.mc_ui.specs.Screens.{Answers, Begins, Ends, KeyLeads, Screen, at_second, told_refusal, with_ask}
 use Rattle.mc_ui.specs.declared.asks.Ask.{Ask}
 use Rattle.mc_ui.specs.declared.asks.Ask.TheVariants as ask

@@ -21,7 +21,7 @@ use Rattle.session_history.specs.Entries.{calls_in, last_id}
 use Rattle.history_laws.specs.Traces.{Follows, Stand, at_rest, nothing_live}
 use Rattle.box_words.specs.declared.message.Message.{Message}
 use Rattle.job_plans.specs.Refused.{has_fault}
-use Rattle.mc_ui.specs.LiveJobs.{takes_answer}
+use Rattle.job_boxes.specs.LiveJobs.{takes_answer}
 use Rattle.mc_ui.specs.Screens.{Screen, Planned, Begins, Answers, Ends, LookLeads, opened_screen, with_viewer}
 use Rattle.mc_ui.specs.Seekings.{is_seeking}
 use Rattle.mc_ui.specs.declared.viewing.Leaving.TheVariants as leaving

@@ -6,6 +6,8 @@ use Rattle.mc_dialogs.specs.ListKeys.{list_lines}
 use Rattle.mc_dialogs.specs.ModeKeys.{mode_lines}
 use Rattle.mc_dialogs.specs.QuestionKeys.{plain_lines}
 use Rattle.box_words.specs.BoxLines.{delete_lines, trouble_lines}
+use Rattle.job_boxes.specs.JobBoxes.{JobBoxState, DeleteBox, MaskBox, TargetBox, FolderBox, LinkTextBox, LinkNameBox, NewModeBox, TroubleBox}
+use Rattle.job_boxes.specs.Paintings.{with_job_box}
 use Rattle.job_list.specs.JobLists.{jobs_lines}
 use Rattle.viewer_mode.proofs.BoxSizes.{box_columns_same, box_lines_same, input_columns_same, input_lines_same}
 use Rattle.find_mode.specs.declared.asking.Asking.{Asking}
@@ -15,7 +17,7 @@ use Rattle.find_mode.specs.FindFrames.{found_lines, painted, with_find}
 use Rattle.panel_boxes.specs.declared.panel_box.PanelBox.{PanelBox}
 use Rattle.panel_boxes.specs.declared.panel_box.PanelBox.TheVariants.{Pending, Typed, Options}
 use Rattle.panel_boxes.specs.Paintings.{with_panel_box}
-use Rattle.mc_ui.specs.Boxes.{Box, NoBox, DeleteBox, MaskBox, TargetBox, FolderBox, LinkTextBox, LinkNameBox, NewModeBox, TroubleBox, PanelsBox, FindBox, JobsBox}
+use Rattle.mc_ui.specs.Boxes.{Box, NoBox, OneJobBox, PanelsBox, FindBox, JobsBox}
 use Rattle.mc_ui.specs.Frames.{with_over}
 
 panel_lines_same : (asks : PanelBox) (grid : CellGrid) → (with_panel_box asks grid).lines ≡ grid.lines
@@ -27,6 +29,27 @@ panel_columns_same : (asks : PanelBox) (grid : CellGrid) → (with_panel_box ask
 panel_columns_same Pending grid = refl
 panel_columns_same (Typed asked typed) grid = input_columns_same grid typed
 panel_columns_same (Options list) grid = box_columns_same grid (list_lines list)
+
+-- a box of a job
+job_lines_same : (asks : JobBoxState) (grid : CellGrid) → (with_job_box asks grid).lines ≡ grid.lines
+job_lines_same (DeleteBox path) grid = box_lines_same grid (plain_lines delete_lines)
+job_lines_same (MaskBox path typed) grid = input_lines_same grid typed
+job_lines_same (TargetBox path mask typed) grid = input_lines_same grid typed
+job_lines_same (FolderBox typed) grid = input_lines_same grid typed
+job_lines_same (LinkTextBox typed) grid = input_lines_same grid typed
+job_lines_same (LinkNameBox text typed) grid = input_lines_same grid typed
+job_lines_same (NewModeBox path asked) grid = box_lines_same grid (mode_lines asked)
+job_lines_same (TroubleBox trouble) grid = box_lines_same grid (plain_lines (trouble_lines trouble))
+
+job_columns_same : (asks : JobBoxState) (grid : CellGrid) → (with_job_box asks grid).columns ≡ grid.columns
+job_columns_same (DeleteBox path) grid = box_columns_same grid (plain_lines delete_lines)
+job_columns_same (MaskBox path typed) grid = input_columns_same grid typed
+job_columns_same (TargetBox path mask typed) grid = input_columns_same grid typed
+job_columns_same (FolderBox typed) grid = input_columns_same grid typed
+job_columns_same (LinkTextBox typed) grid = input_columns_same grid typed
+job_columns_same (LinkNameBox text typed) grid = input_columns_same grid typed
+job_columns_same (NewModeBox path asked) grid = box_columns_same grid (mode_lines asked)
+job_columns_same (TroubleBox trouble) grid = box_columns_same grid (plain_lines (trouble_lines trouble))
 
 -- the line that asks what is sought, or the list of what was found
 painted_lines_same : (asking : Option Asking) (page : ℕ) (listing : ListingState) (grid : CellGrid) → (painted asking page listing grid).lines ≡ grid.lines
@@ -46,28 +69,14 @@ find_columns_same find grid = painted_columns_same find.asking (page_of find.lin
 -- any box over the panels
 pub over_lines_same : (over : Box) (rows : List JobRow) (grid : CellGrid) → (with_over over rows grid).lines ≡ grid.lines
 over_lines_same NoBox rows grid = refl
-over_lines_same (DeleteBox path) rows grid = box_lines_same grid (plain_lines delete_lines)
-over_lines_same (MaskBox path typed) rows grid = input_lines_same grid typed
-over_lines_same (TargetBox path mask typed) rows grid = input_lines_same grid typed
-over_lines_same (FolderBox typed) rows grid = input_lines_same grid typed
-over_lines_same (LinkTextBox typed) rows grid = input_lines_same grid typed
-over_lines_same (LinkNameBox text typed) rows grid = input_lines_same grid typed
-over_lines_same (NewModeBox path asked) rows grid = box_lines_same grid (mode_lines asked)
-over_lines_same (TroubleBox trouble) rows grid = box_lines_same grid (plain_lines (trouble_lines trouble))
+over_lines_same (OneJobBox asks) rows grid = job_lines_same asks grid
 over_lines_same (PanelsBox asks) rows grid = panel_lines_same asks grid
 over_lines_same (FindBox find) rows grid = find_lines_same find grid
 over_lines_same (JobsBox list) rows grid = box_lines_same grid (jobs_lines rows list)
 
 pub over_columns_same : (over : Box) (rows : List JobRow) (grid : CellGrid) → (with_over over rows grid).columns ≡ grid.columns
 over_columns_same NoBox rows grid = refl
-over_columns_same (DeleteBox path) rows grid = box_columns_same grid (plain_lines delete_lines)
-over_columns_same (MaskBox path typed) rows grid = input_columns_same grid typed
-over_columns_same (TargetBox path mask typed) rows grid = input_columns_same grid typed
-over_columns_same (FolderBox typed) rows grid = input_columns_same grid typed
-over_columns_same (LinkTextBox typed) rows grid = input_columns_same grid typed
-over_columns_same (LinkNameBox text typed) rows grid = input_columns_same grid typed
-over_columns_same (NewModeBox path asked) rows grid = box_columns_same grid (mode_lines asked)
-over_columns_same (TroubleBox trouble) rows grid = box_columns_same grid (plain_lines (trouble_lines trouble))
+over_columns_same (OneJobBox asks) rows grid = job_columns_same asks grid
 over_columns_same (PanelsBox asks) rows grid = panel_columns_same asks grid
 over_columns_same (FindBox find) rows grid = find_columns_same find grid
 over_columns_same (JobsBox list) rows grid = box_columns_same grid (jobs_lines rows list)

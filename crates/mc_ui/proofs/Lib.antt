@@ -1,4 +1,3 @@
-mod Untold
 mod FindFollowing
 mod FindLemmas
 mod FindReadings

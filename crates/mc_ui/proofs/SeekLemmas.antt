@@ -9,14 +9,7 @@ use Rattle.mc_ui.specs.Seekings.{list_in, listing_in}
 
 pub none_listed : (dialog : Dialog) → ((find : FindScreen) → dialog ≡ box.Find find → ⊥) → list_in (seen_box dialog) ≡ no_listing
 none_listed box.Nothing other = refl
-none_listed (box.Delete chosen) other = refl
-none_listed (box.SourceMask chosen typed) other = refl
-none_listed (box.CopyTo chosen mask typed) other = refl
-none_listed (box.MakeFolder typed) other = refl
-none_listed (box.LinkText typed) other = refl
-none_listed (box.LinkName text typed) other = refl
-none_listed (box.Mode chosen asked) other = refl
-none_listed (box.Trouble trouble) other = refl
+none_listed (box.Job asks) other = refl
 none_listed (box.Panel asks) other = refl
 none_listed (box.Jobs list) other = refl
 none_listed (box.Find find) other = absurd (other find refl)
@@ -24,14 +17,7 @@ none_listed (box.Find find) other = absurd (other find refl)
 pub stays_shut : (dialog : Dialog) (listing : ListingState) → ((find : FindScreen) → dialog ≡ box.Find find → ⊥)
     → listing_in listing (seen_box dialog) ≡ seen_box dialog
 stays_shut box.Nothing listing other = refl
-stays_shut (box.Delete chosen) listing other = refl
-stays_shut (box.SourceMask chosen typed) listing other = refl
-stays_shut (box.CopyTo chosen mask typed) listing other = refl
-stays_shut (box.MakeFolder typed) listing other = refl
-stays_shut (box.LinkText typed) listing other = refl
-stays_shut (box.LinkName text typed) listing other = refl
-stays_shut (box.Mode chosen asked) listing other = refl
-stays_shut (box.Trouble trouble) listing other = refl
+stays_shut (box.Job asks) listing other = refl
 stays_shut (box.Panel asks) listing other = refl
 stays_shut (box.Jobs list) listing other = refl
 stays_shut (box.Find find) listing other = absurd (other find refl)

@@ -6,7 +6,11 @@ use Rattle.key_screen.specs.declared.keys.Base.TheVariants.{Unknown}
 use Rattle.tree_trait.specs.Change.{CallLog}
 use Rattle.job_reports.specs.declared.row.JobRow.{JobRow}
 use Rattle.session_history.specs.declared.refusal.Refusal.{Refusal}
-use Rattle.mc_ui.specs.Boxes.{Box, NoBox, DeleteBox, MaskBox, TargetBox, FolderBox, LinkTextBox, LinkNameBox, NewModeBox, TroubleBox, PanelsBox, FindBox, JobsBox}
+use Rattle.job_boxes.specs.declared.job_box.JobReply.{JobReply}
+use Rattle.job_boxes.specs.JobBoxes.{JobBoxState}
+use Rattle.job_boxes.specs.Replies.{box_after}
+use Rattle.job_boxes.proofs.UnknownKeys.{unknown_stays as job_stays}
+use Rattle.mc_ui.specs.Boxes.{Box, NoBox, OneJobBox, PanelsBox, FindBox, JobsBox}
 use Rattle.find_mode.specs.declared.act.FindAct.{FindAct}
 use Rattle.find_mode.specs.FindScreens.{FindScreen}
 use Rattle.find_mode.proofs.UnknownKeys.{unknown_stays as find_stays}
@@ -14,7 +18,7 @@ use Rattle.viewer_mode.specs.declared.act.ViewerAct.{ViewerAct}
 use Rattle.viewer_mode.specs.ViewerScreens.{ViewerScreen}
 use Rattle.viewer_mode.proofs.UnknownKeys.{unknown_stays as viewer_stays}
 use Rattle.mc_ui.specs.declared.viewing.ViewedFile.{ViewedFile}
-use Rattle.mc_ui.specs.Screens.{ByBox, ByViewing, FindFollows, FindLeads, KeyLeads, Screen, WorksKey, after_act, after_message, at_second, with_viewer, without_box}
+use Rattle.mc_ui.specs.Screens.{ByBox, ByViewing, FindFollows, FindLeads, JobFollows, JobLeads, KeyLeads, Screen, WorksKey, after_act, after_message, around, at_second, with_viewer, without_box}
 use Rattle.mc_ui.specs.PanelKeys.{plain_base}
 
 abbrev pub unknown_key : Bool → Key
@@ -23,6 +27,14 @@ unknown_key meta = record { meta = meta; base = Unknown }
 module _ (contents : Option CallLog) (rows : List JobRow) (refusals : List Refusal) (before after : Screen) where
   kept : (over : Box) → before.over ≡ over → (let same : Screen = record before { over = over } in same) ≡ before
   kept over is = ap (λ o. let same : Screen = record before { over = o } in same) (sym is)
+
+  by_job : (meta : Bool) (asks : JobBoxState) → before.over ≡ OneJobBox asks → JobLeads asks contents rows (unknown_key meta) refusals before after
+      → after ≡ before
+  by_job meta asks is h =
+      let stays = job_stays asks contents (around rows before) meta h.reply h.leads in
+      let follows = subst (λ (reply : JobReply). JobFollows reply (box_after asks (unknown_key meta)) refusals before after) stays.0 h.follows in
+      follows.1
+      ∙ (ap (λ (left : JobBoxState). let shown : Screen = record before { over = OneJobBox left } in shown) stays.1 ∙ kept (OneJobBox asks) is)
 
   by_find : (meta : Bool) (find : FindScreen) → before.over ≡ FindBox find → FindLeads find contents (unknown_key meta) refusals (without_box before) after
       → after ≡ before
@@ -35,22 +47,8 @@ module _ (contents : Option CallLog) (rows : List JobRow) (refusals : List Refus
   by_box : (meta : Bool) (over : Box) → before.over ≡ over → ByBox over contents rows (unknown_key meta) refusals before after → after ≡ before
   by_box true NoBox is h = h.1
   by_box false NoBox is h = h.1
-  by_box true (DeleteBox path) is h = h.1
-  by_box false (DeleteBox path) is h = h.1
-  by_box true (MaskBox path typed) is h = h.1 ∙ kept (MaskBox path typed) is
-  by_box false (MaskBox path typed) is h = h.1 ∙ kept (MaskBox path typed) is
-  by_box true (TargetBox path mask typed) is h = h.1 ∙ kept (TargetBox path mask typed) is
-  by_box false (TargetBox path mask typed) is h = h.1 ∙ kept (TargetBox path mask typed) is
-  by_box true (FolderBox typed) is h = h.1 ∙ kept (FolderBox typed) is
-  by_box false (FolderBox typed) is h = h.1 ∙ kept (FolderBox typed) is
-  by_box true (LinkTextBox typed) is h = h.1 ∙ kept (LinkTextBox typed) is
-  by_box false (LinkTextBox typed) is h = h.1 ∙ kept (LinkTextBox typed) is
-  by_box true (LinkNameBox text typed) is h = h.1 ∙ kept (LinkNameBox text typed) is
-  by_box false (LinkNameBox text typed) is h = h.1 ∙ kept (LinkNameBox text typed) is
-  by_box true (NewModeBox path asked) is h = h.1 ∙ kept (NewModeBox path asked) is
-  by_box false (NewModeBox path asked) is h = h.1 ∙ kept (NewModeBox path asked) is
-  by_box true (TroubleBox trouble) is h = h.1
-  by_box false (TroubleBox trouble) is h = h.1
+  by_box true (OneJobBox asks) is h = by_job true asks is h
+  by_box false (OneJobBox asks) is h = by_job false asks is h
   by_box true (PanelsBox asks) is h = h.1 ∙ kept (PanelsBox asks) is
   by_box false (PanelsBox asks) is h = h.1 ∙ kept (PanelsBox asks) is
   by_box true (FindBox find) is h = by_find true find is h

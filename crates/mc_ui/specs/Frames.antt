@@ -8,18 +8,17 @@ use Rattle.key_screen.specs.Grids.{CellGrid}
 use Rattle.mc_frame.specs.declared.jobs_line.JobCounts.{JobCounts}
 use Rattle.mc_frame.specs.Frames.{panels_frame}
 use Rattle.mc_dialogs.specs.Boxes.{with_box}
-use Rattle.mc_dialogs.specs.InputField.{with_input}
-use Rattle.mc_dialogs.specs.ModeKeys.{mode_lines}
 use Rattle.mc_dialogs.specs.QuestionKeys.{plain_lines}
 use Rattle.box_words.specs.declared.message.Message.{Message}
-use Rattle.box_words.specs.BoxLines.{delete_lines, message_lines, trouble_lines}
+use Rattle.box_words.specs.BoxLines.{message_lines}
 use Rattle.find_mode.specs.FindFrames.{with_find}
+use Rattle.job_boxes.specs.Paintings.{with_job_box}
 use Rattle.job_list.specs.JobLists.{with_jobs}
 use Rattle.panel_boxes.specs.Paintings.{with_panel_box}
 use Rattle.panel_pair.specs.Frames.{panes_of}
 use Rattle.viewer_mode.specs.ViewerFrames.{frame_of as viewer_frame}
 use Rattle.mc_ui.specs.declared.viewing.ViewedFile.{ViewedFile}
-use Rattle.mc_ui.specs.Boxes.{Box, NoBox, DeleteBox, MaskBox, TargetBox, FolderBox, LinkTextBox, LinkNameBox, NewModeBox, TroubleBox, PanelsBox, FindBox, JobsBox}
+use Rattle.mc_ui.specs.Boxes.{Box, NoBox, OneJobBox, PanelsBox, FindBox, JobsBox}
 use Rattle.mc_ui.specs.Screens.{Screen, frame_size}
 
 -- one job more in this state
@@ -37,14 +36,7 @@ counts_of (row ∷ rows) = counted row.state (counts_of rows)
 -- the box over what lies below, while these jobs are live
 abbrev pub with_over : Box → List JobRow → CellGrid → CellGrid
 with_over NoBox rows grid = grid
-with_over (DeleteBox path) rows grid = with_box grid (plain_lines delete_lines)
-with_over (MaskBox path typed) rows grid = with_input grid typed
-with_over (TargetBox path mask typed) rows grid = with_input grid typed
-with_over (FolderBox typed) rows grid = with_input grid typed
-with_over (LinkTextBox typed) rows grid = with_input grid typed
-with_over (LinkNameBox text typed) rows grid = with_input grid typed
-with_over (NewModeBox path asked) rows grid = with_box grid (mode_lines asked)
-with_over (TroubleBox trouble) rows grid = with_box grid (plain_lines (trouble_lines trouble))
+with_over (OneJobBox asks) rows grid = with_job_box asks grid
 with_over (PanelsBox asks) rows grid = with_panel_box asks grid
 with_over (FindBox find) rows grid = with_find find grid
 with_over (JobsBox list) rows grid = with_jobs rows list grid

@@ -1,9 +1,7 @@
 pub mod Boxes
 pub mod Findings
 pub mod Frames
-pub mod JobBoxes
-pub mod Lines
-pub mod LiveJobs
+pub mod ListedJobs
 pub mod Looks
 pub mod PanelKeys
 pub mod Screens

@@ -1,7 +1,9 @@
--- What reading the panels again comes to, after a job's end.
-use Rattle.std.specs.Prelude.{◌≡◌, ℕ, Bool, true, false, List, [], ◌++◌, Option, map}
+-- What a look takes up: the trouble of the live job, and what reading the panels again comes to, after a job's end.
+use Rattle.std.specs.Prelude.{◌≡◌, ℕ, Bool, true, false, List, [], ◌∷◌, ◌++◌, Option, None, map}
 use Rattle.tree_trait.specs.Change.{CallLog}
 use Rattle.tree_trait.specs.Answers.{IfKnown}
+use Rattle.job_reports.specs.declared.report.Trouble.{Trouble}
+use Rattle.job_reports.specs.declared.row.JobRow.{JobRow}
 use Rattle.session_history.specs.declared.refusal.Refusal.{Refusal}
 use Rattle.session_history.specs.declared.refusal.Refusal.TheVariants.{Resolve}
 use Rattle.panel_pair.specs.declared.looking.Unread.{Unread}
@@ -9,6 +11,11 @@ use Rattle.panel_pair.specs.Looks.{IsRereadOf, ShowsLooks, ShowsReread, unread_o
 use Rattle.panel_pair.specs.Looks as pair
 use Rattle.panel_pair.specs.Pairs.{PairState}
 use Rattle.panel_pair.specs.Readings.{listed}
+
+-- the trouble of the live job, where it waits in one; today one job is live at a time
+abbrev pub shown_trouble : List JobRow → Option Trouble
+shown_trouble [] = None
+shown_trouble (row ∷ rows) = row.trouble
 
 -- what was refused, the left panel's folder first
 abbrev pub told_unread : Unread → List Refusal

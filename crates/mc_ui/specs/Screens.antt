@@ -1,8 +1,7 @@
 -- What a key or a look makes of the screen: the two panels, the box that stands over them, a message over these, and a file that is viewed
 -- over all.
 use Rattle.std.specs.Prelude.{◌≡◌, ◌≢◌, ◌⊎◌, ℕ, Bool, true, false, is_some, MatchBool, ⊤, if◌then◌else◌, List, [], ◌∷◌, Option, Some, None, Ok, Err}
-use Rattle.mc_text.specs.Routes.{Route, path_text}
-use Rattle.home_paths.specs.Homes.{with_home}
+use Rattle.mc_text.specs.Routes.{Route}
 use Rattle.tree_trait.specs.declared.calls.TreeError.{TreeError}
 use Rattle.tree_trait.specs.FileSystem.{View as TreeView}
 use Rattle.tree_trait.specs.Change.{CallLog}
@@ -16,12 +15,9 @@ use Rattle.job_reports.specs.declared.answer.Answer.{Answer}
 use Rattle.job_reports.specs.declared.job.Job.{Job}
 use Rattle.job_reports.specs.declared.row.JobRow.{JobRow}
 use Rattle.job_reports.specs.Jobs.{is_workable}
-use Rattle.session_history.specs.declared.refusal.BeginError.TheVariants.{Full}
 use Rattle.session_history.specs.declared.refusal.PlanError.TheVariants.{NoSelection}
 use Rattle.session_history.specs.declared.refusal.Refusal.{Refusal}
-use Rattle.session_history.specs.declared.refusal.Refusal.TheVariants.{Tree, Read, Resolve, Plan, Begin, Typed}
-use Rattle.mc_dialogs.specs.InputKeys.{InputState, input_after, input_shut}
-use Rattle.mc_dialogs.specs.ModeKeys.{ModeState, mode_after, mode_shut}
+use Rattle.session_history.specs.declared.refusal.Refusal.TheVariants.{Tree, Read, Resolve, Plan, Typed}
 use Rattle.mc_ui.specs.declared.asks.Ask.{Ask}
 use Rattle.mc_ui.specs.declared.asks.Ask.TheVariants as ask
 use Rattle.mc_ui.specs.declared.asks.Told.{Told}
@@ -32,45 +28,38 @@ use Rattle.job_plans.specs.declared.choosing.Opens.{Opens}
 use Rattle.job_plans.specs.declared.choosing.Opens.TheVariants as opens
 use Rattle.mc_ui.specs.declared.panel_command.KeyCommand.{KeyCommand}
 use Rattle.mc_ui.specs.declared.panel_command.KeyCommand.TheVariants.{Work, ShowHelp, View, Open, AskFolder, OpenPanelBox, Find, Quit, Nothing}
-use Rattle.box_words.specs.declared.replies.DeleteReply.{DeleteReply}
-use Rattle.box_words.specs.declared.replies.DeleteReply.TheVariants as delete
-use Rattle.box_words.specs.declared.replies.LineReply.{LineReply}
-use Rattle.box_words.specs.declared.replies.LineReply.TheVariants as line
-use Rattle.box_words.specs.declared.replies.ModeReply.{ModeReply}
-use Rattle.box_words.specs.declared.replies.ModeReply.TheVariants as asked
-use Rattle.box_words.specs.declared.replies.TroubleReply.{TroubleReply}
-use Rattle.box_words.specs.declared.replies.TroubleReply.TheVariants as trouble
 use Rattle.find_mode.specs.declared.act.FindAct.{FindAct}
 use Rattle.find_mode.specs.declared.act.FindAct.TheVariants as found
 use Rattle.find_mode.specs.FindScreens.{FindScreen, KeyLeads as FindKeyLeads, opened as opened_find}
+use Rattle.job_boxes.specs.declared.job_box.JobReply.{JobReply}
+use Rattle.job_boxes.specs.declared.job_box.JobReply.TheVariants as job
+use Rattle.job_boxes.specs.JobBoxes.{Around, JobBoxState, FolderBox, LinkTextBox, seen}
+use Rattle.job_boxes.specs.LiveJobs.{can_answer}
+use Rattle.job_boxes.specs.Openings.{box_of, link_asked}
+use Rattle.job_boxes.specs.Replies.{BoxLeads, box_after}
 use Rattle.job_list.specs.JobLists.{opened_list}
 use Rattle.mc_panels.specs.Goings.{way_of}
-use Rattle.mc_panels.specs.Panels.{PanelState, current_name}
+use Rattle.mc_panels.specs.Panels.{current_name}
 use Rattle.mc_panels.specs.Selections.{selection}
 use Rattle.panel_boxes.specs.declared.panel_box.PanelBox.{PanelBox}
 use Rattle.panel_boxes.specs.declared.panel_box.PanelReply.{PanelReply}
 use Rattle.panel_boxes.specs.declared.panel_box.PanelReply.TheVariants as panel
 use Rattle.panel_boxes.specs.Openings.{opened}
-use Rattle.panel_boxes.specs.Replies.{box_after, reply_to}
+use Rattle.panel_boxes.specs.Replies.{box_after as panel_box_after, reply_to}
 use Rattle.panel_pair.specs.declared.command.PanelCommand.{PanelCommand}
 use Rattle.panel_pair.specs.declared.command.PanelCommand.TheVariants.{Enter, GoTo}
 use Rattle.panel_pair.specs.declared.frame.FrameSize.{FrameSize}
 use Rattle.panel_pair.specs.Commands.{CommandDone, CommandReads}
 use Rattle.panel_pair.specs.Frames.{page_of as page_of_lines}
 use Rattle.panel_pair.specs.Pairs.{PairState, untagged_pair}
-use Rattle.box_words.specs.BoxKeys.{closes_message, delete_reply_to, line_reply, mode_reply, trouble_reply_to}
-use Rattle.box_words.specs.BoxLines.{folder_line, link_name_line, link_text_line, target_line, thing_text}
+use Rattle.box_words.specs.BoxKeys.{closes_message}
+use Rattle.box_words.specs.BoxLines.{folder_line}
 use Rattle.job_plans.specs.Reading.{sight}
-use Rattle.job_plans.specs.Copies.{HasMode, MayAsk, copy_plan, delete_plan, mode_plan}
-use Rattle.job_plans.specs.CopyPlans.{CopyRefused, IsNewCopy}
-use Rattle.job_plans.specs.Folders.{folder_plan}
-use Rattle.job_plans.specs.Links.{IsNewLink, LinkRefused, link_plan}
-use Rattle.job_plans.specs.Places.{IsNewPlace, PlaceRefused}
-use Rattle.mc_ui.specs.Boxes.{Box, NoBox, DeleteBox, MaskBox, TargetBox, FolderBox, LinkTextBox, LinkNameBox, NewModeBox, TroubleBox, PanelsBox, FindBox, JobsBox, box_of, first_refusal, with_news, with_refusal, with_trouble}
+use Rattle.job_plans.specs.Copies.{HasMode, MayAsk}
+use Rattle.mc_ui.specs.Boxes.{Box, NoBox, OneJobBox, PanelsBox, FindBox, JobsBox, first_refusal, with_news, with_refusal, with_trouble}
 use Rattle.mc_ui.specs.Findings.{find_refusal}
-use Rattle.mc_ui.specs.JobBoxes.{left_by_jobs}
-use Rattle.mc_ui.specs.LiveJobs.{can_answer, none_live, shown_trouble}
-use Rattle.mc_ui.specs.Looks.{LooksAgain}
+use Rattle.mc_ui.specs.ListedJobs.{left_by_jobs}
+use Rattle.mc_ui.specs.Looks.{LooksAgain, shown_trouble}
 use Rattle.mc_ui.specs.PanelKeys.{panel_command_of, plain_base}
 use Rattle.viewer_mode.specs.declared.act.ViewerAct.{ViewerAct}
 use Rattle.viewer_mode.specs.declared.act.ViewerAct.TheVariants as viewer
@@ -130,14 +119,6 @@ frame_size s = record { lines = s.lines; columns = s.columns; now = s.second }
 abbrev pub told_refusal : Refusal → Screen → Screen
 told_refusal refusal before = record before { message = Some (Refused refusal) }
 
--- a job is confirmed while another one is live: as many are as may be, and a message says so
-abbrev pub RefusesFull : List Refusal → Screen → Screen → Type 0
-RefusesFull refusals before after = (refusals ≡ Begin Full ∷ []) × (after ≡ told_refusal (Begin Full) before)
-
--- such a key is refused nothing else
-abbrev pub IsFullAtMost : List Refusal → Type 0
-IsFullAtMost refusals = (refusals ≡ []) ⊎ (refusals ≡ Begin Full ∷ [])
-
 -- THE PANELS
 
 -- a command of the panels is done, as the folders that it reads are; nothing else changes
@@ -163,7 +144,7 @@ Works command contents (refusal ∷ more) before after = IsRefused command conte
 abbrev pub AsksOf : Opens → Option TreeView → Route → List Refusal → Screen → Screen → Type 0
 AsksOf box tree path [] before after =
     (MayAsk box tree path false × (after ≡ before))
-    ⊎ ((mode : ℕ) × MayAsk box tree path true × HasMode tree path mode × (after ≡ record before { over = box_of box path mode }))
+    ⊎ ((mode : ℕ) × MayAsk box tree path true × HasMode tree path mode × (after ≡ record before { over = OneJobBox (box_of box path mode) }))
 AsksOf box tree path (refusal ∷ more) before after =
     (e : TreeError) × (refusal ∷ more ≡ Tree path e ∷ []) × (after ≡ told_refusal (Tree path e) before)
 
@@ -173,14 +154,6 @@ abbrev pub Chooses : Opens → Option TreeView → Route → List (List ℕ) →
 Chooses box tree folder [] refusals before after = (refusals ≡ Plan NoSelection ∷ []) × (after ≡ told_refusal (Plan NoSelection) before)
 Chooses box tree folder (name ∷ []) refusals before after = AsksOf box tree (name ∷ folder) refusals before after
 Chooses box tree folder (name ∷ other ∷ more) refusals before after = (refusals ≡ []) × (after ≡ before)
-
--- what a link says at first that is asked for in a panel: the path of the thing under the cursor, or of the folder, where that is on `..`
-abbrev pub text_within : Option (List ℕ) → Route → List ℕ
-text_within (Some name) folder = thing_text folder name
-text_within None folder = path_text folder
-
-abbrev pub link_asked : PanelState → InputState
-link_asked p = link_text_line (text_within (current_name p) p.folder)
 
 -- things are sought from the current panel's folder on, hidden names as that panel has them, patterns as they are read
 abbrev pub find_asked : Screen → FindScreen
@@ -221,7 +194,7 @@ CommandLeads ShowHelp contents rows refusals before after = (refusals ≡ []) ×
 CommandLeads View contents rows refusals before after = Views contents refusals before after
 CommandLeads (Open opens) contents rows refusals before after =
     Chooses opens (sight contents) before.panels.current.folder (selection before.panels.current) refusals before after
-CommandLeads AskFolder contents rows refusals before after = (refusals ≡ []) × (after ≡ record before { over = FolderBox folder_line })
+CommandLeads AskFolder contents rows refusals before after = (refusals ≡ []) × (after ≡ record before { over = OneJobBox (FolderBox folder_line) })
 CommandLeads (OpenPanelBox opening) contents rows refusals before after =
     (refusals ≡ []) × (after ≡ record before { over = PanelsBox (opened before.lines opening) })
 CommandLeads Find contents rows refusals before after = (refusals ≡ []) × (after ≡ record before { over = FindBox (find_asked before) })
@@ -237,86 +210,26 @@ without_box before = record before { over = NoBox }
 abbrev pub begun : Job → Screen → Screen
 begun plan before = record before { panels = untagged_pair before.panels; over = NoBox; planned = Some (Begins plan false) }
 
--- the delete box's answer: the deletion is planned while no job is live
-abbrev pub DeleteLeads : DeleteReply → List JobRow → Route → List Refusal → Screen → Screen → Type 0
-DeleteLeads delete.Stays rows path refusals before after = (refusals ≡ []) × (after ≡ before)
-DeleteLeads delete.Shuts rows path refusals before after = (refusals ≡ []) × (after ≡ without_box before)
-DeleteLeads delete.Deletes rows path refusals before after =
-    MatchBool (none_live rows) ((refusals ≡ []) × (after ≡ begun (delete_plan path) before)) (RefusesFull refusals before after)
+-- what a box of a job goes by on the screen, while these jobs are live
+abbrev pub around : List JobRow → Screen → Around
+around rows s = record { rows = rows; current = s.panels.current.folder; other = s.panels.other.folder; home = s.home }
 
--- the source mask's answer: with any mask that is typed the destination is asked for
-abbrev pub MaskLeads : LineReply → Route → InputState → List Refusal → Screen → Screen → Type 0
-MaskLeads line.Stays path typed refusals before after = (refusals ≡ []) × (after ≡ record before { over = MaskBox path typed })
-MaskLeads line.Shuts path typed refusals before after = (refusals ≡ []) × (after ≡ without_box before)
-MaskLeads (line.Takes text) path typed refusals before after =
-    (refusals ≡ []) × (after ≡ record before { over = TargetBox path text (target_line before.panels.other.folder) })
+-- What a box of a job came to, as a key left it: it stays, is shut, or another one stands in its place; its job is to be begun, or its
+-- trouble to be answered; or that is refused, and it stays under a message.
+abbrev pub JobFollows : JobReply → JobBoxState → List Refusal → Screen → Screen → Type 0
+JobFollows job.Stays left refusals before after = (refusals ≡ []) × (after ≡ record before { over = OneJobBox left })
+JobFollows job.Shuts left refusals before after = (refusals ≡ []) × (after ≡ without_box before)
+JobFollows (job.Opens next) left refusals before after = (refusals ≡ []) × (after ≡ record before { over = OneJobBox (seen next) })
+JobFollows (job.Begins plan) left refusals before after = (refusals ≡ []) × (after ≡ begun plan before)
+JobFollows (job.Answers answer) left refusals before after =
+    (refusals ≡ []) × (after ≡ record before { over = NoBox; planned = Some (Answers answer) })
+JobFollows (job.Refuses refusal) left refusals before after = (refusals ≡ refusal ∷ []) × (after ≡ told_refusal refusal before)
 
--- the copy of a thing that matches the mask is planned where the text leads that was typed in the folder of the current panel, where nothing
--- stands; or it is refused, and then the box stays
-abbrev pub PlansCopy : Option CallLog → Route → List ℕ → Route → List ℕ → List Refusal → Screen → Screen → Type 0
-PlansCopy contents path mask folder text [] before after =
-    (target : Route) × IsNewCopy contents path mask folder text target × (after ≡ begun (copy_plan path target) before)
-PlansCopy contents path mask folder text (refusal ∷ more) before after =
-    CopyRefused contents path mask folder text refusal × (more ≡ []) × (after ≡ told_refusal refusal before)
-
--- the destination's answer: the copy is planned while no job is live
-abbrev pub TargetLeads : LineReply → Option CallLog → List JobRow → Route → List ℕ → InputState → List Refusal → Screen → Screen → Type 0
-TargetLeads line.Stays contents rows path mask typed refusals before after =
-    (refusals ≡ []) × (after ≡ record before { over = TargetBox path mask typed })
-TargetLeads line.Shuts contents rows path mask typed refusals before after = (refusals ≡ []) × (after ≡ without_box before)
-TargetLeads (line.Takes text) contents rows path mask typed refusals before after =
-    MatchBool (none_live rows) (PlansCopy contents path mask before.panels.current.folder (with_home before.home text) refusals before after)
-    (RefusesFull refusals before after)
-
--- a new folder is planned in the folder of the current panel, where nothing stands at the path that was typed; or it is refused, and
--- then the box stays
-abbrev pub PlansFolder : Option CallLog → Route → List ℕ → List Refusal → Screen → Screen → Type 0
-PlansFolder contents folder text [] before after = (path : Route) × IsNewPlace contents folder text path × (after ≡ begun (folder_plan path) before)
-PlansFolder contents folder text (refusal ∷ more) before after =
-    PlaceRefused contents folder text refusal × (more ≡ []) × (after ≡ told_refusal refusal before)
-
--- the answer of the box that asks for a new folder: it is planned while no job is live
-abbrev pub MakeFolderLeads : LineReply → Option CallLog → List JobRow → InputState → List Refusal → Screen → Screen → Type 0
-MakeFolderLeads line.Stays contents rows typed refusals before after = (refusals ≡ []) × (after ≡ record before { over = FolderBox typed })
-MakeFolderLeads line.Shuts contents rows typed refusals before after = (refusals ≡ []) × (after ≡ without_box before)
-MakeFolderLeads (line.Takes text) contents rows typed refusals before after =
-    MatchBool (none_live rows) (PlansFolder contents before.panels.current.folder (with_home before.home text) refusals before after)
-    (RefusesFull refusals before after)
-
--- the line that asks what a link is to say: with any text that is typed its name is asked for
-abbrev pub LinkTextLeads : LineReply → InputState → List Refusal → Screen → Screen → Type 0
-LinkTextLeads line.Stays typed refusals before after = (refusals ≡ []) × (after ≡ record before { over = LinkTextBox typed })
-LinkTextLeads line.Shuts typed refusals before after = (refusals ≡ []) × (after ≡ without_box before)
-LinkTextLeads (line.Takes text) typed refusals before after = (refusals ≡ []) × (after ≡ record before { over = LinkNameBox text link_name_line })
-
--- a new link that says a text is planned in the folder of the current panel, where nothing stands at the path that was typed; or it is
--- refused, and then the box stays
-abbrev pub PlansLink : Option CallLog → Route → List ℕ → List ℕ → List Refusal → Screen → Screen → Type 0
-PlansLink contents folder typed text [] before after =
-    (path : Route) × IsNewLink contents folder typed text path × (after ≡ begun (link_plan path text) before)
-PlansLink contents folder typed text (refusal ∷ more) before after =
-    LinkRefused contents folder typed text refusal × (more ≡ []) × (after ≡ told_refusal refusal before)
-
--- the answer of the line that asks for its name: the link is planned while no job is live
-abbrev pub LinkNameLeads : LineReply → Option CallLog → List JobRow → List ℕ → InputState → List Refusal → Screen → Screen → Type 0
-LinkNameLeads line.Stays contents rows text typed refusals before after = (refusals ≡ []) × (after ≡ record before { over = LinkNameBox text typed })
-LinkNameLeads line.Shuts contents rows text typed refusals before after = (refusals ≡ []) × (after ≡ without_box before)
-LinkNameLeads (line.Takes name) contents rows text typed refusals before after =
-    MatchBool (none_live rows) (PlansLink contents before.panels.current.folder (with_home before.home name) text refusals before after)
-    (RefusesFull refusals before after)
-
--- the mode box's answer: the setting of the mode is planned while no job is live
-abbrev pub ModeLeads : ModeReply → List JobRow → Route → ModeState → List Refusal → Screen → Screen → Type 0
-ModeLeads asked.Stays rows path typed refusals before after = (refusals ≡ []) × (after ≡ record before { over = NewModeBox path typed })
-ModeLeads asked.Shuts rows path typed refusals before after = (refusals ≡ []) × (after ≡ without_box before)
-ModeLeads (asked.Takes mode) rows path typed refusals before after =
-    MatchBool (none_live rows) ((refusals ≡ []) × (after ≡ begun (mode_plan path mode) before)) (RefusesFull refusals before after)
-
--- a trouble's answer, where the live job can be answered so; without one the job stays as it is
-abbrev pub after_trouble : TroubleReply → List JobRow → Screen → Screen
-after_trouble trouble.Stays rows before = before
-after_trouble trouble.Shuts rows before = without_box before
-after_trouble (trouble.Gives answer) rows before = if can_answer rows answer then record before { over = NoBox; planned = Some (Answers answer) } else before
+-- a key in a box of a job does what its table says
+pub record JobLeads (asks : JobBoxState) (contents : Option CallLog) (rows : List JobRow) (key : Key) (refusals : List Refusal) (before after : Screen) : Type 0 where
+  pub reply : JobReply
+  pub leads : BoxLeads asks contents (around rows before) key reply
+  pub follows : JobFollows reply (box_after asks key) refusals before after
 
 -- The answer of a box of the panels, over the screen without it: it stays, is shut, or another one stands in its place; or it is shut, and
 -- what it asked for is done to the panels, the live jobs are listed, or a new link or a mode is asked for; or what was typed is refused, and
@@ -328,7 +241,7 @@ PanelLeads (panel.Opens next) asks contents refusals cleared after = (refusals �
 PanelLeads (panel.Does command) asks contents refusals cleared after = Works command contents refusals cleared after
 PanelLeads panel.ListsJobs asks contents refusals cleared after = (refusals ≡ []) × (after ≡ record cleared { over = JobsBox (opened_list cleared.lines) })
 PanelLeads panel.AsksLink asks contents refusals cleared after =
-    (refusals ≡ []) × (after ≡ record cleared { over = LinkTextBox (link_asked cleared.panels.current) })
+    (refusals ≡ []) × (after ≡ record cleared { over = OneJobBox (LinkTextBox (link_asked cleared.panels.current)) })
 PanelLeads panel.AsksMode asks contents refusals cleared after =
     Chooses opens.Mode (sight contents) cleared.panels.current.folder (selection cleared.panels.current) refusals cleared after
 PanelLeads (panel.Refuses error) asks contents refusals cleared after =
@@ -386,23 +299,9 @@ pub record ViewerLeads (viewed : ViewedFile) (contents : Option CallLog) (key : 
 -- what a key makes of the screen, by the box that is open, while these jobs are live
 abbrev pub ByBox : Box → Option CallLog → List JobRow → Key → List Refusal → Screen → Screen → Type 0
 ByBox NoBox contents rows key refusals before after = CommandLeads (panel_command_of key) contents rows refusals before after
-ByBox (DeleteBox path) contents rows key refusals before after = DeleteLeads (delete_reply_to key) rows path refusals before after
-ByBox (MaskBox path typed) contents rows key refusals before after =
-    MaskLeads (line_reply (input_shut typed key)) path (input_after typed key) refusals before after
-ByBox (TargetBox path mask typed) contents rows key refusals before after =
-    TargetLeads (line_reply (input_shut typed key)) contents rows path mask (input_after typed key) refusals before after
-ByBox (FolderBox typed) contents rows key refusals before after =
-    MakeFolderLeads (line_reply (input_shut typed key)) contents rows (input_after typed key) refusals before after
-ByBox (LinkTextBox typed) contents rows key refusals before after =
-    LinkTextLeads (line_reply (input_shut typed key)) (input_after typed key) refusals before after
-ByBox (LinkNameBox text typed) contents rows key refusals before after =
-    LinkNameLeads (line_reply (input_shut typed key)) contents rows text (input_after typed key) refusals before after
-ByBox (NewModeBox path typed) contents rows key refusals before after =
-    ModeLeads (mode_reply (mode_shut typed key)) rows path (mode_after typed key) refusals before after
-ByBox (TroubleBox trouble) contents rows key refusals before after =
-    (refusals ≡ []) × (after ≡ after_trouble (trouble_reply_to trouble.barrier key) rows before)
+ByBox (OneJobBox asks) contents rows key refusals before after = JobLeads asks contents rows key refusals before after
 ByBox (PanelsBox asks) contents rows key refusals before after =
-    PanelLeads (reply_to before.panels asks key) (box_after asks key) contents refusals (without_box before) after
+    PanelLeads (reply_to before.panels asks key) (panel_box_after asks key) contents refusals (without_box before) after
 ByBox (FindBox find) contents rows key refusals before after = FindLeads find contents key refusals (without_box before) after
 ByBox (JobsBox list) contents rows key refusals before after = (refusals ≡ []) × (after ≡ record before { over = left_by_jobs rows list key })
 

@@ -12,7 +12,7 @@ mod counting;
 
 use crate::dialog::Dialog;
 use crate::ui::Ui;
-use box_words::{Message, delete_lines, message_lines, trouble_lines};
+use box_words::{Message, message_lines};
 use counting::counts_of;
 use job_reports::JobRows;
 use key_screen::Grid;
@@ -82,38 +82,8 @@ fn paint_box_of(
 {
     match dialog {
         Dialog::Nothing => Ok(()),
-        Dialog::Delete(_) => {
-            let lines = delete_lines(alloc)?;
-            paint_lines(grid, alloc, lines)?;
-            Ok(())
-        }
-        Dialog::SourceMask(_, line) => {
-            line.paint(alloc, grid)?;
-            Ok(())
-        }
-        Dialog::CopyTo(_, _, line) => {
-            line.paint(alloc, grid)?;
-            Ok(())
-        }
-        Dialog::MakeFolder(line) => {
-            line.paint(alloc, grid)?;
-            Ok(())
-        }
-        Dialog::LinkText(line) => {
-            line.paint(alloc, grid)?;
-            Ok(())
-        }
-        Dialog::LinkName(_, line) => {
-            line.paint(alloc, grid)?;
-            Ok(())
-        }
-        Dialog::Mode(_, asked) => {
-            asked.paint(alloc, grid)?;
-            Ok(())
-        }
-        Dialog::Trouble(trouble) => {
-            let lines = trouble_lines(alloc, trouble)?;
-            paint_lines(grid, alloc, lines)?;
+        Dialog::Job(asks) => {
+            asks.paint(alloc, grid)?;
             Ok(())
         }
         Dialog::Panel(asks) => {

@@ -7,14 +7,10 @@ ghost use Rattle.mc_ui.specs.Boxes.{seen_box};
 ghost use Rattle.mc_ui.specs.Viewings.{LeavesUnread};
 ghost use Rattle.mc_ui.specs.Screens.{HasSameSize, KeyLeads, WellAsked, WorksBelow, WorksKey, after_message, at_second, frame_size, is_request, opened_screen, page_of, settled as screen_settled, with_ask, with_viewer, without_box};
 
-mod boxes;
-mod copy_boxes;
 mod find_box;
-mod folder_box;
+mod job_questions;
 mod jobs_box;
-mod link_boxes;
 mod look;
-mod mode_box;
 mod panel_keys;
 mod panel_questions;
 mod seeking;
@@ -233,18 +229,7 @@ impl Ui {
         }
         match self.take_box() {
             Dialog::Nothing => self.key_in_panel(alloc, tree, rows, key),
-            Dialog::Delete(chosen) => self.key_in_delete(alloc, chosen, rows, key),
-            Dialog::SourceMask(chosen, line) => self.key_in_mask(alloc, chosen, line, key),
-            Dialog::CopyTo(chosen, mask, line) => self.key_in_target(
-                alloc, tree, chosen, mask, line, rows, key,
-            ),
-            Dialog::MakeFolder(line) => self.key_in_folder(alloc, tree, line, rows, key),
-            Dialog::LinkText(line) => self.key_in_link_text(alloc, line, key),
-            Dialog::LinkName(text, line) => {
-                self.key_in_link_name(alloc, tree, text, line, rows, key)
-            }
-            Dialog::Mode(chosen, asked) => self.key_in_mode(alloc, chosen, asked, rows, key),
-            Dialog::Trouble(trouble) => Ok(self.key_in_trouble(alloc, trouble, rows, key)),
+            Dialog::Job(asks) => self.key_in_job_box(alloc, tree, asks, rows, key),
             Dialog::Panel(asks) => self.key_in_panel_box(alloc, tree, asks, key),
             Dialog::Find(find) => self.key_in_find(alloc, tree, find, key),
             Dialog::Jobs(list) => self.key_in_jobs(alloc, list, rows, key),

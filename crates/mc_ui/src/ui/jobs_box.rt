@@ -2,13 +2,14 @@
 ghost use Rattle.std.specs.Prelude.{◌≡◌, [], None, OnErr, OnOk, IfOk};
 ghost use Rattle.mc_ui.specs.declared.asks.Ask.{Ask};
 ghost use Rattle.mc_ui.specs.Boxes.{JobsBox, NoBox, seen_box};
-ghost use Rattle.mc_ui.specs.JobBoxes.{left_by_jobs};
+ghost use Rattle.mc_ui.specs.ListedJobs.{left_by_jobs};
 ghost use Rattle.mc_ui.specs.Screens.{HasSameSize};
 
 use super::Ui;
 use super::panel_keys::asking_nothing;
 use crate::asks::KeyAct;
 use crate::dialog::Dialog;
+use job_boxes::JobBox;
 use job_list::{JobList, JobsAct};
 use job_reports::JobRows;
 use key_screen::Key;
@@ -40,7 +41,7 @@ impl Ui {
                 Ok(asking_nothing(alloc))
             }
             Ok(JobsAct::Opens(trouble)) => {
-                self.show_box(Dialog::Trouble(trouble));
+                self.show_box(Dialog::Job(JobBox::Trouble(trouble)));
                 Ok(asking_nothing(alloc))
             }
             Ok(JobsAct::Leaves) => Ok(asking_nothing(alloc)),

@@ -4,8 +4,7 @@ ghost use Rattle.std.specs.Option.{option_map};
 ghost use Rattle.mc_panels.specs.Rereadings.{refusal_in};
 ghost use Rattle.panel_pair.specs.Looks.{IsRereadOf, LooksAgain as PanelsLookAgain, TakesReread, unread_of};
 ghost use Rattle.session_history.specs.declared.refusal.Refusal.{Refusal as RefusalType};
-ghost use Rattle.mc_ui.specs.LiveJobs.{shown_trouble as trouble_in};
-ghost use Rattle.mc_ui.specs.Looks.{LooksAgain, ReadsAgain, told_unread};
+ghost use Rattle.mc_ui.specs.Looks.{LooksAgain, ReadsAgain, shown_trouble as trouble_in, told_unread};
 ghost use Rattle.job_plans.specs.Reading.{ReadsTree};
 ghost use Rattle.mc_ui.specs.Boxes.{first_refusal, with_news, with_refusal, with_trouble};
 ghost use Rattle.mc_ui.specs.Screens.{HasSameSize, LookLeads, page_of, with_panels, with_told};
@@ -13,6 +12,7 @@ ghost use Rattle.mc_ui.specs.Screens.{HasSameSize, LookLeads, page_of, with_pane
 use super::Ui;
 use crate::dialog::Dialog;
 use box_words::Message;
+use job_boxes::JobBox;
 use job_reports::{JobRows, Trouble};
 use mc_panels::Attempt;
 use mc_text::NoMemory;
@@ -101,7 +101,7 @@ impl Ui {
         ensures { self.new ≡ record self.old { over = with_trouble trouble self.old.over } }
     {
         if let Some(trouble) = trouble {
-            self.show_box(Dialog::Trouble(trouble));
+            self.show_box(Dialog::Job(JobBox::Trouble(trouble)));
         }
     }
 

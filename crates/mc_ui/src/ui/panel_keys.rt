@@ -4,21 +4,22 @@ ghost use Rattle.mc_panels.specs.Selections.{selection};
 ghost use Rattle.mc_ui.specs.declared.asks.KeyAct.{KeyAct as KeyActType};
 ghost use Rattle.mc_ui.specs.PanelKeys.{panel_command_of};
 ghost use Rattle.job_plans.specs.Reading.{ReadsTree, sight};
-ghost use Rattle.mc_ui.specs.Boxes.{NoBox, box_of, seen_box};
-ghost use Rattle.mc_ui.specs.Screens.{Chooses, CommandLeads, HasSameSize, RefusesFull, WellAsked, Works, is_request, told_refusal, with_ask};
+ghost use Rattle.mc_ui.specs.Boxes.{NoBox, seen_box};
+ghost use Rattle.mc_ui.specs.Screens.{Chooses, CommandLeads, HasSameSize, WellAsked, Works, is_request, told_refusal, with_ask};
 
 use super::Ui;
 use crate::asks::{Ask, KeyAct};
 use crate::dialog::Dialog;
 use crate::panel_command::{KeyCommand, panel_command};
-use box_words::{Chosen, Message, mask_line, mode_box};
+use box_words::Message;
+use job_boxes::JobBox;
 use job_plans::{Choice, Opens, choose};
 use job_reports::JobRows;
 use key_screen::Key;
 use mc_text::NoMemory;
 use panel_pair::PanelCommand;
 use resolving::ResolveError;
-use session_history::{BeginError, PlanError, Refusal, Refusals};
+use session_history::{PlanError, Refusal, Refusals};
 use std::alloc::Global;
 use tree_trait::ReadTree;
 
@@ -122,20 +123,11 @@ impl Ui {
             Choice::NoSelection => self.refuse(alloc, Refusal::Plan(PlanError::NoSelection)),
             Choice::Nothing => Ok(asking_nothing(alloc)),
             Choice::Thing(chosen, mode) => {
-                self.show_box(opened(alloc, opens, chosen, mode)?);
+                self.show_box(Dialog::Job(JobBox::open(alloc, opens, chosen, mode)?));
                 Ok(asking_nothing(alloc))
             }
             Choice::Refused(path, error) => self.refuse(alloc, Refusal::Tree(path, error)),
         }
-    }
-
-    /// Tells that no job is begun beside a live one.
-    pub(super) fn refuse_full(&mut self, alloc: Global) -> Result<KeyAct, NoMemory>
-        ensures told { IfOk result (λ act. RefusesFull act.refusals self.old self.new) }
-        ensures asks { IfOk result (λ act. act.ask ≡ Ask.Nothing) }
-        ensures lost { OnErr result (self.new ≡ self.old) }
-    {
-        self.refuse(alloc, Refusal::Begin(BeginError::Full))
     }
 
     /// Tells of a refusal, in a message and in what the key comes to.
@@ -152,17 +144,6 @@ impl Ui {
             ask: Ask::Nothing,
             refusals,
         })
-    }
-}
-
-/// The box on a thing of this mode.
-fn opened(alloc: Global, opens: Opens, chosen: Chosen, mode: u16) -> Result<Dialog, NoMemory>
-    ensures { IfOk result (λ dialog. seen_box dialog ≡ box_of opens chosen.path mode) }
-{
-    match opens {
-        Opens::Delete => Ok(Dialog::Delete(chosen)),
-        Opens::SourceMask => Ok(Dialog::SourceMask(chosen, mask_line(alloc)?)),
-        Opens::Mode => Ok(Dialog::Mode(chosen, mode_box(alloc, mode)?)),
     }
 }
 

@@ -6,12 +6,13 @@ use Rattle.job_list.specs.declared.act.JobsAct.{JobsAct}
 use Rattle.job_list.specs.declared.act.JobsAct.TheVariants as jobs
 use Rattle.job_list.specs.declared.list.JobList.{JobList}
 use Rattle.job_list.specs.JobLists.{act_by, list_by}
-use Rattle.mc_ui.specs.Boxes.{Box, NoBox, TroubleBox, JobsBox}
+use Rattle.job_boxes.specs.JobBoxes.{TroubleBox}
+use Rattle.mc_ui.specs.Boxes.{Box, NoBox, OneJobBox, JobsBox}
 
 -- what stands there once a key came to this: the list, the box of a trouble in its place, or nothing
 abbrev pub jobs_over : JobsAct → JobList → Box
 jobs_over jobs.Stays list = JobsBox list
-jobs_over (jobs.Opens trouble) list = TroubleBox trouble
+jobs_over (jobs.Opens trouble) list = OneJobBox (TroubleBox trouble)
 jobs_over jobs.Leaves list = NoBox
 
 -- what stands there after a key, while these jobs are live

@@ -1,5 +1,5 @@
--- What the screen makes of the rows of the live jobs. Today one job is live at a time.
-use Rattle.std.specs.Prelude.{Bool, true, false, not, ◌&&◌, if◌then◌else◌, List, [], ◌∷◌, Option, None}
+-- What the live jobs allow. Today one job is live at a time.
+use Rattle.std.specs.Prelude.{Bool, true, false, not, ◌&&◌, if◌then◌else◌, List, [], ◌∷◌}
 use Rattle.std.specs.Option.{option_map_or}
 use Rattle.job_reports.specs.declared.answer.Answer.{Answer}
 use Rattle.job_reports.specs.declared.report.Trouble.{Trouble}
@@ -12,11 +12,6 @@ use Rattle.job_reports.specs.Reports.{passes_over}
 abbrev pub none_live : List JobRow → Bool
 none_live [] = true
 none_live (row ∷ rows) = false
-
--- the trouble of the live job, where it waits in one
-abbrev pub shown_trouble : List JobRow → Option Trouble
-shown_trouble [] = None
-shown_trouble (row ∷ rows) = row.trouble
 
 abbrev pub is_troubled : JobState → Bool
 is_troubled Troubled = true

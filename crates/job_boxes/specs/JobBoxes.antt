@@ -1,0 +1,43 @@
+-- The boxes of jobs as they are seen, and what they go by.
+use Rattle.std.specs.Prelude.{ℕ, List, Option}
+use Rattle.mc_text.specs.Routes.{Route}
+use Rattle.job_reports.specs.declared.report.Trouble.{Trouble}
+use Rattle.job_reports.specs.declared.row.JobRow.{JobRow}
+use Rattle.mc_dialogs.specs.InputKeys.{InputState}
+use Rattle.mc_dialogs.specs.ModeKeys.{ModeState}
+use Rattle.job_boxes.specs.declared.job_box.JobBox.{JobBox}
+use Rattle.job_boxes.specs.declared.job_box.JobBox.TheVariants as box
+use Rattle.job_boxes.specs.declared.job_box.Surroundings.{Surroundings}
+
+-- A box that asks whether to delete a file, asks for the source mask of a copy or, with that mask, for its destination, for a new folder,
+-- for what a new link is to say or, with that, for its name, or for a thing's mode, or tells of a job's trouble.
+pub data JobBoxState : Type 0 where
+  DeleteBox : (path : Route) → JobBoxState
+  MaskBox : (path : Route) → (typed : InputState) → JobBoxState
+  TargetBox : (path : Route) → (mask : List ℕ) → (typed : InputState) → JobBoxState
+  FolderBox : (typed : InputState) → JobBoxState
+  LinkTextBox : (typed : InputState) → JobBoxState
+  LinkNameBox : (text : List ℕ) → (typed : InputState) → JobBoxState
+  NewModeBox : (path : Route) → (asked : ModeState) → JobBoxState
+  TroubleBox : (trouble : Trouble) → JobBoxState
+
+-- a box as it is seen
+abbrev pub seen : JobBox → JobBoxState
+seen (box.Delete chosen) = DeleteBox chosen.path
+seen (box.SourceMask chosen typed) = MaskBox chosen.path typed
+seen (box.CopyTo source typed) = TargetBox source.chosen.path source.mask typed
+seen (box.MakeFolder typed) = FolderBox typed
+seen (box.LinkText typed) = LinkTextBox typed
+seen (box.LinkName text typed) = LinkNameBox text typed
+seen (box.Mode chosen asked) = NewModeBox chosen.path asked
+seen (box.Trouble trouble) = TroubleBox trouble
+
+-- what a box goes by besides the tree: the live jobs, the folders of the current panel and of the other one, and HOME
+pub record Around : Type 0 where
+  pub rows : List JobRow
+  pub current : Route
+  pub other : Route
+  pub home : Option Route
+
+abbrev pub seen_around : Surroundings → Around
+seen_around s = record { rows = s.rows.now; current = s.current.now; other = s.other.now; home = s.home.now }

@@ -1,0 +1,165 @@
+-- What a key comes to in each box of a job (mc(1), "Copy, Rename", "Miscellaneous Keys"; F5, F7 and F8 of its bottom line).
+use Rattle.std.specs.Prelude.{◌≡◌, ◌⊎◌, ⊤, ℕ, Bool, true, false, MatchBool, if◌then◌else◌, List, [], ◌∷◌, Option}
+use Rattle.mc_text.specs.Routes.{Route}
+use Rattle.home_paths.specs.Homes.{with_home}
+use Rattle.tree_trait.specs.Change.{CallLog}
+use Rattle.key_screen.specs.declared.keys.Key.{Key}
+use Rattle.job_reports.specs.declared.job.Job.{Job}
+use Rattle.job_reports.specs.declared.row.JobRow.{JobRow}
+use Rattle.job_reports.specs.Jobs.{is_workable}
+use Rattle.session_history.specs.declared.refusal.BeginError.TheVariants.{Full}
+use Rattle.session_history.specs.declared.refusal.Refusal.{Refusal}
+use Rattle.session_history.specs.declared.refusal.Refusal.TheVariants.{Begin}
+use Rattle.mc_dialogs.specs.InputKeys.{input_after, input_shut}
+use Rattle.mc_dialogs.specs.ModeKeys.{mode_after, mode_shut}
+use Rattle.box_words.specs.declared.replies.DeleteReply.{DeleteReply}
+use Rattle.box_words.specs.declared.replies.DeleteReply.TheVariants as delete
+use Rattle.box_words.specs.declared.replies.LineReply.{LineReply}
+use Rattle.box_words.specs.declared.replies.LineReply.TheVariants as line
+use Rattle.box_words.specs.declared.replies.ModeReply.{ModeReply}
+use Rattle.box_words.specs.declared.replies.ModeReply.TheVariants as asked
+use Rattle.box_words.specs.declared.replies.TroubleReply.{TroubleReply}
+use Rattle.box_words.specs.declared.replies.TroubleReply.TheVariants as trouble
+use Rattle.box_words.specs.BoxKeys.{delete_reply_to, line_reply, mode_reply, trouble_reply_to}
+use Rattle.box_words.specs.BoxLines.{link_name_line, target_line}
+use Rattle.job_plans.specs.declared.copying.JobPlan.{JobPlan}
+use Rattle.job_plans.specs.declared.copying.JobPlan.TheVariants as plan
+use Rattle.job_plans.specs.Copies.{delete_plan, mode_plan}
+use Rattle.job_plans.specs.CopyPlans.{CopyLeads}
+use Rattle.job_plans.specs.Folders.{FolderLeads}
+use Rattle.job_plans.specs.Links.{LinkLeads}
+use Rattle.job_boxes.specs.declared.job_box.JobReply.{JobReply}
+use Rattle.job_boxes.specs.declared.job_box.JobReply.TheVariants.{Stays, Shuts, Opens, Begins, Answers, Refuses}
+use Rattle.job_boxes.specs.JobBoxes.{Around, JobBoxState, DeleteBox, MaskBox, TargetBox, FolderBox, LinkTextBox, LinkNameBox, NewModeBox, TroubleBox, seen}
+use Rattle.job_boxes.specs.LiveJobs.{can_answer, none_live}
+
+-- JOBS THAT ARE CONFIRMED
+
+-- a job is to be begun while none is live; beside a live one it is refused, since as many are live as may be
+abbrev pub begun_alone : List JobRow → Job → JobReply
+begun_alone rows job = if none_live rows then Begins job else Refuses (Begin Full)
+
+-- the job of a plan is to be begun, or what refused the plan is told
+abbrev pub IsPlanned : (JobPlan → Type 0) → JobReply → Type 0
+IsPlanned Leads (Begins job) = Leads (plan.Begins job)
+IsPlanned Leads (Refuses refusal) = Leads (plan.Refuses refusal)
+IsPlanned Leads Stays = ⊥
+IsPlanned Leads Shuts = ⊥
+IsPlanned Leads (Opens next) = ⊥
+IsPlanned Leads (Answers answer) = ⊥
+
+-- a job is planned while none is live; beside a live one it is refused
+abbrev pub PlansAlone : List JobRow → (JobPlan → Type 0) → JobReply → Type 0
+PlansAlone rows Leads reply = MatchBool (none_live rows) (IsPlanned Leads reply) (reply ≡ Refuses (Begin Full))
+
+-- WHAT EACH BOX ANSWERS
+
+-- another box stands in its place
+abbrev pub OpensBox : JobBoxState → JobReply → Type 0
+OpensBox box (Opens next) = seen next ≡ box
+OpensBox box Stays = ⊥
+OpensBox box Shuts = ⊥
+OpensBox box (Begins job) = ⊥
+OpensBox box (Answers answer) = ⊥
+OpensBox box (Refuses refusal) = ⊥
+
+-- whether to delete a thing
+abbrev pub delete_answer : List JobRow → Route → DeleteReply → JobReply
+delete_answer rows path delete.Stays = Stays
+delete_answer rows path delete.Shuts = Shuts
+delete_answer rows path delete.Deletes = begun_alone rows (delete_plan path)
+
+-- the source mask: with any mask that is typed the destination is asked for, at first the folder of the other panel
+abbrev pub MaskLeads : LineReply → Route → Route → JobReply → Type 0
+MaskLeads line.Stays path other reply = reply ≡ Stays
+MaskLeads line.Shuts path other reply = reply ≡ Shuts
+MaskLeads (line.Takes text) path other reply = OpensBox (TargetBox path text (target_line other)) reply
+
+-- what a new link is to say: with any text that is typed its name is asked for
+abbrev pub LinkTextLeads : LineReply → JobReply → Type 0
+LinkTextLeads line.Stays reply = reply ≡ Stays
+LinkTextLeads line.Shuts reply = reply ≡ Shuts
+LinkTextLeads (line.Takes text) reply = OpensBox (LinkNameBox text link_name_line) reply
+
+-- a line by whose text a job is planned that comes to this
+abbrev pub PathLeads : LineReply → List JobRow → (List ℕ → JobPlan → Type 0) → JobReply → Type 0
+PathLeads line.Stays rows Leads reply = reply ≡ Stays
+PathLeads line.Shuts rows Leads reply = reply ≡ Shuts
+PathLeads (line.Takes text) rows Leads reply = PlansAlone rows (Leads text) reply
+
+-- a mode
+abbrev pub mode_answer : List JobRow → Route → ModeReply → JobReply
+mode_answer rows path asked.Stays = Stays
+mode_answer rows path asked.Shuts = Shuts
+mode_answer rows path (asked.Takes mode) = begun_alone rows (mode_plan path mode)
+
+-- a trouble, which is answered where the live job can be answered so
+abbrev pub trouble_answer : List JobRow → TroubleReply → JobReply
+trouble_answer rows trouble.Stays = Stays
+trouble_answer rows trouble.Shuts = Shuts
+trouble_answer rows (trouble.Gives answer) = if can_answer rows answer then Answers answer else Stays
+
+-- KEYS
+
+-- What a key comes to in a box. A typed path leads from the folder of the current panel, with HOME in place of a tilde: the copy's destination,
+-- of a thing that matches the mask, the new folder's path, and that of the link with its text.
+abbrev pub BoxLeads : JobBoxState → Option CallLog → Around → Key → JobReply → Type 0
+BoxLeads (DeleteBox path) contents around key reply = reply ≡ delete_answer around.rows path (delete_reply_to key)
+BoxLeads (MaskBox path typed) contents around key reply = MaskLeads (line_reply (input_shut typed key)) path around.other reply
+BoxLeads (TargetBox path mask typed) contents around key reply =
+    PathLeads (line_reply (input_shut typed key)) around.rows
+    (λ text planned. CopyLeads contents path mask around.current (with_home around.home text) planned) reply
+BoxLeads (FolderBox typed) contents around key reply =
+    PathLeads (line_reply (input_shut typed key)) around.rows
+    (λ text planned. FolderLeads contents around.current (with_home around.home text) planned) reply
+BoxLeads (LinkTextBox typed) contents around key reply = LinkTextLeads (line_reply (input_shut typed key)) reply
+BoxLeads (LinkNameBox text typed) contents around key reply =
+    PathLeads (line_reply (input_shut typed key)) around.rows
+    (λ name planned. LinkLeads contents around.current (with_home around.home name) text planned) reply
+BoxLeads (NewModeBox path typed) contents around key reply = reply ≡ mode_answer around.rows path (mode_reply (mode_shut typed key))
+BoxLeads (TroubleBox told) contents around key reply = reply ≡ trouble_answer around.rows (trouble_reply_to told.barrier key)
+
+-- a box after a key
+abbrev pub box_after : JobBoxState → Key → JobBoxState
+box_after (DeleteBox path) key = DeleteBox path
+box_after (MaskBox path typed) key = MaskBox path (input_after typed key)
+box_after (TargetBox path mask typed) key = TargetBox path mask (input_after typed key)
+box_after (FolderBox typed) key = FolderBox (input_after typed key)
+box_after (LinkTextBox typed) key = LinkTextBox (input_after typed key)
+box_after (LinkNameBox text typed) key = LinkNameBox text (input_after typed key)
+box_after (NewModeBox path typed) key = NewModeBox path (mode_after typed key)
+box_after (TroubleBox told) key = TroubleBox told
+
+-- The box stays, and the key has worked in it. In all other cases it is as it was.
+abbrev pub stays : JobReply → Bool
+stays Stays = true
+stays other = false
+
+-- neither a job nor an answer is asked for, and nothing is refused
+abbrev pub AsksNothing : JobReply → Type 0
+AsksNothing Stays = ⊤
+AsksNothing Shuts = ⊤
+AsksNothing (Opens next) = ⊤
+AsksNothing (Begins job) = ⊥
+AsksNothing (Answers answer) = ⊥
+AsksNothing (Refuses refusal) = ⊥
+
+-- a job is begun while none is live, and is one that can be worked; a trouble is answered as it may be
+abbrev pub IsAllowed : List JobRow → JobReply → Type 0
+IsAllowed rows (Begins job) = (rows ≡ []) × (is_workable job ≡ true)
+IsAllowed rows (Answers answer) = can_answer rows answer ≡ true
+IsAllowed rows Stays = ⊤
+IsAllowed rows Shuts = ⊤
+IsAllowed rows (Opens next) = ⊤
+IsAllowed rows (Refuses refusal) = ⊤
+
+-- REFUSALS
+
+-- what was refused
+abbrev pub reply_refusals : JobReply → List Refusal
+reply_refusals (Refuses refusal) = refusal ∷ []
+reply_refusals other = []
+
+-- nothing but that a job is live
+abbrev pub IsFullAtMost : List Refusal → Type 0
+IsFullAtMost refusals = (refusals ≡ []) ⊎ (refusals ≡ Begin Full ∷ [])

@@ -1,0 +1,58 @@
+//! A box of a job, and what a key comes to in it.
+use box_words::Chosen;
+use job_reports::{Answer, Job, JobRows, Trouble};
+use mc_dialogs::{InputLine, ModeBox};
+use mc_text::{Path, Text};
+use session_history::Refusal;
+
+/// A thing that is to be copied if its name matches the mask.
+#[derive(Debug, Drop)]
+pub struct MaskedSource {
+    pub chosen: Chosen,
+    pub mask: Text,
+}
+
+/// A box that asks of one job, or tells of its trouble.
+#[derive(Debug, Drop)]
+pub enum JobBox {
+    /// Asks whether to delete this thing.
+    Delete(Chosen),
+    /// Asks which names of the source are copied, of a copy of this file.
+    SourceMask(Chosen, InputLine),
+    /// Asks where this file is to be copied to.
+    CopyTo(MaskedSource, InputLine),
+    /// Asks where a new folder is to be made, and under which name.
+    MakeFolder(InputLine),
+    /// Asks what a new link is to say.
+    LinkText(InputLine),
+    /// Asks where a new link that says this is to be made, and under which name.
+    LinkName(Text, InputLine),
+    /// Asks which mode this thing is to have.
+    Mode(Chosen, ModeBox),
+    /// Tells of a job's trouble, and takes an answer.
+    Trouble(Trouble),
+}
+
+/// What a box goes by besides the tree: the live jobs, the folders of the current panel and of the other one, and HOME.
+#[derive(Drop)]
+pub struct Surroundings<'a> {
+    pub rows: &'a JobRows,
+    pub current: &'a Path,
+    pub other: &'a Path,
+    pub home: &'a Option<Path>,
+}
+
+/// What a key comes to in such a box.
+#[derive(Debug, Drop)]
+pub enum JobReply {
+    Stays,
+    Shuts,
+    /// Another box is to stand in its place.
+    Opens(JobBox),
+    /// This job is to be begun. The box stays until it is.
+    Begins(Job),
+    /// The trouble is to be answered so. The box stays until it is.
+    Answers(Answer),
+    /// That is refused. The box stays.
+    Refuses(Refusal),
+}
