@@ -34,7 +34,7 @@ use Rattle.subtree_laws.proofs.NameSteps.{leaves_marks, settled_marks, works_nam
 use Rattle.subtree_laws.proofs.StepsKnown.{step_begins}
 
 none_marked : (item : Item) (inner : Level) → item ≡ Next → WorkedMarked item inner
-none_marked item inner is = subst (λ i. WorkedMarked i inner) (sym is) refl
+none_marked item inner is = subst (λ i. WorkedMarked i inner) (sym is) tt
 
 settled_marked : (p : Progress) (item : Item) (c : Seen) → c.item ≡ Next → (p ≡ UnderWay → WorkedMarked item c.levels.inner) → IsMarked (settled p item c)
 settled_marked UnderWay item c none h = h refl
@@ -173,7 +173,7 @@ module _ (log : CallLog) where
 
 pub names_law : NamesLaw
 names_law = record {
-  begins = λ job source target. refl;
+  begins = λ job source target. tt;
   step = λ free old new did calls log now f0 f1 s tree files known ends marked.
       let b = step_begins free old new did calls log now f0 f1 s tree files known in
       let mid = s.mid in

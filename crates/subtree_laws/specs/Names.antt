@@ -1,5 +1,5 @@
 -- Where names wait while a tree is copied: of those at or below its target only in an open folder that is marked as dirty. So in a folder that was left none does.
-use Rattle.std.specs.Prelude.{◌≡◌, ◌⊎◌, ℕ, Bool, true, List, [], ◌∷◌, Some}
+use Rattle.std.specs.Prelude.{◌≡◌, ◌⊎◌, ℕ, ⊤, Bool, true, List, [], ◌∷◌, Some}
 use Rattle.mc_text.specs.Routes.{Route}
 use Rattle.tree_trait.specs.Change.{CallLog, current}
 use Rattle.tree_trait.specs.Shape.{IsTree}
@@ -32,10 +32,10 @@ WaitsMarked log c name up = name_waits log (name ∷ up) ≡ true → IsMarkedIn
 
 -- the folder that is worked is marked while something is at work in it
 abbrev pub WorkedMarked : Item → Level → Type 0
-WorkedMarked Next inner = true ≡ true
+WorkedMarked Next inner = ⊤
 WorkedMarked (File f) inner = is_dirty inner.copy.names ≡ true
 WorkedMarked (Link l) inner = is_dirty inner.copy.names ≡ true
-WorkedMarked (Stays part) inner = true ≡ true
+WorkedMarked (Stays part) inner = ⊤
 
 abbrev pub IsMarked : Seen → Type 0
 IsMarked c = WorkedMarked c.item c.levels.inner
