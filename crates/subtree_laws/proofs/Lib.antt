@@ -15,6 +15,12 @@ pub mod LinkTexts
 pub mod ListSteps
 pub mod Listings
 pub mod MadeFolders
+pub mod NameChanges
+pub mod NameItems
+pub mod NameLaws
+pub mod NameMarks
+pub mod NameRuns
+pub mod NameSteps
 mod PartMade
 mod PartsApart
 pub mod QuietRuns

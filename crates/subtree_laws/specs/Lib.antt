@@ -7,4 +7,5 @@ pub mod Laws
 pub mod Lies
 pub mod Listing
 pub mod Made
+pub mod Names
 pub mod Texts

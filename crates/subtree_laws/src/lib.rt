@@ -8,6 +8,7 @@ ghost use Rattle.subtree_laws.specs.GivenModes.{OwedModeLaw, SetLaw};
 ghost use Rattle.subtree_laws.specs.Laws.{BeginningLaw, MetLaw, SkipLaw, StandingLaw, StepLaw};
 ghost use Rattle.subtree_laws.specs.Listing.{ListLaw};
 ghost use Rattle.subtree_laws.specs.Made.{MadeLaw};
+ghost use Rattle.subtree_laws.specs.Names.{NamesLaw};
 ghost use Rattle.subtree_laws.specs.Texts.{TextLaw};
 
 /// A copy that begins in a folder on the disk, where no change of the target's name waits, knows that of its one open folder, and nothing is
@@ -62,6 +63,11 @@ pub fn which_folder_is_at_its_end()
 /// So no mode waits where the copy works.
 pub fn where_no_mode_waits()
     ensures { QuietModesLaw }
+{}
+
+/// A change of a name waits, of those that didn't before, only in an open folder that is marked as dirty.
+pub fn where_names_wait()
+    ensures { NamesLaw }
 {}
 
 /// A folder that the copy makes is what the history says of it: it has its source's mode, and its owner may list, change and search it.
