@@ -252,7 +252,7 @@ WorkCalls unclaimed (SetMode s) did new log after = SettingCalls s did log after
 -- the same of a last step
 abbrev pub WorkLastCalls : Work → Did → CallLog → Option CallLog → Type 0
 WorkLastCalls (Copy c) did log after = last.WindCalls c did log after
-WorkLastCalls (CopyTree c) did log after = LastTreeCalls c did log after
+WorkLastCalls (CopyTree c) did log after = LastTreeCalls (tree.part_of c.at.item) did log after
 WorkLastCalls (Delete d) did log after = LastCalls did log after
 WorkLastCalls (Make m) did log after = LastMakingCalls m did log after
 WorkLastCalls (SetMode s) did log after = LastSettingCalls s did log after

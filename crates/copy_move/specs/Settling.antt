@@ -73,7 +73,7 @@ WorkLeaves old did new dirty dirty_after before after = ⊥
 -- what a last step tells of the folder, or the thing, that it tried: the refusal of its sync, if that was in vain
 abbrev pub TellsFolder : Work → Did → Option TreeError → Route → CallLog → Option CallLog → Type 0
 TellsFolder (Copy c) did left folder log after = last.TellsFolder c did left log after
-TellsFolder (CopyTree c) did left folder log after = TellsTreeTried c did left folder log after
+TellsFolder (CopyTree c) did left folder log after = TellsTreeTried (tree.part_of c.at.item) did left folder log after
 TellsFolder (Delete d) did left folder log after = TellsTried did left folder log after
 TellsFolder (Make m) did left folder log after = MakingLeaves m did left log after
 TellsFolder (SetMode s) did left folder log after = SettingLeaves s did left log after

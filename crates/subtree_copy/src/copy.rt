@@ -120,8 +120,8 @@ impl SubtreeCopy {
             (T.contents tree.old) (T.contents tree.new) (T.fault_count tree.old) (T.fault_count tree.new) }
         ensures wound { IsWound ending self.old result.did self.new }
         ensures own { is_own self.old self.new.at.levels.inner.copy.target ≡ true }
-        ensures called { IfKnown (T.contents tree.old) (λ log. LastCalls self.old result.did log (T.contents tree.new)) }
-        ensures told { IfKnown (T.contents tree.old) (λ log. TellsTried self.old result.did result.left self.new.at.levels.inner.copy.target log (T.contents tree.new)) }
+        ensures called { IfKnown (T.contents tree.old) (λ log. LastCalls (part_of self.old.at.item) result.did log (T.contents tree.new)) }
+        ensures told { IfKnown (T.contents tree.old) (λ log. TellsTried (part_of self.old.at.item) result.did result.left self.new.at.levels.inner.copy.target log (T.contents tree.new)) }
     {
         let last = self.machine.wind_up(alloc, tree, ending);
         dirty.note_try(&last.did, last.left, self.machine.folder());
