@@ -120,7 +120,7 @@ winds_told (File f) ending old new last log after f0 f1 w can there =
     let m = w.moved in
     let on = w.winds in
     let here : new.levels.inner.copy.target ≡ old.levels.inner.copy.target =
-        ap (λ (c : Seen). c.levels.inner.copy.target) w.stands ∙ dirtied_there (file.is_dirty m.folder) (with_copy (record old.levels.inner.copy { names = Synced }) old.levels) in
+    ap (λ (c : Seen). c.levels.inner.copy.target) w.stands ∙ dirtied_there (file.is_dirty m.folder) (with_copy (record old.levels.inner.copy { names = Synced }) old.levels) in
     file_told ending f m last last.did new.levels.inner.copy.target log after refl on.tells (on.called log refl) (on.synced log refl) can (here ∙ sym there)
 winds_told (Link l) ending old new last log after f0 f1 (inl c) can there =
     let r = c.removed in

@@ -5,10 +5,6 @@ use Rattle.copy_move.proofs.FolderSteps.{copy_skips, deletion_skips}
 use Rattle.copy_move.proofs.MakingFolders.{making_skips}
 use Rattle.copy_move.proofs.ModeSteps.{setting_skips}
 use Rattle.copy_move.proofs.TreeSteps.{tree_skipped, tree_skips}
-use Rattle.copy_move.proofs.Telling.{told_follows}
-use Rattle.copy_move.proofs.StillTelling.{step_tells}
-use Rattle.copy_move.proofs.OwedSyncs.{owed_tells}
-use Rattle.copy_move.proofs.RunSteps.{run_goes}
 use Rattle.copy_move.proofs.work.Work.skip.Goals as goal
 
 pub returns-in-Copy-clause-skips : goal.returns-in-Copy-clause-skips
