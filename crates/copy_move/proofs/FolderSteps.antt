@@ -519,6 +519,7 @@ settling_later job new did calls dirty dirty_after first before after f0 f1 f2 s
   fresh = s.fresh;
   path = s.path;
   owed = s.owed;
+  waits = s.waits;
   synced = s.synced;
   counted = s.counted;
   few = s.few;
