@@ -10,7 +10,7 @@ use Rattle.tree_trait.specs.Change.{CallLog, current}
 use Rattle.tree_trait.specs.Answers.{IfKnown}
 use Rattle.tree_trait.proofs.Visible.{same_path-self}
 use Rattle.job_reports.specs.declared.report.Cause.{Cause}
-use Rattle.job_reports.specs.declared.report.Cause.TheVariants.{Memory, Tree}
+use Rattle.job_reports.specs.declared.report.Cause.TheVariants.{Tree}
 use Rattle.job_reports.specs.declared.report.Ending.{Ending}
 use Rattle.job_reports.specs.declared.report.Ending.TheVariants.{Finished, Aborted, Killed, NoMemory}
 use Rattle.job_reports.specs.declared.report.Did.{Did}
@@ -38,7 +38,7 @@ use Rattle.copy_move.specs.declared.run.Course.TheVariants.{GoesOn, InTrouble, S
 use Rattle.copy_move.specs.Deletions.{Deleting, left_in}
 use Rattle.copy_move.specs.Deletions as deletions
 use Rattle.copy_move.specs.DeletionSteps.{DeletionSkips, DeletionStep, LastDeletionStep, after_try, is_decided}
-use Rattle.copy_move.specs.Jobs.{Running, CallsOn, PassesOver, TellsOn, course_after, is_fresh}
+use Rattle.copy_move.specs.Jobs.{Running, CallsOn, PassesOver, TellsOn, course_after, is_fresh, unreported_skip}
 use Rattle.copy_move.specs.Ranks.{copy_rank, rank_at, rank_on, tries_left}
 use Rattle.copy_move.specs.Settling.{NoneOwed, with_change}
 use Rattle.copy_move.specs.Steps.{LeavesDirty, OwnStep, OwedSyncStep, SkipSteps, SkipWalks, Walks, WalksOn, WindingStep, WorkSkips, WorkSteps, WorkWindsUp, step_made}
@@ -330,7 +330,7 @@ copy_skips cause c new did (inl (did_is, new_is)) left apart = record {
 copy_skips cause c new did (inr (did_is, new_is)) left apart = record {
   walks = tt;
   skips = inr (did_is ∙ ap (λ b. Troubled (out_of_memory_at b)) apart, ap Copy new_is);
-  falls = subst (λ d. rank_on (course_after d) (Copy new) < 10) (sym did_is) (subst (λ (n : Copying). rank_on (InTrouble Memory) (Copy n) < 10) (sym new_is) (waiting_falls (Copy c) left));
+  falls = subst (λ d. rank_on (course_after d) (Copy new) < 10) (sym did_is) (subst (λ (n : Copying). rank_on (InTrouble unreported_skip) (Copy n) < 10) (sym new_is) (waiting_falls (Copy c) left));
 }
 
 pub deletion_skips : (cause : Cause) (d new : Deleting) (did : Did) → DeletionSkips cause d did new → deletion_barrier d.stage ≡ false → WorkSkips cause (Delete d) did (Delete new)

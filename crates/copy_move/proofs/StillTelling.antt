@@ -208,7 +208,7 @@ last_work_tells (SetMode s) did log after h = last_setting_tells s did log after
 
 calls_tell : (unclaimed : Route → Type 0) (course : Course) (job : Running) (did : Did) (new : Running) (log : CallLog) (after : Option CallLog) → CallsOn unclaimed course job did new log after → StillTells after
 calls_tell unclaimed GoesOn job did new log after h = work_tells unclaimed job.work did new.work log after h
-calls_tell unclaimed (InTrouble cause) job did new log after h = absurd h
+calls_tell unclaimed (InTrouble halt) job did new log after h = absurd h
 calls_tell unclaimed (OwedSyncFailed cause) job did new log after h = absurd h
 calls_tell unclaimed (Skips cause) job did new log after h = (log, h)
 calls_tell unclaimed (Ends ending) job did new log after h = last_work_tells job.work did log after h

@@ -5,7 +5,6 @@ use Rattle.std.specs.Option.{option_map}
 use Rattle.mc_text.specs.Routes.{Route, parent_of}
 use Rattle.std.proofs.lemmas.Bool.{false≢true}
 use Rattle.job_reports.specs.declared.report.Cause.{Cause}
-use Rattle.job_reports.specs.declared.report.Cause.TheVariants.{Memory}
 use Rattle.job_reports.specs.declared.report.Trouble.{Trouble}
 use Rattle.job_reports.specs.declared.report.Ending.{Ending}
 use Rattle.job_reports.specs.declared.report.Ending.TheVariants.{Finished, Aborted, Killed, NoMemory}
@@ -48,7 +47,7 @@ use Rattle.mode_setting.specs.declared.setting.Stage.{Stage as SettingStage}
 use Rattle.mode_setting.specs.declared.setting.Stage.TheVariants as setting
 use Rattle.mode_setting.specs.Settings.{Setting}
 use Rattle.mode_setting.specs.Settings as settings
-use Rattle.copy_move.specs.Jobs.{Running, JobTells, TellsOn, WorkTells, WorkWinds, answered, answered_on, copies, copies_tree, course_after, deletes, first_work, is_fresh, makes, sets, PassesOver, taken_anew, with_skips}
+use Rattle.copy_move.specs.Jobs.{Running, JobTells, TellsOn, WorkTells, WorkWinds, answered, answered_on, copies, copies_tree, course_after, deletes, first_work, halt_of, is_fresh, makes, sets, PassesOver, taken_anew, unreported_skip, with_skips}
 use Rattle.job_reports.specs.Reports.{ends}
 use Rattle.job_answers.specs.declared.skips.Skips.{Skips as Kinds}
 use Rattle.job_reports.specs.declared.job.Pair.{Pair}
@@ -203,18 +202,18 @@ fresh_told id (Make m) = refl
 fresh_told id (SetMode s) = refl
 
 -- then the job is in trouble, as its history tells it
-in_trouble : (id : ℕ) (work : Work) (trouble : Trouble) → (is_fresh work && trouble.barrier) ≡ false → course_told (work_told id work) trouble ≡ InTrouble trouble.cause
-in_trouble id work trouble h = ap (λ b. if b && trouble.barrier then OwedSyncFailed trouble.cause else InTrouble trouble.cause) (fresh_told id work)
-    ∙ ap (λ b. if b then OwedSyncFailed trouble.cause else InTrouble trouble.cause) h
+in_trouble : (id : ℕ) (work : Work) (trouble : Trouble) → (is_fresh work && trouble.barrier) ≡ false → course_told (work_told id work) trouble ≡ InTrouble (halt_of trouble)
+in_trouble id work trouble h = ap (λ b. if b && trouble.barrier then OwedSyncFailed trouble.cause else InTrouble (halt_of trouble)) (fresh_told id work)
+    ∙ ap (λ b. if b then OwedSyncFailed trouble.cause else InTrouble (halt_of trouble)) h
 
-pub making_in_trouble : (m : Making) (trouble : Trouble) → makings.IsTroubleAt m.stage m.path trouble → course_told (Make m) trouble ≡ InTrouble trouble.cause
+pub making_in_trouble : (m : Making) (trouble : Trouble) → makings.IsTroubleAt m.stage m.path trouble → course_told (Make m) trouble ≡ InTrouble (halt_of trouble)
 making_in_trouble m trouble h = in_trouble 0 (Make m) trouble (making_bars m.stage trouble.barrier (making_trouble_bars m.stage m.path trouble h))
 
 and_none : (b : Bool) → (b && false) ≡ false
 and_none true = refl
 and_none false = refl
 
-pub skip_in_trouble : (id : ℕ) (work : Work) → course_told (work_told id work) (out_of_memory_at false) ≡ InTrouble Memory
+pub skip_in_trouble : (id : ℕ) (work : Work) → course_told (work_told id work) (out_of_memory_at false) ≡ InTrouble unreported_skip
 skip_in_trouble id work = in_trouble id work (out_of_memory_at false) (and_none (is_fresh work))
 
 cleaned_told : (id : ℕ) (c : Copying) (part : Route) (follows : Next) → after_step (Cleaned part) (told (job_of id (Copy (record c { stage = at.Clean part follows })) GoesOn))
@@ -250,7 +249,7 @@ deletion_told id old new (Kept path) (going, at) h = ap (λ w. Some (job_of id w
 deletion_told id old new Barrier (from, at) h = ap (λ w. Some (job_of id w GoesOn)) (stage_is_told id old new old.stage at)
 deletion_told id old new (Troubled trouble) (barrier, at) h =
     ap (λ course. Some (job_of id (work_told id (Delete old)) course)) (in_trouble id (Delete old) trouble (deletion_bars old.stage trouble.barrier barrier))
-    ∙ ap (λ w. Some (job_of id w (InTrouble trouble.cause))) (stage_is_told id old new old.stage at)
+    ∙ ap (λ w. Some (job_of id w (InTrouble (halt_of trouble)))) (stage_is_told id old new old.stage at)
 deletion_told id old new (Ended Finished part) t h = absurd cc
 deletion_told id old new (Ended Aborted part) t h = absurd t
 deletion_told id old new (Ended Killed part) t h = absurd t
@@ -320,7 +319,7 @@ tree_told id old new Barrier t h = ap (λ w. Some (job_of id w GoesOn)) (told_so
 tree_told id old new (Skipped path cause) t h = ap (λ w. Some (job_of id w GoesOn)) (told_so id old new (Skipped path cause) t.after refl refl)
 tree_told id old new (Troubled trouble) t h =
     ap (λ course. Some (job_of id (work_told id (CopyTree old)) course)) (in_trouble id (CopyTree old) trouble (bars_apart (is_tree_fresh old.at.stage) trouble.barrier (t.apart trouble refl)))
-    ∙ ap (λ w. Some (job_of id w (InTrouble trouble.cause))) (told_so id old new (Troubled trouble) t.after refl refl)
+    ∙ ap (λ w. Some (job_of id w (InTrouble (halt_of trouble)))) (told_so id old new (Troubled trouble) t.after refl refl)
 tree_told id old new (Removed path) t h = absurd t.may
 tree_told id old new (Kept path) t h = absurd t.may
 tree_told id old new (Ended ending part) t h = absurd cc
@@ -460,7 +459,7 @@ winds_told id ending (SetMode s) (SetMode new) did t h = setting_winds id ending
 told_on : (course : Course) (id : ℕ) (work : Work) (new : Running) (did : Did) → TellsOn course (job_of id work course) did new → ends did ≡ false
     → after_step did (told (job_of id work course)) ≡ Some (told new)
 told_on GoesOn id work new did (after, tells, is) h = rw is (goes_told id work after did tells h)
-told_on (InTrouble cause) id work new did t h = absurd t
+told_on (InTrouble halt) id work new did t h = absurd t
 told_on (OwedSyncFailed cause) id work new did t h = absurd t
 told_on (Skips cause) id work new did (inl (path, after, did_is, passes, new_is)) h = rw (did_is, new_is) (ap (λ w. Some (job_of id w GoesOn)) (skipped_told id work after path passes))
 told_on (Skips cause) id work new did (inr (apart, did_is, new_is)) h = rw (did_is, new_is) (ap (λ course. Some (job_of id (work_told id work) course)) (skip_in_trouble id work))
@@ -497,10 +496,10 @@ pub answered_told : (answer : Answer) (job : Running) → told (answered answer 
 answered_told answer job = answers job.course answer
   where
     answers : (course : Course) (answer : Answer) → told (answered_on course answer (job_of job.id job.work course)) ≡ answered_on course answer (told (job_of job.id job.work course))
-    answers (InTrouble cause) Retry = ap (λ w. job_of job.id w GoesOn) (sym (anew_told job.id job.work))
-    answers (InTrouble cause) Skip = refl
-    answers (InTrouble cause) SkipAll = ap (λ w. job_of job.id w (Skips cause)) (skips_told job.id cause job.work)
-    answers (InTrouble cause) Abort = refl
+    answers (InTrouble halt) Retry = ap (λ w. job_of job.id w GoesOn) (sym (anew_told job.id job.work))
+    answers (InTrouble halt) Skip = refl
+    answers (InTrouble halt) SkipAll = ap (λ w. job_of job.id w (Skips halt.cause)) (skips_told job.id halt.cause job.work)
+    answers (InTrouble halt) Abort = refl
     answers (OwedSyncFailed cause) Retry = ap (λ w. job_of job.id w GoesOn) (sym (anew_told job.id job.work))
     answers (OwedSyncFailed cause) Skip = refl
     answers (OwedSyncFailed cause) SkipAll = refl
@@ -558,8 +557,8 @@ fresh_synced id (SetMode s) h = synced_setting s s.stage h
 
 fresh_unsettled : (id : ℕ) (work : Work) (trouble : Trouble) → is_fresh work ≡ true → trouble.barrier ≡ true → course_told (work_told id work) trouble ≡ OwedSyncFailed trouble.cause
 fresh_unsettled id work trouble fresh barrier =
-    ap (λ b. if b && trouble.barrier then OwedSyncFailed trouble.cause else InTrouble trouble.cause) (fresh_told id work ∙ fresh)
-    ∙ ap (λ b. if b then OwedSyncFailed trouble.cause else InTrouble trouble.cause) barrier
+    ap (λ b. if b && trouble.barrier then OwedSyncFailed trouble.cause else InTrouble (halt_of trouble)) (fresh_told id work ∙ fresh)
+    ∙ ap (λ b. if b then OwedSyncFailed trouble.cause else InTrouble (halt_of trouble)) barrier
 
 -- what is told of a job follows the sync of what an ended job left dirty, or its trouble
 pub sync_told : (job : Running) (did : Did) (after : Option Running) → is_fresh job.work ≡ true

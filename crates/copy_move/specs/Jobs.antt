@@ -4,8 +4,8 @@ use Rattle.std.specs.Prelude.{◌≡◌, ◌⊎◌, ℕ, ⊤, Bool, true, false,
 use Rattle.mc_text.specs.Routes.{Route, parent_of}
 use Rattle.tree_trait.specs.Change.{CallLog}
 use Rattle.job_reports.specs.declared.report.Cause.{Cause}
-use Rattle.job_reports.specs.declared.report.Cause.TheVariants.{Memory}
 use Rattle.job_answers.specs.Skipping.{kind_in, with_kind}
+use Rattle.job_reports.specs.declared.report.Trouble.{Trouble}
 use Rattle.job_reports.specs.declared.report.Ending.{Ending}
 use Rattle.job_reports.specs.declared.report.Ending.TheVariants.{Aborted}
 use Rattle.job_reports.specs.declared.report.Did.{Did}
@@ -28,6 +28,7 @@ use Rattle.copy_move.specs.declared.new_thing.NewThing.{NewThing}
 use Rattle.copy_move.specs.declared.new_thing.NewThing.TheVariants as thing
 use Rattle.copy_move.specs.declared.work.Work.{Work}
 use Rattle.copy_move.specs.declared.work.Work.TheVariants.{Copy, CopyTree, Delete, Make, SetMode}
+use Rattle.copy_move.specs.declared.run.Halt.{Halt}
 use Rattle.copy_move.specs.declared.run.Course.{Course}
 use Rattle.copy_move.specs.declared.run.Course.TheVariants.{GoesOn, InTrouble, OwedSyncFailed, Skips, Ends}
 use Rattle.tree_deletion.specs.Standing.{after_item}
@@ -131,7 +132,7 @@ is_fresh (SetMode s) = settings.is_fresh s.stage
 abbrev pub is_barred : Course → Work → Bool
 is_barred (OwedSyncFailed cause) work = true
 is_barred GoesOn work = at_barrier work
-is_barred (InTrouble cause) work = at_barrier work
+is_barred (InTrouble halt) work = halt.barrier
 is_barred (Skips cause) work = at_barrier work
 is_barred (Ends ending) work = at_barrier work
 
@@ -181,7 +182,7 @@ IsGoing (SetMode s) = ⊤
 -- Only a job that makes its last steps leaves a part, and nothing is skipped at a barrier.
 abbrev pub IsSound : Course → Work → Type 0
 IsSound GoesOn work = IsGoing work
-IsSound (InTrouble cause) work = IsGoing work
+IsSound (InTrouble halt) work = IsGoing work × (halt.barrier ≡ at_barrier work)
 IsSound (OwedSyncFailed cause) work = IsGoing work
 IsSound (Skips cause) work = IsGoing work × (at_barrier work ≡ false)
 IsSound (Ends ending) work = ⊤
@@ -204,9 +205,17 @@ WorkWinds ending (Make m) did (Make new) = makings.Winds ending m did new
 WorkWinds ending (SetMode s) did (SetMode new) = modes.Winds ending s did new
 WorkWinds ending old did new = ⊥
 
+-- why a job waits, as its trouble says it
+abbrev pub halt_of : Trouble → Halt
+halt_of trouble = record { cause = trouble.cause; barrier = trouble.barrier }
+
+-- there was no memory to report a skip
+abbrev pub unreported_skip : Halt
+unreported_skip = halt_of (out_of_memory_at false)
+
 -- a job whose call was refused waits for an answer, else it goes on
 abbrev pub course_after : Did → Course
-course_after (Troubled trouble) = InTrouble trouble.cause
+course_after (Troubled trouble) = InTrouble (halt_of trouble)
 course_after (Began part) = GoesOn
 course_after (Chunk count) = GoesOn
 course_after (Set path) = GoesOn
@@ -223,11 +232,11 @@ course_after (Ended ending part) = GoesOn
 -- cause of its trouble, or there is no memory for the report; it doesn't stand at a barrier.
 abbrev pub TellsOn : Course → Running → Did → Running → Type 0
 TellsOn GoesOn job did new = (work : Work) × WorkTells job.work did work × (new ≡ record job { work = work; course = course_after did })
-TellsOn (InTrouble cause) job did new = ⊥
+TellsOn (InTrouble halt) job did new = ⊥
 TellsOn (OwedSyncFailed cause) job did new = ⊥
 TellsOn (Skips cause) job did new =
     ((path : Route) × (work : Work) × (did ≡ Skipped path cause) × PassesOver job.work path work × (new ≡ record job { work = work; course = GoesOn }))
-    ⊎ ((at_barrier job.work ≡ false) × (did ≡ Troubled (out_of_memory_at false)) × (new ≡ record job { course = InTrouble Memory }))
+    ⊎ ((at_barrier job.work ≡ false) × (did ≡ Troubled (out_of_memory_at false)) × (new ≡ record job { course = InTrouble unreported_skip }))
 TellsOn (Ends ending) job did new = (work : Work) × WorkWinds ending job.work did work × (new ≡ record job { work = work })
 
 abbrev pub JobTells : Running → Did → Running → Type 0
@@ -260,7 +269,7 @@ WorkLastCalls (SetMode s) did log after = LastSettingCalls s did log after
 -- What a step of a job says of the tree's calls. The report of a skip makes none.
 abbrev pub CallsOn : (Route → Type 0) → Course → Running → Did → Running → CallLog → Option CallLog → Type 0
 CallsOn unclaimed GoesOn job did new log after = WorkCalls unclaimed job.work did new.work log after
-CallsOn unclaimed (InTrouble cause) job did new log after = ⊥
+CallsOn unclaimed (InTrouble halt) job did new log after = ⊥
 CallsOn unclaimed (OwedSyncFailed cause) job did new log after = ⊥
 CallsOn unclaimed (Skips cause) job did new log after = after ≡ Some log
 CallsOn unclaimed (Ends ending) job did new log after = WorkLastCalls job.work did log after
@@ -270,10 +279,10 @@ JobCalls unclaimed job did new log after = CallsOn unclaimed job.course job did 
 
 -- an answer to a trouble, as it makes a job go on
 abbrev pub answered_on : Course → Answer → Running → Running
-answered_on (InTrouble cause) Retry job = record job { work = taken_anew job.work; course = GoesOn }
-answered_on (InTrouble cause) Skip job = record job { course = Skips cause }
-answered_on (InTrouble cause) SkipAll job = record job { work = with_skips cause job.work; course = Skips cause }
-answered_on (InTrouble cause) Abort job = record job { course = Ends Aborted }
+answered_on (InTrouble halt) Retry job = record job { work = taken_anew job.work; course = GoesOn }
+answered_on (InTrouble halt) Skip job = record job { course = Skips halt.cause }
+answered_on (InTrouble halt) SkipAll job = record job { work = with_skips halt.cause job.work; course = Skips halt.cause }
+answered_on (InTrouble halt) Abort job = record job { course = Ends Aborted }
 answered_on (OwedSyncFailed cause) Retry job = record job { work = taken_anew job.work; course = GoesOn }
 answered_on (OwedSyncFailed cause) Skip job = job
 answered_on (OwedSyncFailed cause) SkipAll job = job
@@ -287,7 +296,7 @@ answered answer job = answered_on job.course answer job
 
 -- a job waits for an answer
 abbrev pub waits_on : Course → Bool
-waits_on (InTrouble cause) = true
+waits_on (InTrouble halt) = true
 waits_on (OwedSyncFailed cause) = true
 waits_on GoesOn = false
 waits_on (Skips cause) = false
@@ -301,7 +310,7 @@ pub record MayAnswer (job : Running) (answer : Answer) : Type 0 where
 -- a job is ordered to end so; one that makes its last steps already ends as it was ordered first
 abbrev pub ended_course : Ending → Course → Course
 ended_course ending GoesOn = Ends ending
-ended_course ending (InTrouble cause) = Ends ending
+ended_course ending (InTrouble halt) = Ends ending
 ended_course ending (OwedSyncFailed cause) = Ends ending
 ended_course ending (Skips cause) = Ends ending
 ended_course ending (Ends first) = Ends first
@@ -309,7 +318,7 @@ ended_course ending (Ends first) = Ends first
 -- a job that waits for an answer is aborted when the session closes, and one that would wait later too
 abbrev pub closed_course : Course → Course
 closed_course GoesOn = GoesOn
-closed_course (InTrouble cause) = Ends Aborted
+closed_course (InTrouble halt) = Ends Aborted
 closed_course (OwedSyncFailed cause) = Ends Aborted
 closed_course (Skips cause) = Skips cause
 closed_course (Ends ending) = Ends ending

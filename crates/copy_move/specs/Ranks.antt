@@ -86,7 +86,7 @@ skip_rank (SetMode s) = 10
 -- a job that waits counts as one that is aborted
 abbrev pub rank_on : Course → Work → ℕ
 rank_on GoesOn work = work_rank work
-rank_on (InTrouble cause) work = last_rank work
+rank_on (InTrouble halt) work = last_rank work
 rank_on (OwedSyncFailed cause) work = last_rank work
 rank_on (Skips cause) work = skip_rank work
 rank_on (Ends ending) work = last_rank work
@@ -99,7 +99,7 @@ tries_left (Ends ending) (CopyTree c) dirty = length dirty
 tries_left (Ends ending) (Make m) dirty = length dirty
 tries_left (Ends ending) (SetMode s) dirty = length dirty
 tries_left GoesOn work dirty = length dirty
-tries_left (InTrouble cause) work dirty = length dirty
+tries_left (InTrouble halt) work dirty = length dirty
 tries_left (OwedSyncFailed cause) work dirty = length dirty
 tries_left (Skips cause) work dirty = length dirty
 

@@ -52,7 +52,7 @@ pub record LastLeaves (old : Work) (did : Did) (dirty dirty_after : List Route) 
 -- a mode; it leaves them with its sync. In last steps it leaves them only where the one try of its sync wasn't refused.
 abbrev pub LeavesDirty : Course → Work → Did → Work → List Route → List Route → Option CallLog → Option CallLog → Type 0
 LeavesDirty GoesOn old did new dirty dirty_after before after = WorkLeaves old did new dirty dirty_after before after
-LeavesDirty (InTrouble cause) old did new dirty dirty_after before after = ⊥
+LeavesDirty (InTrouble halt) old did new dirty dirty_after before after = ⊥
 LeavesDirty (OwedSyncFailed cause) old did new dirty dirty_after before after = ⊥
 LeavesDirty (Skips cause) old did new dirty dirty_after before after = dirty_after ≡ dirty
 LeavesDirty (Ends ending) old did new dirty dirty_after before after = LastLeaves old did dirty dirty_after before after
@@ -111,7 +111,7 @@ LastWalks ending (SetMode s) new did calls left dirty dirty_after before after f
 -- what it does in a step of a job that goes so
 abbrev pub WalksOn : (Route → Type 0) → Course → Work → Work → Did → ℕ → List Route → List Route → Option CallLog → Option CallLog → ℕ → ℕ → Type 0
 WalksOn unclaimed GoesOn old new did calls dirty dirty_after before after faults faults_after = Walks unclaimed old new did calls dirty dirty_after before after faults faults_after
-WalksOn unclaimed (InTrouble cause) old new did calls dirty dirty_after before after faults faults_after = ⊥
+WalksOn unclaimed (InTrouble halt) old new did calls dirty dirty_after before after faults faults_after = ⊥
 WalksOn unclaimed (OwedSyncFailed cause) old new did calls dirty dirty_after before after faults faults_after = ⊥
 WalksOn unclaimed (Skips cause) old new did calls dirty dirty_after before after faults faults_after = SkipWalks cause old did new
 WalksOn unclaimed (Ends ending) old new did calls dirty dirty_after before after faults faults_after =

@@ -29,7 +29,7 @@ use Rattle.mode_setting.specs.declared.setting.Stage.TheVariants as setting
 use Rattle.mode_setting.specs.Settings as settings
 use Rattle.copy_move.specs.TreeCopies as trees
 use Rattle.subtree_copy.specs.Standing.{SubtreeCopying}
-use Rattle.copy_move.specs.Jobs.{Running, JobTells, closed_job, is_fresh, part_of, waits_on}
+use Rattle.copy_move.specs.Jobs.{Running, JobTells, closed_job, halt_of, is_fresh, part_of, waits_on}
 
 -- what no history tells
 abbrev pub untold_facts : SourceFacts
@@ -140,7 +140,7 @@ synced (SetMode s) = SetMode (record s { stage = modes.after_sync s.stage })
 
 -- a trouble at a barrier before the first change is that of what an ended job left dirty
 abbrev pub course_told : Work → Trouble → Course
-course_told work trouble = if is_fresh work && trouble.barrier then OwedSyncFailed trouble.cause else InTrouble trouble.cause
+course_told work trouble = if is_fresh work && trouble.barrier then OwedSyncFailed trouble.cause else InTrouble (halt_of trouble)
 
 -- the job after a step
 abbrev pub after_step : Did → Running → Option Running

@@ -19,12 +19,19 @@ use std::marker::Model;
 use tree_deletion::Dirty;
 use tree_trait::Tree;
 
+/// Why a job waits for an answer, and whether it stands at a barrier, where nothing can be skipped.
+#[derive(Clone, Copy, Debug, Drop, PartialEq, Eq)]
+pub struct Halt {
+    pub cause: Cause,
+    pub barrier: bool,
+}
+
 /// Whether a job goes on.
 #[derive(Clone, Copy, Debug, Drop, PartialEq, Eq)]
 pub enum Course {
     GoesOn,
     /// A call was refused, or there was no memory. The job waits for an answer.
-    InTrouble(Cause),
+    InTrouble(Halt),
     /// What an ended job left dirty could not be synced. The job has changed nothing yet, and waits for an answer.
     OwedSyncFailed(Cause),
     /// What stands next is to be left as it is, since this stood in the way.

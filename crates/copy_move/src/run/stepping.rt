@@ -8,7 +8,7 @@ ghost use Rattle.copy_move.specs.Jobs.{IsGoing, course_after, is_fresh};
 ghost use Rattle.copy_move.specs.Settling.{NoneOwed};
 ghost use Rattle.copy_move.specs.Steps.{OwedSyncStep, OwnStep, RunStep, SkipSteps, WindingStep};
 
-use super::{Course, Run};
+use super::{Course, Halt, Run};
 use crate::owed::first_owed;
 use crate::reports::without_call;
 use file_copy::PartTest;
@@ -199,7 +199,10 @@ fn after_report(did: &Did) -> Course
     ensures { result ≡ course_after did.now }
 {
     match did {
-        Did::Troubled(trouble) => Course::InTrouble(trouble.cause),
+        Did::Troubled(trouble) => Course::InTrouble(Halt {
+            cause: trouble.cause,
+            barrier: trouble.barrier,
+        }),
         _ => Course::GoesOn,
     }
 }
