@@ -62,7 +62,7 @@ with_change was now folder dirty = folders.with_change was now folder dirty
 abbrev pub WorkLeaves : Work → Did → Work → List Route → List Route → Option CallLog → Option CallLog → Type 0
 WorkLeaves (Copy c) did (Copy new) dirty dirty_after before after =
     dirty_after ≡ with_change (copying.is_dirty c.folder) (copying.is_dirty new.folder) (folder_of c.target) dirty
-WorkLeaves (CopyTree c) did (CopyTree new) dirty dirty_after before after = ChangesOwn c dirty dirty_after
+WorkLeaves (CopyTree c) did (CopyTree new) dirty dirty_after before after = ChangesOwn c did dirty dirty_after
 WorkLeaves (Delete d) did (Delete new) dirty dirty_after before after = DeletionLeaves d did dirty dirty_after before after
 WorkLeaves (Make m) did (Make new) dirty dirty_after before after =
     dirty_after ≡ with_change (makings.is_dirty m.stage) (makings.is_dirty new.stage) (folder_of m.path) dirty

@@ -13,6 +13,7 @@ pub mod Listed
 pub mod Ranked
 pub mod Reportings
 pub mod StillTelling
+mod Syncs
 pub mod Targets
 pub mod Tellings
 pub mod Unbegun

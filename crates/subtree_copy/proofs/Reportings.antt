@@ -50,6 +50,7 @@ use Rattle.subtree_copy.specs.Reporting.{ChangesOwn, MayTell, MayWind, Reporting
 use Rattle.subtree_copy.specs.Standing.{SubtreeCopying, part_of}
 use Rattle.subtree_copy.specs.SubtreeSteps.{ListSteps, step_result}
 use Rattle.subtree_copy.proofs.Barred.{passed_trouble}
+use Rattle.subtree_copy.proofs.Syncs.{cleaned_by_sync, passed_barrier}
 use Rattle.subtree_copy.proofs.Targets.{works_at_once}
 
 -- a report of a file, of a link, of a folder
@@ -356,11 +357,18 @@ worked_own top c h = by (brings_made c) refl
     by true is = around_own top c.levels.inner c.levels.around h.levels (brings_around c.item c is)
     by false is = moved_own top c.levels.inner c.levels.around h.levels
 
-pub list_own : (free : Route → Bool) (c : SubtreeCopying) (old new : Seen) (worked : StepResult) (dirty dirty_after : List Route) (before after : Option CallLog) (f0 f1 : ℕ) → ListSteps free old new worked dirty dirty_after before after f0 f1
-    → IsInPlace c.top old → ChangesOwn c dirty dirty_after
-list_own free c old new worked dirty dirty_after before after f0 f1 (inl s) h = record { folder = folder_worked old; own = worked_own c.top old h; was = false; now = false; list = s.list }
-list_own free c old new worked dirty dirty_after before after f0 f1 (inr s) h =
-    record { folder = folder_worked old; own = worked_own c.top old h; was = was_dirty old; now = is_dirty_after old worked.did new; list = s.list }
+pub list_own : (free : Route → Bool) (c : SubtreeCopying) (old new : Seen) (worked : StepResult) (did : Did) (dirty dirty_after : List Route) (before after : Option CallLog) (f0 f1 : ℕ)
+    → ListSteps free old new worked dirty dirty_after before after f0 f1 → IsInPlace c.top old → may_leave old ≡ false → (worked.did ≡ Barrier → did ≡ Barrier) → ChangesOwn c did dirty dirty_after
+list_own free c old new worked did dirty dirty_after before after f0 f1 (inl s) h settled told =
+    record { folder = folder_worked old; own = worked_own c.top old h; was = false; now = false; list = s.list; synced = λ was now. absurd (false≢true was) }
+list_own free c old new worked did dirty dirty_after before after f0 f1 (inr s) h settled told = record {
+  folder = folder_worked old;
+  own = worked_own c.top old h;
+  was = was_dirty old;
+  now = is_dirty_after old worked.did new;
+  list = s.list;
+  synced = λ was now. told (cleaned_by_sync free old new worked.did worked.calls before after f0 f1 s.steps settled was now);
+}
 
 pub reporting_law : ReportingLaw
 reporting_law = record {
@@ -370,7 +378,9 @@ reporting_law = record {
       let w = winds_wound old.at.item ending old.at new.at last before after f0 f1 s.winds can in
       record { may = w.may; top = ap (λ (c : SubtreeCopying). c.top) s.stands; skips = ap (λ (c : SubtreeCopying). c.skips) s.stands; stage = w.stage; part = w.part };
   list = λ free old new did calls dirty dirty_after before after f0 f1 s h.
-      let l = s.leaves in list_own free old s.mid s.moved s.worked dirty dirty_after before after f0 f1 s.works (leaves_all old.top l.0 old.at s.mid l.1 h);
+      let l = s.leaves in
+      list_own free old s.mid s.moved s.worked did dirty dirty_after before after f0 f1 s.works (leaves_all old.top l.0 old.at s.mid l.1 h) s.settled
+      (passed_barrier old.skips s.worked s.moved new.at (step_result did calls) s.passes);
   kinds = λ free old new path cause calls dirty dirty_after before after f0 f1 s.
       passes_kind old.skips s.worked s.moved new.at path cause calls s.passes (list_not free s.mid s.moved s.worked dirty dirty_after before after f0 f1 s.works s.settled);
   tried = λ old new same h. moved_own old.top new.at.levels.inner new.at.levels.around h.levels;

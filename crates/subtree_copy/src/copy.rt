@@ -74,7 +74,7 @@ impl SubtreeCopy {
         requires going { IsGoing self.old }
         ensures steps { SubtreeSteps (P.is_free parts.now) self.old self.new result.did result.calls
             dirty.old dirty.new (T.contents tree.old) (T.contents tree.new) (T.fault_count tree.old) (T.fault_count tree.new) }
-        ensures own { ChangesOwn self.old dirty.old dirty.new }
+        ensures own { ChangesOwn self.old result.did dirty.old dirty.new }
         ensures going { IsGoing self.new }
     {
         leave_settled(&mut self.machine);
