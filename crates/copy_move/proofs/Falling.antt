@@ -115,8 +115,12 @@ setting_tried_low setting.Sync = omega arith
 setting_tried_low setting.Done = omega arith
 
 -- a job in trouble has fewer steps left than one that goes on
-above : (low high : ℕ) → low < high → low < high + 1
+above : (low high : ℕ) → low < high → low + 1 < high + 2
 above low high less = omega (arith, less)
+
+-- with the end
+one_above : (low high : ℕ) → low < high → low + 1 < high + 1
+one_above low high less = omega (arith, less)
 
 pub trouble_falls : (work : Work) → IsGoing work → last_rank work < work_rank work
 trouble_falls (CopyTree c) g = above (tree.last_rank c.at) (tree.rank c.at) (waiting_law c g.can)
@@ -197,7 +201,7 @@ setting_low setting.Sync = omega arith
 setting_low setting.Done = omega arith
 
 pub waiting_falls : (work : Work) → IsGoing work → last_rank work < skip_rank work
-waiting_falls (CopyTree c) g = waiting_law c g.can
+waiting_falls (CopyTree c) g = one_above (tree.last_rank c.at) (tree.rank c.at) (waiting_law c g.can)
 waiting_falls (Copy c) g = let few = few_last c.stage c.folder in omega (arith, few)
 waiting_falls (Delete d) g = omega arith
 waiting_falls (SetMode s) g = setting_low s.stage

@@ -56,16 +56,19 @@ met_so (Cleaned part) h = h
 met_so Barrier h = h
 met_so (Ended ending part) h = h
 
+above : (low high : ℕ) → low < high → low + 2 < high + 2
+above low high less = omega (arith, less)
+
 one_above : (low high : ℕ) → low < high → low + 1 < high + 1
 one_above low high less = omega (arith, less)
 
-at_most : (low high : ℕ) → low ≤ high → low < high + 1
+at_most : (low high : ℕ) → low ≤ high → low + 1 < high + 2
 at_most low high less = omega (arith, less)
 
-two_below : (low high : ℕ) → low + 2 ≤ high → low + 1 < high
+two_below : (low high : ℕ) → low + 2 ≤ high → low + 2 < high + 1
 two_below low high less = omega (arith, less)
 
-last_weighs : (low high few many : ℕ) → low < high → few ≤ many + 1 → 3 * low + (few + few) < 3 * high + (many + many)
+last_weighs : (low high few many : ℕ) → low < high → few ≤ many + 1 → 3 * (low + 1) + (few + few) < 3 * (high + 1) + (many + many)
 last_weighs low high few many less more = omega (arith, less, more)
 
 -- a trouble leaves the copy where it stood
@@ -110,22 +113,22 @@ module _ (free : Route → Bool) (c new : SubtreeCopying) (did : Did) (calls : �
   falls_on : (d : Did) → Makes d → ends d ≡ false → rank_on (course_after d) (CopyTree new) < work_rank (CopyTree c)
   falls_on (Troubled trouble) m h = at_most (last_rank new.at) (rank c.at) (let law = trouble_law in law.step free c new trouble calls dirty dirty_after before after f0 f1 m g.steady g.can)
   falls_on (Ended ending part) m h = absurd (true≢false h)
-  falls_on (Began part) m h = one_above (rank new.at) (rank c.at) (rank_law free c new (Began part) calls dirty dirty_after before after f0 f1 m g.steady g.can refl)
-  falls_on (Chunk count) m h = one_above (rank new.at) (rank c.at) (rank_law free c new (Chunk count) calls dirty dirty_after before after f0 f1 m g.steady g.can refl)
-  falls_on (Set path) m h = one_above (rank new.at) (rank c.at) (rank_law free c new (Set path) calls dirty dirty_after before after f0 f1 m g.steady g.can refl)
-  falls_on (Placed path) m h = one_above (rank new.at) (rank c.at) (rank_law free c new (Placed path) calls dirty dirty_after before after f0 f1 m g.steady g.can refl)
-  falls_on (Removed path) m h = one_above (rank new.at) (rank c.at) (rank_law free c new (Removed path) calls dirty dirty_after before after f0 f1 m g.steady g.can refl)
-  falls_on (Made path) m h = one_above (rank new.at) (rank c.at) (rank_law free c new (Made path) calls dirty dirty_after before after f0 f1 m g.steady g.can refl)
-  falls_on (Kept path) m h = one_above (rank new.at) (rank c.at) (rank_law free c new (Kept path) calls dirty dirty_after before after f0 f1 m g.steady g.can refl)
-  falls_on (Skipped path cause) m h = one_above (rank new.at) (rank c.at) (rank_law free c new (Skipped path cause) calls dirty dirty_after before after f0 f1 m g.steady g.can refl)
-  falls_on (Cleaned part) m h = one_above (rank new.at) (rank c.at) (rank_law free c new (Cleaned part) calls dirty dirty_after before after f0 f1 m g.steady g.can refl)
-  falls_on Barrier m h = one_above (rank new.at) (rank c.at) (rank_law free c new Barrier calls dirty dirty_after before after f0 f1 m g.steady g.can refl)
+  falls_on (Began part) m h = above (rank new.at) (rank c.at) (rank_law free c new (Began part) calls dirty dirty_after before after f0 f1 m g.steady g.can refl)
+  falls_on (Chunk count) m h = above (rank new.at) (rank c.at) (rank_law free c new (Chunk count) calls dirty dirty_after before after f0 f1 m g.steady g.can refl)
+  falls_on (Set path) m h = above (rank new.at) (rank c.at) (rank_law free c new (Set path) calls dirty dirty_after before after f0 f1 m g.steady g.can refl)
+  falls_on (Placed path) m h = above (rank new.at) (rank c.at) (rank_law free c new (Placed path) calls dirty dirty_after before after f0 f1 m g.steady g.can refl)
+  falls_on (Removed path) m h = above (rank new.at) (rank c.at) (rank_law free c new (Removed path) calls dirty dirty_after before after f0 f1 m g.steady g.can refl)
+  falls_on (Made path) m h = above (rank new.at) (rank c.at) (rank_law free c new (Made path) calls dirty dirty_after before after f0 f1 m g.steady g.can refl)
+  falls_on (Kept path) m h = above (rank new.at) (rank c.at) (rank_law free c new (Kept path) calls dirty dirty_after before after f0 f1 m g.steady g.can refl)
+  falls_on (Skipped path cause) m h = above (rank new.at) (rank c.at) (rank_law free c new (Skipped path cause) calls dirty dirty_after before after f0 f1 m g.steady g.can refl)
+  falls_on (Cleaned part) m h = above (rank new.at) (rank c.at) (rank_law free c new (Cleaned part) calls dirty dirty_after before after f0 f1 m g.steady g.can refl)
+  falls_on Barrier m h = above (rank new.at) (rank c.at) (rank_law free c new Barrier calls dirty dirty_after before after f0 f1 m g.steady g.can refl)
 
   module _ (unclaimed : Route → Type 0) (allows : AllowsOnly unclaimed free) where
     goes_from : (b : Option CallLog) → before ≡ b → Goes unclaimed c new did calls dirty dirty_after b after f0 f1
     goes_from b is = record { free = free; allows = allows; since = f0; later = omega arith; steps = subst (λ x. SubtreeSteps free c new did calls dirty dirty_after x after f0 f1) is s }
 
-    pub tree_steps : ChangesOwn c dirty dirty_after → WorkSteps unclaimed (CopyTree c) (CopyTree new) did calls dirty dirty_after before after f0 f1
+    pub tree_steps : ChangesOwn c did dirty dirty_after → WorkSteps unclaimed (CopyTree c) (CopyTree new) did calls dirty dirty_after before after f0 f1
     tree_steps own =
         let k = count_law free c new did calls dirty dirty_after before after f0 f1 s in record {
           tells = tells;
@@ -183,11 +186,11 @@ module _ (cause : Cause) (c new : SubtreeCopying) (did : Did) (s : SubtreeSkips 
       by (inl (path, is)) = record {
         walks = s;
         skips = inl (path, is, (cause, subst (λ d. IsAfter d c new) is (let law = told_law in law.skip cause c new did s g.can)));
-        falls = subst (λ d. rank_on (course_after d) (CopyTree new) < rank c.at) (sym is)
+        falls = subst (λ d. rank_on (course_after d) (CopyTree new) < rank c.at + 1) (sym is)
             (two_below (rank new.at) (rank c.at) (let law = answered_law in law.skip cause c new (Skipped path cause) (subst (λ d. SubtreeSkips cause c d new) is s) g.steady apart refl));
       }
       by (inr (is, same)) = record {
         walks = s;
         skips = inr (is, ap CopyTree same);
-        falls = subst (λ d. rank_on (course_after d) (CopyTree new) < rank c.at) (sym is) (subst (λ (n : SubtreeCopying). last_rank n.at < rank c.at) (sym same) (waiting_law c g.can));
+        falls = subst (λ d. rank_on (course_after d) (CopyTree new) < rank c.at + 1) (sym is) (subst (λ (n : SubtreeCopying). last_rank n.at + 1 < rank c.at + 1) (sym same) (one_above (last_rank c.at) (rank c.at) (waiting_law c g.can)));
       }

@@ -60,17 +60,17 @@ last_setting_steps setting.Give = 1
 last_setting_steps setting.Sync = 2
 last_setting_steps setting.Done = 1
 
--- of a job that copies something whole one more than of its copy, since a trouble may leave it as many last steps as it had steps
+-- of a job that copies something whole those of its copy, and the end; a trouble may leave it as many last steps as it had steps, so there is one more
 abbrev pub work_rank : Work → ℕ
 work_rank (Copy c) = copy_rank c.stage c.folder
-work_rank (CopyTree c) = tree.rank c.at + 1
+work_rank (CopyTree c) = tree.rank c.at + 2
 work_rank (Delete d) = deletion_rank d
 work_rank (Make m) = making_rank m.stage
 work_rank (SetMode s) = setting_rank s.stage
 
 abbrev pub last_rank : Work → ℕ
 last_rank (Copy c) = last_steps c.stage c.folder
-last_rank (CopyTree c) = tree.last_rank c.at
+last_rank (CopyTree c) = tree.last_rank c.at + 1
 last_rank (Delete d) = 1
 last_rank (Make m) = last_making_steps m.stage
 last_rank (SetMode s) = last_setting_steps s.stage
@@ -78,7 +78,7 @@ last_rank (SetMode s) = last_setting_steps s.stage
 -- where something is to be skipped
 abbrev pub skip_rank : Work → ℕ
 skip_rank (Copy c) = 10
-skip_rank (CopyTree c) = tree.rank c.at
+skip_rank (CopyTree c) = tree.rank c.at + 1
 skip_rank (Delete d) = deletion_rank d + 1
 skip_rank (Make m) = 10
 skip_rank (SetMode s) = 10

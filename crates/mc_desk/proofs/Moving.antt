@@ -168,6 +168,24 @@ module _ (job : Option Running) (newest older : List Entry) (dirty dirty_after :
       begun (Delete d) = false
       begun (Make m) = false
       begun (SetMode x) = settings.is_dirty x.stage
+  work_moves live (CopyTree c) (CopyTree w) (CopyTree new) before after is work same t h =
+      folder_moves live h.folder is (subst (λ x. is_own x h.folder ≡ true) (sym work) h.own) h.was h.now h.synced h.list
+  work_moves live (CopyTree c) (Copy w) new before after is work same t h = absurd t
+  work_moves live (CopyTree c) (Delete w) new before after is work same t h = absurd t
+  work_moves live (CopyTree c) (Make w) new before after is work same t h = absurd t
+  work_moves live (CopyTree c) (SetMode w) new before after is work same t h = absurd t
+  work_moves live (CopyTree c) (CopyTree w) (Copy new) before after is work same t h = absurd h
+  work_moves live (CopyTree c) (CopyTree w) (Delete new) before after is work same t h = absurd h
+  work_moves live (CopyTree c) (CopyTree w) (Make new) before after is work same t h = absurd h
+  work_moves live (CopyTree c) (CopyTree w) (SetMode new) before after is work same t h = absurd h
+  work_moves live (Copy c) (CopyTree w) new before after is work same t h = absurd t
+  work_moves live (Delete d) (CopyTree w) new before after is work same t h = absurd t
+  work_moves live (Make m) (CopyTree w) new before after is work same t h = absurd t
+  work_moves live (SetMode s) (CopyTree w) new before after is work same t h = absurd t
+  work_moves live (Copy c) (Copy w) (CopyTree new) before after is work same t h = absurd h
+  work_moves live (Delete d) (Delete w) (CopyTree new) before after is work same t h = absurd h
+  work_moves live (Make m) (Make w) (CopyTree new) before after is work same t h = absurd h
+  work_moves live (SetMode s) (SetMode w) (CopyTree new) before after is work same t h = absurd h
   work_moves live (SetMode s) (Copy w) new before after is work same t h = absurd t
   work_moves live (SetMode s) (Delete w) new before after is work same t h = absurd t
   work_moves live (SetMode s) (Make w) new before after is work same t h = absurd t

@@ -37,7 +37,6 @@ use Rattle.job_reports.specs.Paths.{folder_of, without}
 use Rattle.copy_move.specs.Steps.{LeavesDirty, RunStep, OwedSyncStep, SyncsOwed, step_made}
 use Rattle.copy_move.specs.Told.{if_closed}
 use Rattle.copy_move.proofs.DeletionRuns.{fewer, one_fewer}
-use Rattle.copy_move.proofs.Falling.{trouble_falls}
 use Rattle.copy_move.proofs.FolderSteps.{joined_more, one_more, tried_more}
 
 more : (most : ℕ) → 0 < most + 8
@@ -215,7 +214,7 @@ settled_falls closed job stepped did made dirty dirty_after before after f0 f1 s
         let count : length dirty_after ≡ length dirty = ap length h.dirty_is in
         let waits : rank_at dirty_after stepped.course stepped.work ≡ rank_at dirty_after (OwedSyncFailed h.trouble.cause) job.work = ap (λ (j : Running). rank_at dirty_after j.course j.work) h.new_is in
         let goes : rank_at dirty job.course job.work ≡ rank_at dirty GoesOn job.work = ap (λ c. rank_at dirty c job.work) s.goes in
-        let low = trouble_falls job.work in
+        let low = s.waits in
         rank_left closed job stepped did dirty dirty_after (omega (arith, count)) (λ going. omega (arith, count, waits, goes, low))
 
 pub run_falls : (unclaimed : Route → Type 0) (closed : Bool) (job stepped : Running) (did : Did) (made : ℕ) (dirty dirty_after : List Route) (before after : Option CallLog) (f0 f1 : ℕ)
