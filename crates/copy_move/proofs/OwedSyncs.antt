@@ -17,7 +17,8 @@ use Rattle.mode_setting.specs.SettingSteps.{SyncRan, sync_of}
 use Rattle.copy_move.specs.declared.run.Course.TheVariants.{GoesOn, OwedSyncFailed}
 use Rattle.copy_move.specs.Jobs.{Running, is_fresh}
 use Rattle.copy_move.specs.Steps.{OwedSyncStep, SyncsOwed, step_made}
-use Rattle.copy_move.proofs.StillTelling.{StillTells, performs_tells, sync_stop_tells}
+use Rattle.subtree_copy.proofs.StillTelling.{performs_tells}
+use Rattle.copy_move.proofs.StillTelling.{StillTells, sync_stop_tells}
 
 one_done : (log : CallLog) (call : Call) (after : Option CallLog) → AllDone log (call ∷ []) after → Performs {A = Unit {0}} log call (Ok tt) after
 one_done log call after (mid, performs, is) = subst (λ a. Performs {A = Unit {0}} log call (Ok tt) a) (sym is) performs

@@ -9,7 +9,7 @@ ghost use Rattle.copy_move.specs.Told.{running};
 mod answering;
 mod stepping;
 
-use crate::starting::{copy_of, deletion_of, folder_of, link_of, setting_of};
+use crate::starting::{copy_of, deletion_of, folder_of, link_of, setting_of, tree_copy_of};
 use crate::work::Work;
 use file_copy::PartTest;
 use job_reports::{Cause, Ending, Job, JobKind, StepResult};
@@ -61,6 +61,7 @@ impl Run {
     {
         let work = match job {
             Job::Copy(pairs) => copy_of(alloc, pairs, id)?,
+            Job::CopyTree(pairs) => tree_copy_of(alloc, pairs, id)?,
             Job::Delete(paths) => deletion_of(alloc, paths)?,
             Job::MakeFolder(path) => folder_of(alloc, path)?,
             Job::MakeLink(path, text) => link_of(alloc, path, text)?,

@@ -1,18 +1,20 @@
-mod Answered
-mod Barred
+pub mod Answered
+pub mod Barred
 mod Begun
-mod Counts
+pub mod Counts
 mod Done
 mod Fewer
 mod Held
-mod LastCounts
-mod LastOnes
+pub mod LastCounts
+pub mod LastOnes
+mod LastRuns
 mod Left
 pub mod Listed
-mod Ranked
-mod Reportings
+pub mod Ranked
+pub mod Reportings
+pub mod StillTelling
 pub mod Targets
-mod Tellings
-mod Unbegun
-mod Waits
+pub mod Tellings
+pub mod Unbegun
+pub mod Waits
 mod Worked

@@ -2,6 +2,8 @@
 use Rattle.std.specs.Prelude.{◌≡◌, ℕ, ⊤, Bool, true, List, Option, None, Some}
 use Rattle.mc_text.specs.Routes.{Route}
 use Rattle.tree_trait.specs.Change.{CallLog}
+use Rattle.job_answers.specs.Skipping.{holds, kind_in}
+use Rattle.job_reports.specs.declared.report.Cause.{Cause}
 use Rattle.job_reports.specs.declared.report.Did.{Did}
 use Rattle.job_reports.specs.declared.report.Did.TheVariants.{Began, Chunk, Placed, Removed, Made, Set, Kept, Skipped, Cleaned, Barrier, Troubled, Ended}
 use Rattle.job_reports.specs.declared.report.Ending.{Ending}
@@ -73,5 +75,8 @@ pub record ReportingLaw : Type 0 where
       → LastSubtreeStep ending old new last dirty dirty_after before after faults faults_after → IsWindable old.at.item → IsWound ending old last.did new
   pub list : (free : Route → Bool) (old new : SubtreeCopying) (did : Did) (calls : ℕ) (dirty dirty_after : List Route) (before after : Option CallLog) (faults faults_after : ℕ)
       → SubtreeSteps free old new did calls dirty dirty_after before after faults faults_after → IsInPlace old.top old.at → ChangesOwn old dirty dirty_after
+  -- what is passed over is in a trouble of a kind that is skipped
+  pub kinds : (free : Route → Bool) (old new : SubtreeCopying) (path : Route) (cause : Cause) (calls : ℕ) (dirty dirty_after : List Route) (before after : Option CallLog) (faults faults_after : ℕ)
+      → SubtreeSteps free old new (Skipped path cause) calls dirty dirty_after before after faults faults_after → holds old.skips (kind_in cause) ≡ true
   -- the folder that a last step tries is the one that is worked then
   pub tried : (old new : SubtreeCopying) → new.top ≡ old.top → IsInPlace old.top new.at → is_own old new.at.levels.inner.copy.target ≡ true

@@ -11,7 +11,7 @@ use Rattle.copy_move.proofs.run.Run.begin.Goals as goal
 
 pub returns-in_default : goal.returns-in_default
 returns-in_default g c =
-    record { steps = inl (own_later (λ path. g.P.PartTest.is_free c.args.parts.now path ≡ true) _ _ _ _ _ _ _ _ _ _ _ _ c.first_owed.ensures.same c.first_owed.ensures.later c.work_on.ensures.steps) }
+    record { steps = inl (own_later (λ path. g.P.PartTest.is_free c.args.parts.now path ≡ true) _ _ _ _ _ _ _ _ _ _ _ _ c.requires.course c.first_owed.ensures.same c.first_owed.ensures.later c.work_on.ensures.steps) }
 
 pub returns-in_default-copy : goal.returns-in_default-copy
 returns-in_default-copy g c =
