@@ -63,7 +63,7 @@ calm_synced p log q g E F at_q f calm i at = by (calm i here)
     ]
 
 -- a thing is made
-module _ (p : Route) (log : CallLog) (tree : IsTree (current log)) (files : IsOfFiles log) (k : List ℕ) (up : Route) (made : Node) (making : IsMaking (current log) k up) (E F : Type 0) (f : E → F) (calm : IsCalmOr p log E) where
+module _ (log : CallLog) (tree : IsTree (current log)) (k : List ℕ) (up : Route) (made : Node) (making : IsMaking (current log) k up) where
   abbrev makes : Change
   makes = Makes (found (current log) up) k made
 
@@ -90,28 +90,30 @@ module _ (p : Route) (log : CallLog) (tree : IsTree (current log)) (files : IsOf
           let there = folder_there (current log).nodes (found (current log) up) making.holds in absurd (omega (arith, e, there))
       by false is = ap (λ b. (let o : Option (Option ℕ) = cond b (Some (Some new)) None in o)) is
 
-  leads : find (current after) (k ∷ up) ≡ Some new
+  pub leads : find (current after) (k ∷ up) ≡ Some new
   leads = made_leads log tree k up made making
 
-  new_clean : is_clean new after.changes ≡ true
-  new_clean = clean_more new log.changes makes refl (files.unborn new (omega arith))
+  -- so nothing stands below it
+  pub below_made : (name : List ℕ) (rest : Route) → find (current after) (name ∷ rest ++ k ∷ up) ≡ None
+  below_made name rest = none_below_hollow (current after) (k ∷ up) new leads none_then name rest
 
-  at_made : (rest : Route) (i : ℕ) → find (current after) (rest ++ k ∷ up) ≡ Some i → (is_clean i after.changes ≡ true) ⊎ F
-  at_made [] i at = inl (subst (λ j. is_clean j after.changes ≡ true) (sym (some_same new i (sym leads ∙ at))) new_clean)
-  at_made (name ∷ rest) i at = none_some i _ (none_below_hollow (current after) (k ∷ up) new leads none_then name rest) at
+  module _ (p : Route) (files : IsOfFiles log) (E F : Type 0) (f : E → F) (calm : IsCalmOr p log E) where
+    new_clean : is_clean new after.changes ≡ true
+    new_clean = clean_more new log.changes makes refl (files.unborn new (omega arith))
 
-  pub calm_made : IsCalmOr p after F
-  calm_made i at = elim (find_same log makes p) [
-    | inl same ↦ calm_same p log makes E F calm same (λ j here is. absurd (let e : ⊥ = cc in e)) (λ j here e. f e) i at
-    | inr under ↦ let u = under_made log tree up (found (current log) up) making.folder k made p under in at_made u.0 i (ap (find (current after)) (sym u.1) ∙ at)
-  ]
+    at_made : (rest : Route) (i : ℕ) → find (current after) (rest ++ k ∷ up) ≡ Some i → (is_clean i after.changes ≡ true) ⊎ F
+    at_made [] i at = inl (subst (λ j. is_clean j after.changes ≡ true) (sym (some_same new i (sym leads ∙ at))) new_clean)
+    at_made (name ∷ rest) i at = none_some i _ (below_made name rest) at
+
+    pub calm_made : IsCalmOr p after F
+    calm_made i at = elim (find_same log makes p) [
+      | inl same ↦ calm_same p log makes E F calm same (λ j here is. absurd (let e : ⊥ = cc in e)) (λ j here e. f e) i at
+      | inr under ↦ let u = under_made log tree up (found (current log) up) making.folder k made p under in at_made u.0 i (ap (find (current after)) (sym u.1) ∙ at)
+    ]
 
 -- A part goes to a free name beside it, or it is removed.
-module _ (p : Route) (log : CallLog) (tree : IsTree (current log)) (up : Route) (g : ℕ) (at_up : find (current log) up ≡ Some g) (part : List ℕ) (i : ℕ) (leads : lookup (current log).names g part ≡ Some i)
-    (file : is_folder (node (current log) i) ≡ false) (E F : Type 0) (f : E → (p ≡ part ∷ up) ⊎ F) (calm : IsCalmOr p log E) where
-  none_there : (c : Change) (j : ℕ) → find (current (with_change log c)) (part ∷ up) ≡ None → find (current (with_change log c)) p ≡ Some j → E → F
-  none_there c j gone at e = elim (f e) [ inl same ↦ none_some j _ (ap (find (current (with_change log c))) same ∙ gone) at | inr other ↦ other ]
-
+module _ (log : CallLog) (tree : IsTree (current log)) (up : Route) (g : ℕ) (at_up : find (current log) up ≡ Some g) (part : List ℕ) (i : ℕ) (leads : lookup (current log).names g part ≡ Some i)
+    (file : is_folder (node (current log) i) ≡ false) where
   abbrev removes : Change
   removes = Removes g part i
 
@@ -121,20 +123,12 @@ module _ (p : Route) (log : CallLog) (tree : IsTree (current log)) (up : Route) 
     | inr under ↦ let u = under_removed log tree up g at_up part i up under in absurd (not_longer u.0 part up u.1)
   ]
 
-  gone_removed : find (current (with_change log removes)) (part ∷ up) ≡ None
+  pub gone_removed : find (current (with_change log removes)) (part ∷ up) ≡ None
   gone_removed =
       ap (option_and_then (λ h. lookup (current (with_change log removes)).names h part)) up_removed
       ∙ said log removes g part None (ap (λ b. (let o : Option (Option ℕ) = cond b (Some None) None in o)) (same_name-self g part))
 
-  pub calm_removed : IsCalmOr p (with_change log removes) F
-  calm_removed j at = elim (find_same log removes p) [
-    | inl same ↦ calm_same p log removes E F calm same (λ k here is. absurd (let e : ⊥ = cc in e)) (λ k here e. none_there removes k gone_removed here e) j at
-    | inr under ↦
-        let u = under_removed log tree up g at_up part i p under in
-        none_some j _ (ap (find (current (with_change log removes))) u.1 ∙ none_below (with_change log removes) u.0 (part ∷ up) gone_removed) at
-  ]
-
-  module _ (target : List ℕ) (replaced : Option ℕ) (apart : part ≡ target → ⊥) (clean : is_clean i log.changes ≡ true) where
+  module _ (target : List ℕ) (replaced : Option ℕ) (apart : part ≡ target → ⊥) where
     abbrev moves : Change
     moves = Moves g part g target i replaced
 
@@ -150,14 +144,14 @@ module _ (p : Route) (log : CallLog) (tree : IsTree (current log)) (up : Route) 
       | inr under ↦ elim (under_moved log tree up g at_up part target i replaced up under) [ inl u ↦ absurd (not_longer u.0 target up u.1) | inr u ↦ absurd (not_longer u.0 part up u.1) ]
     ]
 
-    gone_moved : find (current then) (part ∷ up) ≡ None
+    pub gone_moved : find (current then) (part ∷ up) ≡ None
     gone_moved =
         ap (option_and_then (λ h. lookup (current then).names h part)) up_moved
         ∙ said log moves g part None
         (ap (λ b. (let o : Option (Option ℕ) = cond b (Some (Some i)) (cond (same_name g part g part) (Some None) None) in o)) not_same
         ∙ ap (λ b. (let o : Option (Option ℕ) = cond b (Some None) None in o)) (same_name-self g part))
 
-    target_leads : find (current then) (target ∷ up) ≡ Some i
+    pub target_leads : find (current then) (target ∷ up) ≡ Some i
     target_leads =
         ap (option_and_then (λ h. lookup (current then).names h target)) up_moved
         ∙ said log moves g target (Some i) (ap (λ b. (let o : Option (Option ℕ) = cond b (Some (Some i)) (cond (same_name g part g target) (Some None) None) in o)) (same_name-self g target))
@@ -170,7 +164,7 @@ module _ (p : Route) (log : CallLog) (tree : IsTree (current log)) (up : Route) 
         by None is = is
         by (Some j) is = absurd (both_ways _ file (tree.in_folders i m j is))
 
-    other_folder : g ≡ i → ⊥
+    pub other_folder : g ≡ i → ⊥
     other_folder same = both_ways _ file (subst (λ h. is_folder (node (current log) h) ≡ true) same (tree.in_folders g part i leads))
 
     none_after : (m : List ℕ) → lookup (current then).names i m ≡ None
@@ -183,15 +177,31 @@ module _ (p : Route) (log : CallLog) (tree : IsTree (current log)) (up : Route) 
             ap (λ x. (let o : Option (Option ℕ) = cond x (Some (Some i)) (cond (same_name g part i m) (Some None) None) in o)) is
             ∙ ap (λ x. (let o : Option (Option ℕ) = cond x (Some None) None in o)) b_is
 
-    at_target : (rest : Route) (j : ℕ) → find (current then) (rest ++ target ∷ up) ≡ Some j → (is_clean j then.changes ≡ true) ⊎ F
-    at_target [] j at = inl (subst (λ k. is_clean k then.changes ≡ true) (sym (some_same i j (sym target_leads ∙ at))) (clean_more i log.changes moves refl clean))
-    at_target (name ∷ rest) j at = none_some j _ (none_below_hollow (current then) (target ∷ up) i target_leads none_after name rest) at
+    pub below_target : (name : List ℕ) (rest : Route) → find (current then) (name ∷ rest ++ target ∷ up) ≡ None
+    below_target name rest = none_below_hollow (current then) (target ∷ up) i target_leads none_after name rest
 
-    pub calm_placed : IsCalmOr p then F
-    calm_placed j at = elim (find_same log moves p) [
-      | inl same ↦ calm_same p log moves E F calm same (λ k here is. absurd (let e : ⊥ = cc in e)) (λ k here e. none_there moves k gone_moved here e) j at
-      | inr under ↦ elim (under_moved log tree up g at_up part target i replaced p under) [
-        | inl u ↦ at_target u.0 j (ap (find (current then)) (sym u.1) ∙ at)
-        | inr u ↦ none_some j _ (ap (find (current then)) u.1 ∙ none_below then u.0 (part ∷ up) gone_moved) at
-      ]
+  module _ (p : Route) (E F : Type 0) (f : E → (p ≡ part ∷ up) ⊎ F) (calm : IsCalmOr p log E) where
+    none_there : (c : Change) (j : ℕ) → find (current (with_change log c)) (part ∷ up) ≡ None → find (current (with_change log c)) p ≡ Some j → E → F
+    none_there c j gone at e = elim (f e) [ inl same ↦ none_some j _ (ap (find (current (with_change log c))) same ∙ gone) at | inr other ↦ other ]
+
+    pub calm_removed : IsCalmOr p (with_change log removes) F
+    calm_removed j at = elim (find_same log removes p) [
+      | inl same ↦ calm_same p log removes E F calm same (λ k here is. absurd (let e : ⊥ = cc in e)) (λ k here e. none_there removes k gone_removed here e) j at
+      | inr under ↦
+          let u = under_removed log tree up g at_up part i p under in
+          none_some j _ (ap (find (current (with_change log removes))) u.1 ∙ none_below (with_change log removes) u.0 (part ∷ up) gone_removed) at
     ]
+
+    module _ (target : List ℕ) (replaced : Option ℕ) (apart : part ≡ target → ⊥) (clean : is_clean i log.changes ≡ true) where
+      at_target : (rest : Route) (j : ℕ) → find (current (then target replaced apart)) (rest ++ target ∷ up) ≡ Some j → (is_clean j (then target replaced apart).changes ≡ true) ⊎ F
+      at_target [] j at = inl (subst (λ k. is_clean k (then target replaced apart).changes ≡ true) (sym (some_same i j (sym (target_leads target replaced apart) ∙ at))) (clean_more i log.changes (moves target replaced apart) refl clean))
+      at_target (name ∷ rest) j at = none_some j _ (below_target target replaced apart name rest) at
+
+      pub calm_placed : IsCalmOr p (then target replaced apart) F
+      calm_placed j at = elim (find_same log (moves target replaced apart) p) [
+        | inl same ↦ calm_same p log (moves target replaced apart) E F calm same (λ k here is. absurd (let e : ⊥ = cc in e)) (λ k here e. none_there (moves target replaced apart) k (gone_moved target replaced apart) here e) j at
+        | inr under ↦ elim (under_moved log tree up g at_up part target i replaced p under) [
+          | inl u ↦ at_target u.0 j (ap (find (current (then target replaced apart))) (sym u.1) ∙ at)
+          | inr u ↦ none_some j _ (ap (find (current (then target replaced apart))) u.1 ∙ none_below (then target replaced apart) u.0 (part ∷ up) (gone_moved target replaced apart)) at
+        ]
+      ]

@@ -78,7 +78,7 @@ module _ (unclaimed : Route → Type 0) (log now : CallLog) (files : IsOfFiles l
       let made : Node = record { kind = kind.File; bytes = []; mode = mode; mtime = d.time; unnamed = 0 } in
       let passes : IsMaking (current log) (part_name f.job k) (folder_of f.target) = making_passes (current log) (part_name f.job k) (folder_of f.target) mode d.permits in
       none_left moved.stage (subst (λ (x : CallLog). IsCalmOr p x S) (sym d.is)
-      (calm_made p log known.tree files (part_name f.job k) (folder_of f.target) made passes (AtPart f.stage p S) S (no_part stage) calm))
+      (calm_made log known.tree (part_name f.job k) (folder_of f.target) made passes p files (AtPart f.stage p S) S (no_part stage) calm))
     where
       no_part : f.stage ≡ at.Begin → AtPart f.stage p S → S
       no_part begin (inl has) = absurd (let e : (let o : Option Route = None in o) ≡ Some p = sym (ap part_at begin) ∙ has in let x : ⊥ = cc in x)

@@ -106,4 +106,4 @@ module _ (p : Route) where
         let d = done_call log (MakeFolder target mode) now (row_done log now (MakeFolder target mode) rows) in
         let permits : refusal_of (current log) (MakeFolder (k ∷ up) mode) ≡ None = subst (λ r. refusal_of (current log) (MakeFolder r mode) ≡ None) is d.permits in
         let then = subst (λ r. now ≡ with_change log (change_of (current log) (MakeFolder r mode) d.time)) is d.is in
-        subst (λ (x : CallLog). IsCalmOr p x F) (sym then) (calm_made p log tree files k up _ (making_passes (current log) k up mode permits) E F f calm)
+        subst (λ (x : CallLog). IsCalmOr p x F) (sym then) (calm_made log tree k up _ (making_passes (current log) k up mode permits) p files E F f calm)

@@ -70,7 +70,7 @@ module _ (log now : CallLog) (files : IsOfFiles log) (name : List ℕ) (l : Leve
         let then : now ≡ with_change log (Makes (found (current log) up) k made) = subst (λ r. now ≡ with_change log (change_of (current log) (MakeLink r text) d.time)) is d.is in
         let making : IsMaking (current log) k up = making_passes (current log) k up 0 permits in
         let free : find (current log) c.part ≡ None = ap (find (current log)) is ∙ (ap (option_and_then (λ f. lookup (let s = current log in s.names) f k)) making.folder ∙ making.none) in
-        subst (λ (x : CallLog). IsCalmOr p x S) (sym then) (calm_made p log known.tree files k up made making S S (λ s. s) (calm free))
+        subst (λ (x : CallLog). IsCalmOr p x S) (sym then) (calm_made log known.tree k up made making p files S S (λ s. s) (calm free))
 
     removed : AllDone log (RemoveFile c.part ∷ []) (Some now) → IsCalmOr p log S → IsCalmOr p now S
     removed rows calm = calm_removing p log now c.part S S known.tree (λ s. inr s) calm (row_done log now (RemoveFile c.part) rows)

@@ -211,7 +211,7 @@ module _ (name : List ℕ) (l : Levels) (part target p : Route) (E : Type 0) whe
             ∙ (ap (λ x. cond x Nothing (Moves g w.k g w.n (found (current log) (w.k ∷ up)) (find (current log) (w.n ∷ up)))) other
             ∙ ap (λ k. Moves g w.k g w.n k (find (current log) (w.n ∷ up))) (ap (λ o. unwrap_or o 0) leads_here))) in
             subst (λ (x : CallLog). IsCalmOr p x F) (sym (d.is ∙ ap (with_change log) change))
-            (calm_placed p log r.tree up g last.folder w.k w.i part_there w.file ((p ≡ part) ⊎ E) F (λ e. subst (λ q. (p ≡ q) ⊎ F) w.part_is (f e)) r.calm w.n (find (current log) (w.n ∷ up)) w.apart (clean w.i w.leads))
+            (calm_placed log r.tree up g last.folder w.k w.i part_there w.file p ((p ≡ part) ⊎ E) F (λ e. subst (λ q. (p ≡ q) ⊎ F) w.part_is (f e)) r.calm w.n (find (current log) (w.n ∷ up)) w.apart (clean w.i w.leads))
 
     -- a full part is placed
     pub placed : (log : CallLog) (mode : ℕ) → Ready log → AllDone log (placing mode part target) (Some now) → IsCalmOr p now E
@@ -247,4 +247,4 @@ calm_removing p log now part E F tree f calm h = at (removable (current log) par
         ap (λ q. change_of (current log) (RemoveFile q) d.time) r.path_is
         ∙ (ap (λ g. Removes g r.name (found (current log) (r.name ∷ r.up))) (ap (λ o. unwrap_or o 0) r.folder) ∙ ap (λ k. Removes r.f r.name k) (ap (λ o. unwrap_or o 0) leads_there)) in
         subst (λ (x : CallLog). IsCalmOr p x F) (sym (d.is ∙ ap (with_change log) change))
-        (calm_removed p log tree r.up r.f r.folder r.name r.i r.leads r.no_folder E F (λ e. subst (λ q. (p ≡ q) ⊎ F) r.path_is (f e)) calm)
+        (calm_removed log tree r.up r.f r.folder r.name r.i r.leads r.no_folder p E F (λ e. subst (λ q. (p ≡ q) ⊎ F) r.path_is (f e)) calm)

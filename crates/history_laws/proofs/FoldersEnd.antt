@@ -1,4 +1,4 @@
--- Which open folder is at its end: none but the innermost, and only where nothing is at work and no name is left to be met. So where a file or a
+-- Which open folder is at its end, and none is done: none but the innermost, and only where nothing is at work and no name is left to be met. So where a file or a
 -- link is at work, or is taken up, each open folder is being filled.
 use Rattle.std.specs.Prelude.{◌≡◌, ℕ, ⊤, Bool, true, false, List, [], ◌∷◌, Option}
 use Rattle.mc_text.specs.Routes.{Route}
@@ -20,6 +20,13 @@ is_filled (Make mode) = false
 is_filled (Close owed) = false
 is_filled Done = false
 
+-- it is filled, or at its end
+abbrev pub is_open : Stage → Bool
+is_open (Fill owed) = true
+is_open (Close owed) = true
+is_open (Make mode) = false
+is_open Done = false
+
 abbrev pub AllFilled : List Level → Type 0
 AllFilled [] = ⊤
 AllFilled (outer ∷ around) = (is_filled outer.copy.stage ≡ true) × AllFilled around
@@ -30,6 +37,7 @@ pub record IsOver (c : Seen) : Type 0 where
   pub last : c.levels.inner.names.names ≡ []
 
 pub record EndsLast (c : Seen) : Type 0 where
+  pub open_still : is_open c.levels.inner.copy.stage ≡ true
   pub inner : is_filled c.levels.inner.copy.stage ≡ false → IsOver c
   pub around : AllFilled c.levels.around
 

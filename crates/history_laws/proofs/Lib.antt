@@ -58,6 +58,13 @@ pub mod ModeSteps
 pub mod ModesStay
 pub mod Moments
 pub mod Moved
+pub mod NameChanges
+pub mod NameItems
+pub mod NameLaws
+pub mod NameMarks
+pub mod NameRuns
+pub mod NameSteps
+pub mod Names
 pub mod OpenFolders
 pub mod OwedModes
 pub mod Owing
