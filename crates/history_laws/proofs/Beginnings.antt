@@ -12,7 +12,7 @@ use Rattle.session_history.specs.Named.{begins_change}
 use Rattle.copy_move.specs.declared.run.Course.{Course}
 use Rattle.copy_move.specs.declared.run.Course.TheVariants.{GoesOn, InTrouble, OwedSyncFailed, Skips, Ends}
 use Rattle.copy_move.specs.declared.work.Work.{Work}
-use Rattle.copy_move.specs.declared.work.Work.TheVariants.{Copy, Delete, Make, SetMode}
+use Rattle.copy_move.specs.declared.work.Work.TheVariants.{Copy, CopyTree, Delete, Make, SetMode}
 use Rattle.copy_move.specs.Jobs.{CallsOn, Running, TellsOn, WorkCalls, WorkTells, WorkWinds}
 use Rattle.copy_move.specs.Settling.{changed_folder}
 use Rattle.history_laws.specs.Staying.{may_change}
@@ -38,11 +38,19 @@ winds_none ending (Delete d) (Delete new) (Set path) t h = t
 winds_none ending (Delete d) (Make new) did t h = t
 winds_none ending (Make m) (Copy new) did t h = t
 winds_none ending (SetMode s) (Copy new) did t h = t
+winds_none ending (CopyTree s) (Copy new) did t h = t
+winds_none ending (SetMode s) (CopyTree new) did t h = t
 winds_none ending (SetMode s) (Delete new) did t h = t
+winds_none ending (CopyTree s) (Delete new) did t h = t
 winds_none ending (SetMode s) (Make new) did t h = t
+winds_none ending (CopyTree s) (Make new) did t h = t
 winds_none ending (Copy c) (SetMode new) did t h = t
+winds_none ending (Copy c) (CopyTree new) did t h = t
+winds_none ending (CopyTree c) (SetMode new) did t h = t
 winds_none ending (Delete d) (SetMode new) did t h = t
+winds_none ending (Delete d) (CopyTree new) did t h = t
 winds_none ending (Make m) (SetMode new) did t h = t
+winds_none ending (Make m) (CopyTree new) did t h = t
 winds_none ending (Make m) (Delete new) did t h = t
 winds_none ending (SetMode s) (SetMode new) (Began part) t h = t
 winds_none ending (SetMode s) (SetMode new) (Removed path) t h = t
@@ -66,7 +74,7 @@ goes_then job new did GoesOn is (work, tells, new_is) h = (is, (work, tells))
 goes_then job new did (InTrouble why) is t h = absurd t
 goes_then job new did (OwedSyncFailed why) is t h = absurd t
 goes_then job new did (Skips why) is (inl (path, work, did_is, passes, new_is)) h = absurd (false≢true (sym (ap begins_change did_is) ∙ h))
-goes_then job new did (Skips why) is (inr (did_is, new_is)) h = absurd (false≢true (sym (ap begins_change did_is) ∙ h))
+goes_then job new did (Skips why) is (inr (apart, did_is, new_is)) h = absurd (false≢true (sym (ap begins_change did_is) ∙ h))
 goes_then job new did (Ends ending) is (work, winds, new_is) h = absurd (winds_none ending job.work work did winds h)
 
 -- what is removed isn't the folder in which a job changes names
@@ -80,11 +88,19 @@ stays_by log now tree (Copy c) (Delete work) new path t calls = absurd t
 stays_by log now tree (Copy c) (Make work) new path t calls = absurd t
 stays_by log now tree (Make m) (Copy work) new path t calls = absurd t
 stays_by log now tree (SetMode s) (Copy work) new path t calls = absurd t
+stays_by log now tree (CopyTree s) (Copy work) new path t calls = absurd t
+stays_by log now tree (SetMode s) (CopyTree work) new path t calls = absurd t
 stays_by log now tree (SetMode s) (Delete work) new path t calls = absurd t
+stays_by log now tree (CopyTree s) (Delete work) new path t calls = absurd t
 stays_by log now tree (SetMode s) (Make work) new path t calls = absurd t
+stays_by log now tree (CopyTree s) (Make work) new path t calls = absurd t
 stays_by log now tree (Copy c) (SetMode work) new path t calls = absurd t
+stays_by log now tree (Copy c) (CopyTree work) new path t calls = absurd t
+stays_by log now tree (CopyTree c) (SetMode work) new path t calls = absurd t
 stays_by log now tree (Delete d) (SetMode work) new path t calls = absurd t
+stays_by log now tree (Delete d) (CopyTree work) new path t calls = absurd t
 stays_by log now tree (Make m) (SetMode work) new path t calls = absurd t
+stays_by log now tree (Make m) (CopyTree work) new path t calls = absurd t
 stays_by log now tree (Make m) (Delete work) new path t calls = absurd t
 stays_by log now tree (Make m) (Make work) new path t calls = absurd t
 stays_by log now tree (SetMode s) (SetMode work) new path t calls = absurd t
@@ -118,11 +134,19 @@ sets_none (Delete d) (Delete new) path q t own = t
 sets_none (Delete d) (Make new) path q t own = t
 sets_none (Make m) (Copy new) path q t own = t
 sets_none (SetMode s) (Copy new) path q t own = t
+sets_none (CopyTree s) (Copy new) path q t own = t
+sets_none (SetMode s) (CopyTree new) path q t own = t
 sets_none (SetMode s) (Delete new) path q t own = t
+sets_none (CopyTree s) (Delete new) path q t own = t
 sets_none (SetMode s) (Make new) path q t own = t
+sets_none (CopyTree s) (Make new) path q t own = t
 sets_none (Copy c) (SetMode new) path q t own = t
+sets_none (Copy c) (CopyTree new) path q t own = t
+sets_none (CopyTree c) (SetMode new) path q t own = t
 sets_none (Delete d) (SetMode new) path q t own = t
+sets_none (Delete d) (CopyTree new) path q t own = t
 sets_none (Make m) (SetMode new) path q t own = t
+sets_none (Make m) (CopyTree new) path q t own = t
 sets_none (Make m) (Delete new) path q t own = t
 sets_none (Make m) (Make new) path q t own = t
 sets_none (SetMode s) (SetMode new) path q t own = false≢true own

@@ -15,7 +15,7 @@ use Rattle.session_history.specs.declared.history.Entry.{Entry}
 use Rattle.copy_move.specs.declared.run.Course.{Course}
 use Rattle.copy_move.specs.declared.run.Course.TheVariants.{GoesOn}
 use Rattle.copy_move.specs.declared.work.Work.{Work}
-use Rattle.copy_move.specs.declared.work.Work.TheVariants.{Copy, Delete, Make, SetMode}
+use Rattle.copy_move.specs.declared.work.Work.TheVariants.{Copy, CopyTree, Delete, Make, SetMode}
 use Rattle.tree_deletion.specs.declared.deletion.Stage.{Stage}
 use Rattle.tree_deletion.specs.declared.deletion.Stage.TheVariants.{Begin, Going, Sync}
 use Rattle.tree_deletion.specs.Standing.{at_barrier, is_fresh as is_fresh_stage}
@@ -91,11 +91,19 @@ module _ (told : Said) (dirty : List Route) (marks : Marks) (log : CallLog) (cou
   fresh_then (Delete d) (Delete new) (Ended ending part) t h clean k = absurd (false≢true h)
   fresh_then (Make m) (Copy new) did t h clean k = absurd t
   fresh_then (SetMode s) (Copy new) did t h clean k = absurd t
+  fresh_then (CopyTree s) (Copy new) did t h clean k = absurd t
+  fresh_then (SetMode s) (CopyTree new) did t h clean k = absurd t
   fresh_then (SetMode s) (Delete new) did t h clean k = absurd t
+  fresh_then (CopyTree s) (Delete new) did t h clean k = absurd t
   fresh_then (SetMode s) (Make new) did t h clean k = absurd t
+  fresh_then (CopyTree s) (Make new) did t h clean k = absurd t
   fresh_then (Copy c) (SetMode new) did t h clean k = absurd t
+  fresh_then (Copy c) (CopyTree new) did t h clean k = absurd t
+  fresh_then (CopyTree c) (SetMode new) did t h clean k = absurd t
   fresh_then (Delete d) (SetMode new) did t h clean k = absurd t
+  fresh_then (Delete d) (CopyTree new) did t h clean k = absurd t
   fresh_then (Make m) (SetMode new) did t h clean k = absurd t
+  fresh_then (Make m) (CopyTree new) did t h clean k = absurd t
   fresh_then (Make m) (Delete new) did t h clean k = absurd t
   fresh_then (Make m) (Make new) (Made path) t h clean (name, none) = (ap makings.is_fresh t.0, none)
   fresh_then (Make m) (Make new) (Began part) t h clean k = absurd t

@@ -89,7 +89,7 @@ hollow_file s path tree r = record {
 }
 
 -- below it nothing stands
-none_below_hollow : (s : FileSystem) (top : Route) (i : ℕ) → find s top ≡ Some i → ((m : List ℕ) → lookup s.names i m ≡ None) → (name : List ℕ) (rest : Route) → find s (name ∷ rest ++ top) ≡ None
+pub none_below_hollow : (s : FileSystem) (top : Route) (i : ℕ) → find s top ≡ Some i → ((m : List ℕ) → lookup s.names i m ≡ None) → (name : List ℕ) (rest : Route) → find s (name ∷ rest ++ top) ≡ None
 none_below_hollow s top i at empty name [] = ap (option_and_then (λ f. lookup s.names f name)) at ∙ empty name
 none_below_hollow s top i at empty name (more ∷ rest) = ap (option_and_then (λ f. lookup s.names f name)) (none_below_hollow s top i at empty more rest)
 

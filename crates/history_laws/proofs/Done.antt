@@ -16,7 +16,7 @@ use Rattle.session_history.specs.declared.history.Event.TheVariants.{Step}
 use Rattle.session_history.specs.declared.history.Entry.{Entry}
 use Rattle.copy_move.specs.Jobs.{Running}
 use Rattle.copy_move.specs.declared.work.Work.{Work}
-use Rattle.copy_move.specs.declared.work.Work.TheVariants.{Copy, Delete, Make, SetMode}
+use Rattle.copy_move.specs.declared.work.Work.TheVariants.{Copy, CopyTree, Delete, Make, SetMode}
 use Rattle.copy_move.specs.Steps.{SyncsOwed}
 use Rattle.history_laws.specs.Doubt.{is_unsettled}
 use Rattle.history_laws.specs.Owed.{IsNoMatter, is_own_path}

@@ -24,7 +24,14 @@ use Rattle.session_history.specs.declared.history.Entry.{Entry}
 use Rattle.copy_move.specs.declared.run.Course.{Course}
 use Rattle.copy_move.specs.declared.run.Course.TheVariants.{GoesOn, InTrouble, OwedSyncFailed, Skips, Ends}
 use Rattle.copy_move.specs.declared.work.Work.{Work}
-use Rattle.copy_move.specs.declared.work.Work.TheVariants.{Copy, Delete, Make, SetMode}
+use Rattle.tree_copy.specs.declared.item.Item.{Item as CopyItem}
+use Rattle.tree_copy.specs.declared.item.Item.TheVariants.{Next, File, Link, Stays}
+use Rattle.tree_copy.specs.declared.progress.Progress.{Progress}
+use Rattle.tree_copy.specs.declared.progress.Progress.TheVariants.{UnderWay, Decided, Anew}
+use Rattle.tree_copy.specs.Skipping.{retried_at}
+use Rattle.tree_copy.specs.Standing.{Seen, is_fresh}
+use Rattle.tree_copy.specs.Steps.{idle, settled}
+use Rattle.copy_move.specs.declared.work.Work.TheVariants.{Copy, CopyTree, Delete, Make, SetMode}
 use Rattle.copy_move.specs.Jobs.{Running, TellsOn, answered_on, closed_course, closed_job, course_after, first_work, taken_anew, with_skips}
 use Rattle.job_reports.specs.Reports.{ends}
 use Rattle.copy_move.specs.Settling.{changed_folder}
@@ -82,7 +89,7 @@ tells_aborted job new did GoesOn is (work, tells, new_is) old ending e = no_end 
 tells_aborted job new did (InTrouble why) is t old ending e = absurd t
 tells_aborted job new did (OwedSyncFailed why) is t old ending e = absurd t
 tells_aborted job new did (Skips why) is (inl (path, work, did_is, passes, new_is)) old ending e = no_end GoesOn ending tt (sym (ap (λ (x : Running). x.course) new_is) ∙ e)
-tells_aborted job new did (Skips why) is (inr (did_is, new_is)) old ending e = no_end (InTrouble Rattle.job_reports.specs.declared.report.Cause.TheVariants.Memory) ending tt (sym (ap (λ (x : Running). x.course) new_is) ∙ e)
+tells_aborted job new did (Skips why) is (inr (apart, did_is, new_is)) old ending e = no_end (InTrouble Rattle.job_reports.specs.declared.report.Cause.TheVariants.Memory) ending tt (sym (ap (λ (x : Running). x.course) new_is) ∙ e)
 tells_aborted job new did (Ends first) is (work, winds, new_is) old ending e = old ending (sym (ap (λ (x : Running). x.course) new_is) ∙ e)
 
 -- a job with the same work and number, that goes on only where it went on
@@ -96,14 +103,28 @@ kept_tidy opening g dirty job new id_is begun_is (folder_is, item_is) tidy_is on
   calm = λ changed q own. old.calm (ap (λ n. has_changed n g) (sym id_is) ∙ changed) q (subst (λ i. may_change i q ≡ true) item_is own);
 }
 
+-- a retry of what is copied whole leaves its stage
+settled_stage : (p : Progress) (item : CopyItem) (c : Seen) → (let s : Seen = settled p item c in s.stage) ≡ c.stage
+settled_stage UnderWay item c = refl
+settled_stage Decided item c = refl
+settled_stage Anew item c = refl
+
+anew_stage : (item : CopyItem) (c : Seen) → (let s : Seen = retried_at item c in s.stage) ≡ c.stage
+anew_stage Next c = refl
+anew_stage (File f) c = settled_stage _ _ (idle c)
+anew_stage (Link l) c = settled_stage _ _ (idle c)
+anew_stage (Stays part) c = refl
+
 anew_dirty : (work : Work) → (has_begun (taken_anew work) ≡ has_begun work) × ((changed_folder (taken_anew work) ≡ changed_folder work) × (item_in (taken_anew work) ≡ item_in work))
 anew_dirty (Copy c) = (refl, (refl, refl))
+anew_dirty (CopyTree c) = (ap (λ s. not (is_fresh s)) (anew_stage c.at.item c.at), (refl, refl))
 anew_dirty (Delete d) = (refl, (refl, refl))
 anew_dirty (Make m) = (refl, (refl, refl))
 anew_dirty (SetMode s) = (refl, (refl, refl))
 
 anew_tidy : (work : Work) (dirty : List Route) → TidyFolder work dirty → TidyFolder (taken_anew work) dirty
 anew_tidy (Copy c) dirty t = t
+anew_tidy (CopyTree c) dirty t = tt
 anew_tidy (Delete d) dirty t = tt
 anew_tidy (Make m) dirty t = t
 anew_tidy (SetMode s) dirty t = t
@@ -111,12 +132,14 @@ anew_tidy (SetMode s) dirty t = t
 -- nor does it once a kind of trouble is passed over
 skips_dirty : (why : Cause) (work : Work) → (has_begun (with_skips why work) ≡ has_begun work) × ((changed_folder (with_skips why work) ≡ changed_folder work) × (item_in (with_skips why work) ≡ item_in work))
 skips_dirty why (Copy c) = (refl, (refl, refl))
+skips_dirty why (CopyTree c) = (refl, (refl, refl))
 skips_dirty why (Delete d) = (refl, (refl, refl))
 skips_dirty why (Make m) = (refl, (refl, refl))
 skips_dirty why (SetMode s) = (refl, (refl, refl))
 
 skips_tidy : (why : Cause) (work : Work) (dirty : List Route) → TidyFolder work dirty → TidyFolder (with_skips why work) dirty
 skips_tidy why (Copy c) dirty t = t
+skips_tidy why (CopyTree c) dirty t = tt
 skips_tidy why (Delete d) dirty t = tt
 skips_tidy why (Make m) dirty t = t
 skips_tidy why (SetMode s) dirty t = t
@@ -250,6 +273,7 @@ module _ (opening : CallLog) (tree : IsTree (current opening)) (settled : all_se
 
       fewer_tidy : (work : Work) → TidyFolder work dirty → TidyFolder work (without syncs.path dirty)
       fewer_tidy (Copy c) tidy = λ clean among. tidy clean (in_filter (λ kept. not (same_path kept syncs.path)) (folder_of c.target) dirty among)
+      fewer_tidy (CopyTree c) tidy = tt
       fewer_tidy (Delete d) tidy = tt
       fewer_tidy (Make m) tidy = λ clean among. tidy clean (in_filter (λ kept. not (same_path kept syncs.path)) (folder_of m.path) dirty among)
       fewer_tidy (SetMode s) tidy = (

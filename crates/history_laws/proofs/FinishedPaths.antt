@@ -19,7 +19,7 @@ use Rattle.copy_move.specs.declared.run.Course.TheVariants.{GoesOn, InTrouble, O
 use Rattle.copy_move.specs.declared.work.Work.{Work}
 use Rattle.copy_move.specs.declared.making.MakingStage.{MakingStage}
 use Rattle.copy_move.specs.declared.making.MakingStage.TheVariants as making
-use Rattle.copy_move.specs.declared.work.Work.TheVariants.{Copy, Delete, Make, SetMode}
+use Rattle.copy_move.specs.declared.work.Work.TheVariants.{Copy, CopyTree, Delete, Make, SetMode}
 use Rattle.copy_move.specs.Makings.{Making}
 use Rattle.copy_move.specs.Makings as makings
 use Rattle.mode_setting.specs.Settings.{Setting}
@@ -59,11 +59,19 @@ done_work (Copy c) (Make new) next part dirty dirty_after before after t leaves 
 done_work (Delete d) (Make new) next part dirty dirty_after before after t leaves tidy q own among = t
 done_work (Make m) (Copy new) next part dirty dirty_after before after t leaves tidy q own among = t
 done_work (SetMode s) (Copy new) next part dirty dirty_after before after t leaves tidy q own among = t
+done_work (CopyTree s) (Copy new) next part dirty dirty_after before after t leaves tidy q own among = t
+done_work (SetMode s) (CopyTree new) next part dirty dirty_after before after t leaves tidy q own among = t
 done_work (SetMode s) (Delete new) next part dirty dirty_after before after t leaves tidy q own among = t
+done_work (CopyTree s) (Delete new) next part dirty dirty_after before after t leaves tidy q own among = t
 done_work (SetMode s) (Make new) next part dirty dirty_after before after t leaves tidy q own among = t
+done_work (CopyTree s) (Make new) next part dirty dirty_after before after t leaves tidy q own among = t
 done_work (Copy c) (SetMode new) next part dirty dirty_after before after t leaves tidy q own among = t
+done_work (Copy c) (CopyTree new) next part dirty dirty_after before after t leaves tidy q own among = t
+done_work (CopyTree c) (SetMode new) next part dirty dirty_after before after t leaves tidy q own among = t
 done_work (Delete d) (SetMode new) next part dirty dirty_after before after t leaves tidy q own among = t
+done_work (Delete d) (CopyTree new) next part dirty dirty_after before after t leaves tidy q own among = t
 done_work (Make m) (SetMode new) next part dirty dirty_after before after t leaves tidy q own among = t
+done_work (Make m) (CopyTree new) next part dirty dirty_after before after t leaves tidy q own among = t
 done_work (Make m) (Delete new) next part dirty dirty_after before after t leaves tidy q own among = t
 done_work (Make m) (Make new) next part dirty dirty_after before after (is_done, part_is, new_is) leaves tidy q own among =
     tidy (done_making m.stage is_done) (subst (λ x. Among dirty x) (same_path-true q (folder_of m.path) own) among)
@@ -71,6 +79,7 @@ done_work (Delete d) (Delete new) (Copy next) part dirty dirty_after before afte
 done_work (SetMode s) (SetMode new) next part dirty dirty_after before after (stage, part_is, new_is) leaves tidy q own among =
     tidy.0 (ap settings.is_dirty stage) (subst (λ x. Among dirty x) (same_path-true q s.path own) among)
 done_work (Delete d) (Delete new) (SetMode next) part dirty dirty_after before after t leaves tidy q own among = leaves
+done_work (Delete d) (Delete new) (CopyTree next) part dirty dirty_after before after t leaves tidy q own among = leaves
 done_work (Delete d) (Delete new) (Make next) part dirty dirty_after before after t leaves tidy q own among = leaves
 done_work (Delete d) (Delete new) (Delete next) part dirty dirty_after before after t leaves tidy q own among = both_ways _ (leaves.0 q among) own
 
@@ -85,11 +94,19 @@ wound_up ending (Delete d) (Copy new) part t = absurd t
 wound_up ending (Delete d) (Make new) part t = absurd t
 wound_up ending (Make m) (Copy new) part t = absurd t
 wound_up ending (SetMode s) (Copy new) part t = absurd t
+wound_up ending (CopyTree s) (Copy new) part t = absurd t
+wound_up ending (SetMode s) (CopyTree new) part t = absurd t
 wound_up ending (SetMode s) (Delete new) part t = absurd t
+wound_up ending (CopyTree s) (Delete new) part t = absurd t
 wound_up ending (SetMode s) (Make new) part t = absurd t
+wound_up ending (CopyTree s) (Make new) part t = absurd t
 wound_up ending (Copy c) (SetMode new) part t = absurd t
+wound_up ending (Copy c) (CopyTree new) part t = absurd t
+wound_up ending (CopyTree c) (SetMode new) part t = absurd t
 wound_up ending (Delete d) (SetMode new) part t = absurd t
+wound_up ending (Delete d) (CopyTree new) part t = absurd t
 wound_up ending (Make m) (SetMode new) part t = absurd t
+wound_up ending (Make m) (CopyTree new) part t = absurd t
 wound_up ending (Make m) (Delete new) part t = absurd t
 
 finished_tidy : (opening : CallLog) (g : List Entry) (dirty dirty_after : List Route) (job new : Running) (part : Option Route) (before after : Option CallLog) (course : Course) → job.course ≡ course → TellsOn course job (Ended Finished part) new
@@ -100,7 +117,7 @@ finished_tidy opening g dirty dirty_after job new part before after GoesOn is (w
 finished_tidy opening g dirty dirty_after job new part before after (InTrouble why) is tells leaves t changed = absurd tells
 finished_tidy opening g dirty dirty_after job new part before after (OwedSyncFailed why) is tells leaves t changed = absurd tells
 finished_tidy opening g dirty dirty_after job new part before after (Skips why) is (inl (path, work, did_is, passes, new_is)) leaves t changed = absurd (let f : ⊥ = cc in f)
-finished_tidy opening g dirty dirty_after job new part before after (Skips why) is (inr (did_is, new_is)) leaves t changed = absurd (let f : ⊥ = cc in f)
+finished_tidy opening g dirty dirty_after job new part before after (Skips why) is (inr (apart, did_is, new_is)) leaves t changed = absurd (let f : ⊥ = cc in f)
 finished_tidy opening g dirty dirty_after job new part before after (Ends ending) is (work, winds, new_is) leaves t changed =
     let e : Finished ≡ Aborted = wound_up ending job.work work part winds ∙ t.aborted ending is in absurd (let f : ⊥ = cc in f)
 

@@ -25,7 +25,7 @@ use Rattle.session_history.specs.Named.{IsUnnamedSince, named_parts, names_path}
 use Rattle.job_reports.specs.Paths.{without}
 use Rattle.copy_move.specs.declared.run.Course.{Course}
 use Rattle.copy_move.specs.declared.work.Work.{Work}
-use Rattle.copy_move.specs.declared.work.Work.TheVariants.{Copy, Delete, Make, SetMode}
+use Rattle.copy_move.specs.declared.work.Work.TheVariants.{Copy, CopyTree, Delete, Make, SetMode}
 use Rattle.copy_move.specs.Jobs.{Running}
 use Rattle.history_laws.specs.Doubt.{is_unsettled, node_waits, way_waits}
 use Rattle.history_laws.specs.Replayed.{log_prefix, replayed_tree}

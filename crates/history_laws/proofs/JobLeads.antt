@@ -16,7 +16,7 @@ use Rattle.file_copy.specs.Copying.{Copying}
 use Rattle.file_copy.specs.Copying as copying
 use Rattle.job_reports.proofs.CallAnswers.{some_log}
 use Rattle.copy_move.specs.declared.work.Work.{Work}
-use Rattle.copy_move.specs.declared.work.Work.TheVariants.{Copy, Delete, Make, SetMode}
+use Rattle.copy_move.specs.declared.work.Work.TheVariants.{Copy, CopyTree, Delete, Make, SetMode}
 use Rattle.copy_move.specs.declared.run.Course.{Course}
 use Rattle.copy_move.specs.declared.run.Course.TheVariants.{GoesOn, InTrouble, OwedSyncFailed, Skips, Ends}
 use Rattle.copy_move.specs.Makings.{Making}
@@ -56,11 +56,19 @@ module _ (told : Said) (dirty dirty_after : List Route) (marks : Marks) (log now
   skip_knows course (Delete d) (Make new) path h k = absurd h
   skip_knows course (Make m) (Copy new) path h k = absurd h
   skip_knows course (SetMode s) (Copy new) path h k = absurd h
+  skip_knows course (CopyTree s) (Copy new) path h k = absurd h
+  skip_knows course (SetMode s) (CopyTree new) path h k = absurd h
   skip_knows course (SetMode s) (Delete new) path h k = absurd h
+  skip_knows course (CopyTree s) (Delete new) path h k = absurd h
   skip_knows course (SetMode s) (Make new) path h k = absurd h
+  skip_knows course (CopyTree s) (Make new) path h k = absurd h
   skip_knows course (Copy c) (SetMode new) path h k = absurd h
+  skip_knows course (Copy c) (CopyTree new) path h k = absurd h
+  skip_knows course (CopyTree c) (SetMode new) path h k = absurd h
   skip_knows course (Delete d) (SetMode new) path h k = absurd h
+  skip_knows course (Delete d) (CopyTree new) path h k = absurd h
   skip_knows course (Make m) (SetMode new) path h k = absurd h
+  skip_knows course (Make m) (CopyTree new) path h k = absurd h
   skip_knows course (Make m) (Delete new) path h k = absurd h
   skip_knows course (SetMode s) (SetMode new) path (path_is, new_is) k = subst (λ (n : Setting). WorkKnows told dirty marks log GoesOn (SetMode n)) (sym new_is) k
   skip_knows course (Make m) (Make new) path (path_is, new_is) k = subst (λ (n : Making). WorkKnows told dirty marks log GoesOn (Make n)) (sym new_is) k
@@ -79,11 +87,19 @@ module _ (told : Said) (dirty dirty_after : List Route) (marks : Marks) (log now
   work_tells (Delete d) (Make new) did knows tells calls settled leaves = absurd tells
   work_tells (Make w) (Copy new) did knows tells calls settled leaves = absurd tells
   work_tells (SetMode s) (Copy new) did knows tells calls settled leaves = absurd tells
+  work_tells (CopyTree s) (Copy new) did knows tells calls settled leaves = absurd tells
+  work_tells (SetMode s) (CopyTree new) did knows tells calls settled leaves = absurd tells
   work_tells (SetMode s) (Delete new) did knows tells calls settled leaves = absurd tells
+  work_tells (CopyTree s) (Delete new) did knows tells calls settled leaves = absurd tells
   work_tells (SetMode s) (Make new) did knows tells calls settled leaves = absurd tells
+  work_tells (CopyTree s) (Make new) did knows tells calls settled leaves = absurd tells
   work_tells (Copy c) (SetMode new) did knows tells calls settled leaves = absurd tells
+  work_tells (Copy c) (CopyTree new) did knows tells calls settled leaves = absurd tells
+  work_tells (CopyTree c) (SetMode new) did knows tells calls settled leaves = absurd tells
   work_tells (Delete d) (SetMode new) did knows tells calls settled leaves = absurd tells
+  work_tells (Delete d) (CopyTree new) did knows tells calls settled leaves = absurd tells
   work_tells (Make w) (SetMode new) did knows tells calls settled leaves = absurd tells
+  work_tells (Make w) (CopyTree new) did knows tells calls settled leaves = absurd tells
   work_tells (Make w) (Delete new) did knows tells calls settled leaves = absurd tells
 
   work_winds : (ending : Ending) (old new : Work) (did : Did) → WorkKnows told dirty marks log (Ends ending) old → WorkWinds ending old did new → WorkLastCalls old did log (Some now)
@@ -105,11 +121,19 @@ module _ (told : Said) (dirty dirty_after : List Route) (marks : Marks) (log now
   work_winds ending (Delete d) (Make new) did knows winds calls leaves = absurd winds
   work_winds ending (Make m) (Copy new) did knows winds calls leaves = absurd winds
   work_winds ending (SetMode s) (Copy new) did knows winds calls leaves = absurd winds
+  work_winds ending (CopyTree s) (Copy new) did knows winds calls leaves = absurd winds
+  work_winds ending (SetMode s) (CopyTree new) did knows winds calls leaves = absurd winds
   work_winds ending (SetMode s) (Delete new) did knows winds calls leaves = absurd winds
+  work_winds ending (CopyTree s) (Delete new) did knows winds calls leaves = absurd winds
   work_winds ending (SetMode s) (Make new) did knows winds calls leaves = absurd winds
+  work_winds ending (CopyTree s) (Make new) did knows winds calls leaves = absurd winds
   work_winds ending (Copy c) (SetMode new) did knows winds calls leaves = absurd winds
+  work_winds ending (Copy c) (CopyTree new) did knows winds calls leaves = absurd winds
+  work_winds ending (CopyTree c) (SetMode new) did knows winds calls leaves = absurd winds
   work_winds ending (Delete d) (SetMode new) did knows winds calls leaves = absurd winds
+  work_winds ending (Delete d) (CopyTree new) did knows winds calls leaves = absurd winds
   work_winds ending (Make m) (SetMode new) did knows winds calls leaves = absurd winds
+  work_winds ending (Make m) (CopyTree new) did knows winds calls leaves = absurd winds
   work_winds ending (Make m) (Delete new) did knows winds calls leaves = absurd winds
 
   abbrev pub Leads : Running → Did → Running → Type 0
@@ -127,8 +151,8 @@ module _ (told : Said) (dirty dirty_after : List Route) (marks : Marks) (log now
   by_course job new did (Skips why) is knows (inl (path, work, did_is, passes, new_is)) calls settled leaves =
       subst (λ x. Leads job x new) (sym did_is) (subst (λ (x : Running). Leads job (Skipped path why) x) (sym new_is)
       (stands told dirty dirty_after marks log now kept GoesOn work (skip_knows (Skips why) job.work work path passes knows) leaves (some_log now log calls)))
-  by_course job new did (Skips why) is knows (inr (did_is, new_is)) calls settled leaves =
-      subst (λ x. Leads job x new) (sym did_is) (subst (λ (x : Running). Leads job (Troubled (Rattle.job_reports.specs.Stops.out_of_memory_at (Rattle.copy_move.specs.Jobs.at_barrier job.work))) x) (sym new_is)
+  by_course job new did (Skips why) is knows (inr (apart, did_is, new_is)) calls settled leaves =
+      subst (λ x. Leads job x new) (sym did_is) (subst (λ (x : Running). Leads job (Troubled (Rattle.job_reports.specs.Stops.out_of_memory_at false)) x) (sym new_is)
       (stands told dirty dirty_after marks log now kept (InTrouble Memory) job.work
       (work_course told dirty marks log (Skips why) (InTrouble Memory) job.work (λ e. absurd (let f : ⊥ = cc in f)) knows) leaves (some_log now log calls)))
   by_course job new did (Ends ending) is knows (work, winds, new_is) calls settled leaves =

@@ -28,7 +28,7 @@ use Rattle.file_copy.specs.LastSteps.{SyncAnswers, WindCalls, Winds, given_up, l
 use Rattle.file_copy.specs.LastSteps as last
 use Rattle.job_reports.proofs.CallAnswers.{some_log}
 use Rattle.copy_move.specs.declared.work.Work.{Work}
-use Rattle.copy_move.specs.declared.work.Work.TheVariants.{Copy, Delete, Make, SetMode}
+use Rattle.copy_move.specs.declared.work.Work.TheVariants.{Copy, CopyTree, Delete, Make, SetMode}
 use Rattle.copy_move.specs.declared.run.Course.{Course}
 use Rattle.copy_move.specs.declared.run.Course.TheVariants.{Ends}
 use Rattle.copy_move.specs.Jobs.{part_of}

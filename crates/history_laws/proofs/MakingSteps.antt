@@ -7,7 +7,7 @@ use Rattle.mc_text.specs.Routes.{Route, same_path}
 use Rattle.tree_trait.specs.declared.file_system.Node.{Node}
 use Rattle.tree_trait.specs.declared.calls.TreeError.{TreeError}
 use Rattle.tree_trait.specs.declared.file_system.FileSystem.{FileSystem}
-use Rattle.tree_trait.specs.FileSystem.{Spot, find, lookup, value}
+use Rattle.tree_trait.specs.FileSystem.{Spot, View, find, lookup, value}
 use Rattle.tree_trait.specs.Calls.{SyncFolder}
 use Rattle.tree_trait.specs.Change.{Makes, Nothing, CallLog, change_of, current, found, torn_write, with_change}
 use Rattle.tree_trait.specs.Refusals.{refusal_of}
@@ -58,9 +58,9 @@ node_of thing.Folder = record { kind = kind.Folder; bytes = []; mode = new_folde
 node_of (thing.Link text) = record { kind = kind.Link; bytes = text; mode = 0; mtime = pos 0; unnamed = 0 }
 
 -- it is what the history says of its making
-shown_as : (new : NewThing) (path : Route) → made_by (Some (making_item new path)) ≡ value (node_of new)
-shown_as thing.Folder path = refl
-shown_as (thing.Link text) path = refl
+shown_as : (new : NewThing) (path made : Route) (v : View) → made_by (Some (making_item new path)) made v ≡ value (node_of new)
+shown_as thing.Folder path made v = refl
+shown_as (thing.Link text) path made v = refl
 
 -- the call that makes it is refused as the making of a file is, and it is no write
 thing_passes : (s : FileSystem) (new : NewThing) (name : List ℕ) (up : Route) → refusal_of s (making_call new (name ∷ up)) ≡ None → IsMaking s name up
@@ -77,7 +77,7 @@ no_write (thing.Link text) path s left = refl
 
 -- a thing is made
 module _ (told : Said) (dirty dirty_after : List Route) (marks : Marks) (log now : CallLog) (name : List ℕ) (up : Route) (new : NewThing) (work : Work) (kept : IsKept told dirty marks log) (none : told.part ≡ None)
-    (owed : NoneOn (current log) up dirty) (within : folder_changed (item_in work) ≡ up) (own : (p : Route) → may_change (item_in work) p ≡ true → p ≡ up) (said_made : made_by (Some (item_in work)) ≡ value (node_of new)) (listed : Among dirty_after up) (more : (q : Route) → Among dirty q → Among dirty_after q)
+    (owed : NoneOn (current log) up dirty) (within : folder_changed (item_in work) ≡ up) (own : (p : Route) → may_change (item_in work) p ≡ true → p ≡ up) (said_made : made_by (Some (item_in work)) (name ∷ up) told.tree ≡ value (node_of new)) (listed : Among dirty_after up) (more : (q : Route) → Among dirty q → Among dirty_after q)
     (done : Performs {A = Unit {0}} log (making_call new (name ∷ up)) (Ok tt) (Some now)) where
   abbrev made_path : Route
   made_path = name ∷ up
@@ -129,8 +129,8 @@ module _ (told : Said) (dirty dirty_after : List Route) (marks : Marks) (log now
     free = passes.none;
     was = untouched.was;
     named = λ p aside. still_listed made_path p told.named (kept.known.aside p aside) (other p aside);
-    off = λ p off. (put_off told.tree made_path (Some (made_by (Some (item_in work)))) p off, put_off told.earlier made_path (told.tree made_path).value p off);
-    shown = put_at told.tree made_path (Some (made_by (Some (item_in work)))) ∙ ap (λ (s : Spot). (let t : Spot = record { value = Some (made_by (Some (item_in work))); is_mount = s.is_mount } in t)) nothing_told
+    off = λ p off. (put_off told.tree made_path (Some (made_by (Some (item_in work)) made_path told.tree)) p off, put_off told.earlier made_path (told.tree made_path).value p off);
+    shown = put_at told.tree made_path (Some (made_by (Some (item_in work)) made_path told.tree)) ∙ ap (λ (s : Spot). (let t : Spot = record { value = Some (made_by (Some (item_in work)) made_path told.tree); is_mount = s.is_mount } in t)) nothing_told
         ∙ ap (λ v. (let t : Spot = record { value = Some v; is_mount = false } in t)) said_made;
     earlier = ap (λ (s : Spot). s.value) (put_at told.earlier made_path (told.tree made_path).value) ∙ ap (λ (s : Spot). s.value) nothing_told;
     no_part = none;
@@ -163,7 +163,7 @@ module _ (told : Said) (dirty dirty_after : List Route) (marks : Marks) (log now
   made_at w new name none new_is owed routes done =
       let up = folder_of w.path in
       subst (λ q. Comes told (said_after now (Made q) (Make w) told) dirty_after log now (KnowsAfter (Made q) (said_after now (Made q) (Make w) told) dirty_after now GoesOn (Make new))) (sym name.is)
-      (thing_is_made told dirty dirty_after marks log now name.name up w.thing (Make w) kept none owed (folder_is (Make w)) (λ p own. same_path-true p (folder_of w.path) (making_changed w.thing w.path p own)) (shown_as w.thing w.path)
+      (thing_is_made told dirty dirty_after marks log now name.name up w.thing (Make w) kept none owed (folder_is (Make w)) (λ p own. same_path-true p (folder_of w.path) (making_changed w.thing w.path p own)) (shown_as w.thing w.path (name.name ∷ up) told.tree)
       (subst (λ xs. Among xs up) (sym routes) (joined_holds up dirty)) (λ q among. subst (λ xs. Among xs q) (sym routes) (joined_more up q dirty among))
       (subst (λ q. Performs {A = Unit {0}} log (making_call w.thing q) (Ok tt) (Some now)) name.is done)
       (KnowsAfter (Made (name.name ∷ up)) (said_after now (Made (name.name ∷ up)) (Make w) told) dirty_after now GoesOn (Make new))

@@ -14,7 +14,7 @@ use Rattle.job_reports.specs.Paths.{folder_of}
 use Rattle.copy_move.specs.declared.run.Course.{Course}
 use Rattle.copy_move.specs.declared.run.Course.TheVariants.{GoesOn}
 use Rattle.copy_move.specs.declared.work.Work.{Work}
-use Rattle.copy_move.specs.declared.work.Work.TheVariants.{Copy, Delete, Make, SetMode}
+use Rattle.copy_move.specs.declared.work.Work.TheVariants.{Copy, CopyTree, Delete, Make, SetMode}
 use Rattle.copy_move.specs.Deletions.{DeletionLeaves, Tells}
 use Rattle.copy_move.specs.Makings as makings
 use Rattle.mode_setting.specs.Settings as settings
@@ -133,13 +133,27 @@ own_or_before (Make m) next (Copy new) did q dirty dirty_after before after t le
 own_or_before (Make m) next (SetMode new) did q dirty dirty_after before after t leaves among = absurd leaves
 own_or_before (Copy c) next (SetMode new) did q dirty dirty_after before after t leaves among = absurd leaves
 own_or_before (Delete d) (SetMode next) new did q dirty dirty_after before after t leaves among = absurd t
+own_or_before (Delete d) (CopyTree next) new did q dirty dirty_after before after t leaves among = absurd t
 own_or_before (Delete d) (Delete next) (SetMode new) did q dirty dirty_after before after t leaves among = absurd leaves
+own_or_before (Delete d) (Delete next) (CopyTree new) did q dirty dirty_after before after t leaves among = absurd leaves
 own_or_before (SetMode s) next (Copy new) did q dirty dirty_after before after t leaves among = absurd leaves
 own_or_before (SetMode s) next (Delete new) did q dirty dirty_after before after t leaves among = absurd leaves
 own_or_before (SetMode s) next (Make new) did q dirty dirty_after before after t leaves among = absurd leaves
 own_or_before (SetMode s) next (SetMode new) did q dirty dirty_after before after t leaves among =
     elim (changed_or_before (settings.is_dirty s.stage) (settings.is_dirty new.stage) s.path q dirty (subst (λ xs. Among xs q) leaves among)) [
       | inl same ↦ inl (subst (λ p. same_path p s.path ≡ true) (sym same) (same_path-self s.path))
+      | inr old ↦ inr old
+    ]
+own_or_before (Copy c) next (CopyTree new) did q dirty dirty_after before after t leaves among = absurd leaves
+own_or_before (Make m) next (CopyTree new) did q dirty dirty_after before after t leaves among = absurd leaves
+own_or_before (SetMode s) next (CopyTree new) did q dirty dirty_after before after t leaves among = absurd leaves
+own_or_before (CopyTree c) next (Copy new) did q dirty dirty_after before after t leaves among = absurd leaves
+own_or_before (CopyTree c) next (Delete new) did q dirty dirty_after before after t leaves among = absurd leaves
+own_or_before (CopyTree c) next (Make new) did q dirty dirty_after before after t leaves among = absurd leaves
+own_or_before (CopyTree c) next (SetMode new) did q dirty dirty_after before after t leaves among = absurd leaves
+own_or_before (CopyTree c) next (CopyTree new) did q dirty dirty_after before after t leaves among =
+    elim (changed_or_before leaves.was leaves.now leaves.folder q dirty (subst (λ xs. Among xs q) leaves.list among)) [
+      | inl same ↦ inl (subst (λ p. is_own (CopyTree c) p ≡ true) (sym same) leaves.own)
       | inr old ↦ inr old
     ]
 own_or_before (Make m) next (Delete new) did q dirty dirty_after before after t leaves among = absurd leaves

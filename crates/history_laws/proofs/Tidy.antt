@@ -19,7 +19,7 @@ use Rattle.copy_move.specs.declared.run.Course.TheVariants.{GoesOn, InTrouble, O
 use Rattle.copy_move.specs.declared.work.Work.{Work}
 use Rattle.copy_move.specs.declared.making.MakingStage.{MakingStage}
 use Rattle.copy_move.specs.declared.making.MakingStage.TheVariants as making
-use Rattle.copy_move.specs.declared.work.Work.TheVariants.{Copy, Delete, Make, SetMode}
+use Rattle.copy_move.specs.declared.work.Work.TheVariants.{Copy, CopyTree, Delete, Make, SetMode}
 use Rattle.copy_move.specs.Makings.{Making}
 use Rattle.copy_move.specs.Makings as makings
 use Rattle.mode_setting.specs.Settings.{Setting}
@@ -112,6 +112,7 @@ IsApartFrom path dirty = Among dirty (folder_of path) → folder_of path ≡ pat
 -- where the folder of a copy, or of a new thing, isn't dirty, it isn't listed; nor a thing that was given a mode, nor ever the folder around
 abbrev pub TidyFolder : Work → List Route → Type 0
 TidyFolder (Copy c) dirty = copying.is_dirty c.folder ≡ false → Among dirty (folder_of c.target) → ⊥
+TidyFolder (CopyTree c) dirty = Unit {0}
 TidyFolder (Delete d) dirty = Unit {0}
 TidyFolder (Make m) dirty = makings.is_dirty m.stage ≡ false → Among dirty (folder_of m.path) → ⊥
 TidyFolder (SetMode s) dirty = (settings.is_dirty s.stage ≡ false → Among dirty s.path → ⊥) × IsApartFrom s.path dirty
@@ -145,6 +146,7 @@ set_apart s dirty log now owed d among = by s.path refl
 begins_set : (s : Setting) (work : Work) (did : Did) (dirty : List Route) (log now : CallLog) → WorkTells (SetMode s) did work → SettingCalls s did log (Some now) → (settings.is_fresh s.stage ≡ true → NoneOwed (current log) (SetMode s) dirty)
     → begins_change did ≡ true → IsApartFrom s.path dirty
 begins_set s (Copy new) did dirty log now t calls owed h = absurd t
+begins_set s (CopyTree new) did dirty log now t calls owed h = absurd t
 begins_set s (Delete new) did dirty log now t calls owed h = absurd t
 begins_set s (Make new) did dirty log now t calls owed h = absurd t
 begins_set s (SetMode new) (Set path) dirty log now t calls owed h = set_apart s dirty log now (owed (ap settings.is_fresh t.0)) (one_done log (Sets_mode s.path s.mode) now calls)
@@ -163,6 +165,7 @@ begins_set s (SetMode new) (Ended ending part) dirty log now t calls owed h = ab
 begins_apart : (old work new : Work) (did : Did) (dirty : List Route) (log now : CallLog) → WorkTells old did work → WorkCalls IsUnclaimed old did new log (Some now) → (is_fresh old ≡ true → NoneOwed (current log) old dirty)
     → begins_change did ≡ true → BeginsApart old dirty
 begins_apart (Copy c) work new did dirty log now t calls owed h = tt
+begins_apart (CopyTree c) work new did dirty log now t calls owed h = tt
 begins_apart (Delete d) work new did dirty log now t calls owed h = tt
 begins_apart (Make m) work new did dirty log now t calls owed h = tt
 begins_apart (SetMode s) work new did dirty log now t calls owed h = begins_set s work did dirty log now t calls owed h
@@ -185,6 +188,7 @@ tidy_work (Copy c) (Copy new) did dirty dirty_after before after tells leaves ol
     tidy_by (copying.is_dirty c.folder) (copying.is_dirty new.folder) (folder_of c.target) (folder_of new.target) dirty dirty_after leaves (ap folder_of (copy_stays c new did tells)) (old (λ h. both_ways _ clean (dirty_then c new did tells h))) clean among
 tidy_work (Copy c) (Delete new) did dirty dirty_after before after tells leaves old begins = absurd tells
 tidy_work (Delete d) (Copy new) did dirty dirty_after before after tells leaves old begins = absurd tells
+tidy_work (CopyTree c) (CopyTree new) did dirty dirty_after before after tells leaves old begins = tt
 tidy_work (Delete d) (Delete new) did dirty dirty_after before after tells leaves old begins = tt
 tidy_work (SetMode s) (SetMode new) did dirty dirty_after before after tells leaves old begins = (
   λ clean among.
@@ -202,11 +206,19 @@ tidy_work (Copy c) (Make new) did dirty dirty_after before after tells leaves ol
 tidy_work (Delete d) (Make new) did dirty dirty_after before after tells leaves old begins = absurd tells
 tidy_work (Make m) (Copy new) did dirty dirty_after before after tells leaves old begins = absurd tells
 tidy_work (SetMode s) (Copy new) did dirty dirty_after before after tells leaves old begins = absurd tells
+tidy_work (CopyTree s) (Copy new) did dirty dirty_after before after tells leaves old begins = absurd tells
+tidy_work (SetMode s) (CopyTree new) did dirty dirty_after before after tells leaves old begins = absurd tells
 tidy_work (SetMode s) (Delete new) did dirty dirty_after before after tells leaves old begins = absurd tells
+tidy_work (CopyTree s) (Delete new) did dirty dirty_after before after tells leaves old begins = absurd tells
 tidy_work (SetMode s) (Make new) did dirty dirty_after before after tells leaves old begins = absurd tells
+tidy_work (CopyTree s) (Make new) did dirty dirty_after before after tells leaves old begins = absurd tells
 tidy_work (Copy c) (SetMode new) did dirty dirty_after before after tells leaves old begins = absurd tells
+tidy_work (Copy c) (CopyTree new) did dirty dirty_after before after tells leaves old begins = absurd tells
+tidy_work (CopyTree c) (SetMode new) did dirty dirty_after before after tells leaves old begins = absurd tells
 tidy_work (Delete d) (SetMode new) did dirty dirty_after before after tells leaves old begins = absurd tells
+tidy_work (Delete d) (CopyTree new) did dirty dirty_after before after tells leaves old begins = absurd tells
 tidy_work (Make m) (SetMode new) did dirty dirty_after before after tells leaves old begins = absurd tells
+tidy_work (Make m) (CopyTree new) did dirty dirty_after before after tells leaves old begins = absurd tells
 tidy_work (Make m) (Delete new) did dirty dirty_after before after tells leaves old begins = absurd tells
 
 skipped_clean : (stage : MakingStage) → makings.is_dirty (makings.skipped stage) ≡ makings.is_dirty stage
@@ -219,6 +231,7 @@ tidy_passes : (old new : Work) (path : Route) (dirty : List Route) → PassesOve
 tidy_passes (Copy c) (Copy new) path dirty (path_is, new_is) old = subst (λ (n : Copying). TidyFolder (Copy n) dirty) (sym new_is) old
 tidy_passes (Copy c) (Delete new) path dirty h old = absurd h
 tidy_passes (Delete d) (Copy new) path dirty h old = absurd h
+tidy_passes (CopyTree c) (CopyTree new) path dirty h old = tt
 tidy_passes (Delete d) (Delete new) path dirty h old = tt
 tidy_passes (Make m) (Make new) path dirty (path_is, new_is) old = subst (λ (n : Making). TidyFolder (Make n) dirty) (sym new_is) (λ clean among. old (sym (skipped_clean m.stage) ∙ clean) among)
 tidy_passes (SetMode s) (SetMode new) path dirty (path_is, new_is) old =
@@ -227,11 +240,19 @@ tidy_passes (Copy c) (Make new) path dirty h old = absurd h
 tidy_passes (Delete d) (Make new) path dirty h old = absurd h
 tidy_passes (Make m) (Copy new) path dirty h old = absurd h
 tidy_passes (SetMode s) (Copy new) path dirty h old = absurd h
+tidy_passes (CopyTree s) (Copy new) path dirty h old = absurd h
+tidy_passes (SetMode s) (CopyTree new) path dirty h old = absurd h
 tidy_passes (SetMode s) (Delete new) path dirty h old = absurd h
+tidy_passes (CopyTree s) (Delete new) path dirty h old = absurd h
 tidy_passes (SetMode s) (Make new) path dirty h old = absurd h
+tidy_passes (CopyTree s) (Make new) path dirty h old = absurd h
 tidy_passes (Copy c) (SetMode new) path dirty h old = absurd h
+tidy_passes (Copy c) (CopyTree new) path dirty h old = absurd h
+tidy_passes (CopyTree c) (SetMode new) path dirty h old = absurd h
 tidy_passes (Delete d) (SetMode new) path dirty h old = absurd h
+tidy_passes (Delete d) (CopyTree new) path dirty h old = absurd h
 tidy_passes (Make m) (SetMode new) path dirty h old = absurd h
+tidy_passes (Make m) (CopyTree new) path dirty h old = absurd h
 tidy_passes (Make m) (Delete new) path dirty h old = absurd h
 
 module _ (job new : Running) (did : Did) (dirty dirty_after : List Route) (log now : CallLog) (before : Bool) where
@@ -247,7 +268,7 @@ module _ (job new : Running) (did : Did) (dirty dirty_after : List Route) (log n
   tidy_on (Skips why) is (inl (path, work, did_is, passes, new_is)) leaves old apart changed going =
       subst (λ (x : Running). TidyFolder x.work dirty_after) (sym new_is) (subst (λ xs. TidyFolder work xs) (sym leaves) (tidy_passes job.work work path dirty passes
       (elim (changed_by before (begins_change did) changed) [ inl b ↦ old b (subst IsGoing (sym is) tt) | inr h ↦ absurd (false≢true (sym (ap begins_change did_is) ∙ h)) ])))
-  tidy_on (Skips why) is (inr (did_is, new_is)) leaves old apart changed going =
+  tidy_on (Skips why) is (inr (apart, did_is, new_is)) leaves old apart changed going =
       subst (λ (x : Running). TidyFolder x.work dirty_after) (sym new_is) (subst (λ xs. TidyFolder job.work xs) (sym leaves)
       (elim (changed_by before (begins_change did) changed) [ inl b ↦ old b (subst IsGoing (sym is) tt) | inr h ↦ absurd (false≢true (sym (ap begins_change did_is) ∙ h)) ]))
   tidy_on (Ends ending) is (work, winds, new_is) leaves old apart changed going = absurd (subst IsGoing (ap (λ (x : Running). x.course) new_is ∙ is) going)

@@ -1,5 +1,5 @@
 -- What a history makes of the tree that can be seen, parts of live jobs aside. Histories stand newest first here.
-use Rattle.std.specs.Prelude.{ℕ, ◌+◌, if◌then◌else◌, List, [], ◌∷◌, length, take, Option, Some, None}
+use Rattle.std.specs.Prelude.{ℕ, ◌+◌, bit_or, if◌then◌else◌, List, [], ◌∷◌, length, take, Option, Some, None}
 use Rattle.std.specs.Option.{option_map}
 use Rattle.mc_text.specs.Routes.{Route, same_path}
 use Rattle.mc_text.specs.declared.kind.Kind.TheVariants.{Folder, Link}
@@ -60,14 +60,19 @@ new_folder = record { kind = Folder; bytes = []; mode = new_folder_mode; unnamed
 abbrev pub new_link : List ℕ → Value
 new_link text = record { kind = Link; bytes = text; mode = 0; unnamed = 0 }
 
--- what a job makes at a path: the link that it is to make, or a folder
-abbrev pub made_by : Option Item → Value
-made_by (Some (MakesLink link text)) = new_link text
-made_by (Some (Makes folder)) = new_folder
-made_by (Some (Copies source target)) = new_folder
-made_by (Some (Removes file)) = new_folder
-made_by (Some (Sets thing mode)) = new_folder
-made_by None = new_folder
+-- A folder that is made as a copy has its source's mode, and its owner may list, change and search it.
+abbrev pub copied_folder : Option Value → Value
+copied_folder None = new_folder
+copied_folder (Some from) = record new_folder { mode = bit_or from.mode 0o700 }
+
+-- what a job makes at a path: the link that it is to make, or a folder, which of a copy is that of where it comes from
+abbrev pub made_by : Option Item → Route → View → Value
+made_by (Some (MakesLink link text)) path v = new_link text
+made_by (Some (Makes folder)) path v = new_folder
+made_by (Some (Copies source target)) path v = copied_folder (v (moved_from source target path)).value
+made_by (Some (Removes file)) path v = new_folder
+made_by (Some (Sets thing mode)) path v = new_folder
+made_by None path v = new_folder
 
 -- What a step makes of the tree, which has this log then: a removed path has nothing any more, one that was made an empty
 -- folder or a link, one that was given a mode has that, and a part that an end names is from then on what it then is.
@@ -79,7 +84,7 @@ replayed_step log (Ended ending None) item v = v
 replayed_step log (Began part) item v = v
 replayed_step log (Chunk count) item v = v
 replayed_step log (Set path) item v = set_by item path v
-replayed_step log (Made path) item v = put v path (Some (made_by item))
+replayed_step log (Made path) item v = put v path (Some (made_by item path v))
 replayed_step log (Kept kept) item v = v
 replayed_step log (Skipped path cause) item v = v
 replayed_step log (Cleaned part) item v = v
