@@ -71,7 +71,7 @@ winds_none ending old new (Ended how part) t h = false≢true h
 
 pub goes_then : (job new : Running) (did : Did) (course : Course) → job.course ≡ course → TellsOn course job did new → begins_change did ≡ true → (job.course ≡ GoesOn) × ((work : Work) × WorkTells job.work did work)
 goes_then job new did GoesOn is (work, tells, new_is) h = (is, (work, tells))
-goes_then job new did (InTrouble why) is t h = absurd t
+goes_then job new did (InTrouble halt) is t h = absurd t
 goes_then job new did (OwedSyncFailed why) is t h = absurd t
 goes_then job new did (Skips why) is (inl (path, work, did_is, passes, new_is)) h = absurd (false≢true (sym (ap begins_change did_is) ∙ h))
 goes_then job new did (Skips why) is (inr (apart, did_is, new_is)) h = absurd (false≢true (sym (ap begins_change did_is) ∙ h))

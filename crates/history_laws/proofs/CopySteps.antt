@@ -35,8 +35,9 @@ use Rattle.tree_trait.proofs.Visible.{same_path-self, same_path-true}
 use Rattle.copy_move.specs.declared.work.Work.{Work}
 use Rattle.copy_move.specs.declared.work.Work.TheVariants.{Copy}
 use Rattle.copy_move.specs.declared.run.Course.{Course}
+use Rattle.copy_move.specs.declared.run.Halt.{Halt}
 use Rattle.copy_move.specs.declared.run.Course.TheVariants.{GoesOn, InTrouble}
-use Rattle.copy_move.specs.Jobs.{course_after}
+use Rattle.copy_move.specs.Jobs.{course_after, halt_of}
 use Rattle.copy_move.specs.Settling.{with_change as moves_dirty}
 use Rattle.history_laws.specs.Traces.{IsUnclaimed}
 use Rattle.history_laws.proofs.Calming.{stopped_is, written_known}
@@ -137,8 +138,8 @@ module _ (told : Said) (dirty dirty_after : List Route) (marks : Marks) (log now
   write_stops part i done bytes cause.TooLong path has stop = absurd stop
   write_stops part i done bytes (cause.Changed said got) path has stop = absurd stop
 
-  in_trouble : {A : Type 0} (why : Cause) → (let o : Course = InTrouble why in o) ≡ GoesOn → A
-  in_trouble why e = absurd (let f : ⊥ = cc in f)
+  in_trouble : {A : Type 0} (halt : Halt) → (let o : Course = InTrouble halt in o) ≡ GoesOn → A
+  in_trouble halt e = absurd (let f : ⊥ = cc in f)
 
   -- a step stops
   stops : (why : Cause) (path : Option Route) (course : Course) → (course ≡ GoesOn → ⊥) → WorkKnows told dirty marks log GoesOn (Copy c) → (stage : Stage) → c.stage ≡ stage
@@ -245,9 +246,9 @@ module _ (told : Said) (dirty dirty_after : List Route) (marks : Marks) (log now
       (subst (λ (l : CallLog). Performs {A = Unit {0}} log (SyncFolder up) (Ok tt) (Some l)) (sym (some_log now rows.0 rows.2)) rows.1)
       (leaves ∙ (ap (λ f. moves_dirty (is_dirty f) (is_dirty new.folder) up dirty) dirty_is ∙ ap (λ (x : Copying). moves_dirty true (is_dirty x.folder) up dirty) new_is)))
   copy_tells new (Troubled trouble) knows (barrier, new_is) stop settled leaves =
-      with_routes (Troubled trouble) (InTrouble trouble.cause) (Copy new) (leaves_same new (ap (λ (x : Copying). x.folder) new_is) leaves)
-      (subst (λ (x : Copying). Comes told told dirty log now (λ m. WorkKnows told dirty m now (InTrouble trouble.cause) (Copy x))) (sym new_is)
-      (stops trouble.cause trouble.path (InTrouble trouble.cause) (in_trouble trouble.cause) knows c.stage refl stop))
+      with_routes (Troubled trouble) (InTrouble (halt_of trouble)) (Copy new) (leaves_same new (ap (λ (x : Copying). x.folder) new_is) leaves)
+      (subst (λ (x : Copying). Comes told told dirty log now (λ m. WorkKnows told dirty m now (InTrouble (halt_of trouble)) (Copy x))) (sym new_is)
+      (stops trouble.cause trouble.path (InTrouble (halt_of trouble)) (in_trouble (halt_of trouble)) knows c.stage refl stop))
   copy_tells new (Ended Finished part) (name, listed, knows) (stage, synced, part_is, new_is) done settled leaves =
       let none = subst (λ x. StageKnows told marks (current log) GoesOn c x) stage knows in
       subst (λ o. Steps told dirty dirty_after marks log now kept (Ended Finished o) GoesOn (Copy c) (Copy new)) (sym part_is)

@@ -32,7 +32,7 @@ use Rattle.tree_copy.specs.Skipping.{retried_at}
 use Rattle.tree_copy.specs.Standing.{Seen, is_fresh}
 use Rattle.tree_copy.specs.Steps.{idle, settled}
 use Rattle.copy_move.specs.declared.work.Work.TheVariants.{Copy, CopyTree, Delete, Make, SetMode}
-use Rattle.copy_move.specs.Jobs.{Running, TellsOn, answered_on, closed_course, closed_job, course_after, first_work, taken_anew, with_skips}
+use Rattle.copy_move.specs.Jobs.{Running, TellsOn, answered_on, closed_course, closed_job, course_after, first_work, taken_anew, unreported_skip, with_skips}
 use Rattle.job_reports.specs.Reports.{ends}
 use Rattle.copy_move.specs.Settling.{changed_folder}
 use Rattle.job_reports.specs.Paths.{folder_of, without}
@@ -86,10 +86,10 @@ after_going (Ended ending part) = tt
 tells_aborted : (job new : Running) (did : Did) (course : Course) → job.course ≡ course → TellsOn course job did new → ((ending : Ending) → job.course ≡ Ends ending → ending ≡ Aborted)
     → (ending : Ending) → new.course ≡ Ends ending → ending ≡ Aborted
 tells_aborted job new did GoesOn is (work, tells, new_is) old ending e = no_end (course_after did) ending (after_going did) (sym (ap (λ (x : Running). x.course) new_is) ∙ e)
-tells_aborted job new did (InTrouble why) is t old ending e = absurd t
+tells_aborted job new did (InTrouble halt) is t old ending e = absurd t
 tells_aborted job new did (OwedSyncFailed why) is t old ending e = absurd t
 tells_aborted job new did (Skips why) is (inl (path, work, did_is, passes, new_is)) old ending e = no_end GoesOn ending tt (sym (ap (λ (x : Running). x.course) new_is) ∙ e)
-tells_aborted job new did (Skips why) is (inr (apart, did_is, new_is)) old ending e = no_end (InTrouble Rattle.job_reports.specs.declared.report.Cause.TheVariants.Memory) ending tt (sym (ap (λ (x : Running). x.course) new_is) ∙ e)
+tells_aborted job new did (Skips why) is (inr (apart, did_is, new_is)) old ending e = no_end (InTrouble unreported_skip) ending tt (sym (ap (λ (x : Running). x.course) new_is) ∙ e)
 tells_aborted job new did (Ends first) is (work, winds, new_is) old ending e = old ending (sym (ap (λ (x : Running). x.course) new_is) ∙ e)
 
 -- a job with the same work and number, that goes on only where it went on
@@ -148,12 +148,12 @@ some_end : (a b : Ending) → (let c : Course = Ends a in c) ≡ Ends b → b �
 some_end a b h = cc
 
 answer_tidy : (opening : CallLog) (g : List Entry) (dirty : List Route) (job : Running) (course : Course) → job.course ≡ course → (answer : Answer) → IsTidyJob opening g dirty job → IsTidyJob opening g dirty (answered_on course answer job)
-answer_tidy opening g dirty job (InTrouble why) is Retry t =
+answer_tidy opening g dirty job (InTrouble halt) is Retry t =
     let a = anew_dirty job.work in kept_tidy opening g dirty job (record job { work = taken_anew job.work; course = GoesOn }) refl a.0 a.1 (anew_tidy job.work dirty) (λ going. subst IsGoing (sym is) tt) (λ ending e. no_end GoesOn ending tt e) t
-answer_tidy opening g dirty job (InTrouble why) is Skip t = kept_tidy opening g dirty job (record job { course = Skips why }) refl refl (refl, refl) (λ t. t) (λ going. subst IsGoing (sym is) tt) (λ ending e. no_end (Skips why) ending tt e) t
-answer_tidy opening g dirty job (InTrouble why) is SkipAll t =
-    let a = skips_dirty why job.work in kept_tidy opening g dirty job (record job { work = with_skips why job.work; course = Skips why }) refl a.0 a.1 (skips_tidy why job.work dirty) (λ going. subst IsGoing (sym is) tt) (λ ending e. no_end (Skips why) ending tt e) t
-answer_tidy opening g dirty job (InTrouble why) is Abort t = kept_tidy opening g dirty job (record job { course = Ends Aborted }) refl refl (refl, refl) (λ t. t) (λ going. absurd going) (λ ending e. some_end Aborted ending e) t
+answer_tidy opening g dirty job (InTrouble halt) is Skip t = kept_tidy opening g dirty job (record job { course = Skips halt.cause }) refl refl (refl, refl) (λ t. t) (λ going. subst IsGoing (sym is) tt) (λ ending e. no_end (Skips halt.cause) ending tt e) t
+answer_tidy opening g dirty job (InTrouble halt) is SkipAll t =
+    let a = skips_dirty halt.cause job.work in kept_tidy opening g dirty job (record job { work = with_skips halt.cause job.work; course = Skips halt.cause }) refl a.0 a.1 (skips_tidy halt.cause job.work dirty) (λ going. subst IsGoing (sym is) tt) (λ ending e. no_end (Skips halt.cause) ending tt e) t
+answer_tidy opening g dirty job (InTrouble halt) is Abort t = kept_tidy opening g dirty job (record job { course = Ends Aborted }) refl refl (refl, refl) (λ t. t) (λ going. absurd going) (λ ending e. some_end Aborted ending e) t
 answer_tidy opening g dirty job (OwedSyncFailed why) is Retry t =
     let a = anew_dirty job.work in kept_tidy opening g dirty job (record job { work = taken_anew job.work; course = GoesOn }) refl a.0 a.1 (anew_tidy job.work dirty) (λ going. subst IsGoing (sym is) tt) (λ ending e. no_end GoesOn ending tt e) t
 answer_tidy opening g dirty job (OwedSyncFailed why) is Skip t = t
@@ -165,7 +165,7 @@ answer_tidy opening g dirty job (Ends ending) is answer t = t
 
 close_tidy : (opening : CallLog) (g : List Entry) (dirty : List Route) (job : Running) (course : Course) → job.course ≡ course → IsTidyJob opening g dirty job → IsTidyJob opening g dirty (record job { course = closed_course course })
 close_tidy opening g dirty job GoesOn is t = kept_tidy opening g dirty job (record job { course = GoesOn }) refl refl (refl, refl) (λ t. t) (λ going. subst IsGoing (sym is) tt) (λ ending e. no_end GoesOn ending tt e) t
-close_tidy opening g dirty job (InTrouble why) is t = kept_tidy opening g dirty job (record job { course = Ends Aborted }) refl refl (refl, refl) (λ t. t) (λ going. absurd going) (λ ending e. some_end Aborted ending e) t
+close_tidy opening g dirty job (InTrouble halt) is t = kept_tidy opening g dirty job (record job { course = Ends Aborted }) refl refl (refl, refl) (λ t. t) (λ going. absurd going) (λ ending e. some_end Aborted ending e) t
 close_tidy opening g dirty job (OwedSyncFailed why) is t = kept_tidy opening g dirty job (record job { course = Ends Aborted }) refl refl (refl, refl) (λ t. t) (λ going. absurd going) (λ ending e. some_end Aborted ending e) t
 close_tidy opening g dirty job (Skips why) is t = kept_tidy opening g dirty job (record job { course = Skips why }) refl refl (refl, refl) (λ t. t) (λ going. subst IsGoing (sym is) tt) (λ ending e. no_end (Skips why) ending tt e) t
 close_tidy opening g dirty job (Ends first) is t = kept_tidy opening g dirty job (record job { course = Ends first }) refl refl (refl, refl) (λ t. t) (λ going. absurd going) (λ ending e. t.aborted ending (is ∙ e)) t

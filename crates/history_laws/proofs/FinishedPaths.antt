@@ -114,7 +114,7 @@ finished_tidy : (opening : CallLog) (g : List Entry) (dirty dirty_after : List R
     → TidyFolder job.work dirty × ((q : Route) → is_own job.work q ≡ true → Among dirty q → ⊥)
 finished_tidy opening g dirty dirty_after job new part before after GoesOn is (work, tells, new_is) leaves t changed =
     let tidy = t.tidy changed (subst IsGoing (sym is) tt) in (tidy, λ q own among. done_work job.work work new.work part dirty dirty_after before after tells leaves tidy q own among)
-finished_tidy opening g dirty dirty_after job new part before after (InTrouble why) is tells leaves t changed = absurd tells
+finished_tidy opening g dirty dirty_after job new part before after (InTrouble halt) is tells leaves t changed = absurd tells
 finished_tidy opening g dirty dirty_after job new part before after (OwedSyncFailed why) is tells leaves t changed = absurd tells
 finished_tidy opening g dirty dirty_after job new part before after (Skips why) is (inl (path, work, did_is, passes, new_is)) leaves t changed = absurd (let f : ⊥ = cc in f)
 finished_tidy opening g dirty dirty_after job new part before after (Skips why) is (inr (apart, did_is, new_is)) leaves t changed = absurd (let f : ⊥ = cc in f)

@@ -69,10 +69,10 @@ module _ (told : Said) (dirty : List Route) (marks : Marks) (log : CallLog) wher
   on_course course other work off k = work_course told dirty marks log course other work (λ e. absurd (off e)) k
 
   answer_knows : (course : Course) (answer : Answer) (job : Running) → job.course ≡ course → Knows job → Knows (answered_on course answer job)
-  answer_knows (InTrouble why) Retry job is k = anew_knows told dirty marks log job.course job.work k
-  answer_knows (InTrouble why) Skip job is k = on_course job.course (Skips why) job.work (λ e. let f : ⊥ = cc in f) k
-  answer_knows (InTrouble why) SkipAll job is k = on_course job.course (Skips why) (with_skips why job.work) (λ e. let f : ⊥ = cc in f) (skips_knows told dirty marks log job.course why job.work k)
-  answer_knows (InTrouble why) Abort job is k = on_course job.course (Ends Rattle.job_reports.specs.declared.report.Ending.TheVariants.Aborted) job.work (λ e. let f : ⊥ = cc in f) k
+  answer_knows (InTrouble halt) Retry job is k = anew_knows told dirty marks log job.course job.work k
+  answer_knows (InTrouble halt) Skip job is k = on_course job.course (Skips halt.cause) job.work (λ e. let f : ⊥ = cc in f) k
+  answer_knows (InTrouble halt) SkipAll job is k = on_course job.course (Skips halt.cause) (with_skips halt.cause job.work) (λ e. let f : ⊥ = cc in f) (skips_knows told dirty marks log job.course halt.cause job.work k)
+  answer_knows (InTrouble halt) Abort job is k = on_course job.course (Ends Rattle.job_reports.specs.declared.report.Ending.TheVariants.Aborted) job.work (λ e. let f : ⊥ = cc in f) k
   answer_knows (OwedSyncFailed why) Retry job is k = anew_knows told dirty marks log job.course job.work k
   answer_knows (OwedSyncFailed why) Skip job is k = k
   answer_knows (OwedSyncFailed why) SkipAll job is k = k
@@ -95,7 +95,7 @@ module _ (told : Said) (dirty : List Route) (marks : Marks) (log : CallLog) wher
 
   closed_by : (course : Course) → closed_course course ≡ GoesOn → course ≡ GoesOn
   closed_by GoesOn e = refl
-  closed_by (InTrouble why) e = absurd (let f : ⊥ = cc in f)
+  closed_by (InTrouble halt) e = absurd (let f : ⊥ = cc in f)
   closed_by (OwedSyncFailed why) e = absurd (let f : ⊥ = cc in f)
   closed_by (Skips why) e = absurd (let f : ⊥ = cc in f)
   closed_by (Ends ending) e = absurd (let f : ⊥ = cc in f)

@@ -6,7 +6,6 @@ use Rattle.tree_trait.specs.Change.{CallLog, current}
 use Rattle.crash_law.specs.Guarded.{Marks}
 use Rattle.tree_trait.proofs.Visible.{same_path-true}
 use Rattle.job_reports.specs.Paths.{folder_of}
-use Rattle.job_reports.specs.declared.report.Cause.TheVariants.{Memory}
 use Rattle.job_reports.specs.declared.report.Ending.{Ending}
 use Rattle.job_reports.specs.declared.report.Did.{Did}
 use Rattle.job_reports.specs.declared.report.Did.TheVariants.{Skipped, Barrier, Troubled}
@@ -20,7 +19,7 @@ use Rattle.copy_move.specs.declared.work.Work.TheVariants.{Copy, CopyTree, Delet
 use Rattle.copy_move.specs.declared.run.Course.{Course}
 use Rattle.copy_move.specs.declared.run.Course.TheVariants.{GoesOn, InTrouble, OwedSyncFailed, Skips, Ends}
 use Rattle.copy_move.specs.Makings.{Making}
-use Rattle.copy_move.specs.Jobs.{Running, CallsOn, TellsOn, WorkCalls, WorkLastCalls, WorkTells, PassesOver, WorkWinds, course_after, is_fresh}
+use Rattle.copy_move.specs.Jobs.{Running, CallsOn, TellsOn, WorkCalls, WorkLastCalls, WorkTells, PassesOver, WorkWinds, course_after, is_fresh, unreported_skip}
 use Rattle.copy_move.specs.DeletionSteps.{after_try}
 use Rattle.copy_move.specs.Settling.{NoneOwed, WorkLeaves}
 use Rattle.copy_move.specs.Steps.{LeavesDirty}
@@ -146,15 +145,15 @@ module _ (told : Said) (dirty dirty_after : List Route) (marks : Marks) (log now
       subst (λ (x : Running). Leads job did x) (sym new_is)
       (work_tells job.work work did knows tells (subst (λ (x : Running). WorkCalls IsUnclaimed job.work did x.work log (Some now)) new_is calls) (settled refl)
       (subst (λ (x : Running). WorkLeaves job.work did x.work dirty dirty_after (Some log) (Some now)) new_is leaves))
-  by_course job new did (InTrouble why) is knows tells calls settled leaves = absurd tells
+  by_course job new did (InTrouble halt) is knows tells calls settled leaves = absurd tells
   by_course job new did (OwedSyncFailed why) is knows tells calls settled leaves = absurd tells
   by_course job new did (Skips why) is knows (inl (path, work, did_is, passes, new_is)) calls settled leaves =
       subst (λ x. Leads job x new) (sym did_is) (subst (λ (x : Running). Leads job (Skipped path why) x) (sym new_is)
       (stands told dirty dirty_after marks log now kept GoesOn work (skip_knows (Skips why) job.work work path passes knows) leaves (some_log now log calls)))
   by_course job new did (Skips why) is knows (inr (apart, did_is, new_is)) calls settled leaves =
       subst (λ x. Leads job x new) (sym did_is) (subst (λ (x : Running). Leads job (Troubled (Rattle.job_reports.specs.Stops.out_of_memory_at false)) x) (sym new_is)
-      (stands told dirty dirty_after marks log now kept (InTrouble Memory) job.work
-      (work_course told dirty marks log (Skips why) (InTrouble Memory) job.work (λ e. absurd (let f : ⊥ = cc in f)) knows) leaves (some_log now log calls)))
+      (stands told dirty dirty_after marks log now kept (InTrouble unreported_skip) job.work
+      (work_course told dirty marks log (Skips why) (InTrouble unreported_skip) job.work (λ e. absurd (let f : ⊥ = cc in f)) knows) leaves (some_log now log calls)))
   by_course job new did (Ends ending) is knows (work, winds, new_is) calls settled leaves =
       subst (λ (x : Running). Leads job did x) (sym (new_is ∙ ap (λ c. (let x : Running = record job { work = work; course = c } in x)) is))
       (work_winds ending job.work work did knows winds calls (subst (λ (x : Running). LeavesDirty (Ends ending) job.work did x.work dirty dirty_after (Some log) (Some now)) new_is leaves))

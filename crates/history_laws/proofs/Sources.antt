@@ -316,7 +316,7 @@ IsSame old new = (new.id ≡ old.id) × (item_in new.work ≡ item_in old.work)
 
 on_same : (old new : Running) (did : Did) (course : Course) → TellsOn course old did new → IsSame old new
 on_same old new did GoesOn (work, tells, new_is) = (ap (λ (x : Running). x.id) new_is, ap (λ (x : Running). item_in x.work) new_is ∙ work_paths old.work work did tells)
-on_same old new did (InTrouble why) t = absurd t
+on_same old new did (InTrouble halt) t = absurd t
 on_same old new did (OwedSyncFailed why) t = absurd t
 on_same old new did (Skips why) (inl (path, work, did_is, passes, new_is)) = (ap (λ (x : Running). x.id) new_is, ap (λ (x : Running). item_in x.work) new_is ∙ skip_paths old.work work path passes)
 on_same old new did (Skips why) (inr (apart, did_is, new_is)) = (ap (λ (x : Running). x.id) new_is, ap (λ (x : Running). item_in x.work) new_is)
@@ -333,10 +333,10 @@ skips_paths why (Make m) = refl
 skips_paths why (SetMode s) = refl
 
 answer_on : (course : Course) (answer : Answer) (job : Running) → IsSame job (answered_on course answer job)
-answer_on (InTrouble why) Retry job = (refl, anew_paths job.work)
-answer_on (InTrouble why) Skip job = (refl, refl)
-answer_on (InTrouble why) SkipAll job = (refl, skips_paths why job.work)
-answer_on (InTrouble why) Abort job = (refl, refl)
+answer_on (InTrouble halt) Retry job = (refl, anew_paths job.work)
+answer_on (InTrouble halt) Skip job = (refl, refl)
+answer_on (InTrouble halt) SkipAll job = (refl, skips_paths halt.cause job.work)
+answer_on (InTrouble halt) Abort job = (refl, refl)
 answer_on (OwedSyncFailed why) Retry job = (refl, anew_paths job.work)
 answer_on (OwedSyncFailed why) Skip job = (refl, refl)
 answer_on (OwedSyncFailed why) SkipAll job = (refl, refl)

@@ -101,7 +101,7 @@ neither false b h = (refl, h)
 abbrev pub IsGoing : Course → Type 0
 IsGoing (Ends ending) = ⊥
 IsGoing GoesOn = Unit {0}
-IsGoing (InTrouble why) = Unit {0}
+IsGoing (InTrouble halt) = Unit {0}
 IsGoing (OwedSyncFailed why) = Unit {0}
 IsGoing (Skips why) = Unit {0}
 
@@ -263,7 +263,7 @@ module _ (job new : Running) (did : Did) (dirty dirty_after : List Route) (log n
       (tidy_work job.work work did dirty dirty_after (Some log) (Some now) tells (subst (λ (x : Running). WorkLeaves job.work did x.work dirty dirty_after (Some log) (Some now)) new_is leaves)
       (λ none. elim (changed_by before (begins_change did) changed) [ inl b ↦ old b (subst IsGoing (sym is) tt) | inr h ↦ absurd (none h) ])
       (λ h. apart work refl tells h))
-  tidy_on (InTrouble why) is t leaves old apart changed going = absurd t
+  tidy_on (InTrouble halt) is t leaves old apart changed going = absurd t
   tidy_on (OwedSyncFailed why) is t leaves old apart changed going = absurd t
   tidy_on (Skips why) is (inl (path, work, did_is, passes, new_is)) leaves old apart changed going =
       subst (λ (x : Running). TidyFolder x.work dirty_after) (sym new_is) (subst (λ xs. TidyFolder work xs) (sym leaves) (tidy_passes job.work work path dirty passes

@@ -202,7 +202,7 @@ tree_winds ending c (SetMode new) did t clean = absurd t
 tree_clean : (job new : Running) (did : Did) (c : SubtreeCopying) (course : Course) → job.work ≡ CopyTree c → TellsOn course job did new → begins_change did ≡ false → has_begun job.work ≡ false → has_begun new.work ≡ false
 tree_clean job new did c GoesOn is (work, tells, new_is) none clean =
     ap (λ (x : Running). has_begun x.work) new_is ∙ tree_tells c work did (subst (λ w. WorkTells w did work) is tells) none (sym (ap has_begun is) ∙ clean)
-tree_clean job new did c (InTrouble why) is t none clean = absurd t
+tree_clean job new did c (InTrouble halt) is t none clean = absurd t
 tree_clean job new did c (OwedSyncFailed why) is t none clean = absurd t
 tree_clean job new did c (Skips why) is (inl (path, work, did_is, passes, new_is)) none clean =
     ap (λ (x : Running). has_begun x.work) new_is ∙ tree_passes c work path (subst (λ w. PassesOver w path work) is passes) (sym (ap has_begun is) ∙ clean)
