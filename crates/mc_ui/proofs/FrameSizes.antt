@@ -47,8 +47,8 @@ find_columns_same find grid = painted_columns_same find.asking (page_of find.lin
 pub over_lines_same : (over : Box) (rows : List JobRow) (grid : CellGrid) → (with_over over rows grid).lines ≡ grid.lines
 over_lines_same NoBox rows grid = refl
 over_lines_same (DeleteBox path) rows grid = box_lines_same grid (plain_lines delete_lines)
-over_lines_same (MaskBox path typed) rows grid = input_lines_same grid typed
-over_lines_same (TargetBox path mask typed) rows grid = input_lines_same grid typed
+over_lines_same (MaskBox kind path typed) rows grid = input_lines_same grid typed
+over_lines_same (TargetBox kind path mask typed) rows grid = input_lines_same grid typed
 over_lines_same (FolderBox typed) rows grid = input_lines_same grid typed
 over_lines_same (LinkTextBox typed) rows grid = input_lines_same grid typed
 over_lines_same (LinkNameBox text typed) rows grid = input_lines_same grid typed
@@ -61,8 +61,8 @@ over_lines_same (JobsBox list) rows grid = box_lines_same grid (jobs_lines rows 
 pub over_columns_same : (over : Box) (rows : List JobRow) (grid : CellGrid) → (with_over over rows grid).columns ≡ grid.columns
 over_columns_same NoBox rows grid = refl
 over_columns_same (DeleteBox path) rows grid = box_columns_same grid (plain_lines delete_lines)
-over_columns_same (MaskBox path typed) rows grid = input_columns_same grid typed
-over_columns_same (TargetBox path mask typed) rows grid = input_columns_same grid typed
+over_columns_same (MaskBox kind path typed) rows grid = input_columns_same grid typed
+over_columns_same (TargetBox kind path mask typed) rows grid = input_columns_same grid typed
 over_columns_same (FolderBox typed) rows grid = input_columns_same grid typed
 over_columns_same (LinkTextBox typed) rows grid = input_columns_same grid typed
 over_columns_same (LinkNameBox text typed) rows grid = input_columns_same grid typed

@@ -37,10 +37,10 @@ module _ (contents : Option CallLog) (rows : List JobRow) (refusals : List Refus
   by_box false NoBox is h = h.1
   by_box true (DeleteBox path) is h = h.1
   by_box false (DeleteBox path) is h = h.1
-  by_box true (MaskBox path typed) is h = h.1 ∙ kept (MaskBox path typed) is
-  by_box false (MaskBox path typed) is h = h.1 ∙ kept (MaskBox path typed) is
-  by_box true (TargetBox path mask typed) is h = h.1 ∙ kept (TargetBox path mask typed) is
-  by_box false (TargetBox path mask typed) is h = h.1 ∙ kept (TargetBox path mask typed) is
+  by_box true (MaskBox kind path typed) is h = h.1 ∙ kept (MaskBox kind path typed) is
+  by_box false (MaskBox kind path typed) is h = h.1 ∙ kept (MaskBox kind path typed) is
+  by_box true (TargetBox kind path mask typed) is h = h.1 ∙ kept (TargetBox kind path mask typed) is
+  by_box false (TargetBox kind path mask typed) is h = h.1 ∙ kept (TargetBox kind path mask typed) is
   by_box true (FolderBox typed) is h = h.1 ∙ kept (FolderBox typed) is
   by_box false (FolderBox typed) is h = h.1 ∙ kept (FolderBox typed) is
   by_box true (LinkTextBox typed) is h = h.1 ∙ kept (LinkTextBox typed) is

@@ -1,5 +1,6 @@
 -- What stands over the panels: a box, and a message over it.
 use Rattle.std.specs.Prelude.{ℕ, List, [], ◌∷◌, Option, Some, None}
+use Rattle.mc_text.specs.declared.kind.Kind.{Kind}
 use Rattle.mc_text.specs.Routes.{Route}
 use Rattle.job_reports.specs.declared.report.Trouble.{Trouble}
 use Rattle.session_history.specs.declared.refusal.Refusal.{Refusal}
@@ -16,14 +17,14 @@ use Rattle.panel_boxes.specs.declared.panel_box.PanelBox.{PanelBox}
 use Rattle.mc_ui.specs.declared.dialog.Dialog.{Dialog}
 use Rattle.mc_ui.specs.declared.dialog.Dialog.TheVariants as dialog
 
--- What stands over the panels: nothing, or a box that asks whether to delete a file, asks for the source mask of a copy or, with that
+-- What stands over the panels: nothing, or a box that asks whether to delete a thing, asks for the source mask of a copy or, with that
 -- mask, for its destination, for a new folder, for what a new link is to say or, with that, for its name, or for a thing's mode, tells
 -- of a job's trouble, asks what the panels are to do, seeks things and lists what was found, or lists the live jobs.
 pub data Box : Type 0 where
   NoBox : Box
   DeleteBox : (path : Route) → Box
-  MaskBox : (path : Route) → (typed : InputState) → Box
-  TargetBox : (path : Route) → (mask : List ℕ) → (typed : InputState) → Box
+  MaskBox : (kind : Kind) → (path : Route) → (typed : InputState) → Box
+  TargetBox : (kind : Kind) → (path : Route) → (mask : List ℕ) → (typed : InputState) → Box
   FolderBox : (typed : InputState) → Box
   LinkTextBox : (typed : InputState) → Box
   LinkNameBox : (text : List ℕ) → (typed : InputState) → Box
@@ -37,8 +38,8 @@ pub data Box : Type 0 where
 abbrev pub seen_box : Dialog → Box
 seen_box dialog.Nothing = NoBox
 seen_box (dialog.Delete chosen) = DeleteBox chosen.path
-seen_box (dialog.SourceMask chosen typed) = MaskBox chosen.path typed
-seen_box (dialog.CopyTo chosen mask typed) = TargetBox chosen.path mask typed
+seen_box (dialog.SourceMask chosen typed) = MaskBox chosen.kind chosen.path typed
+seen_box (dialog.CopyTo chosen mask typed) = TargetBox chosen.kind chosen.path mask typed
 seen_box (dialog.MakeFolder typed) = FolderBox typed
 seen_box (dialog.LinkText typed) = LinkTextBox typed
 seen_box (dialog.LinkName text typed) = LinkNameBox text typed
@@ -48,11 +49,11 @@ seen_box (dialog.Panel asks) = PanelsBox asks
 seen_box (dialog.Find find) = FindBox find
 seen_box (dialog.Jobs list) = JobsBox list
 
--- the box that such a key opens on a thing of this mode
-abbrev pub box_of : Opens → Route → ℕ → Box
-box_of opens.Delete path mode = DeleteBox path
-box_of opens.SourceMask path mode = MaskBox path mask_line
-box_of opens.Mode path mode = NewModeBox path (mode_box mode)
+-- the box that such a key opens on a thing of this kind and mode
+abbrev pub box_of : Opens → Kind → Route → ℕ → Box
+box_of opens.Delete kind path mode = DeleteBox path
+box_of opens.SourceMask kind path mode = MaskBox kind path mask_line
+box_of opens.Mode kind path mode = NewModeBox path (mode_box mode)
 
 -- a trouble's box stands over the panels, in place of another
 abbrev pub with_trouble : Option Trouble → Box → Box

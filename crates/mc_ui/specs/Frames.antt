@@ -38,8 +38,8 @@ counts_of (row ∷ rows) = counted row.state (counts_of rows)
 abbrev pub with_over : Box → List JobRow → CellGrid → CellGrid
 with_over NoBox rows grid = grid
 with_over (DeleteBox path) rows grid = with_box grid (plain_lines delete_lines)
-with_over (MaskBox path typed) rows grid = with_input grid typed
-with_over (TargetBox path mask typed) rows grid = with_input grid typed
+with_over (MaskBox kind path typed) rows grid = with_input grid typed
+with_over (TargetBox kind path mask typed) rows grid = with_input grid typed
 with_over (FolderBox typed) rows grid = with_input grid typed
 with_over (LinkTextBox typed) rows grid = with_input grid typed
 with_over (LinkNameBox text typed) rows grid = with_input grid typed

@@ -1,6 +1,7 @@
 -- What a key or a look makes of the screen: the two panels, the box that stands over them, a message over these, and a file that is viewed
 -- over all.
 use Rattle.std.specs.Prelude.{◌≡◌, ◌≢◌, ◌⊎◌, ℕ, Bool, true, false, is_some, MatchBool, ⊤, if◌then◌else◌, List, [], ◌∷◌, Option, Some, None, Ok, Err}
+use Rattle.mc_text.specs.declared.kind.Kind.{Kind}
 use Rattle.mc_text.specs.Routes.{Route, path_text}
 use Rattle.home_paths.specs.Homes.{with_home}
 use Rattle.tree_trait.specs.declared.calls.TreeError.{TreeError}
@@ -61,7 +62,7 @@ use Rattle.panel_pair.specs.Pairs.{PairState, untagged_pair}
 use Rattle.box_words.specs.BoxKeys.{closes_message, delete_reply_to, line_reply, mode_reply, trouble_reply_to}
 use Rattle.box_words.specs.BoxLines.{folder_line, link_name_line, link_text_line, target_line, thing_text}
 use Rattle.job_plans.specs.Reading.{sight}
-use Rattle.job_plans.specs.Copies.{HasMode, MayAsk, copy_plan, delete_plan, mode_plan}
+use Rattle.job_plans.specs.Copies.{HasKind, HasMode, MayAsk, copy_plan, delete_plan, mode_plan}
 use Rattle.job_plans.specs.CopyPlans.{CopyRefused, IsNewCopy}
 use Rattle.job_plans.specs.Folders.{folder_plan}
 use Rattle.job_plans.specs.Links.{IsNewLink, LinkRefused, link_plan}
@@ -159,11 +160,11 @@ abbrev pub Works : PanelCommand → Option CallLog → List Refusal → Screen �
 Works command contents [] before after = IsDone command contents before after
 Works command contents (refusal ∷ more) before after = IsRefused command contents (refusal ∷ more) before after
 
--- The box is opened on a thing, with its mode, if it may ask of that; or the look at it was refused, and a message says so.
+-- The box is opened on a thing, with its kind and its mode, if it may ask of that; or the look at it was refused, and a message says so.
 abbrev pub AsksOf : Opens → Option TreeView → Route → List Refusal → Screen → Screen → Type 0
 AsksOf box tree path [] before after =
     (MayAsk box tree path false × (after ≡ before))
-    ⊎ ((mode : ℕ) × MayAsk box tree path true × HasMode tree path mode × (after ≡ record before { over = box_of box path mode }))
+    ⊎ ((kind : Kind) × (mode : ℕ) × MayAsk box tree path true × HasMode tree path mode × HasKind tree path kind × (after ≡ record before { over = box_of box kind path mode }))
 AsksOf box tree path (refusal ∷ more) before after =
     (e : TreeError) × (refusal ∷ more ≡ Tree path e ∷ []) × (after ≡ told_refusal (Tree path e) before)
 
@@ -245,27 +246,27 @@ DeleteLeads delete.Deletes rows path refusals before after =
     MatchBool (none_live rows) ((refusals ≡ []) × (after ≡ begun (delete_plan path) before)) (RefusesFull refusals before after)
 
 -- the source mask's answer: with any mask that is typed the destination is asked for
-abbrev pub MaskLeads : LineReply → Route → InputState → List Refusal → Screen → Screen → Type 0
-MaskLeads line.Stays path typed refusals before after = (refusals ≡ []) × (after ≡ record before { over = MaskBox path typed })
-MaskLeads line.Shuts path typed refusals before after = (refusals ≡ []) × (after ≡ without_box before)
-MaskLeads (line.Takes text) path typed refusals before after =
-    (refusals ≡ []) × (after ≡ record before { over = TargetBox path text (target_line before.panels.other.folder) })
+abbrev pub MaskLeads : LineReply → Kind → Route → InputState → List Refusal → Screen → Screen → Type 0
+MaskLeads line.Stays kind path typed refusals before after = (refusals ≡ []) × (after ≡ record before { over = MaskBox kind path typed })
+MaskLeads line.Shuts kind path typed refusals before after = (refusals ≡ []) × (after ≡ without_box before)
+MaskLeads (line.Takes text) kind path typed refusals before after =
+    (refusals ≡ []) × (after ≡ record before { over = TargetBox kind path text (target_line before.panels.other.folder) })
 
--- the copy of a thing that matches the mask is planned where the text leads that was typed in the folder of the current panel, where nothing
+-- the copy of a thing of this kind that matches the mask is planned where the text leads that was typed in the folder of the current panel, where nothing
 -- stands; or it is refused, and then the box stays
-abbrev pub PlansCopy : Option CallLog → Route → List ℕ → Route → List ℕ → List Refusal → Screen → Screen → Type 0
-PlansCopy contents path mask folder text [] before after =
-    (target : Route) × IsNewCopy contents path mask folder text target × (after ≡ begun (copy_plan path target) before)
-PlansCopy contents path mask folder text (refusal ∷ more) before after =
+abbrev pub PlansCopy : Option CallLog → Kind → Route → List ℕ → Route → List ℕ → List Refusal → Screen → Screen → Type 0
+PlansCopy contents kind path mask folder text [] before after =
+    (target : Route) × IsNewCopy contents path mask folder text target × (after ≡ begun (copy_plan kind path target) before)
+PlansCopy contents kind path mask folder text (refusal ∷ more) before after =
     CopyRefused contents path mask folder text refusal × (more ≡ []) × (after ≡ told_refusal refusal before)
 
 -- the destination's answer: the copy is planned while no job is live
-abbrev pub TargetLeads : LineReply → Option CallLog → List JobRow → Route → List ℕ → InputState → List Refusal → Screen → Screen → Type 0
-TargetLeads line.Stays contents rows path mask typed refusals before after =
-    (refusals ≡ []) × (after ≡ record before { over = TargetBox path mask typed })
-TargetLeads line.Shuts contents rows path mask typed refusals before after = (refusals ≡ []) × (after ≡ without_box before)
-TargetLeads (line.Takes text) contents rows path mask typed refusals before after =
-    MatchBool (none_live rows) (PlansCopy contents path mask before.panels.current.folder (with_home before.home text) refusals before after)
+abbrev pub TargetLeads : LineReply → Option CallLog → List JobRow → Kind → Route → List ℕ → InputState → List Refusal → Screen → Screen → Type 0
+TargetLeads line.Stays contents rows kind path mask typed refusals before after =
+    (refusals ≡ []) × (after ≡ record before { over = TargetBox kind path mask typed })
+TargetLeads line.Shuts contents rows kind path mask typed refusals before after = (refusals ≡ []) × (after ≡ without_box before)
+TargetLeads (line.Takes text) contents rows kind path mask typed refusals before after =
+    MatchBool (none_live rows) (PlansCopy contents kind path mask before.panels.current.folder (with_home before.home text) refusals before after)
     (RefusesFull refusals before after)
 
 -- a new folder is planned in the folder of the current panel, where nothing stands at the path that was typed; or it is refused, and
@@ -387,10 +388,10 @@ pub record ViewerLeads (viewed : ViewedFile) (contents : Option CallLog) (key : 
 abbrev pub ByBox : Box → Option CallLog → List JobRow → Key → List Refusal → Screen → Screen → Type 0
 ByBox NoBox contents rows key refusals before after = CommandLeads (panel_command_of key) contents rows refusals before after
 ByBox (DeleteBox path) contents rows key refusals before after = DeleteLeads (delete_reply_to key) rows path refusals before after
-ByBox (MaskBox path typed) contents rows key refusals before after =
-    MaskLeads (line_reply (input_shut typed key)) path (input_after typed key) refusals before after
-ByBox (TargetBox path mask typed) contents rows key refusals before after =
-    TargetLeads (line_reply (input_shut typed key)) contents rows path mask (input_after typed key) refusals before after
+ByBox (MaskBox kind path typed) contents rows key refusals before after =
+    MaskLeads (line_reply (input_shut typed key)) kind path (input_after typed key) refusals before after
+ByBox (TargetBox kind path mask typed) contents rows key refusals before after =
+    TargetLeads (line_reply (input_shut typed key)) contents rows kind path mask (input_after typed key) refusals before after
 ByBox (FolderBox typed) contents rows key refusals before after =
     MakeFolderLeads (line_reply (input_shut typed key)) contents rows (input_after typed key) refusals before after
 ByBox (LinkTextBox typed) contents rows key refusals before after =

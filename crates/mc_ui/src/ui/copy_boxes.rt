@@ -37,12 +37,12 @@ impl Ui {
         key: Key,
     ) -> Result<KeyAct, NoMemory>
         requires clear { self.old.over ≡ NoBox }
-        ensures leads { IfOk result (λ act. MaskLeads (line_reply_of (input_shut line key)) chosen.path (input_after line key)
-            act.refusals (record self.old { over = MaskBox chosen.path line }) self.new) }
+        ensures leads { IfOk result (λ act. MaskLeads (line_reply_of (input_shut line key)) chosen.kind chosen.path (input_after line key)
+            act.refusals (record self.old { over = MaskBox chosen.kind chosen.path line }) self.new) }
         ensures asks { IfOk result (λ act. act.ask ≡ Ask.Nothing) }
         ensures allowed { IfOk result (λ act. act.refusals ≡ []) }
         ensures rest { record self.new { over = NoBox; message = self.old.message } ≡ self.old }
-        ensures lost { OnErr result (self.new ≡ record self.old { over = MaskBox chosen.path line }) }
+        ensures lost { OnErr result (self.new ≡ record self.old { over = MaskBox chosen.kind chosen.path line }) }
     {
         let mut line = line;
         let typed = type_in(alloc, &mut line, key);
@@ -69,12 +69,12 @@ impl Ui {
         text: Text,
     ) -> Result<KeyAct, NoMemory>
         requires clear { self.old.over ≡ NoBox }
-        ensures leads { IfOk result (λ act. MaskLeads (LineReply.Takes text) chosen.path line
-            act.refusals (record self.old { over = MaskBox chosen.path line }) self.new) }
+        ensures leads { IfOk result (λ act. MaskLeads (LineReply.Takes text) chosen.kind chosen.path line
+            act.refusals (record self.old { over = MaskBox chosen.kind chosen.path line }) self.new) }
         ensures asks { IfOk result (λ act. act.ask ≡ Ask.Nothing) }
         ensures allowed { IfOk result (λ act. act.refusals ≡ []) }
         ensures rest { record self.new { over = NoBox; message = self.old.message } ≡ self.old }
-        ensures lost { OnErr result (self.new ≡ record self.old { over = MaskBox chosen.path line }) }
+        ensures lost { OnErr result (self.new ≡ record self.old { over = MaskBox chosen.kind chosen.path line }) }
     {
         let asked = target_line(alloc, self.panels().other().folder());
         match asked {
@@ -102,12 +102,12 @@ impl Ui {
     ) -> Result<KeyAct, NoMemory>
         requires clear { self.old.over ≡ NoBox }
         ensures leads { IfOk result (λ act. TargetLeads (line_reply_of (input_shut line key)) (T.contents tree.old) rows.now
-            chosen.path mask (input_after line key) act.refusals (record self.old { over = TargetBox chosen.path mask line }) (with_ask act.ask self.new)) }
+            chosen.kind chosen.path mask (input_after line key) act.refusals (record self.old { over = TargetBox chosen.kind chosen.path mask line }) (with_ask act.ask self.new)) }
         ensures asked { IfOk result (λ act. WellAsked rows.now act.ask) }
-        ensures stays { IfOk result (λ act. is_request act.ask ≡ true → self.new ≡ record self.old { over = TargetBox chosen.path mask line }) }
+        ensures stays { IfOk result (λ act. is_request act.ask ≡ true → self.new ≡ record self.old { over = TargetBox chosen.kind chosen.path mask line }) }
         ensures alone { IfOk result (λ act. is_request act.ask ≡ true → act.refusals ≡ []) }
         ensures rest { record self.new { over = NoBox; message = self.old.message } ≡ self.old }
-        ensures lost { OnErr result (self.new ≡ record self.old { over = TargetBox chosen.path mask line }) }
+        ensures lost { OnErr result (self.new ≡ record self.old { over = TargetBox chosen.kind chosen.path mask line }) }
         ensures reads { ReadsTree (λ (act : KeyActType). act.refusals) result (T.contents tree.old) (T.contents tree.new)
             (T.fault_count tree.old) (T.fault_count tree.new) }
     {
@@ -142,12 +142,12 @@ impl Ui {
     ) -> Result<KeyAct, NoMemory>
         requires clear { self.old.over ≡ NoBox }
         ensures leads { IfOk result (λ act. TargetLeads (LineReply.Takes text.now) (T.contents tree.old) rows.now
-            chosen.path mask line act.refusals (record self.old { over = TargetBox chosen.path mask line }) (with_ask act.ask self.new)) }
+            chosen.kind chosen.path mask line act.refusals (record self.old { over = TargetBox chosen.kind chosen.path mask line }) (with_ask act.ask self.new)) }
         ensures asked { IfOk result (λ act. WellAsked rows.now act.ask) }
-        ensures stays { IfOk result (λ act. is_request act.ask ≡ true → self.new ≡ record self.old { over = TargetBox chosen.path mask line }) }
+        ensures stays { IfOk result (λ act. is_request act.ask ≡ true → self.new ≡ record self.old { over = TargetBox chosen.kind chosen.path mask line }) }
         ensures alone { IfOk result (λ act. is_request act.ask ≡ true → act.refusals ≡ []) }
         ensures rest { record self.new { over = NoBox; message = self.old.message } ≡ self.old }
-        ensures lost { OnErr result (self.new ≡ record self.old { over = TargetBox chosen.path mask line }) }
+        ensures lost { OnErr result (self.new ≡ record self.old { over = TargetBox chosen.kind chosen.path mask line }) }
         ensures reads { ReadsTree (λ (act : KeyActType). act.refusals) result (T.contents tree.old) (T.contents tree.new)
             (T.fault_count tree.old) (T.fault_count tree.new) }
     {
@@ -169,13 +169,13 @@ impl Ui {
         text: &Text,
     ) -> Result<KeyAct, NoMemory>
         requires clear { self.old.over ≡ NoBox }
-        ensures leads { IfOk result (λ act. PlansCopy (T.contents tree.old) chosen.path mask self.old.panels.current.folder (with_home_of self.old.home text.now)
-            act.refusals (record self.old { over = TargetBox chosen.path mask line }) (with_ask act.ask self.new)) }
+        ensures leads { IfOk result (λ act. PlansCopy (T.contents tree.old) chosen.kind chosen.path mask self.old.panels.current.folder (with_home_of self.old.home text.now)
+            act.refusals (record self.old { over = TargetBox chosen.kind chosen.path mask line }) (with_ask act.ask self.new)) }
         ensures asked { IfOk result (λ act. WellAsked [] act.ask) }
-        ensures stays { IfOk result (λ act. is_request act.ask ≡ true → self.new ≡ record self.old { over = TargetBox chosen.path mask line }) }
+        ensures stays { IfOk result (λ act. is_request act.ask ≡ true → self.new ≡ record self.old { over = TargetBox chosen.kind chosen.path mask line }) }
         ensures alone { IfOk result (λ act. is_request act.ask ≡ true → act.refusals ≡ []) }
         ensures rest { record self.new { over = NoBox; message = self.old.message } ≡ self.old }
-        ensures lost { OnErr result (self.new ≡ record self.old { over = TargetBox chosen.path mask line }) }
+        ensures lost { OnErr result (self.new ≡ record self.old { over = TargetBox chosen.kind chosen.path mask line }) }
         ensures reads { ReadsTree (λ (act : KeyActType). act.refusals) result (T.contents tree.old) (T.contents tree.new)
             (T.fault_count tree.old) (T.fault_count tree.new) }
     {
@@ -207,7 +207,7 @@ fn plan_from<T: ReadTree>(
     home: &Option<Path>,
     typed: &str,
 ) -> Result<JobPlan, NoMemory>
-    ensures leads { IfOk result (CopyLeads (T.contents tree.old) chosen.now.path mask.now from.now (with_home_of home.now typed.now)) }
+    ensures leads { IfOk result (CopyLeads (T.contents tree.old) chosen.now.kind chosen.now.path mask.now from.now (with_home_of home.now typed.now)) }
     ensures reads { ReadsTree plan_refusals result (T.contents tree.old) (T.contents tree.new)
         (T.fault_count tree.old) (T.fault_count tree.new) }
 {

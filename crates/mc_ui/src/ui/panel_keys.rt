@@ -155,9 +155,9 @@ impl Ui {
     }
 }
 
-/// The box on a thing of this mode.
+/// The box on a thing, which has this mode.
 fn opened(alloc: Global, opens: Opens, chosen: Chosen, mode: u16) -> Result<Dialog, NoMemory>
-    ensures { IfOk result (λ dialog. seen_box dialog ≡ box_of opens chosen.path mode) }
+    ensures { IfOk result (λ dialog. seen_box dialog ≡ box_of opens chosen.kind chosen.path mode) }
 {
     match opens {
         Opens::Delete => Ok(Dialog::Delete(chosen)),
