@@ -151,8 +151,8 @@ fn copy_to(alloc: Global, chosen: &Chosen, target: Path) -> Result<Job, NoMemory
 /// The copy of a file, or of another thing with all that lies in it.
 #[tactic(auto, using(crate::proofs::AnyKind::works_alike))]
 fn copying(kind: Kind, pairs: Pairs) -> Job
-    ensures planned { result ≡ copies kind pairs.now }
-    ensures workable { is_workable result ≡ is_workable (Copy pairs.now) }
+    ensures planned { result ≡ copies kind pairs }
+    ensures workable { is_workable result ≡ is_workable (Copy pairs) }
 {
     match kind {
         Kind::File => Job::Copy(pairs),
