@@ -261,7 +261,7 @@ fn tell_things_in<T: Tree>(page: &mut Page, image: &mut T, folder: &Path, names:
 /// What there is but the names of what is copied, which are given with a blank between them.
 fn beside(found: &[Name], names: &str) -> &'static str {
     let mut part = false;
-    for name in found {
+    for name in found.iter() {
         if is_part(name) {
             part = true;
         } else if !names.split(' ').any(|copied| copied == name.text()) {

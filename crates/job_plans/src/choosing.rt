@@ -72,7 +72,13 @@ fn look_at_thing<T: ReadTree>(
     match tree.stat(alloc, &path) {
         Ok(meta) => {
             if may_ask_of(opens, meta.kind) {
-                Ok(Choice::Thing(Chosen { path, kind: meta.kind }, meta.mode))
+                Ok(Choice::Thing(
+                    Chosen {
+                        path,
+                        kind: meta.kind,
+                    },
+                    meta.mode,
+                ))
             } else {
                 Ok(Choice::Nothing)
             }
