@@ -1,13 +1,10 @@
--- A trouble is at a barrier exactly where the work is then, so the job that waits in it is sound.
-use Rattle.std.proofs.Common.{◌≡◌, ◌⊎◌, false, List, [], ◌∷◌, refl, sym, ◌∙◌, ap, subst, inl, inr}
+-- A trouble is at a barrier exactly where the work is then.
+use Rattle.std.proofs.Common.{◌≡◌, List, [], ◌∷◌, refl, sym, ◌∙◌, ap}
 use Rattle.mc_text.specs.Routes.{Route}
 use Rattle.file_copy.specs.Copying.{Copying}
 use Rattle.file_copy.specs.Copying as copying
-use Rattle.job_reports.specs.declared.report.Cause.{Cause}
-use Rattle.job_reports.specs.declared.report.Did.{Did}
-use Rattle.job_reports.specs.declared.report.Did.TheVariants.{Began, Chunk, Placed, Removed, Made, Set, Kept, Skipped, Cleaned, Barrier, Troubled, Ended}
+use Rattle.job_reports.specs.declared.report.Did.TheVariants.{Troubled}
 use Rattle.job_reports.specs.declared.report.Trouble.{Trouble}
-use Rattle.job_reports.specs.Stops.{out_of_memory_at}
 use Rattle.mode_setting.specs.Settings.{Setting}
 use Rattle.mode_setting.specs.Settings as settings
 use Rattle.tree_deletion.specs.Standing as standing
@@ -15,10 +12,9 @@ use Rattle.copy_move.specs.declared.making.MakingStage.{MakingStage}
 use Rattle.copy_move.specs.declared.making.MakingStage.TheVariants as making
 use Rattle.copy_move.specs.declared.work.Work.{Work}
 use Rattle.copy_move.specs.declared.work.Work.TheVariants.{Copy, CopyTree, Delete, Make, SetMode}
-use Rattle.copy_move.specs.Jobs.{IsGoing, IsSound, PassesOver, WorkTells, at_barrier, course_after}
+use Rattle.copy_move.specs.Jobs.{WorkTells, at_barrier}
 use Rattle.copy_move.specs.Makings.{Making}
 use Rattle.copy_move.specs.Makings as makings
-use Rattle.copy_move.specs.Steps.{WorkSkips}
 
 -- the trouble of a making is at a barrier where its next call is
 making_barrier : (stage : MakingStage) (path : Route) (trouble : Trouble) → makings.IsTroubleAt stage path trouble → trouble.barrier ≡ makings.at_barrier stage
@@ -54,26 +50,3 @@ work_barrier (SetMode s) (Copy new) trouble t = absurd t
 work_barrier (SetMode s) (CopyTree new) trouble t = absurd t
 work_barrier (SetMode s) (Delete new) trouble t = absurd t
 work_barrier (SetMode s) (Make new) trouble t = absurd t
-
--- the job after a report of its work
-pub sound_after : (did : Did) (old new : Work) → WorkTells old did new → IsGoing new → IsSound (course_after did) new
-sound_after (Troubled trouble) old new t going = (going, work_barrier old new trouble t)
-sound_after (Began part) old new t going = going
-sound_after (Chunk count) old new t going = going
-sound_after (Set path) old new t going = going
-sound_after (Placed path) old new t going = going
-sound_after (Removed path) old new t going = going
-sound_after (Made made) old new t going = going
-sound_after (Kept kept) old new t going = going
-sound_after (Skipped path cause) old new t going = going
-sound_after (Cleaned part) old new t going = going
-sound_after Barrier old new t going = going
-sound_after (Ended ending part) old new t going = going
-
--- and after a skip, which is at no barrier
-pub sound_skipped : (cause : Cause) (did : Did) (old new : Work) → WorkSkips cause old did new → at_barrier old ≡ false → IsGoing new → IsSound (course_after did) new
-sound_skipped cause did old new s apart going = by s.skips
-  where
-    by : ((path : Route) × (did ≡ Skipped path cause) × PassesOver old path new) ⊎ ((did ≡ Troubled (out_of_memory_at false)) × (new ≡ old)) → IsSound (course_after did) new
-    by (inl (path, is, passes)) = subst (λ d. IsSound (course_after d) new) (sym is) going
-    by (inr (is, same)) = subst (λ d. IsSound (course_after d) new) (sym is) (going, sym (ap at_barrier same ∙ apart))

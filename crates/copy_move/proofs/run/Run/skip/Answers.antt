@@ -3,14 +3,7 @@ use Rattle.std.proofs.Common.{ap, subst, sym, ◌∙◌, refl}
 use Rattle.copy_move.specs.declared.run.Course.{Course}
 use Rattle.copy_move.specs.Jobs.{IsSound, Running, at_barrier}
 use Rattle.copy_move.specs.Steps.{WorkSkips}
-use Rattle.copy_move.proofs.Barriers.{sound_skipped}
 use Rattle.copy_move.proofs.run.Run.skip.Goals as goal
-
-pub invariant_of-self : goal.invariant_of-self
-invariant_of-self c =
-    let held = subst (λ k. IsSound k c.self.inside.work) (ap (λ (j : Running). j.course) c.self.view_is ∙ c.requires.course) c.self.invariant in
-    subst (λ (k : Course). IsSound k c.skip-did.new.self) (sym c.after_report-self-inside.ensures)
-    (sound_skipped c.args.cause c.skip-did.result c.self.inside.work c.skip-did.new.self c.skip-did.ensures.skips held.1 c.skip-did.ensures.going)
 
 pub returns : goal.returns
 returns c =
