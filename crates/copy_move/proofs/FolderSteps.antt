@@ -34,7 +34,7 @@ use Rattle.tree_deletion.specs.Standing.{at_barrier as deletion_barrier}
 use Rattle.copy_move.specs.declared.work.Work.{Work}
 use Rattle.copy_move.specs.declared.work.Work.TheVariants.{Copy, CopyTree, Delete, Make, SetMode}
 use Rattle.copy_move.specs.declared.run.Course.{Course}
-use Rattle.copy_move.specs.declared.run.Course.TheVariants.{GoesOn, InTrouble, OwedSyncFailed, Skips, Ends}
+use Rattle.copy_move.specs.declared.run.Course.TheVariants.{GoesOn, InTrouble, Skips, Ends}
 use Rattle.copy_move.specs.Deletions.{Deleting, left_in}
 use Rattle.copy_move.specs.Deletions as deletions
 use Rattle.copy_move.specs.DeletionSteps.{DeletionSkips, DeletionStep, LastDeletionStep, after_try, is_decided}
@@ -519,6 +519,7 @@ settling_later job new did calls dirty dirty_after first before after f0 f1 f2 s
   fresh = s.fresh;
   path = s.path;
   owed = s.owed;
+  waits = s.waits;
   synced = s.synced;
   counted = s.counted;
   few = s.few;

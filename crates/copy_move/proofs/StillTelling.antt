@@ -1,22 +1,15 @@
 -- A tree that tells what it holds goes on telling at each step of a job.
-use Rattle.std.proofs.Common.{◌≡◌, List, [], ◌∷◌, take, inl, inr, Option, Some, None, Result, Ok, Err}
+use Rattle.std.proofs.Common.{[], ◌∷◌, inl, inr, Option, Some, None, Result, Ok, Err}
 use Rattle.mc_text.specs.Routes.{Route}
 use Rattle.tree_trait.specs.declared.calls.TreeError.{TreeError}
-use Rattle.tree_trait.specs.declared.calls.TreeError.TheVariants as refused
 use Rattle.tree_trait.specs.Calls.{Call, RemoveFile, RemoveFolder, SyncFolder}
 use Rattle.tree_trait.specs.Calls as calls
 use Rattle.tree_trait.specs.Change.{CallLog, current}
-use Rattle.tree_trait.specs.Answers.{Performs}
 use Rattle.job_reports.specs.declared.report.Cause.{Cause}
-use Rattle.job_reports.specs.declared.report.Cause.TheVariants.{Tree, TargetKind, SpecialSource, TooDeep, PartTaken, TooLong, Unnamed, Changed, Memory}
 use Rattle.job_reports.specs.declared.report.Did.{Did}
 use Rattle.job_reports.specs.declared.report.Did.TheVariants.{Began, Chunk, Placed, Removed, Made, Set, Kept, Skipped, Cleaned, Barrier, Troubled, Ended}
-use Rattle.file_copy.specs.declared.stage.Stage.{Stage}
-use Rattle.file_copy.specs.declared.stage.Stage.TheVariants.{Begin, Fill, Clean, Left, Decided}
-use Rattle.job_reports.specs.CallRuns.{RunStops, StopsAt}
-use Rattle.file_copy.specs.Copying.{Copying, Places, places_of}
+use Rattle.file_copy.specs.Copying.{Copying}
 use Rattle.job_reports.specs.Paths.{folder_of}
-use Rattle.file_copy.specs.CopyCalls.{CopyCalls, CopyStops, making, placing, writing}
 use Rattle.file_copy.specs.LastSteps.{SyncTried, WindCalls, removable}
 use Rattle.job_reports.proofs.Runs.{all_some}
 use Rattle.subtree_copy.specs.Known as known
@@ -24,7 +17,6 @@ use Rattle.subtree_copy.specs.LastCalls.{LastCalls as LastTreeCalls}
 use Rattle.subtree_copy.specs.Standing.{part_of}
 use Rattle.subtree_copy.proofs.StillTelling.{copy_tells, known_law, performs_tells, run_tells}
 use Rattle.job_reports.specs.Stops.{sync_answer}
-use Rattle.copy_move.specs.TreeCopies as trees
 use Rattle.copy_move.specs.declared.work.Work.{Work}
 use Rattle.copy_move.specs.declared.work.Work.TheVariants.{Copy, CopyTree, Delete, Make, SetMode}
 use Rattle.copy_move.specs.declared.run.Course.{Course}

@@ -1,5 +1,5 @@
 -- The steps of the copy of a thing with all that lies in it, as those of a job.
-use Rattle.std.proofs.Common.{◌≡◌, ◌⊎◌, ℕ, ◌+◌, ◌*◌, ◌<◌, ◌≤◌, Bool, true, false, List, length, refl, sym, ◌∙◌, ap, subst, inl, inr, Option, Some, None, arith}
+use Rattle.std.proofs.Common.{◌≡◌, ◌⊎◌, ℕ, ◌+◌, ◌*◌, ◌<◌, ◌≤◌, Bool, true, false, List, length, refl, sym, ◌∙◌, ap, subst, inl, inr, Option, Some, arith}
 use Rattle.std.proofs.lemmas.Bool.{true≢false}
 use Rattle.mc_text.specs.Routes.{Route}
 use Rattle.tree_trait.specs.Change.{CallLog}
@@ -13,7 +13,7 @@ use Rattle.job_reports.specs.declared.report.Did.TheVariants.{Began, Chunk, Plac
 use Rattle.job_reports.specs.declared.report.LastStepResult.{LastStepResult}
 use Rattle.job_reports.specs.Reports.{ends}
 use Rattle.job_reports.specs.Stops.{out_of_memory_at}
-use Rattle.tree_copy.specs.Standing.{Seen, is_fresh}
+use Rattle.tree_copy.specs.Standing.{is_fresh}
 use Rattle.subtree_copy.specs.Counted as tree
 use Rattle.subtree_copy.specs.LastCalls.{LastCalls, TellsTried}
 use Rattle.subtree_copy.specs.Ranks.{last_rank, rank}
@@ -33,12 +33,12 @@ use Rattle.subtree_copy.proofs.Tellings.{told_law}
 use Rattle.subtree_copy.proofs.Unbegun.{unbegun_law}
 use Rattle.subtree_copy.proofs.Waits.{trouble_law}
 use Rattle.copy_move.specs.declared.work.Work.TheVariants.{CopyTree}
-use Rattle.copy_move.specs.declared.run.Course.TheVariants.{GoesOn, Ends}
+use Rattle.copy_move.specs.declared.run.Course.TheVariants.{GoesOn}
 use Rattle.copy_move.specs.Faults.{MeetsFault}
 use Rattle.copy_move.specs.Jobs.{course_after}
-use Rattle.copy_move.specs.Ranks.{rank_at, rank_on, tries_left, work_rank}
+use Rattle.copy_move.specs.Ranks.{rank_on, tries_left, work_rank}
 use Rattle.copy_move.specs.Steps.{WorkSkips, WorkSteps, WorkWindsUp}
-use Rattle.copy_move.specs.TreeCopies.{AllowsOnly, Calls, Goes, IsGoing, Tells}
+use Rattle.copy_move.specs.TreeCopies.{AllowsOnly, Goes, IsGoing, Tells}
 use Rattle.copy_move.proofs.FolderSteps.{one_more, tried_more, tries_after, weighs_less}
 
 -- a fault that a job meets is one that the copy meets

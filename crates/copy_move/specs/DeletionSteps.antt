@@ -9,9 +9,9 @@ use Rattle.tree_trait.specs.Answers.{IfKnown, HasRisen}
 use Rattle.job_reports.specs.declared.report.Cause.{Cause}
 use Rattle.job_reports.specs.declared.report.Ending.{Ending}
 use Rattle.job_reports.specs.declared.report.Did.{Did}
-use Rattle.job_reports.specs.declared.report.Did.TheVariants.{Barrier, Skipped, Troubled}
+use Rattle.job_reports.specs.declared.report.Did.TheVariants.{Skipped, Troubled}
 use Rattle.job_reports.specs.CallRuns.{HasMore}
-use Rattle.job_reports.specs.Paths.{folder_of, without}
+use Rattle.job_reports.specs.Paths.{folder_of}
 use Rattle.job_reports.specs.Reports.{ends}
 use Rattle.job_reports.specs.Stops.{out_of_memory_at}
 use Rattle.tree_deletion.specs.Folders.{is_of}

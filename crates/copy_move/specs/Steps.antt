@@ -23,7 +23,7 @@ use Rattle.copy_move.specs.DeletionSteps.{Goes, Passes, TriesNext, after_try}
 use Rattle.copy_move.specs.Jobs.{Running, JobTells, JobCalls, PassesOver, WorkTells, WorkCalls, WorkWinds, WorkLastCalls, at_barrier, course_after, is_fresh}
 use Rattle.copy_move.specs.Settling.{NoneOwed, TellsFolder, WorkLeaves, is_own}
 use Rattle.job_reports.specs.Paths.{without}
-use Rattle.copy_move.specs.Ranks.{rank_at, rank_on, rank_with}
+use Rattle.copy_move.specs.Ranks.{last_rank, rank_at, rank_on, rank_with, work_rank}
 use Rattle.mode_setting.specs.SettingSteps.{SyncStops, sync_of}
 use Rattle.subtree_copy.specs.SubtreeSteps.{LastSubtreeStep, SubtreeSkips}
 use Rattle.copy_move.specs.TreeCopies as trees
@@ -197,12 +197,14 @@ abbrev pub SyncsOwed : Running → Route → Did → Running → List Route → 
 SyncsOwed old path did new dirty dirty_after before after =
     OwedSynced old path did new dirty dirty_after before after ⊎ OwedRefused old path did new dirty dirty_after before after
 
--- A step of a job that has changed nothing yet, where an ended job left something dirty: that is synced first, as what stands there.
+-- A step of a job that has changed nothing yet, where an ended job left something dirty: that is synced first, as what stands there. Fewer steps are left to one
+-- that waits then.
 pub record OwedSyncStep (step : StepMade) : Type 0 where
   pub goes : step.old.course ≡ GoesOn
   pub fresh : is_fresh step.old.work ≡ true
   pub path : Route
   pub owed : Among step.dirty path
+  pub waits : last_rank step.old.work < work_rank step.old.work
   pub synced : SyncsOwed step.old path step.did step.new step.dirty step.dirty_after step.before step.after
   pub counted : IfKnown step.before (λ log. IfKnown step.after (HasMore log step.calls))
   pub few : step.calls ≤ 1

@@ -19,9 +19,7 @@ use Rattle.file_copy.specs.LastSteps as file_last
 use Rattle.file_copy.specs.LastSteps.{left_at}
 use Rattle.folder_copy.specs.FolderCopying.{FolderCopying}
 use Rattle.folder_copy.specs.declared.stage.NamesState.TheVariants.{Synced}
-use Rattle.link_copy.specs.LastTries.{RemovalTried, answer_in}
-use Rattle.link_copy.specs.LinkCopying.{LinkCopying, has_part}
-use Rattle.link_copy.specs.declared.removal.Removal.{Removal}
+use Rattle.link_copy.specs.LastTries.{answer_in}
 use Rattle.copy_levels.specs.Levels.{Levels, dirtied, with_copy}
 use Rattle.tree_copy.specs.declared.item.Item.{Item}
 use Rattle.tree_copy.specs.declared.item.Item.TheVariants.{Next, File, Link, Stays}

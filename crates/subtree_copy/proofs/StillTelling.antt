@@ -1,5 +1,5 @@
 -- A tree that tells what it holds goes on telling after each call.
-use Rattle.std.proofs.Common.{◌≡◌, ℕ, Bool, false, List, [], ◌∷◌, take, refl, sym, ◌∙◌, ap, inl, inr, Option, Some, None, Result, Ok, Err}
+use Rattle.std.proofs.Common.{◌≡◌, ℕ, Bool, false, List, [], ◌∷◌, take, refl, inl, inr, Option, Some, Result, Ok, Err}
 use Rattle.mc_text.specs.Routes.{Route}
 use Rattle.tree_trait.specs.declared.calls.TreeError.{TreeError}
 use Rattle.tree_trait.specs.declared.calls.TreeError.TheVariants as refused
@@ -15,7 +15,6 @@ use Rattle.job_reports.specs.Paths.{folder_of}
 use Rattle.job_reports.proofs.Runs.{all_some}
 use Rattle.file_copy.specs.declared.stage.Stage.{Stage}
 use Rattle.file_copy.specs.declared.stage.Stage.TheVariants.{Begin, Fill, Clean, Left, Decided}
-use Rattle.file_copy.specs.Copying as file
 use Rattle.file_copy.specs.Copying.{Copying, Places, places_of}
 use Rattle.file_copy.specs.CopyCalls.{CopyCalls, CopyStops, making, placing, writing}
 use Rattle.folder_copy.specs.FolderCopying.{FolderCopying, copying}

@@ -28,7 +28,7 @@ use Rattle.link_copy.specs.LinkCopying.{LinkCopying, taken_anew as link_anew}
 use Rattle.link_copy.specs.declared.stage.Stage.TheVariants as link_stage
 use Rattle.subtree_walk.specs.Places.{is_empty, opened}
 use Rattle.copy_levels.specs.Levels.{Levels, is_around_dirty, made_levels, owed_at}
-use Rattle.tree_copy.specs.declared.copy.Stage.TheVariants.{Begin, Going}
+use Rattle.tree_copy.specs.declared.copy.Stage.TheVariants.{Going}
 use Rattle.tree_copy.specs.declared.item.Item.{Item}
 use Rattle.tree_copy.specs.declared.item.Item.TheVariants.{Next, File, Link, Stays}
 use Rattle.tree_copy.specs.Falling.{IsSteady}

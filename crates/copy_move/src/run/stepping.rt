@@ -4,7 +4,7 @@ ghost use Rattle.std.specs.Prelude.{◌≡◌, true};
 ghost use Rattle.tree_trait.specs.Change.{current};
 ghost use Rattle.tree_trait.specs.Answers.{IfKnown};
 ghost use Rattle.tree_trait.specs.CrashImages.{Among};
-ghost use Rattle.copy_move.specs.Jobs.{course_after, is_fresh};
+ghost use Rattle.copy_move.specs.Jobs.{IsGoing, course_after, is_fresh};
 ghost use Rattle.copy_move.specs.Settling.{NoneOwed};
 ghost use Rattle.copy_move.specs.Steps.{OwedSyncStep, OwnStep, RunStep, SkipSteps, WindingStep};
 
@@ -92,6 +92,7 @@ impl Run {
         owed: Path,
     ) -> StepResult
         requires course { self.old.course ≡ Course.GoesOn }
+        requires going { IsGoing self.old.work }
         requires fresh { is_fresh self.old.work ≡ true }
         requires owed { Among dirty.old owed }
         ensures steps { OwedSyncStep (record {
