@@ -53,7 +53,7 @@ settled_calm log UnderWay item c none calm = calm
 settled_calm log Decided item c none calm = none_calm log c.item none
 settled_calm log Anew item c none calm = none_calm log c.item none
 
-left_calm : (n : ℕ) (log : CallLog) (old mid : Seen) → LeavesAll n old mid → PartCalm log old.item → PartCalm log mid.item
+pub left_calm : (n : ℕ) (log : CallLog) (old mid : Seen) → LeavesAll n old mid → PartCalm log old.item → PartCalm log mid.item
 left_calm zero log old mid is calm = subst (λ (c : Seen). PartCalm log c.item) (sym is) calm
 left_calm (suc n) log old mid (last, all, none, one) calm = let r = one.returns in none_calm log mid.item (ap (λ (c : Seen). c.item) r.stands ∙ none)
 

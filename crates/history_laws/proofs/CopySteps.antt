@@ -143,7 +143,7 @@ module _ (told : Said) (dirty dirty_after : List Route) (marks : Marks) (log now
   -- a step stops
   stops : (why : Cause) (path : Option Route) (course : Course) → (course ≡ GoesOn → ⊥) → WorkKnows told dirty marks log GoesOn (Copy c) → (stage : Stage) → c.stage ≡ stage
       → CopyStops IsUnclaimed (places_of c) stage why path log (Some now) → In course
-  stops why path course off knows Begin is stop = comes_refused told dirty marks log now course (Copy c) kept (work_course told dirty marks log GoesOn course (Copy c) (λ e. absurd (off e)) knows) (how stop)
+  stops why path course off knows Begin is stop = comes_refused told dirty marks log now course (Copy c) kept (work_course told dirty marks log GoesOn course (Copy c) (λ e. absurd (off e)) (λ still. refl) knows) (how stop)
     where
       how : CopyStops IsUnclaimed (places_of c) Begin why path log (Some now) → (now ≡ log) ⊎ (now ≡ with_change log Nothing)
       how (inl look) = inl (some_log now log look.1)
@@ -165,11 +165,11 @@ module _ (told : Said) (dirty dirty_after : List Route) (marks : Marks) (log now
       how (inl (less, inr write)) = write_stops part i done (next_bytes (current log) c.source said done) why path at_fill.1.1 write
       how (inr (full, run)) = placing_stops told dirty c.target part i marks log now said.mode why path kept at_fill.1.1 run
   stops why path course off knows (Clean part follows) is stop =
-      comes_refused told dirty marks log now course (Copy c) kept (work_course told dirty marks log GoesOn course (Copy c) (λ e. absurd (off e)) knows)
+      comes_refused told dirty marks log now course (Copy c) kept (work_course told dirty marks log GoesOn course (Copy c) (λ e. absurd (off e)) (λ still. refl) knows)
       (stopped_is log now (RemoveFile part) why path (λ s left. refl) stop)
   stops why path course off knows (Left part) is stop = absurd stop
   stops why path course off knows Decided is stop =
-      comes_refused told dirty marks log now course (Copy c) kept (work_course told dirty marks log GoesOn course (Copy c) (λ e. absurd (off e)) knows)
+      comes_refused told dirty marks log now course (Copy c) kept (work_course told dirty marks log GoesOn course (Copy c) (λ e. absurd (off e)) (λ still. refl) knows)
       (stopped_is log now (SyncFolder up) why path (λ s left. refl) stop)
 
   with_routes : (did : Did) (course : Course) (new : Work) → dirty_after ≡ dirty → Comes told (said_after now did (Copy c) told) dirty log now (KnowsAfter did (said_after now did (Copy c) told) dirty now course new)

@@ -43,6 +43,7 @@ pub mod ItemSteps
 pub mod JobKnows
 pub mod JobLeads
 pub mod JobSteps
+pub mod KnownParts
 pub mod Knowing
 pub mod Lasting
 pub mod LinkParts
@@ -92,12 +93,16 @@ pub mod TextSteps
 pub mod Tidy
 pub mod TreeFiles
 pub mod TreeFolders
+pub mod TreeGoing
+pub mod TreeKnown
 pub mod TreeKnows
 pub mod TreeLinks
 pub mod TreePlaces
 pub mod TreeRuns
+pub mod TreeSkipped
 pub mod TreeSkips
 pub mod TreeSteps
+pub mod TreeWinds
 pub mod Unchanged
 pub mod Unnamed
 pub mod Untouched

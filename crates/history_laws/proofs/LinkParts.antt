@@ -1,12 +1,11 @@
 -- The part of a link is whole as it is made: of its node nothing waits, so it isn't loose.
-use Rattle.std.proofs.Common.{◌≡◌, ℕ, Bool, true, false, not, ◌&&◌, ◌||◌, List, ◌∷◌, refl, sym, ◌∙◌, ap, Some, None, arith}
+use Rattle.std.proofs.Common.{◌≡◌, ℕ, Bool, true, false, not, ◌&&◌, ◌||◌, List, ◌∷◌, refl, sym, ◌∙◌, ap, None, arith}
 use Rattle.std.specs.Prelude.{◌==◌}
 use Rattle.std.proofs.lemmas.Bool.{true≢false, eq-eqb, false_from_ne_true, or_left}
 use Rattle.mc_text.specs.Routes.{Route, same_path}
 use Rattle.mc_text.specs.declared.kind.Kind.TheVariants.{Link}
-use Rattle.tree_trait.specs.declared.file_system.FileSystem.{FileSystem}
 use Rattle.tree_trait.specs.declared.file_system.Node.{Node}
-use Rattle.tree_trait.specs.FileSystem.{find, node}
+use Rattle.tree_trait.specs.FileSystem.{node}
 use Rattle.tree_trait.specs.Refusals.{folder_kind, is_folder}
 use Rattle.tree_trait.specs.Change.{Makes, CallLog, current, with_change}
 use Rattle.tree_trait.specs.CrashImages.{Among, is_clean}
@@ -14,41 +13,13 @@ use Rattle.tree_trait.proofs.Visible.{same_path-true}
 use Rattle.crash_law.specs.Guarded.{Marks}
 use Rattle.crash_law.proofs.Leading.{clean_more}
 use Rattle.job_reports.specs.Paths.{folder_of}
-use Rattle.history_laws.proofs.JobKnows.{IsUntouched, untouched_settled}
-use Rattle.history_laws.proofs.Knowing.{IsCalmIn, IsKept, IsKnown, Said, settled_marks}
+use Rattle.history_laws.proofs.JobKnows.{IsUntouched}
+pub use Rattle.history_laws.proofs.KnownParts.{HasLink, link_settled}
+use Rattle.history_laws.proofs.Knowing.{IsCalmIn, IsKept, IsKnown, Said}
 use Rattle.history_laws.proofs.MakingParts.{MakesPart, made_known, marks_new, new_node, off_part, part_leads, part_node, with_part}
 use Rattle.history_laws.proofs.PlacingParts.{firm_known, marks_firm}
 use Rattle.history_laws.proofs.PlacingSteps.{IsWhole}
 use Rattle.history_laws.proofs.Resting.{IsSureFolder}
-
--- the part stands beside the target, and leads to a link that says this, which is on the disk but for its name
-pub record HasLink (said : Said) (marks : Marks) (s : FileSystem) (target part : Route) (text : List ℕ) (i : ℕ) : Type 0 where
-  pub part_is : said.part ≡ Some part
-  pub leads : find s part ≡ Some i
-  pub firm : marks.loose i ≡ false
-  pub moves : marks.roams i ≡ true
-  pub link : (node s i).kind ≡ Link
-  pub says : (node s i).bytes ≡ text
-  pub name : List ℕ
-  pub beside : part ≡ name ∷ folder_of target
-  pub apart : part ≡ target → ⊥
-  pub untouched : IsUntouched marks s target
-
--- it is known with the marks that are settled
-pub link_settled : (log : CallLog) (marks : Marks) (told : Said) (target part : Route) (text : List ℕ) (i : ℕ) → HasLink told marks (current log) target part text i
-    → HasLink told (settled_marks log marks) (current log) target part text i
-link_settled log marks told target part text i h = record {
-  part_is = h.part_is;
-  leads = h.leads;
-  firm = h.firm;
-  moves = h.moves;
-  link = h.link;
-  says = h.says;
-  name = h.name;
-  beside = h.beside;
-  apart = h.apart;
-  untouched = untouched_settled log marks target h.untouched;
-}
 
 -- so it may be placed, without a sync
 pub whole_link : (told : Said) (marks : Marks) (log : CallLog) (target part : Route) (text : List ℕ) (i : ℕ) → HasLink told marks (current log) target part text i → is_clean i log.changes ≡ true → IsWhole told marks log target part i

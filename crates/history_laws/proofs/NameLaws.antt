@@ -41,7 +41,7 @@ settled_marked UnderWay item c none h = h refl
 settled_marked Decided item c none h = none_marked c.item (let s : Seen = settled Decided item c in s.levels.inner) none
 settled_marked Anew item c none h = none_marked c.item c.levels.inner none
 
-left_marked : (n : ℕ) (old mid : Seen) → LeavesAll n old mid → IsMarked old → IsMarked mid
+pub left_marked : (n : ℕ) (old mid : Seen) → LeavesAll n old mid → IsMarked old → IsMarked mid
 left_marked zero old mid is h = subst IsMarked (sym is) h
 left_marked (suc n) old mid (last, all, none, one) h = let r = one.returns in none_marked mid.item mid.levels.inner (ap (λ (c : Seen). c.item) r.stands ∙ none)
 

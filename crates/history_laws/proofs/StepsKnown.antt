@@ -45,7 +45,7 @@ abbrev KnownAs : CallLog → Seen → List ℕ → Type 0
 KnownAs log c name = LevelsKnow log name c.levels × AreLaid name c.levels.inner c.levels.around
 
 -- The folders that a step leaves first owe nothing, and those around them are as they were.
-leaves_all : (n : ℕ) (log : CallLog) (old new : Seen) → LeavesAll n old new → FoldersKnown log old → FoldersKnown log new
+pub leaves_all : (n : ℕ) (log : CallLog) (old new : Seen) → LeavesAll n old new → FoldersKnown log old → FoldersKnown log new
 leaves_all zero log old new is known = subst (FoldersKnown log) (sym is) known
 leaves_all (suc n) log old new (mid, all, none, one) known =
     let r = one.returns in
@@ -57,7 +57,7 @@ leaves_all (suc n) log old new (mid, all, none, one) known =
     )
 
 -- nothing is at work where folders were left
-item_left : (n : ℕ) (log : CallLog) (old new : Seen) → LeavesAll n old new → ItemKnown log old old.item → ItemKnown log new new.item
+pub item_left : (n : ℕ) (log : CallLog) (old new : Seen) → LeavesAll n old new → ItemKnown log old old.item → ItemKnown log new new.item
 item_left zero log old new is item = subst (λ (c : Seen). ItemKnown log c c.item) (sym is) item
 item_left (suc n) log old new (mid, all, none, one) item =
     let r = one.returns in
@@ -89,7 +89,7 @@ module _ (unclaimed : Route → Type 0) (old new : Seen) (did : Did) (before aft
   next_name (inr (inr (inr (inr (next, inl (debt, ends)))))) = ap (λ (c : Seen). c.name) ends.stands
   next_name (inr (inr (inr (inr (next, inr (debt, f, same)))))) = ap (λ (c : Seen). c.name) f.stands
 
-  works_name : (item : Item) → WorksOn item unclaimed old new did before after → new.name ≡ old.name
+  pub works_name : (item : Item) → WorksOn item unclaimed old new did before after → new.name ≡ old.name
   works_name Next (inl s) = ap (λ (c : Seen). c.name) s.stands
   works_name Next (inr takes) = next_name takes.1
   works_name (File f) w = file_name f w

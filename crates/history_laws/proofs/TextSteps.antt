@@ -34,7 +34,7 @@ settled_text log UnderWay item c none known = known
 settled_text log Decided item c none known = none_known log c.item none
 settled_text log Anew item c none known = none_known log c.item none
 
-text_left : (n : ℕ) (log : CallLog) (old mid : Seen) → LeavesAll n old mid → TextKnown log old.item → TextKnown log mid.item
+pub text_left : (n : ℕ) (log : CallLog) (old mid : Seen) → LeavesAll n old mid → TextKnown log old.item → TextKnown log mid.item
 text_left zero log old mid is known = subst (λ (c : Seen). TextKnown log c.item) (sym is) known
 text_left (suc n) log old mid (last, all, none, one) known = let r = one.returns in none_known log mid.item (ap (λ (c : Seen). c.item) r.stands ∙ none)
 
