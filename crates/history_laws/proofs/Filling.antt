@@ -30,7 +30,6 @@ use Rattle.copy_move.specs.declared.work.Work.TheVariants.{Copy}
 use Rattle.copy_move.specs.declared.run.Course.TheVariants.{GoesOn}
 use Rattle.tree_deletion.specs.Folders.{joined}
 use Rattle.copy_move.specs.Settling.{with_change as moves_dirty}
-use Rattle.history_laws.specs.Traces.{IsUnclaimed}
 use Rattle.history_laws.specs.Doubt.{name_waits}
 use Rattle.history_laws.proofs.Calming.{written_known}
 use Rattle.history_laws.proofs.FilledFolders.{IsFilling, met_untouched}
@@ -112,8 +111,8 @@ module _ (told : Said) (dirty dirty_after : List Route) (marks : Marks) (log now
       let same : dirty_after ≡ joined up dirty = leaves ∙ ap (λ x. moves_dirty (is_dirty x) true up dirty) is in
       (subst (λ xs. Among xs up) (sym same) (joined_holds up dirty), λ q among. subst (λ xs. Among xs q) (sym same) (joined_more up q dirty among))
 
-  module _ (said : SourceFacts) (k : ℕ) (target_name : HasName c.target) (ready : IsReady (current log) (places_of c)) (is_said : AreFactsOf (current log) c.source said)
-      (free : IsFirstFree (current log) IsUnclaimed (places_of c) k) (none : told.part ≡ None) (untouched : IsUntouched marks (current log) c.target)
+  module _ (unclaimed : Route → Type 0) (said : SourceFacts) (k : ℕ) (target_name : HasName c.target) (ready : IsReady (current log) (places_of c)) (is_said : AreFactsOf (current log) c.source said)
+      (free : IsFirstFree (current log) unclaimed (places_of c) k) (none : told.part ≡ None) (untouched : IsUntouched marks (current log) c.target)
       (d : IsDoneCall log (making (current log) (places_of c) k) now) (firm : IsSureFolder log up) (calm : IsCalmIn marks (current log) up) (listed : Among dirty_after up) (more : (q : Route) → Among dirty q → Among dirty_after q) where
     abbrev name : List ℕ
     name = part_name c.job k

@@ -77,7 +77,7 @@ module _ (told : Said) (dirty dirty_after : List Route) (marks : Marks) (log now
   work_tells : (old new : Work) (did : Did) → WorkKnows told dirty marks log GoesOn old → WorkTells old did new → WorkCalls IsUnclaimed old did new log (Some now)
       → (is_fresh old ≡ true → NoneOwed (current log) old dirty) → WorkLeaves old did new dirty dirty_after (Some log) (Some now) → WorkWalks GoesOn old did new
       → Steps told dirty dirty_after marks log now kept did (course_after did) old new
-  work_tells (Copy c) (Copy new) did knows tells calls settled leaves walks = copy_tells told dirty dirty_after marks log now kept c new did knows tells calls (λ fresh. begins_owed told dirty marks log c.target kept knows.0 (none_on (current log) (Copy c) dirty (settled fresh))) leaves
+  work_tells (Copy c) (Copy new) did knows tells calls settled leaves walks = copy_tells told dirty dirty_after marks log now kept c IsUnclaimed new did knows tells calls (λ fresh. begins_owed told dirty marks log c.target kept knows.0 (none_on (current log) (Copy c) dirty (settled fresh))) leaves
   work_tells (Delete d) (Delete new) did knows tells calls settled leaves walks = deletion_tells told dirty dirty_after marks log now kept d new did knows tells calls settled leaves
   work_tells (Make w) (Make new) did knows tells calls settled leaves walks = making_tells told dirty dirty_after marks log now kept w new did knows tells calls (λ fresh. none_on (current log) (Make w) dirty (settled fresh)) leaves
   work_tells (SetMode s) (SetMode new) did knows tells calls settled leaves walks = setting_tells told dirty dirty_after marks log now kept s new did knows tells calls settled leaves

@@ -43,8 +43,8 @@ pub mod ItemSteps
 pub mod JobKnows
 pub mod JobLeads
 pub mod JobSteps
-pub mod KnownParts
 pub mod Knowing
+pub mod KnownParts
 pub mod Lasting
 pub mod LinkParts
 pub mod LinkTexts
@@ -91,6 +91,7 @@ pub mod Stepped
 pub mod StepsKnown
 pub mod TextSteps
 pub mod Tidy
+pub mod TreeCalls
 pub mod TreeFiles
 pub mod TreeFolders
 pub mod TreeGoing

@@ -121,7 +121,7 @@ leaves_part told dirty marks s course (Stays part) k = k
 
 -- It is known with the marks that are settled.
 module _ (log : CallLog) (marks : Marks) (told : Said) where
-  item_settled : (dirty : List Route) (course : Course) (item : Item) → ItemHas told dirty marks (current log) course item → ItemHas told dirty (settled_marks log marks) (current log) course item
+  pub item_settled : (dirty : List Route) (course : Course) (item : Item) → ItemHas told dirty marks (current log) course item → ItemHas told dirty (settled_marks log marks) (current log) course item
   item_settled dirty course Next none = none
   item_settled dirty course (File f) k = file_settled log marks told dirty course f k
   item_settled dirty course (Link l) (stands, k) = (stands, link_knows_settled log marks told dirty l.target l.part k)
@@ -137,7 +137,7 @@ module _ (log : CallLog) (marks : Marks) (told : Said) where
   pub but_settled : (target : Route) → IsCalmBut marks (current log) target → IsCalmBut (settled_marks log marks) (current log) target
   but_settled target calm name i other at = elim (calm name i other at) [ inl none ↦ inl (no_mode i none) | inr begins ↦ inr begins ]
 
-  around_settled : (c : SubtreeCopying) → AroundKnows told marks (current log) c → AroundKnows told (settled_marks log marks) (current log) c
+  pub around_settled : (c : SubtreeCopying) → AroundKnows told marks (current log) c → AroundKnows told (settled_marks log marks) (current log) c
   around_settled c (inl calm) = inl calm
   around_settled c (inr (none, calm)) = inr (none, but_settled c.top.target calm)
 
