@@ -21,6 +21,7 @@ pub mod Emptied
 pub mod EndSteps
 pub mod Example
 pub mod ExampleParts
+pub mod FileLeads
 pub mod FilledCalls
 pub mod FilledFolders
 pub mod Filling

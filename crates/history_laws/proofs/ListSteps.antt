@@ -72,7 +72,7 @@ leaves_listed dirty (suc n) old mid (last, all, none, one) apart h =
     (nested.1, around_listed dirty last.levels.inner last.levels.around k.1 mid.levels.inner mid.levels.around left.was)
 
 -- a folder whose mark is set after a step counts as dirty after it
-left_marks : (did : Did) (c : Seen) → is_dirty c.levels.inner.copy.names ≡ true → is_left_dirty did c ≡ true
+pub left_marks : (did : Did) (c : Seen) → is_dirty c.levels.inner.copy.names ≡ true → is_left_dirty did c ≡ true
 left_marks (Made path) c marked = refl
 left_marks (Began part) c marked = marked
 left_marks (Chunk count) c marked = marked
