@@ -16,6 +16,7 @@ use Rattle.file_copy.specs.Copying as copying
 use Rattle.session_history.specs.declared.history.Entry.{Entry}
 use Rattle.copy_move.specs.declared.run.Course.{Course}
 use Rattle.copy_move.specs.declared.run.Course.TheVariants.{GoesOn, InTrouble, OwedSyncFailed, Skips, Ends}
+use Rattle.copy_move.specs.Deletions.{started}
 use Rattle.copy_move.specs.declared.work.Work.{Work}
 use Rattle.copy_move.specs.declared.making.MakingStage.{MakingStage}
 use Rattle.copy_move.specs.declared.making.MakingStage.TheVariants as making
@@ -138,6 +139,10 @@ own_above : (work : Work) (up : Route) → IsOfNames work → is_own work up ≡
 own_above (SetMode s) up names own = absurd names
 own_above (Copy c) up names own = inl (same_path-true up (folder_of c.target) own)
 own_above (Make m) up names own = inl (same_path-true up (folder_of m.path) own)
+own_above (CopyTree c) up names own = elim (or_cases (same_path up (folder_of c.top.target)) (is_prefix c.top.target up) own) [
+  | inl here ↦ inl (same_path-true up (folder_of c.top.target) here)
+  | inr within ↦ inr (own_folder (started c.top.target) up (folder_of up) within refl)
+]
 own_above (Delete d) up names own = elim (or_cases (same_path up (folder_of d.path)) (is_prefix d.path up) own) [
   | inl here ↦ inl (same_path-true up (folder_of d.path) here)
   | inr within ↦ inr (own_folder d up (folder_of up) within refl)

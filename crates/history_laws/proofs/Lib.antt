@@ -93,6 +93,7 @@ pub mod StepsKnown
 pub mod TextSteps
 pub mod Tidy
 pub mod TreeCalls
+pub mod TreeEnds
 pub mod TreeFiles
 pub mod TreeFolders
 pub mod TreeGoing

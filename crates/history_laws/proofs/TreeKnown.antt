@@ -130,7 +130,7 @@ module _ (log : CallLog) (marks : Marks) (told : Said) where
   no_mode : (i : ℕ) → marks.modes i ≡ None → (let m = settled_marks log marks in m.modes i) ≡ None
   no_mode i none = by (is_clean i log.changes)
     where
-      by : (b : Bool) → cond b None (marks.modes i) ≡ None
+      by : (b : Bool) → cond b (let o : Option ℕ = None in o) (marks.modes i) ≡ None
       by true = refl
       by false = none
 

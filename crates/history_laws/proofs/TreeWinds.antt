@@ -28,7 +28,6 @@ use Rattle.tree_copy.specs.Standing.{Seen}
 use Rattle.tree_copy.specs.Steps.{idle}
 use Rattle.tree_copy.specs.declared.item.Item.{Item}
 use Rattle.tree_copy.specs.declared.item.Item.TheVariants.{Next, File, Link, Stays}
-use Rattle.tree_deletion.specs.Folders.{after_try}
 use Rattle.subtree_copy.specs.LastCalls.{LastCalls, TellsTried}
 use Rattle.subtree_copy.specs.LastCalls as calls
 use Rattle.subtree_copy.specs.Reporting.{IsWound, part_wound}
@@ -37,6 +36,7 @@ use Rattle.subtree_copy.specs.SubtreeSteps.{LastSubtreeStep}
 use Rattle.copy_move.specs.declared.work.Work.{Work}
 use Rattle.copy_move.specs.declared.work.Work.TheVariants.{CopyTree}
 use Rattle.copy_move.specs.declared.run.Course.TheVariants.{Ends}
+use Rattle.copy_move.specs.DeletionSteps.{after_try}
 use Rattle.copy_move.specs.Steps.{LastLeaves}
 use Rattle.history_laws.proofs.Calming.{refused_is}
 use Rattle.history_laws.proofs.Changing.{removed_known}
@@ -181,7 +181,7 @@ module _ (told : Said) (dirty dirty_after : List Route) (marks : Marks) (log now
 
     -- all ends
     ends_all : (how : Ending) (stays : Option Route) → stays ≡ part → dirty_after ≡ dirty → (mid : CallLog) → calls.LeavesPart part log mid → now ≡ mid → In (Ended how stays)
-    ends_all how stays is list mid tries now_is = by tries
+    ends_all how stays is list mid removal now_is = by removal
       where
         by : calls.LeavesPart part log mid → In (Ended how stays)
         by (inl same) = ends_left told dirty dirty_after marks log now kept how (CopyTree c) stays (subst (LeavesPart told (current log)) (sym is) left) list (now_is ∙ same)
@@ -204,7 +204,7 @@ module _ (told : Said) (dirty dirty_after : List Route) (marks : Marks) (log now
         (λ m. over after dirty m now ending c new None k.name wound.top item refl))
     tree_winds Barrier count tells f0 f1 wound s rows leaves =
         tries leaves.folder leaves.refusal wound (left_item ending c new (record { did = Barrier; calls = count; left = tells }) dirty dirty_after (Some log) (Some now) f0 f1 wound s) (sym leaves.dirty_is) (leaves.tried log refl)
-    tree_winds (Ended how stays) count tells f0 f1 wound s (mid, tries, same) leaves = ends_all how stays (let may = wound.may in may.1) leaves.dirty_is mid tries (some_log now mid same)
+    tree_winds (Ended how stays) count tells f0 f1 wound s (mid, removal, same) leaves = ends_all how stays (let may = wound.may in may.1) leaves.dirty_is mid removal (some_log now mid same)
     tree_winds (Began path) count tells f0 f1 wound s rows leaves = absurd wound.may
     tree_winds (Chunk bytes) count tells f0 f1 wound s rows leaves = absurd wound.may
     tree_winds (Placed path) count tells f0 f1 wound s rows leaves = absurd wound.may
