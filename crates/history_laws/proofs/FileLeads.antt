@@ -115,7 +115,7 @@ module _ (told : Said) (dirty dirty_after : List Route) (marks : Marks) (log now
   known_then after course calm_then come = comes_map told after dirty_after log now (λ m. WorkKnows after dirty_after m now course (Copy moved)) (KnownThen after course)
       (λ m k file. (
         subst (λ (x : Seen). ItemHas after dirty_after m (current now) course x.item) (sym w.stands)
-        (file_has after dirty_after m (current now) course moved (noted did (is_dirty moved.folder) old) moved.stage refl file),
+            (file_has after dirty_after m (current now) course moved (noted did (is_dirty moved.folder) old) moved.stage refl file),
         inl calm_then,
       )) come
 

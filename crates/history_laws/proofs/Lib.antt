@@ -99,6 +99,7 @@ pub mod TreeFolders
 pub mod TreeGoing
 pub mod TreeKnown
 pub mod TreeKnows
+pub mod TreeLeads
 pub mod TreeLinks
 pub mod TreePlaces
 pub mod TreeRuns
