@@ -68,7 +68,7 @@ module _ (told : Said) (dirty dirty_after : List Route) (marks : Marks) (log now
   skip_knows course (Make m) (Make new) path cause going (path_is, new_is) walks k = subst (λ (n : Making). WorkKnows told dirty marks log GoesOn (Make n)) (sym new_is) k
   skip_knows course (Delete d) (Delete new) path cause going at walks k = stays told dirty dirty_after marks log now kept course GoesOn d new _ k at (still_going told dirty dirty_after marks log now kept path d) dirty
   skip_knows course (CopyTree c) (CopyTree new) path cause going h walks k =
-      skips_tree told dirty marks log course GoesOn cause c new (Skipped path cause) going (λ trouble is. let f : ⊥ = cc in f) walks k
+      skips_tree told dirty marks log course GoesOn cause c new (Skipped path cause) going (λ trouble is on. let f : ⊥ = cc in f) walks k
 
   -- what the machine of the work did
   abbrev WorkWalks : Course → Work → Did → Work → Type 0

@@ -1,5 +1,5 @@
 -- Steps of a copy of folders that change no name: syncs, and calls that were refused.
-use Rattle.std.proofs.Common.{◌≡◌, ◌⊎◌, Bool, true, false, List, [], ◌∷◌, refl, sym, ◌∙◌, ap, subst, inl, inr, Option, Some, None, Ok, arith}
+use Rattle.std.proofs.Common.{◌≡◌, ◌⊎◌, ℕ, suc, zero, Bool, true, false, List, [], ◌∷◌, refl, sym, ◌∙◌, ap, subst, inl, inr, Option, Some, None, Ok, arith}
 use Rattle.std.specs.Prelude.{if◌then◌else◌}
 use Rattle.mc_text.specs.Routes.{Route}
 use Rattle.tree_trait.specs.declared.file_system.FileSystem.{FileSystem}
@@ -30,15 +30,19 @@ use Rattle.copy_levels.specs.Levels.{is_around_dirty, target_around}
 use Rattle.tree_deletion.specs.Folders.{with_change as change_list}
 use Rattle.tree_copy.specs.Reports.{IsToldAs}
 use Rattle.tree_copy.specs.Standing.{Seen}
-use Rattle.tree_copy.specs.Steps.{FolderEnds, SyncsAround, at_end}
+use Rattle.tree_copy.specs.Skipping as machine
+use Rattle.tree_copy.specs.Steps.{FolderEnds, LeavesAll, SyncsAround, at_end}
 use Rattle.tree_copy.specs.declared.item.Item.TheVariants.{Next}
 use Rattle.subtree_copy.specs.Marks.{brings_in, folder_worked, is_dirty_after, is_left_dirty, was_dirty}
 use Rattle.subtree_copy.specs.Standing.{SubtreeCopying}
+use Rattle.copy_move.specs.declared.run.Course.{Course}
+use Rattle.copy_move.specs.declared.run.Course.TheVariants.{GoesOn}
 use Rattle.history_laws.proofs.Calming.{cleared_known, nothing_known, refused_is}
 use Rattle.history_laws.proofs.Knowing.{IsKept, IsKnown, Said, settled_marks}
 use Rattle.history_laws.proofs.QuietRuns.{row_done, row_stops}
 use Rattle.history_laws.proofs.Stepped.{Comes, comes_none, comes_one}
-use Rattle.history_laws.proofs.TreeKnown.{AroundKnows, around_settled}
+use Rattle.history_laws.proofs.TreeKnown.{AroundKnows, ItemHas, around_settled}
+use Rattle.history_laws.proofs.TreeSkipped.{skipped_item, skips_none}
 
 -- what is known where nothing is at work
 abbrev pub IdleKnown : Said → SubtreeCopying → Marks → FileSystem → Type 0
@@ -179,3 +183,30 @@ module _ (told : Said) (dirty dirty_after : List Route) (marks : Marks) (log now
         (ends_list (ap (λ d. is_left_dirty d new) is ∙ left_names)
         ∙ (ap (λ (x : FolderCopying). change_list (is_dirty worked.names) (is_dirty x.names) worked.target dirty) new_is ∙ same_list (is_dirty worked.names) worked.target dirty))
         (idle_refused told dirty marks log now kept here known (folder_refused worked.target worked.stage worked.names trouble.cause trouble.path log now stop))
+
+-- What is known of the part and of the folder around, wherever the copy stands.
+abbrev pub PartAt : Said → List Route → Marks → FileSystem → Course → SubtreeCopying → Seen → Type 0
+PartAt told dirty marks s course c at = ItemHas told dirty marks s course at.item × AroundKnows told marks s (record c { at = at })
+
+-- folders that are left make nothing of it
+left_item : (n : ℕ) (old mid : Seen) → LeavesAll n old mid → mid.item ≡ old.item
+left_item zero old mid is = ap (λ (x : Seen). x.item) is
+left_item (suc n) old mid (last, all, none, one) = let r = one.returns in ap (λ (x : Seen). x.item) r.stands ∙ left_item n old last all
+
+around_at : (told : Said) (marks : Marks) (s : FileSystem) (c : SubtreeCopying) (old new : Seen) → (old.item ≡ Next → new.item ≡ Next) → AroundKnows told marks s (record c { at = old }) → AroundKnows told marks s (record c { at = new })
+around_at told marks s c old new stays (inl calm) = inl calm
+around_at told marks s c old new stays (inr (none, but)) = inr (stays none, but)
+
+pub left_part : (told : Said) (dirty : List Route) (marks : Marks) (s : FileSystem) (course : Course) (c : SubtreeCopying) (n : ℕ) (old mid : Seen) → LeavesAll n old mid → PartAt told dirty marks s course c old → PartAt told dirty marks s course c mid
+left_part told dirty marks s course c n old mid l (item, around) = (
+  subst (λ i. ItemHas told dirty marks s course i) (sym (left_item n old mid l)) item,
+  around_at told marks s c old mid (λ none. left_item n old mid l ∙ none) around,
+)
+
+-- nor does what is passed over in the same step, which called nothing more
+pub passed_part : (told : Said) (dirty : List Route) (marks : Marks) (s : FileSystem) (course other : Course) (c : SubtreeCopying) (cause : Cause) (old new : Seen) (did : Did)
+    → ((trouble : Trouble) → did ≡ common.Troubled trouble → other ≡ GoesOn → ⊥) → machine.Skips cause old did new → PartAt told dirty marks s course c old → PartAt told dirty marks s other c new
+passed_part told dirty marks s course other c cause old new did off skips (item, around) = (
+  skipped_item told dirty marks s course other cause did off old.item old new refl skips item,
+  around_at told marks s c old new (λ none. skips_none cause old new did none skips) around,
+)

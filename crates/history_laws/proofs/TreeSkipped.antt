@@ -69,7 +69,7 @@ skips_stage (Link l) cause old new did (moved, skips, stands) = ap (λ (c : Seen
 skips_stage (Stays part) cause old new did s = absurd s
 
 -- what isn't at work stays so
-skips_none : (cause : Cause) (old new : Seen) (did : Did) → old.item ≡ Next → machine.Skips cause old did new → new.item ≡ Next
+pub skips_none : (cause : Cause) (old new : Seen) (did : Did) → old.item ≡ Next → machine.Skips cause old did new → new.item ≡ Next
 skips_none cause old new did none s = (next_stays old.levels.inner.names.names cause old new did (subst (λ i. machine.SkipsAt i cause old did new) none s)).0 ∙ none
 
 -- a link whose part stands, once it is left, or taken anew
