@@ -1,12 +1,13 @@
 -- What is known of a live job that copies a thing with all that lies in it.
 use Rattle.std.proofs.Common.{◌≡◌, ◌⊎◌, ℕ, Bool, true, false, List, ◌∷◌, ◌++◌, refl, sym, ◌∙◌, ap, subst, inl, inr, Option, Some, None, cond}
 use Rattle.std.specs.Prelude.{if◌then◌else◌}
+use Rattle.std.proofs.lemmas.Bool.{both_ways}
 use Rattle.mc_text.specs.Routes.{Route}
 use Rattle.tree_trait.specs.declared.file_system.FileSystem.{FileSystem}
 use Rattle.tree_trait.specs.FileSystem.{View, find, starts_mount}
 use Rattle.tree_trait.specs.Shape.{IsTree}
 use Rattle.tree_trait.specs.Change.{Change, Nothing, Syncs, CallLog, current, with_change}
-use Rattle.tree_trait.specs.CrashImages.{is_clean, says}
+use Rattle.tree_trait.specs.CrashImages.{alters, is_clean, says}
 use Rattle.crash_law.specs.Guarded.{Marks}
 use Rattle.crash_law.proofs.Leading.{current_more}
 use Rattle.job_reports.specs.Paths.{folder_of}
@@ -24,7 +25,7 @@ use Rattle.job_answers.specs.declared.skips.Skips.{Skips as Kinds}
 use Rattle.copy_move.specs.declared.run.Course.{Course}
 use Rattle.copy_move.specs.declared.run.Course.TheVariants.{GoesOn, InTrouble, OwedSyncFailed, Skips, Ends}
 use Rattle.history_laws.proofs.AtWork.{ItemKnown}
-use Rattle.history_laws.proofs.Calm.{IsCalm, MayWait, PartCalm}
+use Rattle.history_laws.proofs.Calm.{IsCalm, IsCalmOr, MayWait, PartCalm}
 use Rattle.history_laws.proofs.CalmChanges.{calm_quiet}
 use Rattle.history_laws.proofs.CopyLaws.{CopyKnown}
 use Rattle.history_laws.proofs.DirtyListed.{MarksListed}
@@ -36,7 +37,7 @@ use Rattle.history_laws.proofs.NameChanges.{waits_quiet}
 use Rattle.history_laws.proofs.Names.{IsMarked, IsMarkedIn, WaitsMarked}
 use Rattle.history_laws.proofs.OpenFolders.{LevelsKnow}
 use Rattle.history_laws.proofs.OwedModes.{OwedModes}
-use Rattle.history_laws.proofs.PartTexts.{TextKnown}
+use Rattle.history_laws.proofs.PartTexts.{IsLinkAs, TextKnown}
 use Rattle.history_laws.proofs.TreeKnows.{levels_quiet}
 use Rattle.history_laws.proofs.TreeRuns.{has_quiet}
 
@@ -178,35 +179,35 @@ abbrev pub IsStill : CallLog → CallLog → Type 0
 IsStill log now = (c : Change) × (now ≡ with_change log c) × ((c ≡ Nothing) ⊎ ((f : ℕ) × (c ≡ Syncs f)))
 
 module _ (told : Said) (dirty : List Route) (marks : Marks) (log : CallLog) (tree : IsTree (current log)) (c : Change) (same : current (with_change log c) ≡ current log)
-    (none : (n g : ℕ) (m : List ℕ) → says c n g m ≡ None) (alters_none : (i : ℕ) → Rattle.tree_trait.specs.CrashImages.alters i c ≡ false) where
-  abbrev now : CallLog
-  now = with_change log c
+    (none : (n g : ℕ) (m : List ℕ) → says c n g m ≡ None) (alters_none : (i : ℕ) → alters i c ≡ false) where
+  abbrev after : CallLog
+  after = with_change log c
 
-  item_still : (course : Course) (item : Item) → ItemHas told dirty marks (current log) course item → ItemHas told dirty marks (current now) course item
+  item_still : (course : Course) (item : Item) → ItemHas told dirty marks (current log) course item → ItemHas told dirty marks (current after) course item
   item_still course item k = subst (λ (s : FileSystem). ItemHas told dirty marks s course item) (sym same) k
 
-  known_still : (s : Seen) (item : Item) → ItemKnown log s item → ItemKnown now s item
+  known_still : (s : Seen) (item : Item) → ItemKnown log s item → ItemKnown after s item
   known_still s Next k = tt
   known_still s (File f) (clean, going, within, has) = (clean, going, within, λ part is. has_quiet s.name s.levels part f.target log c tree none (has part is))
   known_still s (Link l) (clean, going, within, has) = (clean, going, within, λ is. has_quiet s.name s.levels l.part l.target log c tree none (has is))
   known_still s (Stays part) k = tt
 
-  text_still : (item : Item) → TextKnown log item → TextKnown now item
+  text_still : (item : Item) → TextKnown log item → TextKnown after item
   text_still Next k = tt
   text_still (File f) k = tt
-  text_still (Link l) k = λ has. subst (λ (s : FileSystem). Rattle.history_laws.proofs.PartTexts.IsLinkAs s l.part l.source) (sym same) (k has)
+  text_still (Link l) k = λ has. subst (λ (s : FileSystem). IsLinkAs s l.part l.source) (sym same) (k has)
   text_still (Stays part) k = tt
 
-  calm_still : (path : Route) (E : Type 0) → Rattle.history_laws.proofs.Calm.IsCalmOr path log E → Rattle.history_laws.proofs.Calm.IsCalmOr path now E
-  calm_still path E calm = calm_quiet path log c E E calm none (λ i at altered. absurd (Rattle.std.proofs.lemmas.Bool.both_ways _ (alters_none i) altered)) (λ e. e)
+  calm_still : (path : Route) (E : Type 0) → IsCalmOr path log E → IsCalmOr path after E
+  calm_still path E calm = calm_quiet path log c E E calm none (λ i at altered. absurd (both_ways _ (alters_none i) altered)) (λ e. e)
 
-  part_still : (item : Item) → PartCalm log item → PartCalm now item
+  part_still : (item : Item) → PartCalm log item → PartCalm after item
   part_still Next k = tt
   part_still (File f) k = tt
   part_still (Link l) k = λ has. calm_still l.part ⊥ (k has)
   part_still (Stays part) k = tt
 
-  has_still : (t : SubtreeCopying) → TreeHas told marks log t → TreeHas told marks now t
+  has_still : (t : SubtreeCopying) → TreeHas told marks log t → TreeHas told marks after t
   has_still t h = record {
     levels = levels_quiet log c tree none t.at.name t.at.levels h.levels;
     item = known_still t.at t.at.item h.item;
@@ -219,7 +220,7 @@ module _ (told : Said) (dirty : List Route) (marks : Marks) (log : CallLog) (tre
     around = subst (λ (s : FileSystem). AroundKnows told marks s t) (sym same) h.around;
   }
 
-  pub tree_quiet : (course : Course) (t : SubtreeCopying) → TreeKnown told dirty marks log course t → TreeKnown told dirty marks now course t
+  pub tree_quiet : (course : Course) (t : SubtreeCopying) → TreeKnown told dirty marks log course t → TreeKnown told dirty marks after course t
   tree_quiet course t k = record {
     name = k.name;
     part = item_still course t.at.item k.part;

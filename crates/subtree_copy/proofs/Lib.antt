@@ -1,6 +1,6 @@
 pub mod Answered
 pub mod Barred
-mod Begun
+pub mod Begun
 pub mod Counts
 mod Done
 mod Fewer
